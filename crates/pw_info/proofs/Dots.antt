@@ -1,0 +1,94 @@
+use Rattle.std.proofs.Common.{rules, ◌≡◌, ℕ, zero, suc, ℤ, pos, negsuc, ◌≤ℤ◌, List, [], ◌∷◌, ◌++◌, refl, sym, ◌∙◌, subst, inl, inr, arith, Option, Some, None, IfNone, is_some}
+use Rattle.std.proofs.lemmas.Bool.{cases_Bool}
+use Rattle.std.proofs.lemmas.Bool.Decides.{Decides-int_eq}
+use Rattle.std.proofs.lemmas.Str.Parse.{digit_at}
+use Rattle.std.specs.Fmt.{signed_decimal}
+use Rattle.std.specs.Ordering.{int_eq}
+use Rattle.std.specs.Str.Parse.{AllDigits}
+use Rattle.pw_info.specs.Number.{IsWithin, SpellsNumber}
+use Rattle.pw_info.specs.Cut.{HasNoDot, SpellsCut}
+use Rattle.pw_info.specs.Range.{SpellsRange, text_of_range}
+use Rattle.pw_info.proofs.Numbers.{one_number_lem, signed_decimal_spells}
+
+-- digits have no dot
+digits_no_dot : (word : List ℕ) → AllDigits 10 word → HasNoDot word
+digits_no_dot word digits k inside = let digit = digit_at word k digits inside in omega arith
+
+-- a number has no dot
+pub number_no_dot : (word : List ℕ) (n : ℤ) → SpellsNumber word n → HasNoDot word
+number_no_dot word (pos zero) spelled k inside = digits_no_dot word (subst (AllDigits 10) (sym spelled) (search rules)) k inside
+number_no_dot word (pos (suc n)) spelled k inside = digits_no_dot word spelled.digits k inside
+number_no_dot [] (negsuc n) spelled k inside = absurd spelled
+number_no_dot (c ∷ word) (negsuc n) (minus, spelled) zero inside = omega arith
+number_no_dot (c ∷ word) (negsuc n) (minus, spelled) (suc k) inside = digits_no_dot word spelled.digits k (omega arith)
+
+-- what has no dot is not cut by one
+pub no_cut : (word front rest : List ℕ) → HasNoDot word → word ≡ front ++ (46 ∷ rest) → ⊥
+no_cut [] [] rest clear is = cc
+no_cut [] (d ∷ front) rest clear is = cc
+no_cut (c ∷ word) [] rest clear is = clear 0 (omega arith) (cc)
+no_cut (c ∷ word) (d ∷ front) rest clear is = no_cut word front rest (λ k inside. clear (suc k) (omega arith)) (cc)
+
+-- there is one way to cut a word at its first dot
+pub one_cut : (front rest first second : List ℕ) → HasNoDot front → HasNoDot first
+    → front ++ (46 ∷ rest) ≡ first ++ (46 ∷ second) → (front ≡ first) × (rest ≡ second)
+one_cut [] rest [] second clear clear' is = (refl, cc)
+one_cut [] rest (d ∷ first) second clear clear' is = absurd (clear' 0 (omega arith) (cc))
+one_cut (c ∷ front) rest [] second clear clear' is = absurd (clear 0 (omega arith) (cc))
+one_cut (c ∷ front) rest (d ∷ first) second clear clear' is =
+    let (same, left) = one_cut front rest first second (λ k inside. clear (suc k) (omega arith)) (λ k inside. clear' (suc k) (omega arith)) (cc) in
+    (cc, left)
+
+-- a word with no dot spells a range as one number
+pub uncut : (word : List ℕ) (lo hi : ℤ) → HasNoDot word → SpellsRange word lo hi → SpellsNumber word lo × (lo ≡ hi)
+uncut word lo hi clear (inl spelled) = spelled
+uncut word lo hi clear (inr (front, back, is, low, high, order)) = absurd (no_cut word front (46 ∷ back) clear is)
+
+-- a word with a dot spells a range by what stands before the first one and what stands behind it
+pub cut : (word front rest : List ℕ) (lo hi : ℤ) → word ≡ front ++ (46 ∷ rest) → HasNoDot front → SpellsRange word lo hi
+    → SpellsCut front rest lo hi
+cut word front rest lo hi is clear (inl (spelled, same)) = absurd (no_cut word front rest (number_no_dot word lo spelled) is)
+cut word front rest lo hi is clear (inr (first, back, parts, least, greatest, order)) =
+    let (same, left) = one_cut front rest first (46 ∷ back) clear (number_no_dot first lo least) (sym is ∙ parts) in
+    (back, left, subst (λ (w : List ℕ). SpellsNumber w lo) (sym same) least, greatest, order)
+
+-- a word spells at most one range
+pub one_range_lem : (word : List ℕ) (lo hi least greatest : ℤ) → SpellsRange word lo hi → SpellsRange word least greatest
+    → (lo ≡ least) × (hi ≡ greatest)
+one_range_lem word lo hi least greatest (inl (spelled, same)) other =
+    let (spelled', same') = uncut word least greatest (number_no_dot word lo spelled) other in
+    let one = one_number_lem word lo least spelled spelled' in (one, cc)
+one_range_lem word lo hi least greatest (inr (front, back, is, low, high, order)) other =
+    let (back', left, low', high', order') = cut word front (46 ∷ back) least greatest is (number_no_dot front lo low) other in
+    let same : back' ≡ back = cc in
+    (one_number_lem front lo least low low', one_number_lem back hi greatest high (subst (λ (w : List ℕ). SpellsNumber w greatest) same high'))
+
+-- what is written for a range spells it
+pub text_spells : (lo hi : ℤ) → lo ≤ℤ hi → IsWithin 1000000000 lo → IsWithin 1000000000 hi → SpellsRange (text_of_range lo hi) lo hi
+text_spells lo hi order low high =
+    let one = signed_decimal_spells lo low in
+    let other = signed_decimal_spells hi high in
+    elim (cases_Bool (int_eq lo hi)) [
+      | inl equal ↦ let same = (Decides-int_eq lo hi).0 equal in
+          rw equal (inl (one, same))
+      | inr apart ↦ rw apart (inr (signed_decimal lo, signed_decimal hi, refl, one, other, order))
+    ]
+
+-- what a word that is cut at its first dot does not spell within most, as LO..HI, it spells in no way
+pub none_from_cut : (word front rest : List ℕ) (most : ℕ) → word ≡ front ++ (46 ∷ rest) → HasNoDot front
+    → ((lo hi : ℤ) → SpellsCut front rest lo hi → IsWithin most lo → IsWithin most hi → ⊥)
+    → (lo hi : ℤ) → SpellsRange word lo hi → IsWithin most lo → IsWithin most hi → ⊥
+none_from_cut word front rest most is clear none lo hi spelled = none lo hi (cut word front rest lo hi is clear spelled)
+
+-- what a word with no dot does not spell within most, as a number, it spells in no way
+pub none_from_uncut : (word : List ℕ) (most : ℕ) → HasNoDot word
+    → ((n : ℤ) → SpellsNumber word n → IsWithin most n → ⊥)
+    → (lo hi : ℤ) → SpellsRange word lo hi → IsWithin most lo → IsWithin most hi → ⊥
+none_from_uncut word most clear none lo hi spelled low high = none lo (uncut word lo hi clear spelled).0 low
+
+-- a fact at one answer's None, and what follows from it, at another answer's
+pub IfNone_then : {X Y : Type 0} (one : Option X) (other : Option Y) {P Q : Type 0} → is_some other ≡ is_some one → IfNone one P
+    → (P → Q) → IfNone other Q
+IfNone_then one (Some y) same holds follows = tt
+IfNone_then (Some x) None same holds follows = absurd (cc)
+IfNone_then None None same holds follows = follows holds

@@ -1,0 +1,17 @@
+ghost use Rattle.std.specs.Prelude.{◌≡◌, ◌<◌, ℕ, List, length, Some, IfSome, IfNone, slice_get, Contains};
+
+/// The names of the members of set kinds: those of one set are distinct, and a member's place is its position.
+pub trait KindNames {
+    /// The names of the members of a set kind, by its number, in declared order; none where there is no such set.
+    ghost members: { Self → ℕ → List (List ℕ) };
+
+    /// The name of the member at a place, counted from 0.
+    fn member(&self, set: u8, place: u8) -> &str
+        requires { place < length (members self.now set) }
+        ensures { slice_get (members self.now set) place ≡ Some result.now };
+
+    /// The place of the member of this name, None where the set has none.
+    fn place(&self, set: u8, name: &[u8]) -> Option<u8>
+        ensures found { IfSome result (λ place. slice_get (members self.now set) place ≡ Some name.now) }
+        ensures none { IfNone result (Contains (members self.now set) name.now → ⊥) };
+}

@@ -1,0 +1,216 @@
+// The end that takes bytes: what it was passed, and when it has failed.
+ghost use Rattle.std.specs.Prelude.{◌≡◌, ℕ, List, [], ◌++◌, Bool, true, false, is_err, IsErr, OnOk, OnErr, Some};
+ghost use Rattle.std.specs.Io.KnownBytes.{Appends};
+ghost use Rattle.std.proofs.KnownBytes.{Appends-nil, Appends-trans};
+ghost use Rattle.pw_info.specs.Passing.{PutPasses, PassesPart};
+
+use std::io::Write;
+
+/// An output or an input has failed. It stays so from the first failure on.
+#[derive(Clone, Copy, Debug, PartialEq, Eq)]
+pub struct Failed;
+
+/// An end that takes bytes.
+///
+/// Contracts see what it was passed as a relation between two moments: `passes old bytes new` says
+/// that these bytes, in this order, were passed to it between the moment `old` and the moment `new`.
+pub trait Output {
+    // The bytes were passed between the first moment and the second.
+    ghost passes: { Self → List ℕ → Self → Type 0 };
+    // A put has failed.
+    ghost has_failed: { Self → Bool };
+
+    /// Puts a front of the bytes, and answers how many were taken: of a non-empty slice at least
+    /// one, and never more than it has.
+    ///
+    /// A put that fails answers `Failed` and passes nothing. Each put after it does the same.
+    fn put(&mut self, bytes: &[u8]) -> Result<usize, Failed>
+        ensures passed { PutPasses passes self.old self.new result bytes.now }
+        ensures failed { has_failed self.new ≡ is_err result }
+        ensures stays { has_failed self.old ≡ true → IsErr result };
+
+    /// Whether a put has failed.
+    fn failed(&self) -> bool
+        ensures { result ≡ has_failed self.now };
+
+    // Nothing is passed at one moment.
+    ghost none: { (s : Self) → passes s [] s };
+    // What is passed first and what is passed next are passed together.
+    ghost joins: { (s t u : Self) (xs ys : List ℕ) → passes s xs t → passes t ys u → passes s (xs ++ ys) u };
+}
+
+/// An output that writes to a writer.
+///
+/// An error of the writer of any kind is a failure, and so is a write that takes no byte of a
+/// non-empty slice.
+#[derive(Drop)]
+pub struct Writing<W> {
+    inner: W,
+    failed: bool,
+}
+
+impl<W> Writing<W> {
+    ghost use Rattle.pw_info.specs.Writers.{writer_of, writer_failed};
+
+    /// An output over the writer, which has not failed.
+    pub fn new(writer: W) -> Writing<W>
+        ensures writer { writer_of result ≡ writer }
+        ensures failed { writer_failed result ≡ false }
+    {
+        Writing {
+            inner: writer,
+            failed: false,
+        }
+    }
+
+    /// The writer.
+    pub fn writer(&self) -> &W
+        ensures { result.now ≡ writer_of self.now }
+    {
+        &self.inner
+    }
+
+    /// The writer, taken out.
+    pub fn into_writer(self) -> W
+        ensures { result ≡ writer_of self }
+    {
+        let Writing { inner, failed: _ } = self;
+        inner
+    }
+}
+
+impl<W: Write> Output for Writing<W> {
+    ghost use Rattle.pw_info.specs.Writers.{writer_of, writer_failed};
+
+    // Where the writer's bytes are known, they grow by those that are passed.
+    ghost passes = { λ s bytes t. Appends (W.contents (writer_of s)) (W.contents (writer_of t)) bytes };
+
+    ghost has_failed = { λ s. writer_failed s };
+
+    fn put(&mut self, bytes: &[u8]) -> Result<usize, Failed> {
+        if self.failed {
+            return Err(Failed);
+        }
+        if bytes.is_empty() {
+            return Ok(0);
+        }
+        match self.inner.write(bytes) {
+            Ok(count) if count > 0 => Ok(count),
+            _ => {
+                self.failed = true;
+                Err(Failed)
+            }
+        }
+    }
+
+    fn failed(&self) -> bool {
+        self.failed
+    }
+
+    ghost none = { λ s. Appends-nil (W.contents (writer_of s)) };
+
+    ghost joins = { λ s t u xs ys p q. Appends-trans (W.contents (writer_of s)) (W.contents (writer_of t)) (W.contents (writer_of u)) xs ys p q };
+}
+
+/// Puts all of the bytes.
+///
+/// A put that fails ends it with `Failed`: a front of the bytes was passed then.
+pub fn put_all<O: Output>(output: &mut O, bytes: &[u8]) -> Result<(), Failed>
+    ensures ok { OnOk result (O.passes output.old bytes.now output.new) }
+    ensures err { OnErr result (PassesPart O.passes output.old output.new bytes.now) }
+    ensures failed { OnErr result (O.has_failed output.new ≡ true) }
+    ensures works { OnOk result (O.has_failed output.old ≡ false → O.has_failed output.new ≡ false) }
+{
+    let mut rest = bytes;
+    while !rest.is_empty() {
+        match output.put(rest) {
+            Ok(count) => rest = &rest[count..],
+            Err(fault) => return Err(fault),
+        }
+    }
+    Ok(())
+}
+
+#[cfg(test)]
+pub(crate) mod tests {
+    use super::*;
+    use std::io;
+    use std::io::ErrorKind;
+
+    // A writer that takes one byte a write, and none past its room.
+    #[derive(Drop)]
+    pub(crate) struct Trickle {
+        pub text: Vec<u8>,
+        pub room: usize,
+    }
+
+    impl Write for Trickle {
+        ghost contents = { λ w. Some w.text.items };
+
+        fn write(&mut self, buf: &[u8]) -> io::Result<usize> {
+            let Some(first) = buf.first() else {
+                return Ok(0);
+            };
+            if self.text.len() >= self.room {
+                return Err(io::Error::from(ErrorKind::StorageFull));
+            }
+            self.text.push(*first)?;
+            Ok(1)
+        }
+
+        fn flush(&mut self) -> io::Result<()> {
+            Ok(())
+        }
+    }
+
+    #[test]
+    fn passes_the_text_or_a_front(rt: HostRuntime) {
+        let text = b"one byte at a time";
+        for room in 0..20usize {
+            let writer = Trickle {
+                text: Vec::new(rt.alloc()),
+                room,
+            };
+            let mut output = Writing::new(writer);
+            let answer = put_all(&mut output, text);
+            assert_eq!(rt; answer.is_ok(), room >= text.len(), "at {room}");
+            assert_eq!(rt; output.failed(), room < text.len(), "at {room}");
+            if output.failed() {
+                assert_eq!(rt; output.put(text), Err(Failed), "at {room}");
+                assert_eq!(rt; output.put(b""), Err(Failed), "at {room}");
+                assert!(rt; output.failed(), "at {room}");
+            }
+            let kept = room.min(text.len());
+            assert_eq!(rt;
+                output.into_writer().text.as_slice(),
+                &text[..kept],
+                "at {room}"
+            );
+        }
+    }
+
+    // A writer that takes nothing.
+    #[derive(Drop)]
+    struct Full;
+
+    impl Write for Full {
+        ghost contents = { λ _. Some [] };
+
+        fn write(&mut self, _buf: &[u8]) -> io::Result<usize> {
+            Ok(0)
+        }
+
+        fn flush(&mut self) -> io::Result<()> {
+            Ok(())
+        }
+    }
+
+    #[test]
+    fn no_byte_taken_is_a_failure(rt: HostRuntime) {
+        let mut output = Writing::new(Full);
+        assert_eq!(rt; output.put(b""), Ok(0));
+        assert_eq!(rt; output.put(b"x"), Err(Failed));
+        assert!(rt; output.failed());
+        assert_eq!(rt; output.put(b""), Err(Failed));
+    }
+}

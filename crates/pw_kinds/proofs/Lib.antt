@@ -1,0 +1,4 @@
+pub mod Order
+pub mod Searches
+pub mod Intervals
+pub mod Examples

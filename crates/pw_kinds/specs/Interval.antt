@@ -1,0 +1,73 @@
+-- What an interval says of a number: a set of whole numbers in range, given by its test.
+use Rattle.std.specs.Prelude.{◌≡◌, ℤ, pos, ◌≤ℤ◌, Bool, true, false, ◌&&◌, Option, Some, refl}
+use Rattle.std.specs.Int.Signed.{le_z}
+use Rattle.pw_kinds.specs.declared.interval.Interval.{Interval}
+use Rattle.pw_kinds.specs.Search.{least, greatest}
+use Rattle.pw_kinds.specs.Span.{first, last, values, is_in_range, empty_span, checked_span}
+
+-- whether a number is still possible
+abbrev pub allows : Interval → ℤ → Bool
+allows i v = le_z i.lo v && le_z v i.hi
+
+-- no number is possible
+abbrev pub IsEmpty : Interval → Type 0
+IsEmpty i = (v : ℤ) → allows i v ≡ false
+
+-- every number in range is possible
+abbrev pub IsWhole : Interval → Type 0
+IsWhole i = (v : ℤ) → is_in_range v ≡ true → allows i v ≡ true
+
+-- each number that is possible in the first is possible in the second
+abbrev pub IsWithin : Interval → Interval → Type 0
+IsWithin i j = (v : ℤ) → allows i v ≡ true → allows j v ≡ true
+
+-- just the numbers from lo to hi are possible
+abbrev pub IsFromTo : Interval → ℤ → ℤ → Type 0
+IsFromTo i lo hi = (v : ℤ) → allows i v ≡ (le_z lo v && le_z v hi)
+
+-- the interval that leaves nothing possible
+abbrev pub empty : Interval
+empty = record { lo = pos 1; hi = pos 0; span = empty_span }
+
+-- the interval from lo to hi where these are in range and in order, else the empty one
+unfoldable pub checked : (lo hi : ℤ) (b : Bool) → (le_z first lo && le_z lo hi && le_z hi last) ≡ b → Interval
+checked lo hi true e = record { lo = lo; hi = hi; span = checked_span lo hi e }
+checked lo hi false e = empty
+
+abbrev pub between : Option ℤ → Option ℤ → Interval
+between (Some lo) (Some hi) = checked lo hi _ refl
+between _ _ = empty
+
+-- the smallest interval in which every number in range that passes is possible
+unfoldable pub closest : (ℤ → Bool) → Interval
+closest p = between (least p values first) (greatest p values last)
+
+-- the interval in which every number in range is possible
+abbrev pub whole : Interval
+whole = closest (λ v. true)
+
+-- the merge of two: what both leave possible
+abbrev pub meet_of : Interval → Interval → Interval
+meet_of i j = closest (λ v. allows i v && allows j v)
+
+-- the least number that is possible, where there is one
+unfoldable pub least_of : Interval → Option ℤ
+least_of i = least (allows i) values first
+
+-- the greatest number that is possible, where there is one
+unfoldable pub greatest_of : Interval → Option ℤ
+greatest_of i = greatest (allows i) values last
+
+-- a number that is possible, and none below it is
+abbrev pub IsLeastOf : Interval → ℤ → Type 0
+IsLeastOf i n = (allows i n ≡ true) × ((v : ℤ) → allows i v ≡ true → n ≤ℤ v)
+
+-- a number that is possible, and none above it is
+abbrev pub IsGreatestOf : Interval → ℤ → Type 0
+IsGreatestOf i n = (allows i n ≡ true) × ((v : ℤ) → allows i v ≡ true → v ≤ℤ n)
+
+-- the smallest interval in which every number in range that passes is possible, in words: it allows each of them,
+-- and is within any interval that does
+pub record IsClosest (p : ℤ → Bool) (i : Interval) : Type 0 where
+  pub holds : (v : ℤ) → is_in_range v ≡ true → p v ≡ true → allows i v ≡ true
+  pub smallest : (j : Interval) → ((v : ℤ) → is_in_range v ≡ true → p v ≡ true → allows j v ≡ true) → IsWithin i j
