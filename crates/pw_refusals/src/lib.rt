@@ -1,0 +1,104 @@
+//! For tests alone: an allocator that refuses the growths that a test chooses.
+#![tactic(auto)]
+
+ghost use Rattle.std.specs.Prelude.{◌≡◌, ℕ, ◌<◌, ◌≤◌, ◌^◌, ◌↔◌, IsTrue};
+ghost use Rattle.pw_refusals.specs.Refused.{IsRefused};
+
+use std::alloc::{AllocError, Allocator};
+use std::cell::Cell;
+
+/// An allocator that passes each call on to the one it holds, but refuses some growths.
+///
+/// A growth is a request for memory, granted or not: a first allocation, each time a list, a text or a map outgrows
+/// what it has, and a shrinking to fit, which asks for a smaller block. Growths are counted from 1. Lend it out as
+/// `&refusing`, an allocator that is `Copy`.
+#[derive(Drop)]
+pub struct Refusing<B: Allocator> {
+    inner: B,
+    growths: Growths,
+}
+
+impl<B: Allocator> Refusing<B> {
+    /// Refuses the growth whose number is `at`, and no other. At 0 it refuses none.
+    pub fn nth(inner: B, at: u64) -> Refusing<B>
+        ensures inner { result.inner ≡ inner }
+        ensures refused { (n : ℕ) → 0 < n → (IsRefused result.growths n ↔ (n ≡ at)) }
+    {
+        let growths = Growths::refused(at, at);
+        Refusing { inner, growths }
+    }
+
+    /// Refuses the growth whose number is `at` and every later one. At 0 it refuses none.
+    pub fn all_from(inner: B, at: u64) -> Refusing<B>
+        ensures inner { result.inner ≡ inner }
+        ensures refused { (n : ℕ) → 0 < n → n < 2 ^ 64 → (IsRefused result.growths n ↔ ((0 < at) × (at ≤ n))) }
+    {
+        let last = if at == 0 { 0 } else { u64::MAX };
+        let growths = Growths::refused(at, last);
+        Refusing { inner, growths }
+    }
+
+    /// How many growths were asked for so far, the refused ones included.
+    ///
+    /// Below `at` no growth was refused, so a loop that raises `at` from 1 can stop there.
+    pub fn calls(&self) -> u64 {
+        self.growths.asked.get()
+    }
+}
+
+/// How many growths were asked for, and the first and the last number that are refused.
+#[derive(Drop)]
+struct Growths {
+    asked: Cell<u64>,
+    first: u64,
+    last: u64,
+}
+
+impl Growths {
+    /// None asked for yet.
+    fn refused(first: u64, last: u64) -> Growths
+        ensures first { result.first ≡ first }
+        ensures last { result.last ≡ last }
+    {
+        Growths {
+            asked: Cell::new(0),
+            first,
+            last,
+        }
+    }
+
+    /// Counts one growth more, and says whether it is granted.
+    fn grants_next(&self) -> bool {
+        let number = self.asked.get().saturating_add(1);
+        self.asked.set(number);
+        !self.refuses(number)
+    }
+
+    /// Whether the growth of this number is refused.
+    fn refuses(&self, number: u64) -> bool
+        ensures { IsTrue result ↔ IsRefused self.now number }
+    {
+        self.first <= number && number <= self.last
+    }
+}
+
+unsafe impl<B: Allocator> Allocator for Refusing<B> {
+    ghost dealloc_token = { λ heap ty ptr. B.dealloc_token heap.inner ty ptr };
+
+    fn allocate(&self, size: usize, align: usize) -> Result<*mut u8, AllocError> {
+        if self.growths.grants_next() {
+            return self.inner.allocate(size, align);
+        } else {
+            return Err(AllocError);
+        }
+    }
+
+    unsafe fn deallocate(&self, ptr: *mut u8, size: usize, align: usize) {
+        self.inner.deallocate(ptr, size, align);
+    }
+}
+
+#[cfg(test)]
+mod tests;
+#[cfg(test)]
+mod transcript_tests;

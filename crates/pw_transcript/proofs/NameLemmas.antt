@@ -1,0 +1,46 @@
+use Rattle.std.proofs.Common.{◌≡◌, ℕ, suc, zero, ◌<◌, true, false, List, [], ◌∷◌, arith, ◌↔◌}
+use Rattle.std.specs.List.{list_all}
+use Rattle.std.proofs.lemmas.Bool.Decides.{nat_tests}
+use Rattle.std.specs.Prelude.{Result, Ok, Err, MatchResult, MatchOption}
+use Rattle.std.specs.Result.{result_ok}
+use Rattle.std.specs.Borrow.{Bor}
+use Rattle.std.specs.Str.{IsUtf8, IsAscii}
+use Rattle.std.proofs.lemmas.Str.{IsUtf8-from_ascii}
+use Rattle.pw_transcript.specs.Name.{IsName, is_name, is_name_byte}
+
+-- a word that passes the test is a name
+pub passed : (word : List ℕ) → is_name word ≡ true → IsName word
+unfolding is_name
+passed word e = record {
+  short = grind (arith, nat_tests);
+  first = grind (arith, nat_tests);
+  bytes = grind (arith, nat_tests);
+  free = grind (arith, nat_tests);
+}
+
+-- a name passes the test
+pub passes : (word : List ℕ) → IsName word → is_name word ≡ true
+unfolding is_name
+passes word name = grind (arith, nat_tests, name.short, name.first, name.bytes, name.free)
+
+pub exact : (word : List ℕ) → (is_name word ≡ true) ↔ IsName word
+exact word = (passed word, passes word)
+
+-- a byte of a name is an ASCII character
+small : (b : ℕ) → is_name_byte b ≡ true → b < 128
+small b e = grind (arith, nat_tests)
+
+name_bytes-IsAscii : (word : List ℕ) → list_all is_name_byte word ≡ true → IsAscii word
+name_bytes-IsAscii [] e i = omega arith
+name_bytes-IsAscii (b ∷ word) e zero = small b (grind (arith, nat_tests))
+name_bytes-IsAscii (b ∷ word) e (suc i) = name_bytes-IsAscii word (grind (arith, nat_tests)) i
+
+-- a name is a text
+name_is_text : (word : List ℕ) → is_name word ≡ true → IsUtf8 word
+name_is_text word e = IsUtf8-from_ascii word (name_bytes-IsAscii word (passed word e).bytes)
+
+pub as_text : {E : Type 0} (word : List ℕ) (r : Result (Bor (List ℕ)) E) (P : E → Type 0) → is_name word ≡ true →
+    MatchResult r (λ text. (text.now ≡ word) × IsUtf8 word) (λ e. (IsUtf8 word → ⊥) × P e) →
+    MatchOption (result_ok r) (is_name word ≡ false) (λ name. (is_name word ≡ true) × (name.now ≡ word))
+as_text word (Ok text) P named h = (named, h.0)
+as_text word (Err e) P named h = absurd (h.0 (name_is_text word named))

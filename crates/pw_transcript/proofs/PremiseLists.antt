@@ -1,0 +1,49 @@
+-- The set of the premises that words name, one word after another.
+use Rattle.std.proofs.Common.{◌≡◌, ℕ, Bool, true, false, ◌||◌, List, [], ◌∷◌, Option, Some, None, refl, sym, ap, ◌∙◌}
+use Rattle.std.specs.Prelude.{nat_eq}
+use Rattle.std.specs.List.{filter_map}
+use Rattle.std.specs.Ordering.{nat_cmp}
+use Rattle.std.specs.Cmp.{nat_cmp_total}
+use Rattle.std.specs.Ordering.{eq_by_cmp}
+use Rattle.std.specs.FinSet.{FinSet, empty, insert, contains, union, from_list, same_set, contains-empty, contains-insert, contains-union, nat_cmp-IsAntisymmetric}
+use Rattle.pw_transcript.specs.Place.{place_of}
+use Rattle.pw_transcript.specs.Declaration.{Declared}
+use Rattle.pw_transcript.specs.Reading.{Premises, premises_of}
+
+by_members : (s t : Premises) → ((q : ℕ) → contains s q ≡ contains t q) → s ≡ t
+by_members s t same = same_set nat_cmp_total nat_cmp-IsAntisymmetric s t same
+
+or_false : (b : Bool) → (b || false) ≡ b
+or_false true = refl
+or_false false = refl
+
+or_swap : (a b c : Bool) → (a || (b || c)) ≡ ((a || (b || false)) || c)
+or_swap true b c = refl
+or_swap false true c = refl
+or_swap false false c = refl
+
+pub union_empty_left : (s : Premises) → union empty s ≡ s
+union_empty_left s = by_members _ _ (λ q. contains-union nat_cmp_total empty s q ∙ ap (λ b. b || contains s q) (contains-empty nat_cmp q))
+
+pub union_empty_right : (s : Premises) → union s empty ≡ s
+union_empty_right s = by_members _ _ (λ q. contains-union nat_cmp_total s empty q ∙ ap (λ b. contains s q || b) (contains-empty nat_cmp q) ∙ or_false (contains s q))
+
+pub union_insert : (s t : Premises) (n : ℕ) → union s (insert t n) ≡ union (union s (insert empty n)) t
+union_insert s t n = by_members _ _ (λ q.
+    contains-union nat_cmp_total s (insert t n) q
+    ∙ ap (λ b. contains s q || b) (contains-insert nat_cmp_total t n q)
+    ∙ or_swap (contains s q) (eq_by_cmp nat_cmp q n) (contains t q)
+    ∙ ap (λ b. (contains s q || (eq_by_cmp nat_cmp q n || b)) || contains t q) (sym (contains-empty nat_cmp q))
+    ∙ ap (λ b. (contains s q || b) || contains t q) (sym (contains-insert nat_cmp_total empty n q))
+    ∙ ap (λ b. b || contains t q) (sym (contains-union nat_cmp_total s (insert empty n) q))
+    ∙ sym (contains-union nat_cmp_total (union s (insert empty n)) t q))
+
+pub premises_of-more : (d : Declared) (word : List ℕ) (words : List (List ℕ)) (n : ℕ) → place_of d.premises word ≡ Some n → premises_of d (word ∷ words) ≡ insert (premises_of d words) n
+premises_of-more d word words n e = rw e refl
+
+-- the set so far, joined with what a further word names
+pub premises_step : (d : Declared) (word : List ℕ) (words all : List (List ℕ)) (n : ℕ) (s t one : Premises) → place_of d.premises word ≡ Some n
+    → premises_of d all ≡ union s (premises_of d (word ∷ words)) → one ≡ insert empty n → t ≡ union s one → premises_of d all ≡ union t (premises_of d words)
+premises_step d word words all n s t one e so_far is_one joined =
+    so_far ∙ ap (λ (x : Premises). union s x) (premises_of-more d word words n e) ∙ union_insert s (premises_of d words) n
+    ∙ sym (ap (λ (x : Premises). union x (premises_of d words)) (joined ∙ ap (λ (x : Premises). union s x) is_one))

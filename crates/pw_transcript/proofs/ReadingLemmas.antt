@@ -1,0 +1,98 @@
+-- A line has at most one reading.
+use Rattle.std.proofs.Common.{◌≡◌, ℕ, ◌<◌, ◌≤◌, Bool, true, false, List, [], ◌∷◌, length, Option, Some, None, ◌⊎◌, inl, inr, refl, sym, ap, ◌∙◌, subst, arith, rules}
+use Rattle.std.specs.List.{list_all}
+use Rattle.pw_info.specs.declared.info.Info.{Info}
+use Rattle.pw_info.specs.Spelling.{SpellsInfo}
+use Rattle.pw_info.proofs.Spellings.{one_info}
+use Rattle.pw_transcript.specs.declared.command.Command.{Command}
+use Rattle.pw_transcript.specs.declared.command.Command.TheVariants as commands
+use Rattle.pw_transcript.specs.declared.fact.Fact.{Fact}
+use Rattle.pw_transcript.specs.declared.reply.Refusal.{Refusal}
+use Rattle.pw_transcript.specs.declared.reply.Refusal.TheVariants as refusal
+use Rattle.pw_transcript.specs.First.{IsFirstIn, HoldsOfNone}
+use Rattle.pw_transcript.specs.Place.{place_of}
+use Rattle.pw_transcript.specs.Declaration.{Declared, kind_at}
+use Rattle.pw_transcript.specs.Sentence.{Sentence, Tell, Believe, Doubt, Ask, Other, IsSentence, sentence_of}
+use Rattle.pw_transcript.specs.Words.{words_of, is_idle, is_allowed}
+use Rattle.pw_transcript.specs.Reading.{Premises, members_of, premises_of, Means, AppliesTo, sentence_refusals, SaysSentence, AppliesToLine, Applies, line_refusals, Reading, Blank, Refused, Says, Reads}
+use Rattle.pw_transcript.proofs.FirstLemmas.{one_first, none_is_first, IsFirstIn-from, HoldsOfNone-from}
+use Rattle.pw_transcript.proofs.SentenceLemmas.{one_sentence, given, found}
+
+-- a place is one number
+one_place : (o : Option ℕ) (m n : ℕ) → o ≡ Some m → o ≡ Some n → m ≡ n
+one_place o m n p q = cc
+
+-- a sentence means one command
+pub one_meaning : (d : Declared) (s : Sentence) (a b : Command) → Means d s a → Means d s b → a ≡ b
+one_meaning d (Tell user cell info premises) a b (u, c, i, at_u, at_c, spelled, e) (u', c', i', at_u', at_c', spelled', e') =
+    let same_user : u ≡ u' = one_place _ u u' at_u at_u' in
+    let same_cell : c ≡ c' = one_place _ c c' at_c at_c' in
+    let same_info : i ≡ i' = one_info (members_of d) info (kind_at d c) i i' spelled (subst (λ (x : ℕ). SpellsInfo (members_of d) info (kind_at d x) i') (sym same_cell) spelled') in
+    let fact : Info → Fact = λ x. record { info = x; support = premises_of d premises } in
+    let same_fact : fact i ≡ fact i' = ap fact same_info in
+    e ∙ ap (λ x. commands.Tell x c (fact i)) same_user ∙ ap (λ x. commands.Tell u' x (fact i)) same_cell ∙ ap (λ x. commands.Tell u' c' x) same_fact ∙ sym e'
+one_meaning d (Believe user premises) a b (u, at_u, e) (u', at_u', e') =
+    e ∙ ap (λ x. commands.Believe x (premises_of d premises)) (one_place _ u u' at_u at_u') ∙ sym e'
+one_meaning d (Doubt user premises) a b (u, at_u, e) (u', at_u', e') =
+    e ∙ ap (λ x. commands.Doubt x (premises_of d premises)) (one_place _ u u' at_u at_u') ∙ sym e'
+one_meaning d (Ask user cell) a b (u, c, at_u, at_c, e) (u', c', at_u', at_c', e') =
+    e ∙ ap (λ x. commands.Ask x c) (one_place _ u u' at_u at_u') ∙ ap (λ x. commands.Ask u' x) (one_place _ c c' at_c at_c') ∙ sym e'
+one_meaning d (Other user) a b p q = absurd p
+
+one_sentence_said : (line : List ℕ) (s t : Sentence) → SaysSentence line s → SaysSentence line t → s ≡ t
+one_sentence_said line s t p q = one_sentence (words_of line) s t p.2 q.2
+
+idle_says_none : (line : List ℕ) (s : Sentence) → is_idle line ≡ true → SaysSentence line s → ⊥
+idle_says_none line s idle says = let spoken : is_idle line ≡ false = says.0 in cc
+
+-- no refusal applies to a blank line that is short enough
+pub blank_none : (d : Declared) (line : List ℕ) → length line ≤ 1024 → is_idle line ≡ true → HoldsOfNone (Applies d line) line_refusals
+blank_none d line short idle =
+    let none : HoldsOfNone (AppliesToLine d line) sentence_refusals = (λ h. idle_says_none line h.0 idle h.1, (λ h. idle_says_none line h.0 idle h.1, (λ h. idle_says_none line h.0 idle h.1, (λ h. idle_says_none line h.0 idle h.1, (λ h. idle_says_none line h.0 idle h.1, (λ h. idle_says_none line h.0 idle h.1, tt)))))) in
+    (λ long. absurd (omega arith), ((λ h. let spoken : is_idle line ≡ false = h.0 in cc), none))
+
+pub one_reading : (d : Declared) (line : List ℕ) (a b : Reading) → Reads d line a → Reads d line b → a ≡ b
+one_reading d line Blank Blank p q = refl
+one_reading d line Blank (Refused r) p q = absurd (none_is_first (Applies d line) line_refusals r (blank_none d line p.0 p.1) q)
+one_reading d line Blank (Says c) p (none, (s, says, means)) = absurd (idle_says_none line s p.1 says)
+one_reading d line (Refused r) Blank p q = absurd (none_is_first (Applies d line) line_refusals r (blank_none d line q.0 q.1) p)
+one_reading d line (Refused r) (Refused t) p q = ap Refused (one_first (Applies d line) line_refusals r t p q)
+one_reading d line (Refused r) (Says c) p q = absurd (none_is_first (Applies d line) line_refusals r q.0 p)
+one_reading d line (Says c) Blank (none, (s, says, means)) q = absurd (idle_says_none line s q.1 says)
+one_reading d line (Says c) (Refused r) p q = absurd (none_is_first (Applies d line) line_refusals r p.0 q)
+one_reading d line (Says c) (Says e) (none, (s, says, means)) (none', (t, says', means')) =
+    let same : t ≡ s = one_sentence_said line t s says' says in
+    ap Says (one_meaning d s c e means (subst (λ (x : Sentence). Means d x e) same means'))
+
+-- ---- from what applies to a sentence to what applies to the line that says it
+module _ (d : Declared) (line : List ℕ) (s : Sentence) (short : length line ≤ 1024) (says : SaysSentence line s) where
+  to_line : (r : Refusal) → AppliesTo d s r → AppliesToLine d line r
+  to_line r h = (s, says, h)
+
+  from_line : (r : Refusal) → AppliesToLine d line r → AppliesTo d s r
+  from_line r (t, said, h) = let same : t ≡ s = one_sentence_said line t s said says in subst (λ (x : Sentence). AppliesTo d x r) same h
+
+  not_long : 1024 < length line → ⊥
+  not_long long = omega arith
+
+  has_form : (is_idle line ≡ false) × ((sentence : Sentence) → SaysSentence line sentence → ⊥) → ⊥
+  has_form h = h.1 s says
+
+  pub none_of_line : HoldsOfNone (AppliesTo d s) sentence_refusals → HoldsOfNone (Applies d line) line_refusals
+  none_of_line none = let rest : HoldsOfNone (AppliesToLine d line) sentence_refusals = HoldsOfNone-from (AppliesTo d s) (AppliesToLine d line) from_line sentence_refusals none in (not_long, (has_form, rest))
+
+  pub first_of_line : (r : Refusal) → IsFirstIn (AppliesTo d s) sentence_refusals r → Reads d line (Refused r)
+  first_of_line r first = let rest : IsFirstIn (AppliesToLine d line) sentence_refusals r = IsFirstIn-from (AppliesTo d s) (AppliesToLine d line) to_line from_line sentence_refusals r first in inr (not_long, inr (has_form, rest))
+
+  pub says_of_line : (c : Command) → HoldsOfNone (AppliesTo d s) sentence_refusals → Means d s c → Reads d line (Says c)
+  says_of_line c none means = (none_of_line none, (s, says, means))
+
+pub not_none : (o : Option ℕ) (n : ℕ) → Some n ≡ o → o ≡ None → ⊥
+not_none o n p q = let e : Some n ≡ None = p ∙ q in (cc)
+
+-- a line that has no form
+pub no_form : (d : Declared) (line : List ℕ) → length line ≤ 1024 → is_idle line ≡ false → sentence_of (words_of line) ≡ None → Reads d line (Refused refusal.Syntax)
+no_form d line short spoken none = inr (λ long. absurd (omega arith), inl (refl, (spoken, λ s says. let e : sentence_of (words_of line) ≡ Some s = given (words_of line) s says.2 in cc)))
+
+pub says_found : (line : List ℕ) (s : Sentence) → is_idle line ≡ false → list_all is_allowed line ≡ true → sentence_of (words_of line) ≡ Some s → SaysSentence line s
+says_found line s spoken allowed e = (spoken, allowed, found (words_of line) s e)

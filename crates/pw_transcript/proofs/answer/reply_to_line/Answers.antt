@@ -1,0 +1,32 @@
+use Rattle.std.proofs.Common.{◌≡◌, ℕ, ◌<◌, List, length, Option, Result, Ok, Some, sym, ap, ◌∙◌, subst, arith}
+use Rattle.std.specs.Option.{option_copied}
+use Rattle.pw_transcript.specs.declared.command.Command.{Command}
+use Rattle.pw_transcript.specs.declared.reply.Refusal.{Refusal}
+use Rattle.pw_transcript.specs.Answer.{user_of}
+use Rattle.pw_transcript.specs.Reading.{Reads, reading_of, Says}
+use Rattle.pw_transcript.proofs.AnswerLemmas.{refused_long, refused, carried}
+use Rattle.pw_transcript.proofs.HistoryLemmas.{Reads-user, Reads-cell}
+use Rattle.pw_transcript.proofs.answer.reply_to_line.Goals as goal
+
+pub returns-in_default-clause-reply : goal.returns-in_default-clause-reply
+returns-in_default-clause-reply g c = λ bytes e. refused_long c.args.declaration.now c.args.number bytes c.args.history.now (sym (ap option_copied c.in_default.is) ∙ e)
+
+pub kind_asked-kind-requires : goal.kind_asked-kind-requires
+kind_asked-kind-requires g c = Reads-cell c.args.declaration.now c.in-Some.line.now c.in-Ok-Some.command
+    (subst (λ (o : Option Command). Reads c.args.declaration.now c.in-Some.line.now (reading_of (Ok o))) c.in-Ok-Some.field-0-is c.in-Ok-Some.ensures.reads)
+
+pub carry_out-requires : goal.carry_out-requires
+carry_out-requires g c =
+    let reads : Reads c.args.declaration.now c.in-Some.line.now (Says c.in-Ok-Some.command) = subst (λ (o : Option Command). Reads c.args.declaration.now c.in-Some.line.now (reading_of (Ok o))) c.in-Ok-Some.field-0-is c.in-Ok-Some.ensures.reads in
+    let there : user_of c.in-Ok-Some.command < length c.args.declaration.now.users = Reads-user c.args.declaration.now c.in-Some.line.now c.in-Ok-Some.command reads in
+    record { there = omega (arith, c.requires.users) }
+
+pub returns-in-Ok-Some-clause-reply : goal.returns-in-Ok-Some-clause-reply
+returns-in-Ok-Some-clause-reply g c = λ bytes e.
+    let reads : Reads c.args.declaration.now c.in-Some.line.now (Says c.in-Ok-Some.command) = subst (λ (o : Option Command). Reads c.args.declaration.now c.in-Some.line.now (reading_of (Ok o))) c.in-Ok-Some.field-0-is c.in-Ok-Some.ensures.reads in
+    carried c.args.declaration.now c.args.number bytes c.in-Some.line.now c.kind_asked-kind.result c.args.history.now c.carry_out.new.self c.in-Ok-Some.command c.carry_out.result
+    reads c.kind_asked-kind.ensures c.carry_out.ensures.carried_out (sym (ap option_copied c.in-Some.is) ∙ e)
+
+pub returns-in-Err-clause-reply : goal.returns-in-Err-clause-reply
+returns-in-Err-clause-reply g c = λ bytes e.
+    refused c.args.declaration.now c.args.number bytes c.args.history.now c.in-Some.line.now c.in-Err.refusal c.in-Err.ensures.reads (sym (ap option_copied c.in-Some.is) ∙ e)

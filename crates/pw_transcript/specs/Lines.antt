@@ -1,0 +1,28 @@
+-- A text as lines: each ends before a line feed, and what comes after the last line feed is a line if it is not empty.
+use Rattle.std.specs.Prelude.{◌≡◌, ◌≢◌, ℕ, ◌==◌, List, [], ◌∷◌, ◌++◌, if◌then◌else◌}
+use Rattle.std.specs.List.{onto_first, AllByRecursion, flat_map}
+
+-- the lines of a text, without their line feeds
+abbrev pub lines_of : List ℕ → List (List ℕ)
+lines_of [] = []
+lines_of (byte ∷ text) = if byte == 10 then [] ∷ lines_of text else onto_first byte (lines_of text)
+
+-- no line feed stands in these bytes
+abbrev pub HasNoEnd : List ℕ → Type 0
+HasNoEnd bytes = AllByRecursion (λ byte. byte ≢ 10) bytes
+
+-- the text of these lines, each with its line feed, and then of a last piece with none
+abbrev pub text_of_lines : List (List ℕ) → List ℕ → List ℕ
+text_of_lines ended last = flat_map (λ line. line ++ 10 ∷ []) ended ++ last
+
+-- a last piece with no line feed is a line if it is not empty
+abbrev pub last_line : List ℕ → List (List ℕ)
+last_line [] = []
+last_line (byte ∷ bytes) = (byte ∷ bytes) ∷ []
+
+-- the lines of a text: the text is each of `ended` with a line feed after it, and then `last`, no line feed stands in any of them,
+-- and the lines are `ended`, and then `last` if it is not empty
+abbrev pub AreLines : List ℕ → List (List ℕ) → Type 0
+AreLines text lines =
+    (ended : List (List ℕ)) × (last : List ℕ) × (text ≡ text_of_lines ended last) × AllByRecursion HasNoEnd ended × HasNoEnd last
+    × (lines ≡ ended ++ last_line last)

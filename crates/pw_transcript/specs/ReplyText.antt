@@ -1,0 +1,45 @@
+-- How replies are written.
+use Rattle.std.specs.Prelude.{ℕ, ◌+◌, List, [], ◌∷◌, ◌++◌, Option, Some, None, codes}
+use Rattle.std.specs.Fmt.{decimal}
+use Rattle.pw_info.specs.Text.{text_of_info}
+use Rattle.pw_transcript.specs.declared.reply.Reply.{Reply}
+use Rattle.pw_transcript.specs.declared.reply.Reply.TheVariants as reply
+use Rattle.pw_transcript.specs.declared.reply.Refusal.{Refusal}
+use Rattle.pw_transcript.specs.declared.reply.Refusal.TheVariants as refusal
+use Rattle.pw_transcript.specs.Declaration.{Declared}
+use Rattle.pw_transcript.specs.Reading.{members_of}
+
+-- the number and the words of a refusal
+abbrev pub text_of_refusal : Refusal → List ℕ
+text_of_refusal refusal.Syntax = codes "1 syntax"
+text_of_refusal refusal.UnknownUser = codes "2 unknown user"
+text_of_refusal refusal.UnknownCommand = codes "3 unknown command"
+text_of_refusal refusal.UnknownCell = codes "4 unknown cell"
+text_of_refusal refusal.UnknownPremise = codes "5 unknown premise"
+text_of_refusal refusal.NotYourPremise = codes "7 not your premise"
+text_of_refusal refusal.WrongInformation = codes "8 wrong information"
+text_of_refusal refusal.LineTooLong = codes "10 line too long"
+text_of_refusal refusal.Memory = codes "11 memory"
+
+-- what a reply says
+abbrev pub text_of_answer : Declared → Reply → List ℕ
+text_of_answer d reply.Done = codes "ok"
+text_of_answer d (reply.Value info) = text_of_info (members_of d) info
+text_of_answer d (reply.Refused refusal) = codes "refused " ++ text_of_refusal refusal
+
+-- a reply as it is written: the number of its line, a colon and a space, what it says, and a line feed
+abbrev pub text_of_reply : Declared → ℕ → Reply → List ℕ
+text_of_reply d number reply = (decimal number ++ codes ": ") ++ (text_of_answer d reply ++ codes "\n")
+
+abbrev pub text_if_any : Declared → ℕ → Option Reply → List ℕ
+text_if_any d number None = []
+text_if_any d number (Some reply) = text_of_reply d number reply
+
+-- the replies to lines, of which the first has this number, one after another and nothing else
+abbrev pub text_from : Declared → ℕ → List (Option Reply) → List ℕ
+text_from d number [] = []
+text_from d number (reply ∷ replies) = text_if_any d number reply ++ text_from d (number + 1) replies
+
+-- the text of the replies to the lines of a transcript
+abbrev pub text_of_replies : Declared → List (Option Reply) → List ℕ
+text_of_replies d replies = text_from d 1 replies

@@ -1,0 +1,15 @@
+use crate::fact::Fact;
+use crate::premise_set::PremiseSet;
+
+/// What a line of a transcript asks for. Users, cells and premises go by their numbers in the declaration.
+#[derive(Clone, Copy, Debug, PartialEq, Eq)]
+pub enum Command {
+    /// A fact for a cell; it rests on the premises that the line names.
+    Tell { user: u8, cell: u32, fact: Fact },
+    /// Premises that the user believes from now on.
+    Believe { user: u8, premises: PremiseSet },
+    /// Premises that the user believes no longer.
+    Doubt { user: u8, premises: PremiseSet },
+    /// What is known of a cell under what the user believes.
+    Ask { user: u8, cell: u32 },
+}

@@ -1,0 +1,35 @@
+//! What is wrong with a declaration.
+
+use thiserror::Error;
+
+/// What is wrong with a line of a declaration.
+#[derive(Clone, Copy, Debug, PartialEq, Eq, Error)]
+pub enum Why {
+    /// The line has a byte that no line may have, or its words fit no form where they stand.
+    #[error("syntax")]
+    Syntax,
+    /// There is a user, premise or cell of this name already.
+    #[error("duplicate name")]
+    DuplicateName,
+    /// There is no user or no kind of this name.
+    #[error("unknown name")]
+    UnknownName,
+    /// The text or the line is too long, or there is one user, premise or cell too many.
+    #[error("limit")]
+    Limit,
+    /// The memory did not suffice.
+    #[error("memory")]
+    Memory,
+}
+
+/// Where a declaration is at fault, and what is wrong there.
+///
+/// Lines are counted from 1. Line 0 stands for the text as a whole.
+#[derive(Clone, Copy, Debug, PartialEq, Eq, Error)]
+#[error("declaration line {line}: {why}")]
+pub struct DeclFault {
+    /// The number of the line.
+    pub line: u32,
+    /// What is wrong.
+    pub why: Why,
+}

@@ -1,0 +1,90 @@
+//! The forms of a declaration's lines. No name is looked up.
+ghost use Rattle.std.specs.Prelude.{◌≡◌, None, option_map};
+ghost use Rattle.pw_transcript.specs.Words.{words_of};
+ghost use Rattle.pw_transcript.specs.DeclarationForms.{sentence_in, header_of, user_of, premise_of, cell_of, declaration_sentence_of};
+
+use crate::name::read_name;
+use crate::words::Words;
+
+/// What a line of a declaration says, by its words.
+#[derive(Drop)]
+pub enum DeclarationForm<'a> {
+    /// `workbench 1`
+    Header,
+    /// `user NAME`
+    User { name: &'a str },
+    /// `premise NAME`
+    Premise { name: &'a str },
+    /// `premise NAME of USER`
+    PremiseOf { name: &'a str, user: &'a [u8] },
+    /// `cell NAME KIND`
+    Cell { name: &'a str, kind: &'a [u8] },
+}
+
+// What follows `workbench`.
+fn read_header<'a>(mut rest: Words<'a>) -> Option<DeclarationForm<'a>>
+    ensures { option_map sentence_in result ≡ header_of rest.entry }
+{
+    let version = rest.next()?;
+    if !rest.is_empty() || version != b"1".as_slice() {
+        return None;
+    }
+    Some(DeclarationForm::Header)
+}
+
+// What follows `user`.
+fn read_user<'a>(mut rest: Words<'a>) -> Option<DeclarationForm<'a>>
+    ensures { option_map sentence_in result ≡ user_of rest.entry }
+{
+    let name = read_name(rest.next()?)?;
+    if !rest.is_empty() {
+        return None;
+    }
+    Some(DeclarationForm::User { name })
+}
+
+// What follows `premise`.
+fn read_premise<'a>(mut rest: Words<'a>) -> Option<DeclarationForm<'a>>
+    ensures { option_map sentence_in result ≡ premise_of rest.entry }
+{
+    let name = read_name(rest.next()?)?;
+    let Some(between) = rest.next() else {
+        return Some(DeclarationForm::Premise { name });
+    };
+    let user = rest.next()?;
+    if !rest.is_empty() || between != b"of".as_slice() {
+        return None;
+    }
+    Some(DeclarationForm::PremiseOf { name, user })
+}
+
+// What follows `cell`.
+fn read_cell<'a>(mut rest: Words<'a>) -> Option<DeclarationForm<'a>>
+    ensures { option_map sentence_in result ≡ cell_of rest.entry }
+{
+    let name = read_name(rest.next()?)?;
+    let kind = rest.next()?;
+    if !rest.is_empty() {
+        return None;
+    }
+    Some(DeclarationForm::Cell { name, kind })
+}
+
+/// The form of a line, if its words fit one.
+pub(crate) fn read_form(line: &[u8]) -> Option<DeclarationForm<'_>>
+    ensures { option_map sentence_in result ≡ declaration_sentence_of (words_of line.now) }
+{
+    let mut words = Words::new(line);
+    let verb = words.next()?;
+    if verb == b"workbench".as_slice() {
+        read_header(words)
+    } else if verb == b"user".as_slice() {
+        read_user(words)
+    } else if verb == b"premise".as_slice() {
+        read_premise(words)
+    } else if verb == b"cell".as_slice() {
+        read_cell(words)
+    } else {
+        None
+    }
+}

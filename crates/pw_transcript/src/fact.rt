@@ -1,0 +1,9 @@
+use crate::premise_set::PremiseSet;
+use pw_info::info::Info;
+
+/// A supported value: an information, and the premises that it rests on.
+#[derive(Clone, Copy, Debug, PartialEq, Eq)]
+pub struct Fact {
+    pub info: Info,
+    pub support: PremiseSet,
+}

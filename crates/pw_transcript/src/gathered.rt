@@ -1,0 +1,222 @@
+// An output that gathers what is put into it, and passes it on in large pieces.
+ghost use Rattle.std.specs.Prelude.{◌≡◌, ◌≤◌, ◌<◌, ℕ, List, [], ◌++◌, length, take, drop, true, false, is_err, OnOk, Some};
+
+use pw_info::output::{Failed, Output};
+use std::marker::Model;
+
+// How many bytes are held at most.
+const ROOM: usize = 16384;
+
+// Bytes that wait to be passed on.
+#[derive(Drop)]
+struct Held {
+    bytes: [u8; ROOM],
+    start: usize,
+    end: usize,
+}
+
+impl Model for Held {
+    ghost Value = { List ℕ };
+
+    ghost view = { λ h. drop h.start (take h.end h.bytes) };
+
+    ghost invariant = { λ h. (h.start ≤ h.end) × (h.end ≤ 16384) };
+}
+
+impl Held {
+    // No bytes.
+    fn new() -> Held
+        ensures { result ≡ [] }
+    {
+        Held {
+            bytes: [0; ROOM],
+            start: 0,
+            end: 0,
+        }
+    }
+
+    fn bytes(&self) -> &[u8]
+        ensures { result.now ≡ self.now }
+    {
+        &self.bytes[self.start..self.end]
+    }
+
+    // Adds a front of the bytes, as much as there is room for.
+    fn add(&mut self, bytes: &[u8]) -> usize
+        ensures bound { result ≤ length bytes.now }
+        ensures added { self.new ≡ self.old ++ take result bytes.now }
+        ensures some { self.old ≡ [] → 0 < length bytes.now → 0 < result }
+    {
+        if self.start == self.end {
+            self.start = 0;
+            self.end = 0;
+        }
+        let count = bytes.len().min(ROOM - self.end);
+        self.bytes[self.end..self.end + count].copy_from_slice(&bytes[..count]);
+        self.end += count;
+        count
+    }
+
+    // Lets the first bytes go.
+    fn release(&mut self, count: usize)
+        requires { count ≤ length self.old }
+        ensures { self.new ≡ drop count self.old }
+    {
+        self.start += count;
+    }
+}
+
+/// An output that gathers what is put into it, and passes it on to another output when it is full
+/// and when it is flushed.
+///
+/// Bytes that it holds when it is dropped are lost: flush it before.
+#[derive(Drop)]
+pub struct Gathered<'a, O> {
+    output: &'a mut O,
+    held: Held,
+}
+
+impl<'a, O: Output> Gathered<'a, O> {
+    ghost use Rattle.pw_transcript.specs.Gatherers.{output_of, held_of, GatheredPasses};
+
+    /// A gathering output over the output, which holds nothing.
+    pub fn new(output: &'a mut O) -> Gathered<'a, O>
+        ensures same_reference { (output_of result).ghost_name ≡ output.entry.ghost_name }
+        ensures unchanged { (output_of result).now ≡ output.old }
+        ensures held { held_of result ≡ [] }
+    {
+        Gathered {
+            output,
+            held: Held::new(),
+        }
+    }
+
+    /// Passes on all that is held.
+    ///
+    /// A failure of the output ends it with `Failed`: what was not passed on is still held then.
+    pub fn flush(&mut self) -> Result<(), Failed>
+        ensures passed { GatheredPasses O.passes self.old [] self.new }
+        ensures ok { OnOk result (held_of self.new ≡ []) }
+        ensures failed { O.has_failed (output_of self.new).now ≡ is_err result }
+    {
+        if self.output.failed() {
+            return Err(Failed);
+        }
+        while !self.held.bytes().is_empty() {
+            match self.output.put(self.held.bytes()) {
+                Ok(count) => self.held.release(count),
+                Err(fault) => return Err(fault),
+            }
+        }
+        Ok(())
+    }
+}
+
+impl<O: Output> Output for Gathered<'_, O> {
+    ghost use Rattle.pw_transcript.specs.Gatherers.{output_of, GatheredPasses, GatheredPasses-none, GatheredPasses-joins};
+
+    ghost passes = { GatheredPasses O.passes };
+
+    ghost has_failed = { λ s. O.has_failed (output_of s).now };
+
+    fn put(&mut self, bytes: &[u8]) -> Result<usize, Failed> {
+        if self.output.failed() {
+            return Err(Failed);
+        }
+        let count = self.held.add(bytes);
+        if count > 0 || bytes.is_empty() {
+            return Ok(count);
+        }
+        match self.flush() {
+            Ok(()) => Ok(self.held.add(bytes)),
+            Err(fault) => Err(fault),
+        }
+    }
+
+    fn failed(&self) -> bool {
+        self.output.failed()
+    }
+
+    ghost none = { GatheredPasses-none O.passes O.none };
+
+    ghost joins = { GatheredPasses-joins O.passes O.joins };
+}
+
+#[cfg(test)]
+mod tests {
+    use super::*;
+    use pw_info::output::{Writing, put_all};
+    use std::io;
+    use std::io::{ErrorKind, Write};
+    use std::test::Fail;
+
+    // A writer that takes one byte a write, and none past its room.
+    #[derive(Drop)]
+    struct Trickle {
+        text: Vec<u8>,
+        room: usize,
+    }
+
+    impl Write for Trickle {
+        ghost contents = { λ w. Some w.text.items };
+
+        fn write(&mut self, buf: &[u8]) -> io::Result<usize> {
+            let Some(first) = buf.first() else {
+                return Ok(0);
+            };
+            if self.text.len() >= self.room {
+                return Err(io::Error::from(ErrorKind::StorageFull));
+            }
+            self.text.push(*first)?;
+            Ok(1)
+        }
+
+        fn flush(&mut self) -> io::Result<()> {
+            Ok(())
+        }
+    }
+
+    #[test]
+    fn passes_on_the_text_or_a_front(rt: HostRuntime) -> Result<(), Fail> {
+        let mut text = Vec::new(rt.alloc());
+        for i in 0..40_000u32 {
+            text.push((i % 251) as u8)?;
+        }
+        for room in [0, 1, 16_383, 16_384, 16_385, 39_999, 40_000, 40_001usize] {
+            let passes = room >= text.len();
+            let mut output = Writing::new(Trickle {
+                text: Vec::new(rt.alloc()),
+                room,
+            });
+            let mut gathered = Gathered::new(&mut output);
+            let answer = match put_all(&mut gathered, &text) {
+                Ok(()) => gathered.flush(),
+                Err(fault) => Err(fault),
+            };
+            assert_eq!(rt; answer.is_ok(), passes, "at {room}");
+            assert_eq!(rt; gathered.failed(), !passes, "at {room}");
+            if !passes {
+                assert_eq!(rt; gathered.put(b"x"), Err(Failed), "at {room}");
+                assert_eq!(rt; gathered.flush(), Err(Failed), "at {room}");
+            }
+            let front = &text[..room.min(text.len())];
+            assert_eq!(rt; output.into_writer().text.as_slice(), front, "at {room}");
+        }
+        Ok(())
+    }
+
+    #[test]
+    fn holds_until_it_is_flushed(rt: HostRuntime) {
+        let mut output = Writing::new(Trickle {
+            text: Vec::new(rt.alloc()),
+            room: 100,
+        });
+        let mut gathered = Gathered::new(&mut output);
+        assert_eq!(rt; gathered.put(b"held"), Ok(4));
+        assert!(rt; output.writer().text.is_empty());
+        let mut gathered = Gathered::new(&mut output);
+        assert_eq!(rt; gathered.put(b"passed on"), Ok(9));
+        assert_eq!(rt; gathered.flush(), Ok(()));
+        assert_eq!(rt; output.writer().text.as_slice(), b"passed on".as_slice());
+    }
+}

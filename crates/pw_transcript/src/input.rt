@@ -1,0 +1,206 @@
+// The end that gives bytes: what was taken from it, when it has failed, and when it has ended.
+ghost use Rattle.std.specs.Prelude.{◌≡◌, ◌<◌, ℕ, List, [], ◌++◌, length, Bool, true, false, is_err, IsErr, IfOk, OnErr};
+ghost use Rattle.std.specs.Io.KnownBytes.{Consumes};
+ghost use Rattle.std.proofs.KnownBytes.{Consumes-nil, Consumes-trans};
+ghost use Rattle.pw_transcript.specs.Taking.{TakeFills};
+
+use pw_info::output::Failed;
+use std::io::Read;
+
+/// An end that gives bytes.
+///
+/// Contracts see what was taken from it as a relation between two moments: `takes old bytes new`
+/// says that these bytes, in this order, were taken between the moment `old` and the moment `new`.
+pub trait Input {
+    // The bytes were taken between the first moment and the second.
+    ghost takes: { Self → List ℕ → Self → Type 0 };
+    // A take has failed.
+    ghost has_failed: { Self → Bool };
+    // A take has answered the end.
+    ghost has_ended: { Self → Bool };
+
+    /// Takes bytes into the front of the buffer, and answers how many: never more than it holds.
+    /// For a buffer that is not empty, 0 is the end.
+    ///
+    /// A take that fails answers `Failed` and takes nothing. Each take after it does the same.
+    /// After the end a take answers 0 again only if there is still nothing to give.
+    fn take(&mut self, buffer: &mut [u8]) -> Result<usize, Failed>
+        ensures taken { TakeFills takes self.old self.new result buffer.new }
+        ensures failed { has_failed self.new ≡ is_err result }
+        ensures stays { has_failed self.old ≡ true → IsErr result }
+        ensures ended { IfOk result (λ n. 0 < length buffer.new → n ≡ 0 → has_ended self.new ≡ true) }
+        ensures goes_on { IfOk result (λ n. 0 < n → has_ended self.new ≡ has_ended self.old) }
+        ensures no_room { length buffer.new ≡ 0 → has_ended self.new ≡ has_ended self.old }
+        ensures no_end { OnErr result (has_ended self.new ≡ has_ended self.old) };
+
+    /// Whether a take has failed.
+    fn failed(&self) -> bool
+        ensures { result ≡ has_failed self.now };
+
+    /// Whether a take has answered the end.
+    fn ended(&self) -> bool
+        ensures { result ≡ has_ended self.now };
+
+    // Nothing is taken at one moment.
+    ghost none: { (s : Self) → takes s [] s };
+    // What is taken first and what is taken next are taken together.
+    ghost joins: { (s t u : Self) (xs ys : List ℕ) → takes s xs t → takes t ys u → takes s (xs ++ ys) u };
+}
+
+/// An input that reads from a reader.
+///
+/// An error of the reader of any kind is a failure.
+#[derive(Drop)]
+pub struct Reading<R> {
+    inner: R,
+    failed: bool,
+    ended: bool,
+}
+
+impl<R> Reading<R> {
+    ghost use Rattle.pw_transcript.specs.Readers.{reader_of, reader_failed, reader_ended};
+
+    /// An input from the reader, which has not failed and not ended.
+    pub fn new(reader: R) -> Reading<R>
+        ensures reader { reader_of result ≡ reader }
+        ensures failed { reader_failed result ≡ false }
+        ensures ended { reader_ended result ≡ false }
+    {
+        Reading {
+            inner: reader,
+            failed: false,
+            ended: false,
+        }
+    }
+
+    /// The reader.
+    pub fn reader(&self) -> &R
+        ensures { result.now ≡ reader_of self.now }
+    {
+        &self.inner
+    }
+
+    /// The reader, taken out.
+    pub fn into_reader(self) -> R
+        ensures { result ≡ reader_of self }
+    {
+        let Reading {
+            inner,
+            failed: _,
+            ended: _,
+        } = self;
+        inner
+    }
+}
+
+impl<R: Read> Input for Reading<R> {
+    ghost use Rattle.pw_transcript.specs.Readers.{reader_of, reader_failed, reader_ended};
+
+    // Where the reader's bytes are known, they begin with those that are taken, and lose them.
+    ghost takes = { λ s bytes t. Consumes (R.remaining (reader_of s)) (R.remaining (reader_of t)) bytes };
+
+    ghost has_failed = { λ s. reader_failed s };
+
+    ghost has_ended = { λ s. reader_ended s };
+
+    fn take(&mut self, buffer: &mut [u8]) -> Result<usize, Failed> {
+        if self.failed {
+            return Err(Failed);
+        }
+        if buffer.is_empty() {
+            return Ok(0);
+        }
+        match self.inner.read(buffer) {
+            Ok(count) => {
+                if count == 0 {
+                    self.ended = true;
+                }
+                Ok(count)
+            }
+            Err(_) => {
+                self.failed = true;
+                Err(Failed)
+            }
+        }
+    }
+
+    fn failed(&self) -> bool {
+        self.failed
+    }
+
+    fn ended(&self) -> bool {
+        self.ended
+    }
+
+    ghost none = { λ s. Consumes-nil (R.remaining (reader_of s)) };
+
+    ghost joins = { λ s t u xs ys p q. Consumes-trans (R.remaining (reader_of s)) (R.remaining (reader_of t)) (R.remaining (reader_of u)) xs ys p q };
+}
+
+#[cfg(test)]
+mod tests {
+    use super::*;
+    use std::io;
+    use std::io::ErrorKind;
+    use std::test::Fail;
+
+    // A reader that gives one byte a read, and fails once when it has given `breaks_at` bytes.
+    #[derive(Drop)]
+    struct Drip<'a> {
+        text: &'a [u8],
+        given: usize,
+        breaks_at: usize,
+    }
+
+    impl Read for Drip<'_> {
+        fn read(&mut self, buf: &mut [u8]) -> io::Result<usize> {
+            if self.given == self.breaks_at {
+                self.breaks_at = usize::MAX;
+                return Err(io::Error::from(ErrorKind::Interrupted));
+            }
+            if buf.is_empty() || self.given >= self.text.len() {
+                return Ok(0);
+            }
+            buf[0] = self.text[self.given];
+            self.given += 1;
+            Ok(1)
+        }
+    }
+
+    #[test]
+    fn takes_the_text_or_a_front(rt: HostRuntime) -> Result<(), Fail> {
+        let text = b"one byte at a time";
+        for breaks_at in 0..20usize {
+            let breaks = breaks_at <= text.len();
+            let mut input = Reading::new(Drip {
+                text,
+                given: 0,
+                breaks_at,
+            });
+            let mut taken = Vec::new(rt.alloc());
+            let mut buffer = [0; 4];
+            for _ in 0..text.len() {
+                if let Ok(count) = input.take(&mut buffer) {
+                    taken.extend_from_slice(&buffer[..count])?;
+                }
+            }
+            assert_eq!(rt;
+                taken.as_slice(),
+                &text[..breaks_at.min(text.len())],
+                "at {breaks_at}"
+            );
+            assert!(rt; !input.ended(), "at {breaks_at}");
+            if breaks {
+                assert_eq!(rt; input.take(&mut buffer), Err(Failed), "at {breaks_at}");
+                assert_eq!(rt; input.take(&mut []), Err(Failed), "at {breaks_at}");
+            } else {
+                assert_eq!(rt; input.take(&mut []), Ok(0), "at {breaks_at}");
+                assert!(rt; !input.ended(), "at {breaks_at}");
+                assert_eq!(rt; input.take(&mut buffer), Ok(0), "at {breaks_at}");
+            }
+            assert_eq!(rt; input.failed(), breaks, "at {breaks_at}");
+            assert_eq!(rt; input.ended(), !breaks, "at {breaks_at}");
+        }
+        Ok(())
+    }
+}

@@ -1,0 +1,44 @@
+//! Declarations and transcripts: lines of commands in, numbered replies out.
+#![tactic(auto)]
+
+mod answer;
+pub mod command;
+pub mod command_text;
+pub mod decl_fault;
+pub mod declaration;
+mod declaration_form;
+pub mod declaration_laws;
+mod declaration_line;
+#[cfg(test)]
+mod declaration_tests;
+pub mod declaration_text;
+pub mod fact;
+pub mod gathered;
+pub mod history;
+pub mod input;
+mod line_buffer;
+pub mod lines;
+pub mod name;
+mod name_table;
+pub mod premise_set;
+pub mod reading;
+pub mod reply;
+pub mod reply_text;
+pub mod sentence;
+#[cfg(test)]
+mod tests;
+mod text_lines;
+pub mod transcript;
+pub mod words;
+
+pub use command::Command;
+pub use command_text::read_command;
+pub use decl_fault::{DeclFault, Why};
+pub use declaration::Declaration;
+pub use declaration_text::read_declaration;
+pub use fact::Fact;
+pub use input::{Input, Reading};
+pub use premise_set::PremiseSet;
+pub use reply::{Refusal, Reply};
+pub use reply_text::write_reply;
+pub use transcript::{Lines, RunFault, run};

@@ -1,0 +1,107 @@
+// Writing replies.
+
+ghost use Rattle.std.specs.Prelude.{◌≡◌, ◌++◌, true, false, codes, OnOk, OnErr};
+ghost use Rattle.std.specs.Fmt.{decimal};
+ghost use Rattle.pw_info.specs.Passing.{PassesPart};
+ghost use Rattle.pw_transcript.specs.ReplyText.{text_of_refusal, text_of_answer, text_of_reply};
+
+use crate::declaration::Declaration;
+use crate::reply::{Refusal, Reply};
+use itoa::Buffer;
+use pw_info::output::{Failed, Output, put_all};
+use pw_info::text::write_info;
+use std::alloc::Allocator;
+
+// The number and the words of a refusal.
+fn refusal_text(refusal: Refusal) -> &'static [u8]
+    ensures { result.now ≡ text_of_refusal refusal }
+{
+    match refusal {
+        Refusal::Syntax => b"1 syntax",
+        Refusal::UnknownUser => b"2 unknown user",
+        Refusal::UnknownCommand => b"3 unknown command",
+        Refusal::UnknownCell => b"4 unknown cell",
+        Refusal::UnknownPremise => b"5 unknown premise",
+        Refusal::NotYourPremise => b"7 not your premise",
+        Refusal::WrongInformation => b"8 wrong information",
+        Refusal::LineTooLong => b"10 line too long",
+        Refusal::Memory => b"11 memory",
+    }
+}
+
+// Writes `refused` and why.
+#[tactic(auto, using(pw_info::proofs::PassingFacts::on_err_after))]
+fn write_refusal<O: Output>(refusal: Refusal, output: &mut O) -> Result<(), Failed>
+    ensures ok { OnOk result (O.passes output.old (codes "refused " ++ text_of_refusal refusal) output.new) }
+    ensures err { OnErr result (PassesPart O.passes output.old output.new (codes "refused " ++ text_of_refusal refusal)) }
+    ensures failed { OnErr result (O.has_failed output.new ≡ true) }
+    ensures works { OnOk result (O.has_failed output.old ≡ false → O.has_failed output.new ≡ false) }
+{
+    put_all(output, b"refused ")?;
+    put_all(output, refusal_text(refusal))
+}
+
+// Writes what a reply says.
+fn write_answer<A: Allocator + Copy, O: Output>(
+    reply: &Reply,
+    declaration: &Declaration<A>,
+    output: &mut O,
+) -> Result<(), Failed>
+    ensures ok { OnOk result (O.passes output.old (text_of_answer declaration.now reply.now) output.new) }
+    ensures err { OnErr result (PassesPart O.passes output.old output.new (text_of_answer declaration.now reply.now)) }
+    ensures failed { OnErr result (O.has_failed output.new ≡ true) }
+    ensures works { OnOk result (O.has_failed output.old ≡ false → O.has_failed output.new ≡ false) }
+{
+    match *reply {
+        Reply::Done => put_all(output, b"ok"),
+        Reply::Value(info) => write_info(&info, declaration, output),
+        Reply::Refused(refusal) => write_refusal(refusal, output),
+    }
+}
+
+// Writes the number of a line, a colon and a space.
+#[tactic(auto, using(pw_info::proofs::PassingFacts::on_err_after))]
+fn write_line_number<O: Output>(line: u32, output: &mut O) -> Result<(), Failed>
+    ensures ok { OnOk result (O.passes output.old (decimal line ++ codes ": ") output.new) }
+    ensures err { OnErr result (PassesPart O.passes output.old output.new (decimal line ++ codes ": ")) }
+    ensures failed { OnErr result (O.has_failed output.new ≡ true) }
+    ensures works { OnOk result (O.has_failed output.old ≡ false → O.has_failed output.new ≡ false) }
+{
+    let mut digits = Buffer::new();
+    put_all(output, digits.format(line).as_bytes())?;
+    put_all(output, b": ")
+}
+
+// Writes what a reply says, and a line feed.
+#[tactic(auto, using(pw_info::proofs::PassingFacts::on_err_after))]
+fn write_answer_line<A: Allocator + Copy, O: Output>(
+    reply: &Reply,
+    declaration: &Declaration<A>,
+    output: &mut O,
+) -> Result<(), Failed>
+    ensures ok { OnOk result (O.passes output.old (text_of_answer declaration.now reply.now ++ codes "\n") output.new) }
+    ensures err { OnErr result (PassesPart O.passes output.old output.new (text_of_answer declaration.now reply.now ++ codes "\n")) }
+    ensures failed { OnErr result (O.has_failed output.new ≡ true) }
+    ensures works { OnOk result (O.has_failed output.old ≡ false → O.has_failed output.new ≡ false) }
+{
+    write_answer(reply, declaration, output)?;
+    put_all(output, b"\n")
+}
+
+/// Writes the reply to a line: the number of the line, a colon and a space, what the reply says, and a line feed.
+/// It takes no memory. On `Failed` a front of the text was passed.
+#[tactic(auto, using(pw_info::proofs::PassingFacts::on_err_after))]
+pub fn write_reply<A: Allocator + Copy, O: Output>(
+    line: u32,
+    reply: &Reply,
+    declaration: &Declaration<A>,
+    output: &mut O,
+) -> Result<(), Failed>
+    ensures ok { OnOk result (O.passes output.old (text_of_reply declaration.now line reply.now) output.new) }
+    ensures err { OnErr result (PassesPart O.passes output.old output.new (text_of_reply declaration.now line reply.now)) }
+    ensures failed { OnErr result (O.has_failed output.new ≡ true) }
+    ensures works { OnOk result (O.has_failed output.old ≡ false → O.has_failed output.new ≡ false) }
+{
+    write_line_number(line, output)?;
+    write_answer_line(reply, declaration, output)
+}

@@ -1,0 +1,303 @@
+// Transcripts from end to end, over memory: what is written for what is read.
+
+ghost use Rattle.std.specs.Prelude.{None};
+
+use crate::declaration::Declaration;
+use crate::declaration_text::read_declaration;
+use crate::input::{Input, Reading};
+use crate::transcript::{Lines, RunFault, run};
+use pw_info::output::{Failed, Output, Writing};
+use std::alloc::Global;
+use std::io;
+use std::io::{ErrorKind, Read, Write};
+use std::test::Fail;
+
+const WORLD: &str =
+    "workbench 1\n# general\nuser ann\nuser bob\npremise a\npremise b\npremise c\npremise mine of bob\ncell x interval\ncell y interval\n";
+
+fn world(alloc: Global) -> Result<Declaration, Fail> {
+    Ok(read_declaration(alloc, WORLD.as_bytes())?)
+}
+
+// What is written for a transcript that is handed in whole.
+fn replies(alloc: Global, transcript: &str) -> Result<Vec<u8>, Fail> {
+    let world = world(alloc)?;
+    let mut input = Reading::new(transcript.as_bytes());
+    let mut output = Writing::new(Vec::new(alloc));
+    run(alloc, &world, &mut input, &mut output)?;
+    Ok(output.into_writer())
+}
+
+#[test]
+fn memory_is_not_an_answer(rt: HostRuntime) -> Result<(), Fail> {
+    let transcript =
+        "ann tell x 1..2 under a\nbob tell x 3..4 under b\nann ask x\nann doubt b\nann ask x\nbob ask x\nann believe b\nann ask x\n";
+    let written = replies(rt.alloc(), transcript)?;
+    assert_eq!(rt;
+        written.as_slice(),
+        b"1: ok\n2: ok\n3: contradiction\n4: ok\n5: 1..2\n6: contradiction\n7: ok\n8: contradiction\n".as_slice()
+    );
+    Ok(())
+}
+
+#[test]
+fn lines_are_refused_in_order(rt: HostRuntime) -> Result<(), Fail> {
+    for (transcript, wanted) in [
+        ("ann", "1: refused 1 syntax\n"),
+        ("eve ask x", "1: refused 2 unknown user\n"),
+        ("eve ask", "1: refused 1 syntax\n"),
+        ("eve say", "1: refused 2 unknown user\n"),
+        ("ann say x", "1: refused 3 unknown command\n"),
+        ("ann attach adder x y x", "1: refused 3 unknown command\n"),
+        ("ann why", "1: refused 3 unknown command\n"),
+        ("ann ask zz", "1: refused 4 unknown cell\n"),
+        ("ann tell zz 9..3", "1: refused 4 unknown cell\n"),
+        ("ann tell under 1", "1: refused 4 unknown cell\n"),
+        ("ann tell x 9..3", "1: refused 8 wrong information\n"),
+        ("ann tell x 007", "1: refused 8 wrong information\n"),
+        ("ann tell x 1000001", "1: refused 8 wrong information\n"),
+        ("ann tell x under", "1: refused 8 wrong information\n"),
+        (
+            "ann tell x 9..3 under zz",
+            "1: refused 8 wrong information\n",
+        ),
+        ("ann tell x 1 under", "1: refused 1 syntax\n"),
+        ("ann tell x 1 under under", "1: refused 5 unknown premise\n"),
+        ("ann believe zz", "1: refused 5 unknown premise\n"),
+        (
+            "ann tell x 1 under mine zz",
+            "1: refused 5 unknown premise\n",
+        ),
+        ("ann tell x 1 under mine", "1: refused 7 not your premise\n"),
+        ("ann ask \u{1}", "1: refused 1 syntax\n"),
+    ] {
+        let written = replies(rt.alloc(), transcript)?;
+        assert_eq!(rt; written.as_slice(), wanted.as_bytes(), "at {transcript}");
+    }
+    Ok(())
+}
+
+#[test]
+fn lines_of_every_form_are_answered(rt: HostRuntime) -> Result<(), Fail> {
+    for (transcript, wanted) in [
+        ("", ""),
+        ("\n \t\r\n# ann ask x\n", ""),
+        ("ann ask x\r\n", "1: nothing\n"),
+        ("\n\nann ask x", "3: nothing\n"),
+        ("bob tell x 4 under mine\nann ask x\n", "1: ok\n2: 4\n"),
+        (
+            "ann tell x 5..7 under c\nann tell x 5..9 under a a\nann tell x 0..7 under b\nbob tell x 5..7 under mine\nann ask x\nann doubt c mine b\nann ask x\nann ask y\n",
+            "1: ok\n2: ok\n3: ok\n4: ok\n5: 5..7\n6: ok\n7: 5..9\n8: nothing\n",
+        ),
+        (
+            "ann tell x -1000000..1000000\nann ask x\nann tell x contradiction\nbob ask x\n",
+            "1: ok\n2: nothing\n3: ok\n4: contradiction\n",
+        ),
+    ] {
+        let written = replies(rt.alloc(), transcript)?;
+        assert_eq!(rt; written.as_slice(), wanted.as_bytes(), "at {transcript}");
+    }
+    Ok(())
+}
+
+#[test]
+fn a_line_may_have_1024_bytes(rt: HostRuntime) -> Result<(), Fail> {
+    for (spaces, wanted) in [
+        (1015usize, b"1: nothing\n2: nothing\n".as_slice()),
+        (
+            1016,
+            b"1: refused 10 line too long\n2: nothing\n".as_slice(),
+        ),
+        (
+            200_000,
+            b"1: refused 10 line too long\n2: nothing\n".as_slice(),
+        ),
+    ] {
+        let mut transcript = String::from_str(rt.alloc(), "ann ask x")?;
+        for _ in 0..spaces {
+            transcript.push(' ')?;
+        }
+        transcript.push_str("\nann ask x")?;
+        let written = replies(rt.alloc(), transcript.as_str())?;
+        assert_eq!(rt; written.as_slice(), wanted, "with {spaces} spaces");
+    }
+    Ok(())
+}
+
+// Gives one byte over and over, as long as there are bytes left, and then ends.
+#[derive(Drop)]
+struct Repeated {
+    byte: u8,
+    left: u64,
+}
+
+impl Read for Repeated {
+    ghost remaining = { λ _. None };
+
+    fn read(&mut self, buffer: &mut [u8]) -> io::Result<usize> {
+        let count = self.left.min(buffer.len() as u64) as usize;
+        buffer[..count].fill(self.byte);
+        self.left -= count as u64;
+        Ok(count)
+    }
+}
+
+// A reader of one text that gives one byte a read.
+#[derive(Drop)]
+struct Trickle<'a> {
+    rest: &'a [u8],
+}
+
+impl Read for Trickle<'_> {
+    ghost remaining = { λ _. None };
+
+    fn read(&mut self, buffer: &mut [u8]) -> io::Result<usize> {
+        let Some((first, rest)) = self.rest.split_first() else {
+            return Ok(0);
+        };
+        if buffer.is_empty() {
+            return Ok(0);
+        }
+        buffer[0] = *first;
+        self.rest = rest;
+        Ok(1)
+    }
+}
+
+#[test]
+fn takes_of_one_byte_give_the_same_replies(rt: HostRuntime) -> Result<(), Fail> {
+    let transcript =
+        "ann tell x 1..2 under a\n\n# a comment\nbob tell x 2..4 under b\r\nann ask x\nann doubt b\nann  ask\tx";
+    let world = world(rt.alloc())?;
+    let mut input = Reading::new(Trickle {
+        rest: transcript.as_bytes(),
+    });
+    let mut output = Writing::new(Vec::new(rt.alloc()));
+    let answer = run(rt.alloc(), &world, &mut input, &mut output);
+    assert_eq!(rt;
+        answer,
+        Ok(Lines {
+            lines: 7,
+            replies: 5
+        })
+    );
+    assert!(rt; input.ended() && !input.failed() && !output.failed());
+    let written = output.into_writer();
+    assert_eq!(rt;
+        written.as_slice(),
+        b"1: ok\n4: ok\n5: 2\n6: ok\n7: 1..2\n".as_slice()
+    );
+    assert_eq!(rt;
+        written.as_slice(),
+        replies(rt.alloc(), transcript)?.as_slice()
+    );
+    Ok(())
+}
+
+// A reader that gives a text and then fails.
+#[derive(Drop)]
+struct Broken<'a> {
+    rest: &'a [u8],
+}
+
+impl Read for Broken<'_> {
+    ghost remaining = { λ _. None };
+
+    fn read(&mut self, buffer: &mut [u8]) -> io::Result<usize> {
+        if self.rest.is_empty() {
+            return Err(io::Error::from(ErrorKind::UnexpectedEof));
+        }
+        self.rest.read(buffer)
+    }
+}
+
+#[test]
+fn a_failing_input_leaves_the_replies_to_ended_lines(rt: HostRuntime) -> Result<(), Fail> {
+    let world = world(rt.alloc())?;
+    let mut input = Reading::new(Broken {
+        rest: b"ann ask x\nann as",
+    });
+    let mut output = Writing::new(Vec::new(rt.alloc()));
+    let answer = run(rt.alloc(), &world, &mut input, &mut output);
+    assert_eq!(rt; answer, Err(RunFault::Read));
+    assert!(rt; input.failed() && !output.failed());
+    assert_eq!(rt; output.into_writer().as_slice(), b"1: nothing\n".as_slice());
+    Ok(())
+}
+
+// A writer that takes so many bytes, one a write, and then fails.
+#[derive(Drop)]
+struct Full {
+    text: Vec<u8>,
+    room: usize,
+}
+
+impl Write for Full {
+    ghost contents = { λ _. None };
+
+    fn write(&mut self, bytes: &[u8]) -> io::Result<usize> {
+        let Some(first) = bytes.first() else {
+            return Ok(0);
+        };
+        if self.text.len() >= self.room {
+            return Err(io::Error::from(ErrorKind::StorageFull));
+        }
+        self.text.push(*first)?;
+        Ok(1)
+    }
+
+    fn flush(&mut self) -> io::Result<()> {
+        Ok(())
+    }
+}
+
+#[test]
+fn a_failing_output_gets_a_front_of_the_replies(rt: HostRuntime) -> Result<(), Fail> {
+    let wanted = b"1: ok\n2: 1..2\n3: refused 2 unknown user\n".as_slice();
+    let transcript = b"ann tell x 1..2\nbob ask x\neve ask x\n".as_slice();
+    for room in 0..=wanted.len() {
+        let world = world(rt.alloc())?;
+        let mut input = Reading::new(transcript);
+        let mut output = Writing::new(Full {
+            text: Vec::new(rt.alloc()),
+            room,
+        });
+        let answer = run(rt.alloc(), &world, &mut input, &mut output);
+        assert_eq!(rt; answer.is_ok(), room == wanted.len(), "at {room}");
+        assert_eq!(rt; output.failed(), room < wanted.len(), "at {room}");
+        assert_eq!(rt;
+            output.into_writer().text.as_slice(),
+            &wanted[..room],
+            "at {room}"
+        );
+    }
+    Ok(())
+}
+
+#[test]
+fn limits_of_a_run(rt: HostRuntime) -> Result<(), Fail> {
+    for (byte, left, wanted) in [
+        (
+            b'\n',
+            1_000_000u64,
+            Ok(Lines {
+                lines: 1_000_000,
+                replies: 0,
+            }),
+        ),
+        (b'\n', 1_000_001, Err(RunFault::Limit)),
+        (b'x', u64::MAX, Err(RunFault::Limit)),
+    ] {
+        let world = world(rt.alloc())?;
+        let mut input = Reading::new(Repeated { byte, left });
+        let mut output = Writing::new(Vec::new(rt.alloc()));
+        let answer = run(rt.alloc(), &world, &mut input, &mut output);
+        assert_eq!(rt; answer, wanted, "at {byte} times {left}");
+        assert_eq!(rt;
+            output.into_writer().as_slice(),
+            b"".as_slice(),
+            "at {byte}"
+        );
+    }
+    Ok(())
+}

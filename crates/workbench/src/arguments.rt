@@ -1,0 +1,189 @@
+//! The command line: what the program is asked to do, and its help.
+
+use clap::error::ErrorKind;
+use clap::{Arg, Command, Error};
+use std::alloc::{AllocError, Global};
+use std::rt::Env;
+use std::{env, io};
+
+const VERSION: &str = "0.1.0";
+
+const ABOUT: &str =
+    "Answers what users tell and ask of shared cells, each under the premises they believe";
+
+const MORE: &str = "Files:
+  DECL        a declaration: first `workbench 1`, then a line for each user, premise and cell, as
+              `user ann`, `premise a`, `premise b of ann` (ann's alone to tell under),
+              `cell x interval`
+  TRANSCRIPT  a command on each line, read from standard input where no file is named
+
+Command lines:
+  USER tell CELL INFO [under P..]  tells of CELL that it is INFO, as 5 or 1..5, given the premises P..
+  USER believe P..                 USER believes the premises; at the start every user believes all
+  USER doubt P..                   USER believes them no longer
+  USER ask CELL                    asks what is known of CELL under the premises USER believes
+
+Each command is answered on standard output by a line `N: REPLY`, where N is the number of its line.
+
+Status:
+  0  the transcript was answered to its end
+  1  a fault, told by one line on standard error
+  2  a bad command line
+
+Example, with the declaration above:
+  $ printf 'ann tell x 1..5 under a\\nann ask x\\n' | workbench run DECL
+  1: ok
+  2: 1..5
+
+The manual is docs/FORMATS.md.";
+
+/// What the program is asked to do: to answer a transcript over a declaration.
+#[derive(Clone, Copy, Debug, PartialEq, Eq)]
+pub struct Job<'a> {
+    /// The name of the file of the declaration.
+    pub declaration: &'a str,
+    /// The name of the file of the transcript. Without one it is read from standard input.
+    pub transcript: Option<&'a str>,
+}
+
+/// The words of the command line.
+///
+/// An error is want of memory, or a word that is not UTF-8, which is a bad command line.
+pub fn words_of<R: Env + AllocGlobal>(rt: &R) -> Result<Vec<String>, Error> {
+    match env::args(rt) {
+        Ok(words) => Ok(words.collect(rt.alloc())?),
+        Err(error) if error.kind() == io::ErrorKind::OutOfMemory => Err(Error::from(AllocError)),
+        Err(_) => Err(bad_command_line(rt.alloc(), "a word is not UTF-8")),
+    }
+}
+
+// The command line that the program understands.
+fn command<'a>(alloc: Global) -> Result<Command<'a>, Error> {
+    let declaration = Arg::new(alloc, "DECL")
+        .help("The file of the declaration")
+        .required(true);
+    let transcript = Arg::new(alloc, "TRANSCRIPT").help(
+        "The file of the transcript, instead of standard input",
+    );
+    let run = Command::new(alloc, "run")
+        .about("Answers each command of a transcript")
+        .arg(declaration)?
+        .arg(transcript)?;
+    let workbench = Command::new(alloc, "workbench")
+        .version(VERSION)
+        .about(ABOUT)
+        .after_help(MORE)
+        .subcommand_required(true)
+        .subcommand(run)?;
+    Ok(workbench)
+}
+
+/// What the words of the command line ask for. The first word is the program's name.
+///
+/// An error is a bad command line, a call for help or for the version, or want of memory. Its text
+/// is what the user is to be told.
+pub fn read_arguments<'a>(alloc: Global, words: &'a [String]) -> Result<Job<'a>, Error> {
+    let matches = command(alloc)?.try_get_matches_from(words)?;
+    if let Some(run) = matches.subcommand_matches("run") {
+        if let Some(declaration) = run.get_str("DECL") {
+            return Ok(Job {
+                declaration,
+                transcript: run.get_str("TRANSCRIPT"),
+            });
+        }
+    }
+    // The command lets no words through that lack either.
+    Err(bad_command_line(alloc, "nothing to run was named"))
+}
+
+// A bad command line, told by this message. It is want of memory where there is none for the text.
+fn bad_command_line(alloc: Global, message: &str) -> Error {
+    match command(alloc) {
+        Ok(mut command) => match command.error(ErrorKind::UnknownArgument, message) {
+            Ok(error) => error,
+            Err(refused) => Error::from(refused),
+        },
+        Err(error) => error,
+    }
+}
+
+#[cfg(test)]
+mod tests {
+    use super::*;
+    use std::test::Fail;
+
+    // The words of a command line, split at the blanks.
+    fn words_of(alloc: Global, line: &str) -> Result<Vec<String>, Fail> {
+        let mut words = Vec::new(alloc);
+        for word in line.split(' ') {
+            words.push(String::from_str(alloc, word)?)?;
+        }
+        Ok(words)
+    }
+
+    #[test]
+    fn good_command_lines(rt: HostRuntime) -> Result<(), Fail> {
+        let rows = [
+            ("workbench run d", "d", None),
+            ("bin/workbench run d t", "d", Some("t")),
+            ("workbench run -- --d -t", "--d", Some("-t")),
+        ];
+        for (line, declaration, transcript) in rows {
+            let words = words_of(rt.alloc(), line)?;
+            let job = read_arguments(rt.alloc(), &words)?;
+            assert_eq!(rt;
+                job,
+                Job {
+                    declaration,
+                    transcript
+                },
+                "{line}"
+            );
+        }
+        Ok(())
+    }
+
+    #[test]
+    fn bad_command_lines(rt: HostRuntime) -> Result<(), Fail> {
+        let rows = [
+            ("workbench", ErrorKind::MissingSubcommand),
+            ("workbench check d", ErrorKind::InvalidSubcommand),
+            ("workbench run", ErrorKind::MissingRequiredArgument),
+            ("workbench run d t u", ErrorKind::UnknownArgument),
+            ("workbench run --fast d", ErrorKind::UnknownArgument),
+        ];
+        for (line, kind) in rows {
+            let words = words_of(rt.alloc(), line)?;
+            match read_arguments(rt.alloc(), &words) {
+                Ok(_) => return Err(Fail::from("it was read")),
+                Err(error) => {
+                    assert_eq!(rt; error.kind(), kind, "{line}");
+                    assert!(rt; error.use_stderr(), "{line}");
+                }
+            }
+        }
+        Ok(())
+    }
+
+    #[test]
+    fn help_and_version(rt: HostRuntime) -> Result<(), Fail> {
+        let rows = [
+            ("workbench --help", "The manual is docs/FORMATS.md.\n"),
+            ("workbench help", "The manual is docs/FORMATS.md.\n"),
+            ("workbench help run", "Print help\n"),
+            ("workbench --version", "workbench 0.1.0\n"),
+        ];
+        for (line, end) in rows {
+            let words = words_of(rt.alloc(), line)?;
+            match read_arguments(rt.alloc(), &words) {
+                Ok(_) => return Err(Fail::from("it was read")),
+                Err(error) => {
+                    let text = error.to_string(rt.alloc())?;
+                    assert!(rt; !error.use_stderr(), "{line}");
+                    assert!(rt; text.as_str().ends_with(end), "{line}: {text}");
+                }
+            }
+        }
+        Ok(())
+    }
+}

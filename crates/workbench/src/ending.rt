@@ -1,0 +1,69 @@
+//! How the program ends: what it tells, and its status.
+ghost use Rattle.std.specs.Prelude.{◌≡◌, ◌≢◌, ◌≤◌, IsErrOf, OnOk};
+ghost use Rattle.std.specs.Process.{exit_status};
+ghost use Rattle.clap.specs.Values.{kind_of};
+ghost use Rattle.clap.specs.declared.error.kind.ErrorKind.TheVariants as kind;
+
+use crate::fault::{Fault, fault_line};
+use clap::error::ErrorKind;
+use pw_transcript::transcript::RunFault;
+use std::alloc::AllocError;
+use std::process::ExitCode;
+
+/// Why the program ends before it has answered a transcript to its end.
+#[derive(Debug, Drop)]
+pub enum Stop<'a> {
+    /// The command line is bad, or it asks for help or for the version.
+    Words(clap::Error),
+    /// There is a fault.
+    Fault(Fault<'a>),
+}
+
+impl<'a> From<clap::Error> for Stop<'a> {
+    // Want of memory is a fault, and no bad command line.
+    fn from(error: clap::Error) -> Stop<'a> {
+        if error.kind() == ErrorKind::OutOfMemory {
+            Stop::Fault(Fault::Memory)
+        } else {
+            Stop::Words(error)
+        }
+    }
+}
+
+impl<'a> From<Fault<'a>> for Stop<'a> {
+    fn from(fault: Fault<'a>) -> Stop<'a> {
+        Stop::Fault(fault)
+    }
+}
+
+// Tells a fault on standard error, and answers the status of a fault.
+fn tell_fault<R: Eprint + AllocGlobal>(rt: &R, fault: &Fault<'_>) -> ExitCode
+    ensures { exit_status result ≡ 1 }
+{
+    // Nobody is left to be told that standard error fails.
+    let _ = match fault_line(rt.alloc(), fault) {
+        Ok(line) => rt.eprintln(line),
+        Err(AllocError) => rt.eprintln(Fault::Memory),
+    };
+    ExitCode::FAILURE
+}
+
+/// Tells why the program stops, if it does, and answers its status: 0, or 1 for a fault, or 2 for a bad command line.
+///
+/// Help and the version go to standard output. Where that fails it is a fault as for replies.
+pub fn conclude<R: Print + Eprint + AllocGlobal>(rt: &R, ended: Result<(), Stop<'_>>) -> ExitCode
+    ensures ok { OnOk ended.entry (exit_status result ≡ 0) }
+    ensures fault { (fault : _) → IsErrOf ended.entry (Stop.Fault fault) → exit_status result ≡ 1 }
+    ensures bad { (error : _) → IsErrOf ended.entry (Stop.Words error) → kind_of error ≢ kind.DisplayHelp → kind_of error ≢ kind.DisplayVersion → exit_status result ≡ 2 }
+    ensures most { exit_status result ≤ 2 }
+{
+    let error = match ended {
+        Ok(()) => return ExitCode::SUCCESS,
+        Err(Stop::Fault(fault)) => return tell_fault(rt, &fault),
+        Err(Stop::Words(error)) => error,
+    };
+    match error.print(rt) {
+        Err(_) if !error.use_stderr() => tell_fault(rt, &Fault::Run(RunFault::Write)),
+        _ => ExitCode::from(error.exit_code() as u8),
+    }
+}

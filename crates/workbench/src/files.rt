@@ -1,0 +1,38 @@
+//! The files that the program reads.
+ghost use Rattle.std.specs.Prelude.{◌≡◌, take, IfOk, IfSome};
+
+use crate::fault::Fault;
+use pw_transcript::{Declaration, read_declaration};
+use std::alloc::Allocator;
+use std::io::{ErrorKind, Read};
+use std::rt::Files;
+use std::{fs, io};
+
+// One byte more than a declaration may have: enough for the fault of a text that is too long.
+const MOST_BYTES: u64 = 1_048_577;
+
+// The bytes that a reader gives up to its end, but no more than 1,048,577.
+fn read_front<A: Allocator, R: Read + Drop>(alloc: A, reader: R) -> io::Result<Vec<u8, A>>
+    ensures { IfOk result (λ bytes. IfSome (R.remaining reader) (λ all. bytes.items ≡ take 1048577 all)) }
+{
+    let mut bytes = Vec::new(alloc);
+    reader.take(MOST_BYTES).read_to_end(&mut bytes)?;
+    Ok(bytes)
+}
+
+/// The declaration in the file of this name.
+///
+/// The file may not be opened, a read of it may fail, and its text may be at fault.
+pub fn load_declaration<'a, R: Files + AllocGlobal>(
+    rt: &R,
+    name: &'a str,
+) -> Result<Declaration, Fault<'a>> {
+    let Ok(file) = fs::open(rt, name) else {
+        return Err(Fault::CannotRead(name));
+    };
+    match read_front(rt.alloc(), file) {
+        Ok(text) => Ok(read_declaration(rt.alloc(), &text)?),
+        Err(error) if error.kind() == ErrorKind::OutOfMemory => Err(Fault::Memory),
+        Err(_) => Err(Fault::CannotRead(name)),
+    }
+}
