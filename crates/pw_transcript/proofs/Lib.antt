@@ -1,4 +1,5 @@
 pub mod AnswerLemmas
+pub mod BlankLemmas
 pub mod DeclarationLaws
 pub mod DeclarationLines
 pub mod DeclarationSteps
