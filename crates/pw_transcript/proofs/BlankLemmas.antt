@@ -54,7 +54,7 @@ module _ (d : Declared) where
       (sym (reply_to-unrefused before reading) ∙ ap (λ (rs : List Reading). reply_to d rs reading) e ∙ reply_to-unrefused other reading)
       ∙ ap (λ replies. reply_to d other reading ∷ replies)
       (replies_after-alike (before ++ reading ∷ []) (other ++ reading ∷ []) after
-          (map_push unrefused before reading ∙ ap (λ (rs : List Reading). rs ++ unrefused reading ∷ []) e ∙ sym (map_push unrefused other reading)))
+      (map_push unrefused before reading ∙ ap (λ (rs : List Reading). rs ++ unrefused reading ∷ []) e ∙ sym (map_push unrefused other reading)))
 
   pub refused_is_blank : (before after : List Reading) (refusal : Refusal) → replies_after d (before ++ Refused refusal ∷ []) after ≡ replies_after d (before ++ Blank ∷ []) after
   refused_is_blank before after refusal =

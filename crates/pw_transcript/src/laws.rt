@@ -13,5 +13,4 @@ use crate::reply::Refusal;
 pub fn refused_lines_count_as_blank()
     ensures { (d : Declared) (before after : List Reading) (refusal : Refusal) →
         replies_after d (before ++ Refused refusal ∷ []) after ≡ replies_after d (before ++ Blank ∷ []) after }
-{
-}
+{}

@@ -1,0 +1,49 @@
+-- What the members of a set that are still possible say of a place: a set of whole numbers, given by its test.
+use Rattle.std.specs.Prelude.{◌≡◌, ℕ, ℤ, pos, ◌<◌, Bool, true, false, ◌&&◌, refl}
+use Rattle.pw_kinds.specs.declared.members.Members.{Members}
+use Rattle.pw_kinds.specs.Places.{is_size, mask_allows, mask_of, checked_mask, empty_mask}
+
+-- how many members the set has
+abbrev pub size_of : Members → ℕ
+size_of m = m.size
+
+-- whether a whole number is the place of a member that is still possible
+abbrev pub allows : Members → ℤ → Bool
+allows m v = mask_allows m.mask v
+
+-- no member is possible
+abbrev pub IsEmpty : Members → Type 0
+IsEmpty m = (v : ℤ) → allows m v ≡ false
+
+-- every member is possible
+abbrev pub IsFull : Members → Type 0
+IsFull m = (k : ℕ) → k < size_of m → allows m (pos k) ≡ true
+
+-- each place that is possible in the first is possible in the second
+abbrev pub IsWithin : Members → Members → Type 0
+IsWithin m n = (v : ℤ) → allows m v ≡ true → allows n v ≡ true
+
+-- the members of a set of so many whose place passes; of a size that no set has, an empty set of two
+unfoldable pub checked : (size : ℕ) (p : ℤ → Bool) (b : Bool) → is_size size ≡ b → Members
+checked size p true e = record { size = size; mask = mask_of p size; places = checked_mask p size e }
+checked size p false e = record { size = 2; mask = 0; places = empty_mask }
+
+unfoldable pub closest : ℕ → (ℤ → Bool) → Members
+closest size p = checked size p _ refl
+
+-- every member of a set of so many
+abbrev pub full : ℕ → Members
+full size = closest size (λ v. true)
+
+-- no member of a set of so many
+abbrev pub empty : ℕ → Members
+empty size = closest size (λ v. false)
+
+-- the merge of two of one size: what both leave possible
+abbrev pub meet_of : Members → Members → Members
+meet_of m n = closest (size_of m) (λ v. allows m v && allows n v)
+
+-- the members whose place passes, in words: of the size, and of its places just those that pass are possible
+pub record IsClosest (size : ℕ) (p : ℤ → Bool) (m : Members) : Type 0 where
+  pub of_size : size_of m ≡ size
+  pub holds : (k : ℕ) → k < size → allows m (pos k) ≡ p (pos k)

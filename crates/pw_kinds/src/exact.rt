@@ -1,0 +1,157 @@
+ghost use Rattle.std.specs.Prelude.{◌≤ℤ◌};
+ghost use Rattle.pw_kinds.specs.Number.{lowest, highest};
+
+/// A whole number from -1,000,000,000 to 1,000,000,000.
+#[derive(Clone, Copy, Debug, PartialEq, Eq)]
+pub struct Number {
+    value: i64,
+    ghost at_least: { lowest ≤ℤ value },
+    ghost at_most: { value ≤ℤ highest },
+}
+
+/// What is known of a whole number between -1,000,000,000 and 1,000,000,000 that is known exactly or not at all. Two
+/// that leave the same numbers possible are equal.
+#[derive(Clone, Copy, Debug, PartialEq, Eq)]
+pub enum Exact {
+    /// Every number in range is possible.
+    Any,
+    /// Just this number is possible.
+    One(Number),
+    /// No number is possible.
+    Nothing,
+}
+
+impl Exact {
+    ghost use Rattle.std.specs.Prelude.{◌≡◌, ℤ, ◌↔◌, ◌&&◌, Bool, true, false, Some, IsTrue, IsSome, IfSome};
+    ghost use Rattle.pw_kinds.specs.Number.{IsNumber, is_number};
+    ghost use Rattle.pw_kinds.specs.Exact.{allows, IsEmpty, IsAny, IsOne, IsWithin, any, none, meet_of};
+
+    /// Every number in range.
+    pub fn any() -> Exact
+        ensures values { (v : ℤ) → allows result v ≡ is_number v }
+        ensures exact { result ≡ any }
+    {
+        Exact::Any
+    }
+
+    /// Just this number. None outside -1,000,000,000 to 1,000,000,000.
+    pub fn one(n: i64) -> Option<Exact>
+        ensures some { IsSome result ↔ IsNumber n }
+        ensures values { IfSome result (λ e. IsOne e n) }
+    {
+        if n < -1_000_000_000 || n > 1_000_000_000 {
+            return None;
+        }
+        Some(Exact::One(Number { value: n }))
+    }
+
+    /// No number.
+    pub fn none() -> Exact
+        ensures values { IsEmpty result }
+        ensures exact { result ≡ none }
+    {
+        Exact::Nothing
+    }
+
+    /// Whether every number in range is possible.
+    pub fn is_any(self) -> bool
+        ensures { IsTrue result ↔ IsAny self }
+    {
+        matches!(self, Exact::Any)
+    }
+
+    /// Whether no number is possible.
+    pub fn is_none(self) -> bool
+        ensures { IsTrue result ↔ IsEmpty self }
+    {
+        matches!(self, Exact::Nothing)
+    }
+
+    /// The number where exactly one is possible.
+    pub fn number(self) -> Option<i64>
+        ensures { (n : ℤ) → (result ≡ Some n) ↔ IsOne self n }
+    {
+        match self {
+            Exact::One(number) => Some(number.value),
+            _ => None,
+        }
+    }
+
+    /// The merge of two: the numbers that both leave possible.
+    pub fn meet(self, other: Exact) -> Exact
+        ensures values { (v : ℤ) → allows result v ≡ (allows self v && allows other v) }
+        ensures exact { result ≡ meet_of self other }
+    {
+        match (self, other) {
+            (Exact::Any, known) | (known, Exact::Any) => known,
+            (Exact::One(one), Exact::One(another)) if one.value == another.value => self,
+            _ => Exact::Nothing,
+        }
+    }
+
+    /// Whether each number that is possible here is possible in the other.
+    pub fn within(self, other: Exact) -> bool
+        ensures { IsTrue result ↔ IsWithin self other }
+    {
+        match (self, other) {
+            (Exact::Nothing, _) | (_, Exact::Any) => true,
+            (Exact::One(one), Exact::One(another)) => one.value == another.value,
+            _ => false,
+        }
+    }
+}
+
+#[cfg(test)]
+mod tests {
+    use super::*;
+    use std::test::Fail;
+
+    fn one(n: i64) -> Result<Exact, Fail> {
+        Ok(Exact::one(n).ok_or("no such number")?)
+    }
+
+    #[test]
+    fn one_takes_numbers_in_range(rt: HostRuntime) -> Result<(), Fail> {
+        for n in [-1_000_000_001, 1_000_000_001, i64::MIN, i64::MAX] {
+            assert_eq!(rt; Exact::one(n), None, "{n}");
+        }
+        for n in [-1_000_000_000, -1, 0, 7, 1_000_000_000] {
+            let exact = one(n)?;
+            assert_eq!(rt; exact.number(), Some(n), "{n}");
+            assert!(rt; !exact.is_any() && !exact.is_none(), "{n}");
+        }
+        Ok(())
+    }
+
+    #[test]
+    fn any_and_none(rt: HostRuntime) -> Result<(), Fail> {
+        let (any, none) = (Exact::any(), Exact::none());
+        assert!(rt; any.is_any() && !any.is_none());
+        assert!(rt; none.is_none() && !none.is_any());
+        assert_eq!(rt; (any.number(), none.number()), (None, None));
+        let text = format!(in rt.alloc(); "{:?} {any:?} {none:?}", one(-3)?)?;
+        assert_eq!(rt; text.as_str(), "One(Number { value: -3 }) Any Nothing");
+        Ok(())
+    }
+
+    #[test]
+    fn meet_and_within(rt: HostRuntime) -> Result<(), Fail> {
+        let (any, none, seven, eight) = (Exact::any(), Exact::none(), one(7)?, one(8)?);
+        for (own, other, both, within) in [
+            (seven, seven, seven, true),
+            (seven, eight, none, false),
+            (seven, any, seven, true),
+            (any, seven, seven, false),
+            (any, any, any, true),
+            (none, any, none, true),
+            (any, none, none, false),
+            (none, seven, none, true),
+            (seven, none, none, false),
+            (none, none, none, true),
+        ] {
+            assert_eq!(rt; own.meet(other), both, "{own:?} and {other:?}");
+            assert_eq!(rt; own.within(other), within, "{own:?} in {other:?}");
+        }
+        Ok(())
+    }
+}
