@@ -59,7 +59,8 @@ impl Info {
         }
     }
 
-    /// The merge of two informations of one kind: the values that both leave possible.
+    /// The merge of two informations of one kind: the values that both leave possible. (Radul and Sussman, *The Art of
+    /// the Propagator*, on partial information: merging is commutative, associative and idempotent.)
     pub fn meet(&self, other: &Info) -> Info
         requires { kind_of self.now ≡ kind_of other.now }
         ensures kind { kind_of result ≡ kind_of self.now }

@@ -1,6 +1,6 @@
 -- What a line that is held, or too long to be held, comes to.
-use Rattle.std.proofs.Common.{◌≡◌, ℕ, ◌<◌, ◌≤◌, nat_le, Bool, true, false, List, length, Option, Some, None, refl, sym, ap, ◌∙◌, subst, inl, inr, arith}
-use Rattle.std.proofs.lemmas.Bool.{cases_Bool, leb-true, leb-false}
+use Rattle.std.proofs.Common.{◌≡◌, ℕ, ◌<◌, nat_le, List, length, Some, None, refl, subst, inl, inr}
+use Rattle.std.proofs.lemmas.Bool.{cases_Bool, leb-false}
 use Rattle.pw_info.specs.declared.kind.Kind.{Kind}
 use Rattle.pw_transcript.specs.declared.command.Command.{Command}
 use Rattle.pw_transcript.specs.declared.reply.Reply.{Reply}

@@ -1,15 +1,13 @@
 -- Refused lines leave what blank lines leave: nothing.
-use Rattle.std.proofs.Common.{◌≡◌, ℕ, ◌+◌, ◌==◌, List, [], ◌∷◌, ◌++◌, map, Option, Some, None, refl, sym, ap, ◌∙◌}
+use Rattle.std.proofs.Common.{◌≡◌, ℕ, ◌+◌, ◌==◌, List, [], ◌∷◌, ◌++◌, map, Some, refl, sym, ap, ◌∙◌}
 use Rattle.std.specs.Prelude.{if◌then◌else◌}
 use Rattle.std.specs.FinSet.{union, difference}
 use Rattle.std.proofs.lemmas.List.{map_push}
-use Rattle.pw_transcript.specs.declared.command.Command.{Command}
 use Rattle.pw_transcript.specs.declared.command.Command.TheVariants as commands
 use Rattle.pw_transcript.specs.declared.reply.Refusal.{Refusal}
-use Rattle.pw_transcript.specs.declared.reply.Reply.{Reply}
 use Rattle.pw_transcript.specs.Declaration.{Declared}
 use Rattle.pw_transcript.specs.Reading.{Premises, Reading, Blank, Refused, Says}
-use Rattle.pw_transcript.specs.History.{Entry, Told, entries_from, entries_before, beliefs_after, beliefs_at}
+use Rattle.pw_transcript.specs.History.{Told, entries_from, entries_before, beliefs_after, beliefs_at}
 use Rattle.pw_transcript.specs.Answer.{answer_to, user_of, reply_to, replies_after}
 
 -- a reading with a refusal taken for a blank line

@@ -1,11 +1,9 @@
 -- The set of the premises that words name, one word after another.
-use Rattle.std.proofs.Common.{◌≡◌, ℕ, Bool, true, false, ◌||◌, List, [], ◌∷◌, Option, Some, None, refl, sym, ap, ◌∙◌}
-use Rattle.std.specs.Prelude.{nat_eq}
-use Rattle.std.specs.List.{filter_map}
+use Rattle.std.proofs.Common.{◌≡◌, ℕ, Bool, true, false, ◌||◌, List, ◌∷◌, Some, refl, sym, ap, ◌∙◌}
 use Rattle.std.specs.Ordering.{nat_cmp}
 use Rattle.std.specs.Cmp.{nat_cmp_total}
 use Rattle.std.specs.Ordering.{eq_by_cmp}
-use Rattle.std.specs.FinSet.{FinSet, empty, insert, contains, union, from_list, same_set, contains-empty, contains-insert, contains-union, nat_cmp-IsAntisymmetric}
+use Rattle.std.specs.FinSet.{empty, insert, contains, union, same_set, contains-empty, contains-insert, contains-union, nat_cmp-IsAntisymmetric}
 use Rattle.pw_transcript.specs.Place.{place_of}
 use Rattle.pw_transcript.specs.Declaration.{Declared}
 use Rattle.pw_transcript.specs.Reading.{Premises, premises_of}

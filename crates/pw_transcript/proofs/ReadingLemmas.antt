@@ -1,5 +1,5 @@
 -- A line has at most one reading.
-use Rattle.std.proofs.Common.{◌≡◌, ℕ, ◌<◌, ◌≤◌, Bool, true, false, List, [], ◌∷◌, length, Option, Some, None, ◌⊎◌, inl, inr, refl, sym, ap, ◌∙◌, subst, arith, rules}
+use Rattle.std.proofs.Common.{◌≡◌, ℕ, ◌<◌, ◌≤◌, true, false, List, length, Option, Some, None, inl, inr, refl, sym, ap, ◌∙◌, subst, arith}
 use Rattle.std.specs.List.{list_all}
 use Rattle.pw_info.specs.declared.info.Info.{Info}
 use Rattle.pw_info.specs.Spelling.{SpellsInfo}
@@ -10,11 +10,10 @@ use Rattle.pw_transcript.specs.declared.fact.Fact.{Fact}
 use Rattle.pw_transcript.specs.declared.reply.Refusal.{Refusal}
 use Rattle.pw_transcript.specs.declared.reply.Refusal.TheVariants as refusal
 use Rattle.pw_transcript.specs.First.{IsFirstIn, HoldsOfNone}
-use Rattle.pw_transcript.specs.Place.{place_of}
 use Rattle.pw_transcript.specs.Declaration.{Declared, kind_at}
-use Rattle.pw_transcript.specs.Sentence.{Sentence, Tell, Believe, Doubt, Ask, Other, IsSentence, sentence_of}
+use Rattle.pw_transcript.specs.Sentence.{Sentence, Tell, Believe, Doubt, Ask, Other, sentence_of}
 use Rattle.pw_transcript.specs.Words.{words_of, is_idle, is_allowed}
-use Rattle.pw_transcript.specs.Reading.{Premises, members_of, premises_of, Means, AppliesTo, sentence_refusals, SaysSentence, AppliesToLine, Applies, line_refusals, Reading, Blank, Refused, Says, Reads}
+use Rattle.pw_transcript.specs.Reading.{members_of, premises_of, Means, AppliesTo, sentence_refusals, SaysSentence, AppliesToLine, Applies, line_refusals, Reading, Blank, Refused, Says, Reads}
 use Rattle.pw_transcript.proofs.FirstLemmas.{one_first, none_is_first, IsFirstIn-from, HoldsOfNone-from}
 use Rattle.pw_transcript.proofs.SentenceLemmas.{one_sentence, given, found}
 

@@ -1,8 +1,7 @@
 -- How far the lines of a transcript are answered, from one piece of bytes to the next.
-use Rattle.std.proofs.Common.{◌≡◌, ◌≢◌, ℕ, suc, ◌+◌, ◌<◌, ◌≤◌, Bool, true, false, eqb, nat_le, List, [], ◌∷◌, ◌++◌, length, Option, Some, None, Result, Ok, Err, OnOk, OnErr, Contains, refl, sym, ap, ◌∙◌, subst, inl, inr, append-nil, append_assoc, length-append, length-take-le, take, drop, arith}
+use Rattle.std.proofs.Common.{◌≡◌, ◌≢◌, ℕ, suc, ◌+◌, ◌<◌, ◌≤◌, Bool, true, false, eqb, nat_le, List, [], ◌∷◌, ◌++◌, length, Option, Result, Ok, Err, OnOk, OnErr, Contains, refl, sym, ap, ◌∙◌, subst, inl, inr, append-nil, append_assoc, length-append, length-take-le, take, drop, arith}
 use Rattle.std.proofs.lemmas.List.{take-append-le, take-append-drop}
 use Rattle.std.specs.Prelude.{if◌then◌else◌, is_some}
-use Rattle.std.specs.List.{AllByRecursion}
 use Rattle.std.proofs.lemmas.Bool.{cases_Bool, eqb-true, eqb-false}
 use Rattle.pw_info.specs.Passing.{PassesPart}
 use Rattle.pw_info.proofs.PassingFacts.{PassesPart-after, PassesPart-all, PassesPart-none}
@@ -13,8 +12,8 @@ use Rattle.pw_transcript.proofs.GatheringFacts.{gathered_part}
 use Rattle.pw_transcript.specs.declared.reply.Refusal.TheVariants as refusal
 use Rattle.pw_transcript.specs.Lines.{lines_of, HasNoEnd, text_of_lines, last_line}
 use Rattle.pw_transcript.specs.Declaration.{Declared}
-use Rattle.pw_transcript.specs.Reading.{Reading, Refused, Reads}
-use Rattle.pw_transcript.specs.Answer.{reply_to, replies_of}
+use Rattle.pw_transcript.specs.Reading.{Reading, Refused}
+use Rattle.pw_transcript.specs.Answer.{replies_of}
 use Rattle.pw_transcript.specs.Answering.{held_line, AnswersLine, FailsInLine}
 use Rattle.pw_transcript.specs.Past.{Past, past_after, reply_in, IsPastOf}
 use Rattle.pw_transcript.specs.ReplyText.{text_if_any, text_of_replies}

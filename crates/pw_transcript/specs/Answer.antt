@@ -8,7 +8,6 @@ use Rattle.pw_transcript.specs.declared.command.Command.{Command}
 use Rattle.pw_transcript.specs.declared.command.Command.TheVariants as commands
 use Rattle.pw_transcript.specs.declared.reply.Reply.{Reply}
 use Rattle.pw_transcript.specs.declared.reply.Reply.TheVariants as reply
-use Rattle.pw_transcript.specs.declared.fact.Fact.{Fact}
 use Rattle.pw_transcript.specs.Declaration.{Declared, kind_at}
 use Rattle.pw_transcript.specs.Reading.{Premises, Reading, Blank, Refused, Says}
 use Rattle.pw_transcript.specs.History.{Entry, Told, entries_before, beliefs_at}

@@ -108,6 +108,17 @@ pub record IsFaultOnLine (text : List ℕ) (number : ℕ) (why : Why) : Type 0 w
   pub leads : Leads None before so_far
   pub fault : IsFaultNext so_far rest why
 
+-- the text is not too long and has a line of this number, from 1, and the lines before it have no fault
+pub record IsReached (text : List ℕ) (number : ℕ) : Type 0 where
+  pub before : List (List ℕ)
+  pub line : List ℕ
+  pub rest : List (List ℕ)
+  pub so_far : Option Declared
+  pub short : length text ≤ 1048576
+  pub lines : lines_of text ≡ before ++ line ∷ rest
+  pub count : number ≡ length before + 1
+  pub leads : Leads None before so_far
+
 -- the first fault of a text, and the number of its line, from 1; too long a text is a fault at line 0
 abbrev pub IsFirstFault : List ℕ → ℕ → Why → Type 0
 IsFirstFault text number why =

@@ -1,5 +1,5 @@
 -- The theorem of a run: what is written is, line by line, the reply that each line gets from scratch.
-use Rattle.std.specs.Prelude.{◌≡◌, ℕ, ◌+◌, ◌<◌, ◌≤◌, List, [], ◌∷◌, ◌++◌, length, Option, Some, None, ◌⊎◌, Contains}
+use Rattle.std.specs.Prelude.{◌≡◌, ℕ, ◌+◌, ◌<◌, List, [], ◌∷◌, ◌++◌, length, Option, Some, None, ◌⊎◌, Contains}
 use Rattle.std.specs.List.{AllByRecursion}
 use Rattle.pw_info.specs.Passing.{PassesPart}
 use Rattle.pw_transcript.specs.declared.command.Command.{Command}

@@ -2,11 +2,10 @@
 use Rattle.std.specs.Prelude.{ℕ, ◌+◌, ◌==◌, List, [], ◌∷◌, length, if◌then◌else◌}
 use Rattle.std.specs.List.{range_with_len}
 use Rattle.std.specs.FinSet.{union, difference, from_list}
-use Rattle.pw_transcript.specs.declared.command.Command.{Command}
 use Rattle.pw_transcript.specs.declared.command.Command.TheVariants as commands
 use Rattle.pw_transcript.specs.declared.fact.Fact.{Fact}
 use Rattle.pw_transcript.specs.Declaration.{Declared}
-use Rattle.pw_transcript.specs.Reading.{Premises, Reading, Blank, Refused, Says}
+use Rattle.pw_transcript.specs.Reading.{Premises, Reading, Says}
 
 -- what an accepted line added to the network: a fact told of a cell, with the number of its line
 pub data Entry : Type 0 where

@@ -2,6 +2,10 @@ use crate::fact::Fact;
 use crate::premise_set::PremiseSet;
 
 /// What a line of a transcript asks for. Users, cells and premises go by their numbers in the declaration.
+///
+/// What a user believes is a worldview: premises are brought in and kicked out, and nothing that was told is lost (Radul
+/// and Sussman, *The Art of the Propagator*, on dependencies for alternate worldviews). That each user has one of their
+/// own is this program's.
 #[derive(Clone, Copy, Debug, PartialEq, Eq)]
 pub enum Command {
     /// A fact for a cell; it rests on the premises that the line names.

@@ -2,7 +2,7 @@
 ghost use Rattle.std.specs.Prelude.{◌≡◌, ◌⊎◌, ◌≤◌, ℕ, length, IfOk, IfErr, MatchResult, IsErrAnd};
 ghost use Rattle.pw_transcript.specs.declared.decl_fault.Why.{Why as Reason};
 ghost use Rattle.pw_transcript.specs.Declaration.{Declared};
-ghost use Rattle.pw_transcript.specs.DeclarationFaults.{SpellsDeclaration, IsFirstFault};
+ghost use Rattle.pw_transcript.specs.DeclarationFaults.{SpellsDeclaration, IsFirstFault, IsReached};
 
 use crate::decl_fault::{DeclFault, Why};
 use crate::declaration::Declaration;
@@ -17,6 +17,7 @@ fn read_lines<A: Allocator + Copy>(alloc: A, text: &[u8]) -> Result<Declaration<
     requires { length text.now ≤ 1048576 }
     ensures ok { IfOk result (λ declaration. SpellsDeclaration text.now declaration) }
     ensures err { IfErr result (λ fault. (fault.why ≡ Why.Memory) ⊎ IsFirstFault text.now fault.line fault.why) }
+    ensures memory { IfErr result (λ fault. fault.why ≡ Why.Memory → IsReached text.now fault.line) }
 {
     let mut so_far = None;
     let mut count = 0u32;
@@ -47,6 +48,8 @@ pub fn read_declaration<A: Allocator + Copy>(
 ) -> Result<Declaration<A>, DeclFault>
     ensures ok { IfOk result (λ declaration. SpellsDeclaration text.now declaration) }
     ensures err { IfErr result (λ fault. (fault.why ≡ Why.Memory) ⊎ IsFirstFault text.now fault.line fault.why) }
+    // Want of memory is told at a line of the text, and the lines before it have no fault.
+    ensures memory { IfErr result (λ fault. fault.why ≡ Why.Memory → IsReached text.now fault.line) }
     // A text that spells a declaration is read as that declaration, but for want of memory.
     ensures only_ok { (d : Declared) → SpellsDeclaration text.now d →
         MatchResult result (λ declaration. declaration ≡ d) (λ fault. fault.why ≡ Why.Memory) }

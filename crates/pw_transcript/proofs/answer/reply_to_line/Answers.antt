@@ -1,7 +1,6 @@
-use Rattle.std.proofs.Common.{◌≡◌, ℕ, ◌<◌, List, length, Option, Result, Ok, Some, sym, ap, ◌∙◌, subst, arith}
+use Rattle.std.proofs.Common.{◌<◌, length, Option, Ok, sym, ap, ◌∙◌, subst, arith}
 use Rattle.std.specs.Option.{option_copied}
 use Rattle.pw_transcript.specs.declared.command.Command.{Command}
-use Rattle.pw_transcript.specs.declared.reply.Refusal.{Refusal}
 use Rattle.pw_transcript.specs.Answer.{user_of}
 use Rattle.pw_transcript.specs.Reading.{Reads, reading_of, Says}
 use Rattle.pw_transcript.proofs.AnswerLemmas.{refused_long, refused, carried}

@@ -1,4 +1,4 @@
-use Rattle.std.proofs.Common.{◌≡◌, ℕ, List, refl, sym, ap, ◌∙◌, rules}
+use Rattle.std.proofs.Common.{ℕ, List, refl, sym, ap, ◌∙◌, rules}
 use Rattle.std.specs.FinSet.{union}
 use Rattle.pw_transcript.specs.Reading.{Premises, premises_of}
 use Rattle.pw_transcript.proofs.PremiseLists.{union_empty_left, union_empty_right, premises_step}

@@ -1,7 +1,6 @@
-use Rattle.std.proofs.Common.{◌≡◌, ◌≤◌, length, false, true, sym, ◌∙◌, arith}
-use Rattle.pw_transcript.specs.Words.{is_idle}
+use Rattle.std.proofs.Common.{sym, ◌∙◌, arith}
 use Rattle.pw_transcript.specs.Sentence.{view}
-use Rattle.pw_transcript.specs.Reading.{SaysSentence, Reads, Refused, Says}
+use Rattle.pw_transcript.specs.Reading.{SaysSentence, Refused, Says}
 use Rattle.pw_transcript.specs.declared.reply.Refusal.TheVariants as refusal
 use Rattle.pw_transcript.proofs.ReadingLemmas.{one_reading, no_form, says_found, says_of_line, first_of_line}
 use Rattle.pw_transcript.proofs.command_text.read_command.Goals as goal

@@ -1,9 +1,8 @@
-use Rattle.std.proofs.Common.{◌≡◌, ◌∙◌, ℕ, List, refl, sym, ap, subst, inl, inr}
+use Rattle.std.proofs.Common.{◌∙◌, ℕ, List, refl, sym, ap, subst, inl, inr}
 use Rattle.pw_info.specs.declared.kind.Kind.{Kind}
 use Rattle.pw_info.specs.declared.info.Info.{Info}
 use Rattle.pw_info.specs.Spelling.{SpellsInfo}
 use Rattle.pw_transcript.specs.declared.command.Command.TheVariants as commands
-use Rattle.pw_transcript.specs.declared.fact.Fact.{Fact}
 use Rattle.pw_transcript.specs.Reading.{Premises, members_of, premises_of}
 use Rattle.pw_transcript.proofs.ReadingLemmas.{not_none}
 use Rattle.pw_transcript.proofs.command_text.resolve_tell.Goals as goal

@@ -1,4 +1,4 @@
-use Rattle.std.proofs.Common.{◌∙◌, sym}
+use Rattle.std.proofs.Common.{sym}
 use Rattle.pw_transcript.proofs.DeclaredLemmas.{place_found, place_none_if}
 use Rattle.pw_transcript.proofs.declaration.place_in.Goals as goal
 

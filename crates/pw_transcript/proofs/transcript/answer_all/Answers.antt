@@ -1,6 +1,6 @@
-use Rattle.std.proofs.Common.{rules, ◌≡◌, ◌+◌, ◌-◌, ◌<◌, ◌≤◌, ℕ, List, [], ◌++◌, length, take, drop, true, false, min, refl, sym, ap, ◌∙◌, subst, arith}
+use Rattle.std.proofs.Common.{◌≡◌, ◌+◌, ◌≤◌, ℕ, List, [], ◌++◌, length, take, drop, refl, ap, ◌∙◌, subst, arith}
 use Rattle.std.proofs.lemmas.Grind.{common_steps}
-use Rattle.pw_transcript.specs.Gatherers.{held_of, GatheredPasses, GatheredPasses-none, GatheredPasses-joins}
+use Rattle.pw_transcript.specs.Gatherers.{GatheredPasses, GatheredPasses-none}
 use Rattle.pw_transcript.specs.Running.{SoFar}
 use Rattle.pw_transcript.proofs.RunLemmas.{SoFar-start, SoFar-part, AnsweredToLimit-part, AnsweredPart-ended, answers_all, answers_all_ended, answers_part, answers_front, answers_to_last_line, answers_to_last_byte, taken_no_more, taken_most, kept_whole, kept_all, length_taken, length_kept}
 use Rattle.pw_transcript.proofs.transcript.answer_all.Goals as goal

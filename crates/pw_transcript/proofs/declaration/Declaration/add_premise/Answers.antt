@@ -1,5 +1,4 @@
-use Rattle.std.proofs.Common.{◌≡◌, ◌∙◌, ◌++◌, ◌∷◌, [], List, length, ap, arith, rules, subst}
-use Rattle.std.specs.Prelude.{IfSome, ◌<◌}
+use Rattle.std.proofs.Common.{◌≡◌, ◌++◌, ◌∷◌, [], length, ap, arith, rules}
 use Rattle.pw_transcript.specs.Declaration.{Declared}
 use Rattle.pw_transcript.proofs.DeclaredLemmas.{with_premise}
 use Rattle.pw_transcript.proofs.declaration.Declaration.add_premise.Goals as goal

@@ -1,4 +1,4 @@
-use Rattle.std.proofs.Common.{◌≡◌, List, length, ap, arith}
+use Rattle.std.proofs.Common.{◌≡◌, length, ap, arith}
 use Rattle.pw_transcript.specs.Declaration.{Declared}
 use Rattle.pw_transcript.proofs.DeclaredLemmas.{with_user}
 use Rattle.pw_transcript.proofs.declaration.Declaration.add_user.Goals as goal

@@ -1,5 +1,4 @@
-use Rattle.std.proofs.Common.{◌≡◌, ◌∙◌, ap, Option}
-use Rattle.std.specs.Prelude.{option_copied}
+use Rattle.std.proofs.Common.{◌∙◌}
 use Rattle.pw_transcript.proofs.RunLemmas.{SoFar-ended, SoFar-failed}
 use Rattle.pw_transcript.proofs.transcript.Progress.end_line.Goals as goal
 

@@ -1,4 +1,4 @@
-use Rattle.std.proofs.Common.{◌≡◌, ◌<◌, ◌≤◌, ◌+◌, ℕ, List, [], ◌∷◌, ◌++◌, length, refl, sym, ap, ◌∙◌, subst, append-nil, arith}
+use Rattle.std.proofs.Common.{◌<◌, ℕ, List, [], ◌∷◌, ◌++◌, length, refl, sym, ap, ◌∙◌, subst, append-nil, arith}
 use Rattle.std.proofs.lemmas.Grind.{common_steps}
 use Rattle.pw_transcript.specs.Running.{SoFar, AnsweredEndedPart, AnsweredToLimit}
 use Rattle.pw_transcript.proofs.RunLemmas.{SoFar-held, SoFar-limit, AnsweredEndedPart-more, before_rest, line_done, before_line}
