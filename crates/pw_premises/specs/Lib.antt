@@ -1,0 +1,3 @@
+pub mod PremiseBits
+pub mod PremiseSets
+pub mod PremiseSubsets

@@ -1,0 +1,146 @@
+ghost use Rattle.std.specs.Prelude.{◌≡◌, ◌<◌, ◌≤◌};
+ghost use Rattle.std.specs.List.{range_with_len};
+ghost use Rattle.std.specs.Ordering.{nat_cmp};
+ghost use Rattle.std.specs.FinSet as set;
+
+use std::marker::Model;
+
+/// A set of premises, each named by its number below 64.
+#[derive(Clone, Copy, Debug)]
+pub struct PremiseSet {
+    bits: u64,
+}
+
+impl Model for PremiseSet {
+    ghost use Rattle.std.specs.Prelude.{◌<◌, ◌^◌};
+    ghost use Rattle.std.specs.Ordering.{nat_cmp};
+    ghost use Rattle.std.specs.FinSet as set;
+    ghost use Rattle.std.specs.Coded.{coded_ℕ};
+    ghost use Rattle.pw_premises.specs.PremiseBits.{set_where, has_bit, number_of};
+    ghost use Rattle.pw_premises.specs.PremiseSets.{number_of-set_where};
+    ghost use Rattle.std.proofs.Common.{ap};
+
+    ghost Value = { set.FinSet nat_cmp };
+
+    ghost coded = { set.code coded_ℕ };
+
+    ghost view = { λ a. set_where 64 (has_bit a.bits) };
+
+    ghost invariant = { λ a. a.bits < 2 ^ 64 };
+
+    ghost inverse = { λ s. record { bits = number_of 64 s } };
+
+    ghost inverse_ok = { λ a h. ap (λ n. record { bits = n }) (number_of-set_where a.bits h) };
+}
+
+impl PremiseSet {
+    /// The set of no premise.
+    #[tactic(auto, using(crate::proofs::PremiseWords::none_in_word))]
+    pub fn empty() -> PremiseSet
+        ensures nothing { result ≡ set.empty }
+    {
+        PremiseSet { bits: 0 }
+    }
+
+    /// The set of the premise `n` alone; `n` is below 64.
+    #[tactic(auto, using(crate::proofs::PremiseWords::one_in_word))]
+    pub fn one(n: u8) -> PremiseSet
+        requires in_range { n < 64 }
+        ensures single { result ≡ set.insert set.empty n }
+    {
+        PremiseSet { bits: 1 << n }
+    }
+
+    /// The set of the premises below `n`; `n` is at most 64.
+    #[tactic(auto, using(crate::proofs::PremiseWords::all_in_word, crate::proofs::PremiseWords::first_in_word))]
+    pub fn first(n: u8) -> PremiseSet
+        requires in_range { n ≤ 64 }
+        ensures below { result ≡ set.from_list (range_with_len 0 n) }
+    {
+        if n == 64 {
+            PremiseSet { bits: u64::MAX }
+        } else {
+            PremiseSet { bits: (1 << n) - 1 }
+        }
+    }
+
+    /// The premises that are in this set or in the other.
+    #[tactic(auto, using(crate::proofs::PremiseWords::join_fits_word, crate::proofs::PremiseWords::join_in_word))]
+    pub fn join(self, other: PremiseSet) -> PremiseSet
+        ensures union { result ≡ set.union self other }
+    {
+        PremiseSet {
+            bits: self.bits | other.bits,
+        }
+    }
+
+    /// The premises of this set that are not in the other.
+    #[tactic(auto, using(crate::proofs::PremiseWords::difference_in_word))]
+    pub fn difference(self, other: PremiseSet) -> PremiseSet
+        ensures difference { result ≡ set.difference self other }
+    {
+        PremiseSet {
+            bits: self.bits & !other.bits,
+        }
+    }
+
+    /// Whether the premise `n` is in this set; none from 64 on is.
+    #[tactic(auto, using(crate::proofs::PremiseWords::bit_in_word, crate::proofs::PremiseWords::past_word))]
+    pub fn contains(&self, n: u8) -> bool
+        ensures member { result ≡ set.contains self.now n }
+    {
+        n < 64 && (self.bits >> n) & 1 == 1
+    }
+
+    /// Whether each premise of this set is in the other.
+    #[tactic(auto, using(crate::proofs::PremiseWords::subset_of_word))]
+    pub fn is_subset(&self, other: &PremiseSet) -> bool
+        ensures subset { result ≡ set.is_subset self.now other.now }
+    {
+        self.bits & !other.bits == 0
+    }
+}
+
+impl PartialEq for PremiseSet {
+    ghost use Rattle.std.specs.Cmp.{partial_equiv_from_equiv};
+    ghost use Rattle.pw_premises.specs.PremiseSubsets.{has_same_numbers, same_numbers_equiv};
+
+    ghost eq = { has_same_numbers };
+
+    ghost laws = { partial_equiv_from_equiv same_numbers_equiv };
+
+    #[tactic(auto, using(crate::proofs::PremiseWords::same_word))]
+    fn eq(&self, other: &PremiseSet) -> bool {
+        self.bits == other.bits
+    }
+}
+
+impl Eq for PremiseSet {
+    ghost use Rattle.pw_premises.specs.PremiseSubsets.{same_numbers_equiv};
+
+    ghost laws = { same_numbers_equiv };
+}
+
+#[cfg(test)]
+mod tests {
+    use super::*;
+
+    #[test]
+    fn sets_of_few_premises(rt: HostRuntime) {
+        let few = PremiseSet::first(3);
+        for (n, within) in [(0u8, true), (1, true), (2, true), (3, false), (255, false)] {
+            assert_eq!(rt; few.contains(n), within, "at {n}");
+        }
+        assert!(rt; PremiseSet::first(0) == PremiseSet::empty());
+        let all = PremiseSet::first(64);
+        assert!(rt; all.contains(0) && all.contains(63) && !all.contains(64));
+        let last = PremiseSet::one(63);
+        assert!(rt; last.contains(63) && !last.contains(62));
+        let two = PremiseSet::one(1).join(last);
+        let both = few.join(two);
+        assert!(rt; few.is_subset(&both) && two.is_subset(&both));
+        assert!(rt; !both.is_subset(&few) && !both.is_subset(&two));
+        assert!(rt; few.difference(two) == PremiseSet::one(0).join(PremiseSet::one(2)));
+        assert!(rt; both.difference(few) == last && few != two);
+    }
+}
