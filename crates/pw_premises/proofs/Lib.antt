@@ -1,1 +1,3 @@
 pub mod PremiseWords
+pub mod NumberLists
+pub mod NumberWords

@@ -1,7 +1,8 @@
 -- What the operations on words do to the sets that the words hold.
 use Rattle.std.specs.Prelude.{◌≡◌, ℕ, ◌-◌, ◌*◌, ◌/◌, ◌%◌, ◌<◌, ◌≤◌, ◌^◌, Bool, true, false, not, ◌&&◌, ◌||◌, nat_eq, nat_lt, max, min}
 use Rattle.std.specs.List.{range_with_len}
-use Rattle.std.specs.FinSet.{empty, insert, union, difference, contains, is_subset, from_list}
+use Rattle.std.specs.Ordering.{nat_cmp, eq_by_cmp}
+use Rattle.std.specs.FinSet.{FinSet, empty, insert, remove, union, difference, contains, is_subset, from_list, same_set, contains-empty, contains-insert, contains-remove, contains-difference, nat_cmp-IsAntisymmetric}
 use Rattle.std.specs.Int.{bit_at, bit_not, Width}
 use Rattle.std.proofs.Common.{refl, sym, ap, ◌∙◌, arith, bit_and, bit_or, w64}
 use Rattle.std.proofs.lemmas.Bool.{eqb-true, eq-eqb}
@@ -11,7 +12,8 @@ use Rattle.std.proofs.lemmas.Nat.Bits.{bit_at-lt, bit_at_or, bit_at_and, bit_at_
 use Rattle.pw_premises.specs.PremiseBits.{set_where, has_bit, number_of}
 use Rattle.pw_premises.specs.PremiseSets.{contains-set_where_below, contains-set_where_past, set_where-alike, set_where-none, set_where-one, set_where-below, set_where-or, set_where-and_not, is_subset-set_where, number_of-set_where}
 use Rattle.pw_premises.specs.PremiseSubsets.{has_same_numbers, same_numbers_equal}
-use Rattle.std.specs.Cmp.{both_ways}
+use Rattle.std.specs.Bool.{Decides}
+use Rattle.std.specs.Cmp.{both_ways, nat_cmp_total, unsigned_tied}
 use mir.Val.{bits}
 
 max_one : (a b : ℕ) → a < 2 → b < 2 → nat_eq (max a b) 1 ≡ (nat_eq a 1 || nat_eq b 1)
@@ -130,3 +132,39 @@ past_word a n h = contains-set_where_past 64 (has_bit a) n h
 pub subset_of_word : (a b : ℕ) → a < 18446744073709551616 → b < 18446744073709551616
     → nat_eq (bit_and a (18446744073709551615 - b)) 0 ≡ is_subset (set_where 64 (has_bit a)) (set_where 64 (has_bit b))
 subset_of_word a b h k = is_subset_of_words w64 a b h k
+
+taken_away : (a b : Bool) → (a && not (b || false)) ≡ (not b && a)
+taken_away true true = refl
+taken_away false true = refl
+taken_away true false = refl
+taken_away false false = refl
+
+-- to take a number away is to take away the set of it alone
+difference_of_one : (s : FinSet nat_cmp) (n : ℕ) → difference s (insert empty n) ≡ remove s n
+difference_of_one s n = same_set nat_cmp_total nat_cmp-IsAntisymmetric _ _ (λ q. contains-difference nat_cmp_total s (insert empty n) q
+    ∙ ap (λ b. contains s q && not b) (contains-insert nat_cmp_total empty n q ∙ ap (λ b. eq_by_cmp nat_cmp q n || b) (contains-empty nat_cmp q))
+    ∙ taken_away (contains s q) (eq_by_cmp nat_cmp q n) ∙ sym (contains-remove nat_cmp_total s n q))
+
+pub without_in_word : (a n : ℕ) → n < 64
+    → set_where 64 (has_bit (bit_and a (18446744073709551615 - 1 * 2 ^ n % 18446744073709551616))) ≡ remove (set_where 64 (has_bit a)) n
+without_in_word a n h = difference_in_word a (1 * 2 ^ n % 18446744073709551616) (omega arith) ∙ ap (difference (set_where 64 (has_bit a))) (one_in_word n h)
+    ∙ difference_of_one (set_where 64 (has_bit a)) n
+
+unchanged : (a b : Bool) → (a ≡ true → b ≡ false) → (not a && b) ≡ b
+unchanged true b absent = sym (absent refl)
+unchanged false b absent = refl
+
+-- no number from 64 on is there to be taken away
+pub without_past_word : (a n : ℕ) → 64 ≤ n → remove (set_where 64 (has_bit a)) n ≡ set_where 64 (has_bit a)
+without_past_word a n h = same_set nat_cmp_total nat_cmp-IsAntisymmetric _ _ (λ q. contains-remove nat_cmp_total _ n q
+    ∙ unchanged (eq_by_cmp nat_cmp q n) _ (λ same. ap (contains (set_where 64 (has_bit a))) (eqb-true q n (sym (unsigned_tied q n) ∙ same))
+    ∙ contains-set_where_past 64 (has_bit a) n h ∙ not_below n h)) where
+  not_below : (n : ℕ) → 64 ≤ n → nat_lt n 64 ≡ false
+  not_below n h = grind (arith, nat_tests)
+
+-- a word is 0 exactly where its set is empty
+pub empty_word : (a : ℕ) → a < 18446744073709551616 → Decides (nat_eq a 0) (set_where 64 (has_bit a) ≡ empty)
+empty_word a h = (
+  λ e. ap (λ n. set_where 64 (has_bit n)) (eqb-true a 0 e) ∙ none_in_word,
+  λ e. eq-eqb a 0 (sym (number_of-set_where a h) ∙ ap (number_of 64) (e ∙ sym none_in_word) ∙ number_of-set_where 0 (omega arith)),
+)

@@ -1,3 +1,4 @@
 pub mod PremiseBits
 pub mod PremiseSets
 pub mod PremiseSubsets
+pub mod Numbers

@@ -1,9 +1,9 @@
 -- Laws of the subset test of finite sets of numbers.
-use Rattle.std.specs.Prelude.{◌≡◌, ℕ, Bool, true, false, ◌&&◌, ◌||◌, nat_eq}
+use Rattle.std.specs.Prelude.{◌≡◌, ℕ, Bool, true, false, not, ◌&&◌, ◌||◌, nat_eq}
 use Rattle.std.specs.Bool.{Decides}
-use Rattle.std.specs.Ordering.{nat_cmp}
+use Rattle.std.specs.Ordering.{nat_cmp, eq_by_cmp}
 use Rattle.std.specs.Cmp.{nat_cmp_total, unsigned_tied, both_ways, IsEquivalence}
-use Rattle.std.specs.FinSet.{FinSet, empty, insert, contains, union, is_subset, same_set, contains-empty, contains-insert, contains-union, contains-is_subset, is_subset-contains, nat_cmp-IsAntisymmetric}
+use Rattle.std.specs.FinSet.{FinSet, empty, insert, remove, contains, union, is_subset, same_set, contains-empty, contains-insert, contains-remove, contains-union, contains-is_subset, is_subset-contains, nat_cmp-IsAntisymmetric}
 use Rattle.std.proofs.Common.{refl, sym, ap, ◌∙◌, inl, inr}
 use Rattle.std.proofs.lemmas.Bool.{eqb-true, eq-eqb, or_cases}
 
@@ -78,6 +78,10 @@ insert_is_subset s n t = both_ways _ _
     ])) where
       nat_eq_refl : (n : ℕ) → nat_eq n n ≡ true
       nat_eq_refl n = eq-eqb n n refl
+
+-- a set without a number is a subset of the set
+pub remove_is_subset : (s : FinSet nat_cmp) (n : ℕ) → is_subset (remove s n) s ≡ true
+remove_is_subset s n = contains-is_subset nat_cmp_total _ s (λ q one. (and_true (not (eq_by_cmp nat_cmp q n)) _ (sym (contains-remove nat_cmp_total s n q) ∙ one)).1)
 
 -- whether two sets have the same numbers
 abbrev pub has_same_numbers : FinSet nat_cmp → FinSet nat_cmp → Bool

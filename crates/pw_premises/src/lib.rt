@@ -1,6 +1,9 @@
 //! Sets of premises, each premise named by its number below 64.
 #![tactic(auto)]
 
+pub mod laws;
+pub mod numbers;
 pub mod premise_set;
 
+pub use numbers::Numbers;
 pub use premise_set::PremiseSet;

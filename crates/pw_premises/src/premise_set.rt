@@ -1,8 +1,10 @@
-ghost use Rattle.std.specs.Prelude.{◌≡◌, ◌<◌, ◌≤◌};
+ghost use Rattle.std.specs.Prelude.{◌≡◌, ◌<◌, ◌≤◌, ◌↔◌, ℕ, true, IsTrue, Contains};
 ghost use Rattle.std.specs.List.{range_with_len};
 ghost use Rattle.std.specs.Ordering.{nat_cmp};
 ghost use Rattle.std.specs.FinSet as set;
+ghost use Rattle.pw_premises.specs.Numbers.{numbers_of};
 
+use crate::numbers::Numbers;
 use std::marker::Model;
 
 /// A set of premises, each named by its number below 64.
@@ -82,6 +84,37 @@ impl PremiseSet {
         PremiseSet {
             bits: self.bits & !other.bits,
         }
+    }
+
+    /// The premises of this set but `n`; `n` may be any number, also one that is not in the set.
+    #[tactic(auto, using(crate::proofs::PremiseWords::without_in_word, crate::proofs::PremiseWords::without_past_word))]
+    pub fn without(self, n: u8) -> PremiseSet
+        ensures removed { result ≡ set.remove self n }
+    {
+        if n < 64 {
+            PremiseSet {
+                bits: self.bits & !(1 << n),
+            }
+        } else {
+            self
+        }
+    }
+
+    /// Whether no premise is in this set.
+    #[tactic(auto, using(crate::proofs::PremiseWords::empty_word))]
+    pub fn is_empty(&self) -> bool
+        ensures empty { IsTrue result ↔ (self.now ≡ set.empty) }
+    {
+        self.bits == 0
+    }
+
+    /// The numbers of the premises of this set, each once, in rising order; all are below 64.
+    #[tactic(auto, using(crate::proofs::NumberWords::numbers_are_members))]
+    pub fn numbers(&self) -> Numbers
+        ensures list { result ≡ numbers_of self.now }
+        ensures members { (q : ℕ) → Contains result q ↔ (set.contains self.now q ≡ true) }
+    {
+        Numbers { bits: self.bits }
     }
 
     /// Whether the premise `n` is in this set; none from 64 on is.
