@@ -1,8 +1,8 @@
 -- The list of a set's numbers: its first, its last, and what it contains.
-use Rattle.std.specs.Prelude.{◌↔◌, Contains, slice_index, ◌≡◌, ◌≢◌, ℕ, zero, suc, ◌+◌, ◌-◌, ◌<◌, ◌≤◌, Bool, true, false, not, cond, ◌&&◌, ◌||◌, nat_eq, nat_lt, List, [], ◌∷◌, ◌++◌, filter, length}
+use Rattle.std.specs.Prelude.{◌↔◌, Contains, ◌≡◌, ◌≢◌, ℕ, zero, suc, ◌+◌, ◌-◌, ◌<◌, ◌≤◌, Bool, true, false, not, cond, ◌&&◌, ◌||◌, nat_eq, nat_lt, List, [], ◌∷◌, ◌++◌, filter, length}
 use Rattle.std.specs.List.{range_with_len, list_any}
 use Rattle.std.specs.List.Sorted.{IsStrictlyIncreasing}
-use Rattle.std.specs.Ordering.{nat_cmp, eq_by_cmp}
+use Rattle.std.specs.Ordering.{nat_cmp}
 use Rattle.std.specs.Cmp.{nat_cmp_total, unsigned_tied, nat_eq_equiv}
 use Rattle.std.specs.FinSet.{FinSet, empty, contains, remove, contains-empty, contains-remove}
 use Rattle.std.proofs.Common.{refl, sym, ap, ◌∙◌, arith}
@@ -122,3 +122,15 @@ numbers_of-members s q = (
   λ one. both_true (contains s q) q 64 (sym (any_of_filter (contains s) 64 q) ∙ list_any-from_Contains nat_eq_equiv q _ one),
   λ both. Contains-from_any eqb-true q _ (any_of_filter (contains s) 64 q ∙ true_both (contains s q) q 64 both.0 both.1),
 )
+
+length-filter_range : (p : ℕ → Bool) (a w : ℕ) → length (filter p (range_with_len a w)) ≤ w
+length-filter_range p a zero = omega arith
+length-filter_range p a (suc w) = one_more (p a) a (filter p (range_with_len (a + 1) w)) w (length-filter_range p (a + 1) w) where
+  one_more : (b : Bool) (x : ℕ) (xs : List ℕ) (n : ℕ) → length xs ≤ n → length (cond b (x ∷ xs) xs) ≤ suc n
+  one_more true x xs n h = omega arith
+  one_more false x xs n h = omega arith
+
+-- there are at most 64
+pub at_most_64_numbers : (s : FinSet nat_cmp) → length (numbers_of s) ≤ 64
+unfolding numbers_of
+at_most_64_numbers s = length-filter_range (contains s) 0 64

@@ -1,6 +1,6 @@
 -- What `next` and `next_back` take from the word of a set, and what they leave in it.
-use Rattle.std.specs.Prelude.{◌↔◌, Contains, ◌≡◌, ℕ, ◌+◌, ◌-◌, ◌*◌, ◌/◌, ◌%◌, ◌<◌, ◌≤◌, ◌^◌, Bool, true, false, not, ◌&&◌, nat_eq, nat_lt, [], ◌∷◌, ◌++◌, length}
-use Rattle.std.specs.FinSet.{contains, remove}
+use Rattle.std.specs.Prelude.{◌↔◌, Contains, ◌≡◌, ℕ, ◌+◌, ◌-◌, ◌*◌, ◌%◌, ◌<◌, ◌≤◌, ◌^◌, Bool, true, false, ◌&&◌, nat_eq, nat_lt, [], ◌∷◌, ◌++◌, length}
+use Rattle.std.specs.FinSet.{contains}
 use Rattle.std.specs.Int.{bit_at, trailing_zeros}
 use Rattle.std.specs.Int.Count.{count_trailing_zeros}
 use Rattle.std.proofs.Common.{refl, sym, ap, ◌∙◌, add-one, arith, bit_and, w64, length-append}
@@ -34,7 +34,7 @@ not_in_word a q e = contains-set_where 64 (has_bit a) q ∙ and_no (nat_lt q 64)
 -- the lowest bit is the least number
 pub least_of_word : (a : ℕ) → 0 < a → a < 18446744073709551616
     → numbers_of (set_where 64 (has_bit a))
-      ≡ count_trailing_zeros 64 a ∷ numbers_of (set_where 64 (has_bit (bit_and a (18446744073709551615 - 1 * 2 ^ count_trailing_zeros 64 a % 18446744073709551616))))
+    ≡ count_trailing_zeros 64 a ∷ numbers_of (set_where 64 (has_bit (bit_and a (18446744073709551615 - 1 * 2 ^ count_trailing_zeros 64 a % 18446744073709551616))))
 least_of_word a pos h =
     let lowest = bit_at-trailing_zeros w64 a pos h in
     first_of_numbers (set_where 64 (has_bit a)) (trailing_zeros w64 a) lowest.0 (in_word a _ lowest.0 lowest.1) (λ q below. not_in_word a q (lowest.2 q below))
@@ -51,7 +51,7 @@ above_highest a n q high above =
 -- the highest bit is the greatest number
 pub greatest_of_word : (a n : ℕ) → 2 ^ n ≤ a → a < 2 * 2 ^ n → n < 64
     → numbers_of (set_where 64 (has_bit a))
-      ≡ numbers_of (set_where 64 (has_bit (bit_and a (18446744073709551615 - 1 * 2 ^ n % 18446744073709551616)))) ++ n ∷ []
+    ≡ numbers_of (set_where 64 (has_bit (bit_and a (18446744073709551615 - 1 * 2 ^ n % 18446744073709551616)))) ++ n ∷ []
 greatest_of_word a n low high h =
     last_of_numbers (set_where 64 (has_bit a)) n h (in_word a n h (highest_bit a n low high)) (λ q above. not_in_word a q (above_highest a n q high above))
     ∙ ap (λ s. numbers_of s ++ n ∷ []) (sym (without_in_word a n h))

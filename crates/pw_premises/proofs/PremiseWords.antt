@@ -159,8 +159,8 @@ pub without_past_word : (a n : ℕ) → 64 ≤ n → remove (set_where 64 (has_b
 without_past_word a n h = same_set nat_cmp_total nat_cmp-IsAntisymmetric _ _ (λ q. contains-remove nat_cmp_total _ n q
     ∙ unchanged (eq_by_cmp nat_cmp q n) _ (λ same. ap (contains (set_where 64 (has_bit a))) (eqb-true q n (sym (unsigned_tied q n) ∙ same))
     ∙ contains-set_where_past 64 (has_bit a) n h ∙ not_below n h)) where
-  not_below : (n : ℕ) → 64 ≤ n → nat_lt n 64 ≡ false
-  not_below n h = grind (arith, nat_tests)
+      not_below : (n : ℕ) → 64 ≤ n → nat_lt n 64 ≡ false
+      not_below n h = grind (arith, nat_tests)
 
 -- a word is 0 exactly where its set is empty
 pub empty_word : (a : ℕ) → a < 18446744073709551616 → Decides (nat_eq a 0) (set_where 64 (has_bit a) ≡ empty)

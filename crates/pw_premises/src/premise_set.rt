@@ -1,4 +1,4 @@
-ghost use Rattle.std.specs.Prelude.{◌≡◌, ◌<◌, ◌≤◌, ◌↔◌, ℕ, true, IsTrue, Contains};
+ghost use Rattle.std.specs.Prelude.{◌≡◌, ◌<◌, ◌≤◌, ◌↔◌, ℕ, true, IsTrue, Contains, length};
 ghost use Rattle.std.specs.List.{range_with_len};
 ghost use Rattle.std.specs.Ordering.{nat_cmp};
 ghost use Rattle.std.specs.FinSet as set;
@@ -109,9 +109,10 @@ impl PremiseSet {
     }
 
     /// The numbers of the premises of this set, each once, in rising order; all are below 64.
-    #[tactic(auto, using(crate::proofs::NumberWords::numbers_are_members))]
+    #[tactic(auto, using(crate::proofs::NumberWords::numbers_are_members, crate::proofs::NumberLists::at_most_64_numbers))]
     pub fn numbers(&self) -> Numbers
         ensures list { result ≡ numbers_of self.now }
+        ensures at_most_64 { length result ≤ 64 }
         ensures members { (q : ℕ) → Contains result q ↔ (set.contains self.now q ≡ true) }
     {
         Numbers { bits: self.bits }
@@ -157,6 +158,7 @@ impl Eq for PremiseSet {
 #[cfg(test)]
 mod tests {
     use super::*;
+    use std::test::Fail;
 
     #[test]
     fn sets_of_few_premises(rt: HostRuntime) {
@@ -175,5 +177,22 @@ mod tests {
         assert!(rt; !both.is_subset(&few) && !both.is_subset(&two));
         assert!(rt; few.difference(two) == PremiseSet::one(0).join(PremiseSet::one(2)));
         assert!(rt; both.difference(few) == last && few != two);
+    }
+
+    #[test]
+    fn sets_without_a_premise(rt: HostRuntime) {
+        let few = PremiseSet::first(3);
+        assert!(rt; few.without(1) == PremiseSet::one(0).join(PremiseSet::one(2)));
+        assert!(rt; few.without(3) == few && few.without(64) == few && few.without(255) == few);
+        assert!(rt; PremiseSet::first(64).without(63) == PremiseSet::first(63));
+        assert!(rt; !few.is_empty() && !PremiseSet::one(63).is_empty());
+        assert!(rt; PremiseSet::empty().is_empty() && PremiseSet::one(63).without(63).is_empty());
+    }
+
+    #[test]
+    fn debug_text(rt: HostRuntime) -> Result<(), Fail> {
+        let text = format!(in rt.alloc(); "{:?}", PremiseSet::first(3))?;
+        assert_eq!(rt; text.as_str(), "PremiseSet { bits: 7 }");
+        Ok(())
     }
 }
