@@ -12,7 +12,6 @@ pub mod LineLemmas
 pub mod NameLemmas
 pub mod PlaceLemmas
 pub mod PremiseLists
-pub mod PremiseWords
 pub mod ReadingLemmas
 pub mod RunLemmas
 pub mod SentenceLemmas

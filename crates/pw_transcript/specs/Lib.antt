@@ -16,9 +16,6 @@ pub mod Name
 pub mod Past
 pub mod PastCode
 pub mod Place
-pub mod PremiseBits
-pub mod PremiseSets
-pub mod PremiseSubsets
 pub mod Readers
 pub mod Reading
 pub mod ReplyText

@@ -1,5 +1,5 @@
 use crate::fact::Fact;
-use crate::premise_set::PremiseSet;
+use pw_premises::PremiseSet;
 
 /// What a line of a transcript asks for. Users, cells and premises go by their numbers in the declaration.
 ///

@@ -9,11 +9,11 @@ ghost use Rattle.pw_transcript.specs.Reading as spec;
 use crate::command::Command;
 use crate::declaration::Declaration;
 use crate::fact::Fact;
-use crate::premise_set::PremiseSet;
 use crate::reply::Refusal;
 use crate::sentence::{Spoken, read_sentence};
 use crate::words::{Words, allows_all, idles};
 use pw_info::text::read_info;
+use pw_premises::PremiseSet;
 use std::alloc::Allocator;
 
 /// How many bytes a line may have.

@@ -1,5 +1,5 @@
-use crate::premise_set::PremiseSet;
 use pw_info::info::Info;
+use pw_premises::PremiseSet;
 
 /// A supported value: an information, and the premises that it rests on.
 #[derive(Clone, Copy, Debug, PartialEq, Eq)]

@@ -10,10 +10,10 @@ ghost use Rattle.pw_transcript.specs.Reading.{Says};
 
 use crate::command::Command;
 use crate::fact::Fact;
-use crate::premise_set::PremiseSet;
 use crate::reply::{Refusal, Reply};
 use pw_info::info::Info;
 use pw_info::kind::Kind;
+use pw_premises::PremiseSet;
 use std::alloc::{AllocError, Allocator, Global};
 use std::marker::Model;
 
