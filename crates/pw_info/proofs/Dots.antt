@@ -8,6 +8,7 @@ use Rattle.std.specs.Str.Parse.{AllDigits}
 use Rattle.pw_info.specs.Number.{IsWithin, SpellsNumber}
 use Rattle.pw_info.specs.Cut.{HasNoDot, SpellsCut}
 use Rattle.pw_info.specs.Range.{SpellsRange, text_of_range}
+use Rattle.pw_info.proofs.Cuts.{no_cut, one_cut}
 use Rattle.pw_info.proofs.Numbers.{one_number_lem, signed_decimal_spells}
 
 -- digits have no dot
@@ -22,34 +23,17 @@ number_no_dot [] (negsuc n) spelled k inside = absurd spelled
 number_no_dot (c ∷ word) (negsuc n) (minus, spelled) zero inside = omega arith
 number_no_dot (c ∷ word) (negsuc n) (minus, spelled) (suc k) inside = digits_no_dot word spelled.digits k (omega arith)
 
--- what has no dot is not cut by one
-pub no_cut : (word front rest : List ℕ) → HasNoDot word → word ≡ front ++ (46 ∷ rest) → ⊥
-no_cut [] [] rest clear is = cc
-no_cut [] (d ∷ front) rest clear is = cc
-no_cut (c ∷ word) [] rest clear is = clear 0 (omega arith) (cc)
-no_cut (c ∷ word) (d ∷ front) rest clear is = no_cut word front rest (λ k inside. clear (suc k) (omega arith)) (cc)
-
--- there is one way to cut a word at its first dot
-pub one_cut : (front rest first second : List ℕ) → HasNoDot front → HasNoDot first
-    → front ++ (46 ∷ rest) ≡ first ++ (46 ∷ second) → (front ≡ first) × (rest ≡ second)
-one_cut [] rest [] second clear clear' is = (refl, cc)
-one_cut [] rest (d ∷ first) second clear clear' is = absurd (clear' 0 (omega arith) (cc))
-one_cut (c ∷ front) rest [] second clear clear' is = absurd (clear 0 (omega arith) (cc))
-one_cut (c ∷ front) rest (d ∷ first) second clear clear' is =
-    let (same, left) = one_cut front rest first second (λ k inside. clear (suc k) (omega arith)) (λ k inside. clear' (suc k) (omega arith)) (cc) in
-    (cc, left)
-
 -- a word with no dot spells a range as one number
 pub uncut : (word : List ℕ) (lo hi : ℤ) → HasNoDot word → SpellsRange word lo hi → SpellsNumber word lo × (lo ≡ hi)
 uncut word lo hi clear (inl spelled) = spelled
-uncut word lo hi clear (inr (front, back, is, low, high, order)) = absurd (no_cut word front (46 ∷ back) clear is)
+uncut word lo hi clear (inr (front, back, is, low, high, order)) = absurd (no_cut 46 word front (46 ∷ back) clear is)
 
 -- a word with a dot spells a range by what stands before the first one and what stands behind it
 pub cut : (word front rest : List ℕ) (lo hi : ℤ) → word ≡ front ++ (46 ∷ rest) → HasNoDot front → SpellsRange word lo hi
     → SpellsCut front rest lo hi
-cut word front rest lo hi is clear (inl (spelled, same)) = absurd (no_cut word front rest (number_no_dot word lo spelled) is)
+cut word front rest lo hi is clear (inl (spelled, same)) = absurd (no_cut 46 word front rest (number_no_dot word lo spelled) is)
 cut word front rest lo hi is clear (inr (first, back, parts, least, greatest, order)) =
-    let (same, left) = one_cut front rest first (46 ∷ back) clear (number_no_dot first lo least) (sym is ∙ parts) in
+    let (same, left) = one_cut 46 front rest first (46 ∷ back) clear (number_no_dot first lo least) (sym is ∙ parts) in
     (back, left, subst (λ (w : List ℕ). SpellsNumber w lo) (sym same) least, greatest, order)
 
 -- a word spells at most one range

@@ -1,6 +1,11 @@
+pub mod Cuts
 pub mod Digits
 pub mod Dots
+pub mod ExampleNames
 pub mod Informations
+pub mod MemberTexts
+pub mod NamesInARow
 pub mod Numbers
 pub mod PassingFacts
 pub mod Spellings
+pub mod Writings

@@ -13,6 +13,11 @@ pub taken_rest : (all before xs : List ℕ) (n : ℕ) → all ≡ before ++ xs �
 taken_rest all before xs n e =
     e ∙ ap (λ l. before ++ l) (sym (take-rest xs n)) ∙ sym (append_assoc before (take n xs) (take (length xs - n) (drop n xs)))
 
+-- what holds, holds where there is an error
+pub on_err_holds : {T E P : Type 0} (r : Result T E) → P → OnErr r P
+on_err_holds (Ok x) holds = tt
+on_err_holds (Err e) holds = holds
+
 module _ {S : Type 0} (passes : S → List ℕ → S → Type 0) where
   -- nothing is a front of any text
   pub PassesPart-none : (s t : S) (text : List ℕ) → passes s [] t → PassesPart passes s t text

@@ -1,27 +1,39 @@
 -- What an information says of a value: the set of the values of its kind that are still possible, given by its test.
--- A value of each kind is written as a whole number.
-use Rattle.std.specs.Prelude.{◌≡◌, ℤ, Bool, true, false, ◌&&◌}
+-- A value of each kind is written as a whole number: a number as itself, a member of a set as its place.
+use Rattle.std.specs.Prelude.{◌≡◌, ℕ, ℤ, Bool, true, false, ◌&&◌}
 use Rattle.pw_kinds.specs.Span.{is_in_range}
-use Rattle.pw_kinds.specs.declared.interval.Interval.{Interval}
+use Rattle.pw_kinds.specs.Number.{is_number}
+use Rattle.pw_kinds.specs.Places.{is_place}
+use Rattle.pw_kinds.specs.declared.members.Members.{Members}
 use Rattle.pw_kinds.specs.Interval as interval
+use Rattle.pw_kinds.specs.Members as members
+use Rattle.pw_kinds.specs.Exact as exact
 use Rattle.pw_info.specs.declared.kind.Kind.{Kind}
 use Rattle.pw_info.specs.declared.kind.Kind.TheVariants as kinds
 use Rattle.pw_info.specs.declared.info.Info.{Info}
+use Rattle.pw_info.specs.declared.info.Info.TheVariants as info
 
--- the information that an interval is
-abbrev pub of_interval : Interval → Info
-of_interval part = record { part = part }
+-- the kind of the members of a set of this number
+abbrev pub set_kind : ℕ → Members → Kind
+set_kind number part =
+    kinds.Members (record { number = number; size = members.size_of part; sized = (part.places.fewest, part.places.most) })
 
 abbrev pub kind_of : Info → Kind
-kind_of info = kinds.Interval
+kind_of (info.Interval part) = kinds.Interval
+kind_of (info.Members number part) = set_kind number part
+kind_of (info.Exact part) = kinds.Exact
 
 -- whether a number stands for a value of the kind
 abbrev pub is_value : Kind → ℤ → Bool
 is_value kinds.Interval v = is_in_range v
+is_value (kinds.Members set) v = is_place set.size v
+is_value kinds.Exact v = is_number v
 
 -- whether a value is still possible
 abbrev pub allows : Info → ℤ → Bool
-allows info v = interval.allows info.part v
+allows (info.Interval part) v = interval.allows part v
+allows (info.Members number part) v = members.allows part v
+allows (info.Exact part) v = exact.allows part v
 
 -- every value of the kind is possible
 abbrev pub IsNothing : Info → Type 0
@@ -35,9 +47,11 @@ IsContradiction info = (v : ℤ) → allows info v ≡ false
 abbrev pub Implies : Info → Info → Type 0
 Implies a b = (v : ℤ) → allows a v ≡ true → allows b v ≡ true
 
--- the smallest information of a kind in which every value that passes is possible
+-- the most informed of a kind in which every value that passes is possible
 abbrev pub closest : Kind → (ℤ → Bool) → Info
-closest kinds.Interval p = of_interval (interval.closest p)
+closest kinds.Interval p = info.Interval (interval.closest p)
+closest (kinds.Members set) p = info.Members set.number (members.closest set.size p)
+closest kinds.Exact p = info.Exact (exact.closest p)
 
 abbrev pub nothing : Kind → Info
 nothing kind = closest kind (λ v. true)

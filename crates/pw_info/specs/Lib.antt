@@ -1,8 +1,14 @@
 pub mod Cut
+pub mod ExampleNames
 pub mod Information
+pub mod MemberReading
+pub mod MemberWriting
+pub mod Name
 pub mod Number
 pub mod Passing
 pub mod Range
+pub mod SetNames
+pub mod SetText
 pub mod Spelling
 pub mod Text
 pub mod Writers

@@ -1,28 +1,41 @@
 -- Which words spell an information of a kind.
 use Rattle.std.specs.Prelude.{◌≡◌, ℕ, ℤ, ◌&&◌, List, codes, ◌⊎◌}
 use Rattle.std.specs.Int.Signed.{le_z}
+use Rattle.std.specs.Ordering.{int_eq}
 use Rattle.pw_kinds.specs.Span.{IsInRange}
+use Rattle.pw_kinds.specs.Number.{IsNumber}
 use Rattle.pw_info.specs.declared.kind.Kind.{Kind}
 use Rattle.pw_info.specs.declared.kind.Kind.TheVariants as kinds
 use Rattle.pw_info.specs.declared.info.Info.{Info}
 use Rattle.pw_info.specs.Information.{kind_of, allows, IsNothing, IsContradiction}
+use Rattle.pw_info.specs.Number.{SpellsNumber}
 use Rattle.pw_info.specs.Range.{SpellsRange}
-
--- the names of the members of each set kind, by its number
-abbrev pub Members : Type 0
-Members = ℕ → List (List ℕ)
+use Rattle.pw_info.specs.SetNames.{SetNames}
+use Rattle.pw_info.specs.SetText.{ArePlaces, is_one_of, text_of_set}
 
 -- the numbers from lo to hi are possible, and no others
 abbrev pub AllowsFromTo : Info → ℤ → ℤ → Type 0
 AllowsFromTo info lo hi = (v : ℤ) → allows info v ≡ (le_z lo v && le_z v hi)
 
--- a word in the form of the kind itself: for an interval one number, or two in order, in range
-abbrev pub SpellsValues : Members → List ℕ → Kind → Info → Type 0
-SpellsValues members word kinds.Interval info =
+-- this number is possible, and no other
+abbrev pub AllowsOne : Info → ℤ → Type 0
+AllowsOne info n = (v : ℤ) → allows info v ≡ int_eq v n
+
+-- the members at these places are possible, and no others
+abbrev pub AllowsPlaces : Info → List ℕ → Type 0
+AllowsPlaces info places = (v : ℤ) → allows info v ≡ is_one_of places v
+
+-- a word in the form of the kind itself: for an interval one number, or two in order, in range; for an exact number
+-- that number, in range; for a set the names of some of its members, in any order, none twice
+abbrev pub SpellsValues : SetNames → List ℕ → Kind → Info → Type 0
+SpellsValues sets word kinds.Interval info =
     (lo : ℤ) × (hi : ℤ) × SpellsRange word lo hi × IsInRange lo × IsInRange hi × AllowsFromTo info lo hi
+SpellsValues sets word (kinds.Members set) info =
+    (places : List ℕ) × ArePlaces set.size places × (word ≡ text_of_set (sets set.number) places) × AllowsPlaces info places
+SpellsValues sets word kinds.Exact info = (n : ℤ) × SpellsNumber word n × IsNumber n × AllowsOne info n
 
 -- a word spells an information of a kind: `nothing`, `contradiction`, or in the kind's own form
-abbrev pub SpellsInfo : Members → List ℕ → Kind → Info → Type 0
-SpellsInfo members word kind info = (kind_of info ≡ kind)
+abbrev pub SpellsInfo : SetNames → List ℕ → Kind → Info → Type 0
+SpellsInfo sets word kind info = (kind_of info ≡ kind)
     × (((word ≡ codes "nothing") × IsNothing info)
-    ⊎ (((word ≡ codes "contradiction") × IsContradiction info) ⊎ SpellsValues members word kind info))
+    ⊎ (((word ≡ codes "contradiction") × IsContradiction info) ⊎ SpellsValues sets word kind info))

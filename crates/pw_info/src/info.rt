@@ -1,15 +1,30 @@
-ghost use Rattle.std.specs.Prelude.{◌≡◌, ◌≢◌, ◌↔◌, ◌&&◌, ℤ, Bool, true, IsTrue, IfSome, IfNone};
+ghost use Rattle.std.specs.Prelude.{◌≡◌, ◌≢◌, ◌↔◌, ◌&&◌, ℕ, ℤ, Bool, true, IsTrue, IfSome, IfNone};
 ghost use Rattle.pw_kinds.specs.Interval as interval;
-ghost use Rattle.pw_info.specs.Information.{of_interval, kind_of, allows, meet, nothing, contradiction, IsNothing, IsContradiction, Implies};
+ghost use Rattle.pw_kinds.specs.Members as members;
+ghost use Rattle.pw_kinds.specs.Exact as exact;
+ghost use Rattle.pw_info.specs.declared.kind.SetKind.{SetKind as SetOfMembers};
+ghost use Rattle.pw_info.specs.Information.{set_kind, kind_of, allows, meet, nothing, contradiction, IsNothing, IsContradiction, Implies};
 
-use crate::kind::Kind;
+use crate::kind::{Kind, SetKind};
+use pw_kinds::exact::Exact;
 use pw_kinds::interval::Interval;
+use pw_kinds::members::Members;
 
 /// What is known of a value: its kind, and which values of the kind are still possible. Two informations of one kind
 /// that leave the same values possible are equal.
 #[derive(Clone, Copy, Debug, PartialEq, Eq)]
-pub struct Info {
-    part: Interval,
+pub enum Info {
+    /// Of a whole number, which lies in an interval.
+    Interval(Interval),
+    /// Of a member of a set: which ones are possible.
+    Members {
+        /// The number of the set kind.
+        number: u8,
+        /// The places that are possible.
+        part: Members,
+    },
+    /// Of a whole number that is known exactly or not at all.
+    Exact(Exact),
 }
 
 impl Info {
@@ -17,23 +32,73 @@ impl Info {
     pub fn of_interval(part: Interval) -> Info
         ensures kind { kind_of result ≡ Kind.Interval }
         ensures values { (v : ℤ) → allows result v ≡ interval.allows part v }
-        ensures exact { result ≡ of_interval part }
+        ensures exact { result ≡ Info.Interval part }
     {
-        Info { part }
+        Info::Interval(part)
+    }
+
+    /// The information that some members of the set of this number are; the kind's size is theirs.
+    pub fn of_members(number: u8, part: Members) -> Info
+        ensures kind { kind_of result ≡ set_kind number part }
+        ensures values { (v : ℤ) → allows result v ≡ members.allows part v }
+        ensures exact { result ≡ Info.Members number part }
+    {
+        Info::Members { number, part }
+    }
+
+    /// The information that what is known of an exact number is.
+    pub fn of_exact(part: Exact) -> Info
+        ensures kind { kind_of result ≡ Kind.Exact }
+        ensures values { (v : ℤ) → allows result v ≡ exact.allows part v }
+        ensures exact { result ≡ Info.Exact part }
+    {
+        Info::Exact(part)
     }
 
     /// The interval that this information is, None for another kind.
     pub fn interval(&self) -> Option<Interval>
-        ensures found { IfSome result (λ part. (kind_of self.now ≡ Kind.Interval) × ((v : ℤ) → allows self.now v ≡ interval.allows part v)) }
+        ensures found { IfSome result (λ part. self.now ≡ Info.Interval part) }
         ensures none { IfNone result (kind_of self.now ≢ Kind.Interval) }
     {
-        Some(self.part)
+        match *self {
+            Info::Interval(part) => Some(part),
+            _ => None,
+        }
+    }
+
+    /// The members that this information is, None for another kind.
+    pub fn members(&self) -> Option<Members>
+        ensures found { IfSome result (λ part. (number : ℕ) × (self.now ≡ Info.Members number part)) }
+        ensures none { IfNone result ((set : SetOfMembers) → kind_of self.now ≢ Kind.Members set) }
+    {
+        match *self {
+            Info::Members { part, .. } => Some(part),
+            _ => None,
+        }
+    }
+
+    /// What is known of the exact number that this is information of, None for another kind.
+    pub fn exact(&self) -> Option<Exact>
+        ensures found { IfSome result (λ part. self.now ≡ Info.Exact part) }
+        ensures none { IfNone result (kind_of self.now ≢ Kind.Exact) }
+    {
+        match *self {
+            Info::Exact(part) => Some(part),
+            _ => None,
+        }
     }
 
     pub fn kind(&self) -> Kind
         ensures { result ≡ kind_of self.now }
     {
-        Kind::Interval
+        match *self {
+            Info::Interval(_) => Kind::Interval,
+            Info::Members { number, part } => Kind::Members(SetKind {
+                number,
+                size: part.size(),
+            }),
+            Info::Exact(_) => Kind::Exact,
+        }
     }
 
     /// The information of a kind that leaves every value possible.
@@ -44,11 +109,12 @@ impl Info {
     {
         match kind {
             Kind::Interval => Info::of_interval(Interval::whole()),
+            Kind::Members(set) => Info::of_members(set.number, Members::full(set.size)),
+            Kind::Exact => Info::of_exact(Exact::any()),
         }
     }
 
     /// The information of a kind that leaves no value possible.
-    #[tactic(auto, using(crate::proofs::Informations::of_empty))]
     pub fn contradiction(kind: Kind) -> Info
         ensures kind { kind_of result ≡ kind }
         ensures values { IsContradiction result }
@@ -56,6 +122,8 @@ impl Info {
     {
         match kind {
             Kind::Interval => Info::of_interval(Interval::empty()),
+            Kind::Members(set) => Info::of_members(set.number, Members::empty(set.size)),
+            Kind::Exact => Info::of_exact(Exact::none()),
         }
     }
 
@@ -67,7 +135,17 @@ impl Info {
         ensures values { (v : ℤ) → allows result v ≡ (allows self.now v && allows other.now v) }
         ensures exact { result ≡ meet self.now other.now }
     {
-        Info::of_interval(self.part.meet(other.part))
+        match (*self, *other) {
+            (Info::Interval(one), Info::Interval(another)) => Info::Interval(one.meet(another)),
+            (Info::Members { number, part: one }, Info::Members { part: another, .. }) => {
+                Info::Members {
+                    number,
+                    part: one.meet(another),
+                }
+            }
+            (Info::Exact(one), Info::Exact(another)) => Info::Exact(one.meet(another)),
+            _ => unreachable!("two kinds"),
+        }
     }
 
     /// Whether this information, of the same kind as the other, is at least as informed: each value that is possible
@@ -76,20 +154,35 @@ impl Info {
         requires { kind_of self.now ≡ kind_of other.now }
         ensures { IsTrue result ↔ Implies self.now other.now }
     {
-        self.part.within(other.part)
+        match (*self, *other) {
+            (Info::Interval(one), Info::Interval(another)) => one.within(another),
+            (Info::Members { part: one, .. }, Info::Members { part: another, .. }) => {
+                one.within(another)
+            }
+            (Info::Exact(one), Info::Exact(another)) => one.within(another),
+            _ => unreachable!("two kinds"),
+        }
     }
 
     /// Whether every value of the kind is possible.
     pub fn is_nothing(&self) -> bool
         ensures { IsTrue result ↔ IsNothing self.now }
     {
-        Interval::whole().within(self.part)
+        match *self {
+            Info::Interval(part) => Interval::whole().within(part),
+            Info::Members { part, .. } => part.is_full(),
+            Info::Exact(part) => part.is_any(),
+        }
     }
 
     /// Whether no value is possible.
     pub fn is_contradiction(&self) -> bool
         ensures { IsTrue result ↔ IsContradiction self.now }
     {
-        self.part.is_empty()
+        match *self {
+            Info::Interval(part) => part.is_empty(),
+            Info::Members { part, .. } => part.is_empty(),
+            Info::Exact(part) => part.is_none(),
+        }
     }
 }

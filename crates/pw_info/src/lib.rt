@@ -4,6 +4,7 @@
 pub mod info;
 pub mod kind;
 pub mod laws;
+mod member_text;
 pub mod names;
 pub mod number;
 pub mod output;
@@ -11,7 +12,7 @@ pub mod range;
 pub mod text;
 
 pub use info::Info;
-pub use kind::Kind;
+pub use kind::{Kind, SetKind};
 pub use names::KindNames;
 pub use output::{Failed, Output, Writing};
 pub use text::{read_info, write_info};

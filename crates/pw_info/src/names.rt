@@ -1,6 +1,8 @@
 ghost use Rattle.std.specs.Prelude.{◌≡◌, ◌<◌, ℕ, List, length, Some, IfSome, IfNone, slice_get, Contains};
+ghost use Rattle.pw_info.specs.SetNames.{AreNames};
 
-/// The names of the members of set kinds: those of one set are distinct, and a member's place is its position.
+/// The names of the members of set kinds, each at its place, from 0 on. Each is a name: 1 to 32 bytes of `a` to `z`,
+/// `0` to `9` and `_`, of which the first is a letter, and no reserved word. Those of one set are distinct.
 pub trait KindNames {
     /// The names of the members of a set kind, by its number, in declared order; none where there is no such set.
     ghost members: { Self → ℕ → List (List ℕ) };
@@ -13,5 +15,6 @@ pub trait KindNames {
     /// The place of the member of this name, None where the set has none.
     fn place(&self, set: u8, name: &[u8]) -> Option<u8>
         ensures found { IfSome result (λ place. slice_get (members self.now set) place ≡ Some name.now) }
-        ensures none { IfNone result (Contains (members self.now set) name.now → ⊥) };
+        ensures none { IfNone result (Contains (members self.now set) name.now → ⊥) }
+        ensures names { AreNames (members self.now set) };
 }

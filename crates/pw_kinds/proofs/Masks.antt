@@ -1,10 +1,10 @@
 -- Masks, bit by bit.
-use Rattle.std.proofs.Common.{◌≡◌, ◌≢◌, ℕ, zero, suc, ℤ, pos, ◌+◌, ◌-◌, ◌*◌, ◌/◌, ◌%◌, ◌^◌, ◌<◌, ◌≤◌, ◌==◌, ◌&&◌, inl, inr, Bool, true, false, min, arith, refl, sym, ◌∙◌, ap, bit_and, IsBitSet}
+use Rattle.std.proofs.Common.{◌≡◌, ◌≢◌, ℕ, zero, suc, ℤ, pos, ◌+◌, ◌-◌, ◌*◌, ◌/◌, ◌%◌, ◌^◌, ◌<◌, ◌≤◌, ◌==◌, ◌&&◌, ◌||◌, inl, inr, ◌⊎◌, Bool, true, false, min, arith, refl, sym, ◌∙◌, ap, bit_and, bit_or, IsBitSet, w64}
 use Rattle.std.specs.Prelude.{if◌then◌else◌}
 use Rattle.std.specs.Int.{bit_at}
-use Rattle.std.proofs.lemmas.Bool.{cases_lt, cases_eq, eqb-true, eq-eqb}
+use Rattle.std.proofs.lemmas.Bool.{cases_lt, cases_eq, eqb-true, eq-eqb, or_cases}
 use Rattle.std.proofs.lemmas.Nat.{pow_pos, shr_split, mod_below}
-use Rattle.std.proofs.lemmas.Nat.Bits.{and_pow, bit_at-lt, bit_at-zero, bit_at_lowest, bit_at_and, bit_at_above, bit_at_cat_low, bit_at_cat_high, bit_at_ones, same_from_bits, same_from_bits_below}
+use Rattle.std.proofs.lemmas.Nat.Bits.{and_pow, bit_at-lt, bit_at-zero, bit_at_lowest, bit_at_and, bit_at_above, bit_at_cat_low, bit_at_cat_high, bit_at_ones, bit_at_set_same, bit_at_set_other, same_from_bits, same_from_bits_below}
 use Rattle.std.proofs.Math.Nat.{zero-mul}
 use Rattle.pw_kinds.specs.Places.{mask_of, mask_below}
 use Rattle.pw_kinds.proofs.Order.{is_false}
@@ -105,3 +105,29 @@ high_bit m n within =
       | inr g ↦ same_bit _ _ (bit_at-lt m k) (bit_at-lt (m % 2 ^ n) k) (is_false _ (λ e. let l : k < n = within k (one_set m k e) in omega arith) ∙ sym (is_false _ (λ e. let l : k < n = bit_below (m % 2 ^ n) n k low e in omega arith)))
     ]) in
     omega (arith, same, low)
+
+or_true : (a b : Bool) → b ≡ true → (a || b) ≡ true
+or_true true b e = refl
+or_true false b e = e
+
+or_false : (a b : Bool) → b ≡ false → (a || b) ≡ a
+or_false true b e = refl
+or_false false b e = e
+
+-- a mask with one more bit
+pub with_bit : (m k i : ℕ) → k < 64 → (bit_at (bit_or m (1 * 2 ^ k % 18446744073709551616)) i == 1) ≡ ((bit_at m i == 1) || (k == i))
+with_bit m k i h = elim (cases_eq k i) [
+  | inl same ↦
+      eq-eqb _ _ (ap (bit_at (bit_or m (1 * 2 ^ k % 18446744073709551616))) (sym same) ∙ bit_at_set_same w64 m k h)
+      ∙ sym (or_true (bit_at m i == 1) (k == i) (eq-eqb k i same))
+  | inr apart ↦
+      ap (λ x. x == 1) (bit_at_set_other w64 m k h i (λ e. apart (sym e)))
+      ∙ sym (or_false (bit_at m i == 1) (k == i) (is_false _ (λ e. apart (eqb-true k i e))))
+]
+
+-- a mask below 2 to the n stays so with one more bit below n
+pub with_bit_below : (m n k : ℕ) → m < 2 ^ n → k < n → k < 64 → bit_or m (1 * 2 ^ k % 18446744073709551616) < 2 ^ n
+with_bit_below m n k below h l = high_bit _ n (λ i set. at i (or_cases (bit_at m i == 1) (k == i) (sym (with_bit m k i l) ∙ set_one _ i set))) where
+  at : (i : ℕ) → ((bit_at m i == 1) ≡ true) ⊎ ((k == i) ≡ true) → i < n
+  at i (inl e) = bit_below m n i below e
+  at i (inr e) = let same : k ≡ i = eqb-true k i e in omega (arith, same, h)

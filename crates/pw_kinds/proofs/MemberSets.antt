@@ -1,9 +1,11 @@
 -- Members by the places that they leave possible.
-use Rattle.std.proofs.Common.{◌≡◌, ℕ, ℤ, pos, negsuc, ◌+◌, ◌^◌, ◌<◌, ◌≤◌, ◌==◌, ◌&&◌, inl, inr, Bool, true, false, arith, refl, sym, ◌∙◌, ap, subst, bit_and}
+use Rattle.std.proofs.Common.{◌≡◌, ℕ, ℤ, pos, negsuc, ◌+◌, ◌*◌, ◌%◌, ◌^◌, ◌<◌, ◌≤◌, ◌==◌, ◌&&◌, ◌||◌, inl, inr, Bool, true, false, arith, refl, sym, ◌∙◌, ap, subst, bit_and, bit_or}
 use Rattle.std.specs.Int.Signed.{le_z, lt_z}
 use Rattle.std.specs.Int.{bit_at}
 use Rattle.std.proofs.lemmas.Int.{ints}
-use Rattle.std.proofs.lemmas.Bool.{cases_lt}
+use Rattle.std.specs.Ordering.{int_eq}
+use Rattle.std.proofs.lemmas.Bool.{cases_lt, eqb-true, eq-eqb}
+use Rattle.std.proofs.lemmas.Bool.Decides.{Decides-int_eq}
 use Rattle.std.proofs.Props.{props}
 use Rattle.std.proofs.lemmas.Nat.Bits.{same_from_bits, bit_at-lt}
 use mathlib.Core.HLevel.{is_prop→PathP}
@@ -11,7 +13,7 @@ use Rattle.pw_kinds.specs.declared.members.Members.{Members}
 use Rattle.pw_kinds.specs.Places.{IsSize, IsMask, is_size, is_place, mask_allows, mask_of}
 use Rattle.pw_kinds.specs.Members.{size_of, allows, checked, closest, full, empty, meet_of, IsEmpty, IsFull, IsWithin, IsClosest}
 use Rattle.pw_kinds.proofs.Order.{both_true, true_both, same_test, is_false, not_both}
-use Rattle.pw_kinds.proofs.Masks.{same_bit, bit_below, bit_of_mask, all_bits, all_bits_is, no_bits, no_bits_is, bits_of_both, inside_both}
+use Rattle.pw_kinds.proofs.Masks.{same_bit, bit_below, bit_of_mask, all_bits, all_bits_is, no_bits, no_bits_is, bits_of_both, inside_both, with_bit}
 
 mask_prop : (size mask : ℕ) → IsProp (IsMask size mask)
 mask_prop size mask = hlevel props
@@ -170,3 +172,14 @@ empty_mask_exact size mask places e = closest_is size (λ v. false) (record { si
 pub zero_values : (v : ℤ) → mask_allows 0 v ≡ false
 zero_values (pos k) = no_bits k
 zero_values (negsuc k) = refl
+
+-- the test of a place, as the test of its number
+place_test : (k i : ℕ) → (k == i) ≡ int_eq (pos k) (pos i)
+place_test k i = same_test _ _
+    (λ e. (Decides-int_eq (pos k) (pos i)).1 (ap pos (eqb-true k i e)))
+    (λ e. eq-eqb k i (let same : pos k ≡ pos i = (Decides-int_eq (pos k) (pos i)).0 e in omega (arith, ints, same)))
+
+-- a mask with one more bit
+pub with_values : (m k : ℕ) → k < 64 → (v : ℤ) → mask_allows (bit_or m (1 * 2 ^ k % 18446744073709551616)) v ≡ (mask_allows m v || int_eq (pos k) v)
+with_values m k h (pos i) = with_bit m k i h ∙ ap (λ b. (bit_at m i == 1) || b) (place_test k i)
+with_values m k h (negsuc i) = refl

@@ -22,7 +22,8 @@ fn full_mask(size: u8) -> u64
 }
 
 impl Members {
-    ghost use Rattle.std.specs.Prelude.{ℕ, ℤ, pos, ◌<◌, ◌≤◌, ◌↔◌, ◌&&◌, Bool, true, false, Some, IsTrue, IsSome, IfSome, IsBitSet};
+    ghost use Rattle.std.specs.Prelude.{ℕ, ℤ, pos, ◌<◌, ◌≤◌, ◌↔◌, ◌&&◌, ◌||◌, Bool, true, false, Some, IsTrue, IsSome, IfSome, IsBitSet};
+    ghost use Rattle.std.specs.Ordering.{int_eq};
     ghost use Rattle.pw_kinds.specs.Places.{is_place};
     ghost use Rattle.pw_kinds.specs.Members.{size_of, allows, IsEmpty, IsFull, IsWithin, full, empty, meet_of};
 
@@ -84,6 +85,18 @@ impl Members {
         ensures { result ≡ allows self (pos place) }
     {
         place < self.size && (self.mask >> place) & 1 == 1
+    }
+
+    /// The same, with the member at this place possible too. The place is below the size.
+    pub fn with(self, place: u8) -> Members
+        requires { place < size_of self }
+        ensures size { size_of result ≡ size_of self }
+        ensures values { (v : ℤ) → allows result v ≡ (allows self v || int_eq (pos place) v) }
+    {
+        Members {
+            size: self.size,
+            mask: self.mask | (1 << place),
+        }
     }
 
     /// Whether no member is possible.
@@ -187,6 +200,24 @@ mod tests {
                 members(size, mask)?.contains(place),
                 want,
                 "{place} in {mask} of {size}"
+            );
+        }
+        Ok(())
+    }
+
+    #[test]
+    fn with_one_more(rt: HostRuntime) -> Result<(), Fail> {
+        for (size, mask, place, want) in [
+            (3, 0b001, 2u8, 0b101),
+            (3, 0b101, 2, 0b101),
+            (64, 1, 63, 1 << 63 | 1),
+        ] {
+            let made = members(size, mask)?;
+            assert!(rt; place < made.size());
+            assert_eq!(rt;
+                made.with(place),
+                members(size, want)?,
+                "{place} to {mask} of {size}"
             );
         }
         Ok(())

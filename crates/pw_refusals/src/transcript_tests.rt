@@ -10,7 +10,7 @@ use std::alloc::{Allocator, Global};
 use std::test::Fail;
 
 const WORLD: &str =
-    "workbench 1\n# general\nuser ann\nuser bob\npremise a\npremise b\npremise c\npremise mine of bob\ncell x interval\ncell y interval\n";
+    "workbench 1\n# general\nuser ann\nuser bob\npremise a\npremise b\npremise c\npremise mine of bob\nset color red green blue\ncell x interval\ncell y interval\ncell g color\n";
 
 const LINES: [&str; 8] = [
     "ann tell x 1..2 under a\n",
@@ -72,7 +72,7 @@ fn a_declaration_is_read_or_memory_is_told(rt: HostRuntime) -> Result<(), Fail> 
         match read_declaration(&refusing, WORLD.as_bytes()) {
             Ok(world) => {
                 assert!(rt; refusing.calls() < at, "at {at}");
-                assert_eq!(rt; world.cells(), 2, "at {at}");
+                assert_eq!(rt; (world.cells(), world.sets()), (3, 1), "at {at}");
                 break;
             }
             Err(fault) => {
@@ -81,7 +81,7 @@ fn a_declaration_is_read_or_memory_is_told(rt: HostRuntime) -> Result<(), Fail> 
             }
         }
     }
-    assert!(rt; met > 8, "{met} growths were refused");
+    assert!(rt; met > 12, "{met} growths were refused");
     Ok(())
 }
 

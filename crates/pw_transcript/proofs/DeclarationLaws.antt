@@ -1,15 +1,20 @@
 use Rattle.std.proofs.Common.{◌≡◌, ℕ, ◌+◌, true, List, [], ◌∷◌, ◌++◌, length, Option, Some, None, ◌⊎◌, inl, inr, sym, refl, ap, subst, suc, ◌∙◌, codes, rules, arith, ◌↔◌}
+use Rattle.std.specs.List.{list_all}
 use Rattle.std.specs.Str.{bytes_eq}
 use Rattle.std.proofs.lemmas.Bool.{cases_Bool, false≢true}
 use Rattle.std.proofs.lemmas.Slice.Eq.{bytes_eq-Decides}
+use Rattle.pw_info.specs.declared.kind.Kind.{Kind}
+use Rattle.pw_info.specs.declared.kind.Kind.TheVariants as kinds
+use Rattle.pw_info.specs.Name.{is_name}
+use Rattle.pw_info.proofs.Informations.{same_set}
 use Rattle.pw_transcript.specs.declared.decl_fault.Why.{Why}
 use Rattle.pw_transcript.specs.Lines.{lines_of}
 use Rattle.pw_transcript.specs.Words.{words_of, is_idle}
-use Rattle.pw_transcript.specs.Declaration.{Declared, DeclarationSentence, Header, User, Premise, PremiseOf, Cell, IsDeclarationSentence, Makes}
-use Rattle.pw_transcript.specs.DeclarationForms.{declaration_sentence_of, header_of, user_of, premise_of, cell_of}
+use Rattle.pw_transcript.specs.Declaration.{Declared, DeclarationSentence, Header, User, Premise, PremiseOf, Set, Cell, IsDeclarationSentence, members_of, NamesKind, Makes}
+use Rattle.pw_transcript.specs.DeclarationForms.{declaration_sentence_of, header_of, user_of, premise_of, set_of, cell_of}
 use Rattle.pw_transcript.specs.DeclarationFaults.{Says, Declares, Leads, SpellsDeclaration, IsFaultNext, IsFirstFault, line_faults, Applies, HasFault, why_of}
 use Rattle.pw_transcript.proofs.FirstLemmas.{one_first, none_is_first}
-use Rattle.pw_transcript.proofs.NameLemmas.{passed, passes}
+use Rattle.pw_transcript.proofs.NameLemmas.{passed, passes, all_passed, all_pass}
 
 some_is : {A : Type 0} (x y : A) → Some x ≡ Some y → x ≡ y
 some_is x y e = cc
@@ -23,6 +28,21 @@ after_user rest s e = search (rules, passed)
 
 after_premise : (rest : List (List ℕ)) (s : DeclarationSentence) → premise_of rest ≡ Some s → IsDeclarationSentence (codes "premise" ∷ rest) s
 after_premise rest s e = search (rules, passed)
+
+after_set : (rest : List (List ℕ)) (s : DeclarationSentence) → set_of rest ≡ Some s → IsDeclarationSentence (codes "set" ∷ rest) s
+after_set [] s e = absurd (let f : None ≡ Some s = e in cc)
+after_set (name ∷ members) s e =
+    elim (cases_Bool (is_name name)) [
+      | inl named ↦
+          let e1 = rw named at e in
+          elim (cases_Bool (list_all is_name members)) [
+            | inl all ↦
+                let same : Set name members ≡ s = some_is _ _ (rw all at e1) in
+                subst (IsDeclarationSentence (codes "set" ∷ name ∷ members)) same (refl, passed name named, all_passed members all)
+            | inr not_all ↦ absurd (let e2 : None ≡ Some s = rw not_all at e1 in cc)
+          ]
+      | inr unnamed ↦ absurd (let e1 : None ≡ Some s = rw unnamed at e in cc)
+    ]
 
 after_cell : (rest : List (List ℕ)) (s : DeclarationSentence) → cell_of rest ≡ Some s → IsDeclarationSentence (codes "cell" ∷ rest) s
 after_cell rest s e = search (rules, passed)
@@ -49,9 +69,14 @@ found (verb ∷ rest) s e =
                   | inl same2 ↦ as_with verb (codes "premise") rest s same2 (after_premise rest s (rw same2 at e2))
                   | inr other2 ↦
                       let e3 = rw other2 at e2 in
-                      elim (cases_Bool (bytes_eq verb (codes "cell"))) [
-                        | inl same3 ↦ as_with verb (codes "cell") rest s same3 (after_cell rest s (rw same3 at e3))
-                        | inr other3 ↦ absurd (let e4 : None ≡ Some s = rw other3 at e3 in cc)
+                      elim (cases_Bool (bytes_eq verb (codes "set"))) [
+                        | inl same3 ↦ as_with verb (codes "set") rest s same3 (after_set rest s (rw same3 at e3))
+                        | inr other3 ↦
+                            let e4 = rw other3 at e3 in
+                            elim (cases_Bool (bytes_eq verb (codes "cell"))) [
+                              | inl same4 ↦ as_with verb (codes "cell") rest s same4 (after_cell rest s (rw same4 at e4))
+                              | inr other4 ↦ absurd (let e5 : None ≡ Some s = rw other4 at e4 in cc)
+                            ]
                       ]
                 ]
           ]
@@ -63,13 +88,31 @@ given words Header e = search (rules, passes)
 given words (User name) e = search (rules, passes)
 given words (Premise name) e = search (rules, passes)
 given words (PremiseOf name user) e = search (rules, passes)
+given words (Set name members) e = search (rules, passes, all_pass)
 given words (Cell name kind) e = search (rules, passes)
 
 pub one_sentence : (words : List (List ℕ)) (s t : DeclarationSentence) → IsDeclarationSentence words s → IsDeclarationSentence words t → s ≡ t
 one_sentence words s t p q = some_is s t (sym (given words s p) ∙ given words t q)
 
+-- a word names one kind at most
+same_kind : (d : Declared) (word : List ℕ) (j k : Kind) → NamesKind d word j → NamesKind d word k → j ≡ k
+same_kind d word kinds.Interval kinds.Interval p q = refl
+same_kind d word kinds.Interval kinds.Exact p q = absurd (omega (arith, some_is _ _ (sym p ∙ q)))
+same_kind d word kinds.Interval (kinds.Members t) p q = absurd (omega (arith, some_is _ _ (sym p ∙ q.0)))
+same_kind d word kinds.Exact kinds.Interval p q = absurd (omega (arith, some_is _ _ (sym p ∙ q)))
+same_kind d word kinds.Exact kinds.Exact p q = refl
+same_kind d word kinds.Exact (kinds.Members t) p q = absurd (omega (arith, some_is _ _ (sym p ∙ q.0)))
+same_kind d word (kinds.Members s) kinds.Interval p q = absurd (omega (arith, some_is _ _ (sym p.0 ∙ q)))
+same_kind d word (kinds.Members s) kinds.Exact p q = absurd (omega (arith, some_is _ _ (sym p.0 ∙ q)))
+same_kind d word (kinds.Members s) (kinds.Members t) p q =
+    let number : s.number ≡ t.number = omega (arith, some_is _ _ (sym p.0 ∙ q.0)) in
+    same_set s t number (sym p.1 ∙ ap (λ n. length (members_of d n)) number ∙ q.1)
+
 -- a sentence makes one declaration
 pub one_made : (so_far : Option Declared) (s : DeclarationSentence) (a b : Declared) → Makes so_far s a → Makes so_far s b → a ≡ b
+one_made (Some d) (Cell name word) a b p q =
+    let same = same_kind d word p.0 q.0 p.1 q.1 in
+    p.2 ∙ ap (λ (kind : Kind). record d { cells = d.cells ++ name ∷ []; kinds = d.kinds ++ kind ∷ [] }) same ∙ sym q.2
 one_made so_far s a b p q = search rules
 
 pub exact : (words : List (List ℕ)) (s : DeclarationSentence) → IsDeclarationSentence words s ↔ (declaration_sentence_of words ≡ Some s)

@@ -6,8 +6,8 @@ use Rattle.pw_transcript.specs.First.{IsFirstIn, HoldsOfNone}
 use Rattle.pw_transcript.specs.Words.{words_of, is_idle, is_allowed}
 use Rattle.pw_transcript.specs.Declaration.{Declared, DeclarationSentence}
 use Rattle.pw_transcript.specs.DeclarationForms.{declaration_sentence_of}
-use Rattle.pw_transcript.specs.DeclarationFaults.{Says, Declares, IsInPlace, LineFault, BadSyntax, Duplicate, Unknown, TooMany, Applies, HasFault, HasDuplicate, HasUnknown, IsOneTooMany}
-use Rattle.pw_transcript.specs.DeclarationSentenceFaults.{AppliesTo, sentence_faults, IsFormFault, IsMade, IsLineFault}
+use Rattle.pw_transcript.specs.DeclarationFaults.{Says, Declares, IsInPlace, LineFault, BadSyntax, Duplicate, Unknown, TooFew, TooMany, Applies, HasFault, HasDuplicate, HasUnknown, HasTooFew, IsOneTooMany}
+use Rattle.pw_transcript.specs.DeclarationSentenceFaults.{AppliesTo, sentence_faults, IsSentenceFault, IsFormFault, IsMade, IsLineFault}
 use Rattle.pw_transcript.proofs.DeclarationLaws.{found, given, one_sentence}
 
 -- a line whose words fit no form
@@ -40,18 +40,23 @@ module _ (so_far : Option Declared) (line : List ℕ) (s : DeclarationSentence) 
   no_unknown : (HasUnknown so_far s → ⊥) → Applies so_far line Unknown → ⊥
   no_unknown none (t, says, h) = none (at (HasUnknown so_far) t says h)
 
+  not_few : (HasTooFew so_far s → ⊥) → Applies so_far line TooFew → ⊥
+  not_few none (t, says, h) = none (at (HasTooFew so_far) t says h)
+
   not_many : (IsOneTooMany so_far s → ⊥) → Applies so_far line TooMany → ⊥
   not_many none (t, says, h) = none (at (IsOneTooMany so_far) t says h)
 
   pub declared : (after : Option Declared) → IsInPlace so_far s → HoldsOfNone (AppliesTo so_far s) sentence_faults → IsMade so_far s after → Declares so_far line after
-  declared after place (duplicate, (unknown, (many, end))) (d, made, is) =
-      ((not_long, (not_bad place, (no_duplicate duplicate, (no_unknown unknown, (not_many many, tt))))), inr (s, d, said place, made, is))
+  declared after place (duplicate, (unknown, (few, (many, end)))) (d, made, is) =
+      ((not_long, (not_bad place, (no_duplicate duplicate, (no_unknown unknown, (not_few few, (not_many many, tt)))))), inr (s, d, said place, made, is))
 
   first_later : IsInPlace so_far s → (fault : LineFault) → IsFirstIn (AppliesTo so_far s) sentence_faults fault → HasFault so_far line fault
   first_later place fault (inl (is, h)) = inr (not_long, inr (not_bad place, inl (is, (s, said place, h))))
   first_later place fault (inr (a, inl (is, h))) = inr (not_long, inr (not_bad place, inr (no_duplicate a, inl (is, (s, said place, h)))))
   first_later place fault (inr (a, inr (b, inl (is, h)))) = inr (not_long, inr (not_bad place, inr (no_duplicate a, inr (no_unknown b, inl (is, (s, said place, h))))))
-  first_later place fault (inr (a, inr (b, inr (m, last)))) = absurd last
+  first_later place fault (inr (a, inr (b, inr (c, inl (is, h))))) =
+      inr (not_long, inr (not_bad place, inr (no_duplicate a, inr (no_unknown b, inr (not_few c, inl (is, (s, said place, h)))))))
+  first_later place fault (inr (a, inr (b, inr (c, inr (m, last))))) = absurd last
 
   pub faulty : (why : Why) → IsFormFault so_far s why → IsLineFault so_far line why
   faulty why (inl (is, out)) = inr (BadSyntax, misplaced out, is)
@@ -66,3 +71,8 @@ module _ (so_far : Option Declared) (line : List ℕ) (s : DeclarationSentence) 
   pub faulty_on : (r : Result (Unit {0}) Why) → IfErr r (λ why. IsFormFault so_far s why) → IfErr r (λ why. IsLineFault so_far line why)
   faulty_on (Ok u) h = h
   faulty_on (Err e) h = faulty e h
+
+-- a fault of a sentence that stands in its place
+pub in_place : (so_far : Option Declared) (s : DeclarationSentence) → IsInPlace so_far s → (r : Result (Unit {0}) Why) → IfErr r (λ why. IsSentenceFault so_far s why) → IfErr r (λ why. IsFormFault so_far s why)
+in_place so_far s place (Ok u) h = tt
+in_place so_far s place (Err e) h = inr (place, h)

@@ -1,18 +1,41 @@
 -- What a declaration keeps as names are added, and the places of names.
-use Rattle.std.proofs.Common.{◌≡◌, ℕ, zero, suc, ◌+◌, ◌-◌, ◌<◌, ◌≤◌, true, List, [], ◌∷◌, ◌++◌, Option, Some, None, length, get_or, sym, ap, arith, length-append, inl, inr}
-use Rattle.std.specs.Prelude.{IfSome, IfNone, Contains, slice_get}
+use Rattle.std.proofs.Common.{◌≡◌, ℕ, zero, suc, ◌+◌, ◌-◌, ◌<◌, ◌≤◌, true, List, [], ◌∷◌, ◌++◌, Option, Some, None, length, get_or, refl, sym, ap, arith, length-append, inl, inr}
+use Rattle.std.specs.Prelude.{IfSome, IfNone, Contains, slice_get, slice_index_or}
 use Rattle.std.specs.List.{position_from}
 use Rattle.std.specs.Str.{bytes_eq}
 use Rattle.std.proofs.lemmas.Bool.{cases_Bool}
-use Rattle.std.proofs.lemmas.List.Elements.{All-push, All-weaker}
+use Rattle.std.proofs.lemmas.List.Elements.{All-nil, All-push, All-weaker}
 use Rattle.std.proofs.lemmas.Slice.Eq.{bytes_eq-Decides}
-use Rattle.pw_transcript.specs.Declaration.{Declared}
+use Rattle.pw_kinds.specs.Places.{IsSize}
+use Rattle.pw_info.specs.declared.kind.Kind.{Kind}
+use Rattle.pw_info.specs.SetNames.{AreNames, IsNamed}
+use Rattle.pw_transcript.specs.Declaration.{Declared, nothing_declared, built_in_sets, members_of}
 use Rattle.pw_transcript.specs.DeclarationLimits.{IsWithinLimits}
+use Rattle.pw_transcript.proofs.SetLemmas.{nothing_named, named_push, named_stays}
 
+-- an owner stays a user as users are added
 still_user : (m n : ℕ) → m ≤ n → (owner : Option ℕ) → IfSome owner (λ user. user < m) → IfSome owner (λ user. user < n)
 still_user m n h None p = p
 still_user m n h (Some user) p = omega arith
 
+-- the limits are kept where nothing is declared
+pub nothing_within : IsWithinLimits nothing_declared
+nothing_within =
+    record {
+      users = omega arith;
+      premises = omega arith;
+      owners = refl;
+      cells = omega arith;
+      kinds = refl;
+      owned = All-nil (λ owner. IfSome owner (λ user. user < 0));
+      sets = omega arith;
+      set_names = refl;
+      sizes = All-nil (λ names. IsSize (length names));
+      named = nothing_named;
+      known = All-nil (IsNamed (members_of nothing_declared));
+    }
+
+-- one more user keeps them
 pub with_user : (d : Declared) (name : List ℕ) → IsWithinLimits d → length d.users < 64 → IsWithinLimits (record d { users = d.users ++ name ∷ [] })
 with_user d name within room =
     let longer : length (d.users ++ name ∷ []) ≡ length d.users + 1 = length-append d.users (name ∷ []) in
@@ -23,8 +46,14 @@ with_user d name within room =
       cells = within.cells;
       kinds = within.kinds;
       owned = All-weaker (λ owner. IfSome owner (λ user. user < length d.users)) (λ owner. IfSome owner (λ user. user < length (d.users ++ name ∷ []))) (still_user (length d.users) (length (d.users ++ name ∷ [])) (omega arith)) d.owners within.owned;
+      sets = within.sets;
+      set_names = within.set_names;
+      sizes = within.sizes;
+      named = within.named;
+      known = within.known;
     }
 
+-- so does one more premise, of a user or of none
 pub with_premise : (d : Declared) (name : List ℕ) (owner : Option ℕ) → IsWithinLimits d → length d.premises < 64 → IfSome owner (λ user. user < length d.users)
     → IsWithinLimits (record d { premises = d.premises ++ name ∷ []; owners = d.owners ++ owner ∷ [] })
 with_premise d name owner within room own =
@@ -38,6 +67,53 @@ with_premise d name owner within room own =
       cells = within.cells;
       kinds = within.kinds;
       owned = All-push (λ o. IfSome o (λ user. user < length d.users)) d.owners owner within.owned own;
+      sets = within.sets;
+      set_names = within.set_names;
+      sizes = within.sizes;
+      named = within.named;
+      known = within.known;
+    }
+
+-- and one more cell, of a kind that is there
+pub with_cell : (d : Declared) (name : List ℕ) (kind : Kind) → IsWithinLimits d → length d.cells < 1024 → IsNamed (members_of d) kind
+    → IsWithinLimits (record d { cells = d.cells ++ name ∷ []; kinds = d.kinds ++ kind ∷ [] })
+with_cell d name kind within room known =
+    let longer : length (d.cells ++ name ∷ []) ≡ length d.cells + 1 = length-append d.cells (name ∷ []) in
+    let more : length (d.kinds ++ kind ∷ []) ≡ length d.kinds + 1 = length-append d.kinds (kind ∷ []) in
+    let alike : length d.kinds ≡ length d.cells = within.kinds in
+    record {
+      users = within.users;
+      premises = within.premises;
+      owners = within.owners;
+      cells = omega arith;
+      kinds = omega arith;
+      owned = within.owned;
+      sets = within.sets;
+      set_names = within.set_names;
+      sizes = within.sizes;
+      named = within.named;
+      known = All-push (IsNamed (members_of d)) d.kinds kind within.known known;
+    }
+
+-- and one more set, with 2 to 64 members that have names
+pub with_set : (d : Declared) (name : List ℕ) (members : List (List ℕ)) → IsWithinLimits d → length d.sets < 32 → IsSize (length members) → AreNames members
+    → IsWithinLimits (record d { set_names = d.set_names ++ name ∷ []; sets = d.sets ++ members ∷ [] })
+with_set d name members within room size names =
+    let longer : length (d.sets ++ members ∷ []) ≡ length d.sets + 1 = length-append d.sets (members ∷ []) in
+    let more : length (d.set_names ++ name ∷ []) ≡ length d.set_names + 1 = length-append d.set_names (name ∷ []) in
+    let alike : length d.set_names ≡ length d.sets = within.set_names in
+    record {
+      users = within.users;
+      premises = within.premises;
+      owners = within.owners;
+      cells = within.cells;
+      kinds = within.kinds;
+      owned = within.owned;
+      sets = omega arith;
+      set_names = omega arith;
+      sizes = All-push (λ names. IsSize (length names)) d.sets members within.sizes size;
+      named = named_push (built_in_sets ++ d.sets) members within.named names;
+      known = All-weaker (IsNamed (members_of d)) (IsNamed (λ set. slice_index_or (built_in_sets ++ d.sets ++ members ∷ []) set [])) (named_stays (built_in_sets ++ d.sets) (members ∷ [])) d.kinds within.known;
     }
 
 -- ---- the place of a name

@@ -1,12 +1,13 @@
-use Rattle.std.proofs.Common.{◌≡◌, ℕ, suc, zero, ◌<◌, true, false, List, [], ◌∷◌, arith, ◌↔◌}
-use Rattle.std.specs.List.{list_all}
+use Rattle.std.proofs.Common.{◌≡◌, ℕ, suc, zero, ◌<◌, true, false, List, [], ◌∷◌, refl, arith, ◌↔◌}
+use Rattle.std.specs.List.{list_all, All}
+use Rattle.std.proofs.lemmas.List.Elements.{All-nil, All-cons, All-head, All-tail}
 use Rattle.std.proofs.lemmas.Bool.Decides.{nat_tests}
 use Rattle.std.specs.Prelude.{Result, Ok, Err, MatchResult, MatchOption}
 use Rattle.std.specs.Result.{result_ok}
 use Rattle.std.specs.Borrow.{Bor}
 use Rattle.std.specs.Str.{IsUtf8, IsAscii}
 use Rattle.std.proofs.lemmas.Str.{IsUtf8-from_ascii}
-use Rattle.pw_transcript.specs.Name.{IsName, is_name, is_name_byte}
+use Rattle.pw_info.specs.Name.{IsName, is_name, is_name_byte}
 
 -- a word that passes the test is a name
 pub passed : (word : List ℕ) → is_name word ≡ true → IsName word
@@ -25,6 +26,16 @@ passes word name = grind (arith, nat_tests, name.short, name.first, name.bytes, 
 
 pub exact : (word : List ℕ) → (is_name word ≡ true) ↔ IsName word
 exact word = (passed word, passes word)
+
+-- words that pass the test are names
+pub all_passed : (words : List (List ℕ)) → list_all is_name words ≡ true → All IsName words
+all_passed [] e = All-nil IsName
+all_passed (word ∷ words) e = All-cons IsName word words (passed word (grind (arith, nat_tests))) (all_passed words (grind (arith, nat_tests)))
+
+-- names pass the test
+pub all_pass : (words : List (List ℕ)) → All IsName words → list_all is_name words ≡ true
+all_pass [] all = refl
+all_pass (word ∷ words) all = rw (passes word (All-head IsName word words all), all_pass words (All-tail IsName word words all))
 
 -- a byte of a name is an ASCII character
 small : (b : ℕ) → is_name_byte b ≡ true → b < 128

@@ -2,6 +2,8 @@
 use Rattle.std.proofs.Common.{◌≡◌, ℕ, ◌<◌, ◌≤◌, true, false, List, length, Option, Some, None, inl, inr, refl, sym, ap, ◌∙◌, subst, arith}
 use Rattle.std.specs.List.{list_all}
 use Rattle.pw_info.specs.declared.info.Info.{Info}
+use Rattle.pw_info.specs.declared.kind.Kind.TheVariants as kinds
+use Rattle.pw_info.specs.SetNames.{IsNamed}
 use Rattle.pw_info.specs.Spelling.{SpellsInfo}
 use Rattle.pw_info.proofs.Spellings.{one_info}
 use Rattle.pw_transcript.specs.declared.command.Command.{Command}
@@ -10,33 +12,42 @@ use Rattle.pw_transcript.specs.declared.fact.Fact.{Fact}
 use Rattle.pw_transcript.specs.declared.reply.Refusal.{Refusal}
 use Rattle.pw_transcript.specs.declared.reply.Refusal.TheVariants as refusal
 use Rattle.pw_transcript.specs.First.{IsFirstIn, HoldsOfNone}
-use Rattle.pw_transcript.specs.Declaration.{Declared, kind_at}
+use Rattle.pw_transcript.specs.Declaration.{Declared, kind_at, members_of}
+use Rattle.pw_transcript.specs.DeclarationLimits.{IsWithinLimits}
+use Rattle.pw_transcript.specs.Place.{place_of}
 use Rattle.pw_transcript.specs.Sentence.{Sentence, Tell, Believe, Doubt, Ask, Other, sentence_of}
 use Rattle.pw_transcript.specs.Words.{words_of, is_idle, is_allowed}
-use Rattle.pw_transcript.specs.Reading.{members_of, premises_of, Means, AppliesTo, sentence_refusals, SaysSentence, AppliesToLine, Applies, line_refusals, Reading, Blank, Refused, Says, Reads}
+use Rattle.pw_transcript.specs.Reading.{premises_of, Means, AppliesTo, sentence_refusals, SaysSentence, AppliesToLine, Applies, line_refusals, Reading, Blank, Refused, Says, Reads}
 use Rattle.pw_transcript.proofs.FirstLemmas.{one_first, none_is_first, IsFirstIn-from, HoldsOfNone-from}
+use Rattle.pw_transcript.proofs.HistoryLemmas.{place_of-lt}
 use Rattle.pw_transcript.proofs.SentenceLemmas.{one_sentence, given, found}
 
 -- a place is one number
 one_place : (o : Option ℕ) (m n : ℕ) → o ≡ Some m → o ≡ Some n → m ≡ n
 one_place o m n p q = cc
 
+-- the kind of a cell that a word names has its names
+pub named_cell : (d : Declared) (word : List ℕ) (cell : ℕ) → IsWithinLimits d → place_of d.cells word ≡ Some cell → IsNamed (members_of d) (kind_at d cell)
+named_cell d word cell limits at =
+    let below : cell < length d.cells = place_of-lt d.cells word cell at in
+    limits.known cell kinds.Interval (omega (arith, limits.kinds))
+
 -- a sentence means one command
-pub one_meaning : (d : Declared) (s : Sentence) (a b : Command) → Means d s a → Means d s b → a ≡ b
-one_meaning d (Tell user cell info premises) a b (u, c, i, at_u, at_c, spelled, e) (u', c', i', at_u', at_c', spelled', e') =
+pub one_meaning : (d : Declared) (s : Sentence) (a b : Command) → IsWithinLimits d → Means d s a → Means d s b → a ≡ b
+one_meaning d (Tell user cell info premises) a b limits (u, c, i, at_u, at_c, spelled, e) (u', c', i', at_u', at_c', spelled', e') =
     let same_user : u ≡ u' = one_place _ u u' at_u at_u' in
     let same_cell : c ≡ c' = one_place _ c c' at_c at_c' in
-    let same_info : i ≡ i' = one_info (members_of d) info (kind_at d c) i i' spelled (subst (λ (x : ℕ). SpellsInfo (members_of d) info (kind_at d x) i') (sym same_cell) spelled') in
+    let same_info : i ≡ i' = one_info (members_of d) info (kind_at d c) i i' limits.named (named_cell d cell c limits at_c) spelled (subst (λ (x : ℕ). SpellsInfo (members_of d) info (kind_at d x) i') (sym same_cell) spelled') in
     let fact : Info → Fact = λ x. record { info = x; support = premises_of d premises } in
     let same_fact : fact i ≡ fact i' = ap fact same_info in
     e ∙ ap (λ x. commands.Tell x c (fact i)) same_user ∙ ap (λ x. commands.Tell u' x (fact i)) same_cell ∙ ap (λ x. commands.Tell u' c' x) same_fact ∙ sym e'
-one_meaning d (Believe user premises) a b (u, at_u, e) (u', at_u', e') =
+one_meaning d (Believe user premises) a b limits (u, at_u, e) (u', at_u', e') =
     e ∙ ap (λ x. commands.Believe x (premises_of d premises)) (one_place _ u u' at_u at_u') ∙ sym e'
-one_meaning d (Doubt user premises) a b (u, at_u, e) (u', at_u', e') =
+one_meaning d (Doubt user premises) a b limits (u, at_u, e) (u', at_u', e') =
     e ∙ ap (λ x. commands.Doubt x (premises_of d premises)) (one_place _ u u' at_u at_u') ∙ sym e'
-one_meaning d (Ask user cell) a b (u, c, at_u, at_c, e) (u', c', at_u', at_c', e') =
+one_meaning d (Ask user cell) a b limits (u, c, at_u, at_c, e) (u', c', at_u', at_c', e') =
     e ∙ ap (λ x. commands.Ask x c) (one_place _ u u' at_u at_u') ∙ ap (λ x. commands.Ask u' x) (one_place _ c c' at_c at_c') ∙ sym e'
-one_meaning d (Other user) a b p q = absurd p
+one_meaning d (Other user) a b limits p q = absurd p
 
 one_sentence_said : (line : List ℕ) (s t : Sentence) → SaysSentence line s → SaysSentence line t → s ≡ t
 one_sentence_said line s t p q = one_sentence (words_of line) s t p.2 q.2
@@ -50,18 +61,18 @@ blank_none d line short idle =
     let none : HoldsOfNone (AppliesToLine d line) sentence_refusals = (λ h. idle_says_none line h.0 idle h.1, (λ h. idle_says_none line h.0 idle h.1, (λ h. idle_says_none line h.0 idle h.1, (λ h. idle_says_none line h.0 idle h.1, (λ h. idle_says_none line h.0 idle h.1, (λ h. idle_says_none line h.0 idle h.1, tt)))))) in
     (λ long. absurd (omega arith), ((λ h. let spoken : is_idle line ≡ false = h.0 in cc), none))
 
-pub one_reading : (d : Declared) (line : List ℕ) (a b : Reading) → Reads d line a → Reads d line b → a ≡ b
-one_reading d line Blank Blank p q = refl
-one_reading d line Blank (Refused r) p q = absurd (none_is_first (Applies d line) line_refusals r (blank_none d line p.0 p.1) q)
-one_reading d line Blank (Says c) p (none, (s, says, means)) = absurd (idle_says_none line s p.1 says)
-one_reading d line (Refused r) Blank p q = absurd (none_is_first (Applies d line) line_refusals r (blank_none d line q.0 q.1) p)
-one_reading d line (Refused r) (Refused t) p q = ap Refused (one_first (Applies d line) line_refusals r t p q)
-one_reading d line (Refused r) (Says c) p q = absurd (none_is_first (Applies d line) line_refusals r q.0 p)
-one_reading d line (Says c) Blank (none, (s, says, means)) q = absurd (idle_says_none line s q.1 says)
-one_reading d line (Says c) (Refused r) p q = absurd (none_is_first (Applies d line) line_refusals r p.0 q)
-one_reading d line (Says c) (Says e) (none, (s, says, means)) (none', (t, says', means')) =
+pub one_reading : (d : Declared) (line : List ℕ) (a b : Reading) → IsWithinLimits d → Reads d line a → Reads d line b → a ≡ b
+one_reading d line Blank Blank limits p q = refl
+one_reading d line Blank (Refused r) limits p q = absurd (none_is_first (Applies d line) line_refusals r (blank_none d line p.0 p.1) q)
+one_reading d line Blank (Says c) limits p (none, (s, says, means)) = absurd (idle_says_none line s p.1 says)
+one_reading d line (Refused r) Blank limits p q = absurd (none_is_first (Applies d line) line_refusals r (blank_none d line q.0 q.1) p)
+one_reading d line (Refused r) (Refused t) limits p q = ap Refused (one_first (Applies d line) line_refusals r t p q)
+one_reading d line (Refused r) (Says c) limits p q = absurd (none_is_first (Applies d line) line_refusals r q.0 p)
+one_reading d line (Says c) Blank limits (none, (s, says, means)) q = absurd (idle_says_none line s q.1 says)
+one_reading d line (Says c) (Refused r) limits p q = absurd (none_is_first (Applies d line) line_refusals r p.0 q)
+one_reading d line (Says c) (Says e) limits (none, (s, says, means)) (none', (t, says', means')) =
     let same : t ≡ s = one_sentence_said line t s says' says in
-    ap Says (one_meaning d s c e means (subst (λ (x : Sentence). Means d x e) same means'))
+    ap Says (one_meaning d s c e limits means (subst (λ (x : Sentence). Means d x e) same means'))
 
 -- ---- from what applies to a sentence to what applies to the line that says it
 module _ (d : Declared) (line : List ℕ) (s : Sentence) (short : length line ≤ 1024) (says : SaysSentence line s) where

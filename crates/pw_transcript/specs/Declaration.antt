@@ -1,25 +1,26 @@
 -- What a declaration is, and what each of its lines adds.
-use Rattle.std.specs.Prelude.{◌≡◌, ℕ, List, [], ◌∷◌, ◌++◌, Option, Some, None, codes, slice_index_or, if◌then◌else◌}
-use Rattle.std.specs.Str.{bytes_eq}
+use Rattle.std.specs.Prelude.{◌≡◌, ℕ, ◌+◌, List, [], ◌∷◌, ◌++◌, All, length, Option, Some, None, codes, slice_index_or}
 use Rattle.pw_info.specs.declared.kind.Kind.{Kind}
-use Rattle.pw_info.specs.declared.kind.Kind.TheVariants.{Interval}
-use Rattle.pw_transcript.specs.Name.{IsName}
+use Rattle.pw_info.specs.declared.kind.Kind.TheVariants as kinds
+use Rattle.pw_info.specs.Name.{IsName}
+use Rattle.pw_info.specs.SetNames.{SetNames}
 use Rattle.pw_transcript.specs.Place.{place_of}
 
--- what is declared: the names of the users, premises and cells in the order of their lines,
+-- what is declared: the names of the users, premises, cells and set kinds in the order of their lines,
 -- for each premise the number of the user that it belongs to, if any, for each cell its kind,
--- and for each set kind the names of its members (no line declares one yet)
+-- and for each set kind the names of its members
 pub record Declared : Type 0 where
   pub users : List (List ℕ)
   pub premises : List (List ℕ)
   pub owners : List (Option ℕ)
   pub cells : List (List ℕ)
   pub kinds : List Kind
+  pub set_names : List (List ℕ)
   pub sets : List (List (List ℕ))
 
 -- the header alone declares nothing
 abbrev pub nothing_declared : Declared
-nothing_declared = record { users = []; premises = []; owners = []; cells = []; kinds = []; sets = [] }
+nothing_declared = record { users = []; premises = []; owners = []; cells = []; kinds = []; set_names = []; sets = [] }
 
 -- the user that a premise belongs to, if it belongs to one
 abbrev pub owner_of : Declared → ℕ → Option ℕ
@@ -27,7 +28,30 @@ owner_of d premise = slice_index_or d.owners premise None
 
 -- the kind of a declared cell
 abbrev pub kind_at : Declared → ℕ → Kind
-kind_at d cell = slice_index_or d.kinds cell Interval
+kind_at d cell = slice_index_or d.kinds cell kinds.Interval
+
+-- the members of the set kinds that every declaration has: `bool`, which has the number 0, and `sign`, which has 1
+abbrev pub built_in_sets : List (List (List ℕ))
+built_in_sets = (codes "false" ∷ codes "true" ∷ []) ∷ (codes "neg" ∷ codes "zero" ∷ codes "pos" ∷ []) ∷ []
+
+-- the names of the members of a set kind, by its number: the declared ones follow those that are built in
+abbrev pub members_of : Declared → SetNames
+members_of d set = slice_index_or (built_in_sets ++ d.sets) set []
+
+-- the names of the kinds that every declaration has, of which the last two are sets
+abbrev pub built_in_kind_names : List (List ℕ)
+built_in_kind_names = codes "interval" ∷ codes "exact" ∷ codes "bool" ∷ codes "sign" ∷ []
+
+-- the names of the kinds: the declared sets follow those that are built in
+abbrev pub kind_names : Declared → List (List ℕ)
+kind_names d = built_in_kind_names ++ d.set_names
+
+-- the word names the kind
+abbrev pub NamesKind : Declared → List ℕ → Kind → Type 0
+NamesKind d word kinds.Interval = place_of (kind_names d) word ≡ Some 0
+NamesKind d word kinds.Exact = place_of (kind_names d) word ≡ Some 1
+NamesKind d word (kinds.Members set) =
+    (place_of (kind_names d) word ≡ Some (set.number + 2)) × (length (members_of d set.number) ≡ set.size)
 
 -- what a line of a declaration says, by its words: nothing is looked up yet
 pub data DeclarationSentence : Type 0 where
@@ -35,19 +59,17 @@ pub data DeclarationSentence : Type 0 where
   User : (name : List ℕ) → DeclarationSentence
   Premise : (name : List ℕ) → DeclarationSentence
   PremiseOf : (name user : List ℕ) → DeclarationSentence
+  Set : (name : List ℕ) (members : List (List ℕ)) → DeclarationSentence
   Cell : (name kind : List ℕ) → DeclarationSentence
 
--- the words form the sentence, and its new name is a name
+-- the words form the sentence, and its new names are names
 abbrev pub IsDeclarationSentence : List (List ℕ) → DeclarationSentence → Type 0
 IsDeclarationSentence words Header = words ≡ codes "workbench" ∷ codes "1" ∷ []
 IsDeclarationSentence words (User name) = (words ≡ codes "user" ∷ name ∷ []) × IsName name
 IsDeclarationSentence words (Premise name) = (words ≡ codes "premise" ∷ name ∷ []) × IsName name
 IsDeclarationSentence words (PremiseOf name user) = (words ≡ codes "premise" ∷ name ∷ codes "of" ∷ user ∷ []) × IsName name
+IsDeclarationSentence words (Set name members) = (words ≡ codes "set" ∷ name ∷ members) × IsName name × All IsName members
 IsDeclarationSentence words (Cell name kind) = (words ≡ codes "cell" ∷ name ∷ kind ∷ []) × IsName name
-
--- the kind that a word names
-abbrev pub kind_of : List ℕ → Option Kind
-kind_of word = if bytes_eq word (codes "interval") then Some Interval else None
 
 -- after what was declared so far, and nothing is before the header, the sentence makes this declaration
 abbrev pub Makes : Option Declared → DeclarationSentence → Declared → Type 0
@@ -57,7 +79,9 @@ Makes (Some d) (Premise name) after = after ≡ record d { premises = d.premises
 Makes (Some d) (PremiseOf name user) after =
     (owner : ℕ) × (place_of d.users user ≡ Some owner)
     × (after ≡ record d { premises = d.premises ++ name ∷ []; owners = d.owners ++ Some owner ∷ [] })
+Makes (Some d) (Set name members) after =
+    after ≡ record d { set_names = d.set_names ++ name ∷ []; sets = d.sets ++ members ∷ [] }
 Makes (Some d) (Cell name kind_word) after =
-    (kind : Kind) × (kind_of kind_word ≡ Some kind)
+    (kind : Kind) × NamesKind d kind_word kind
     × (after ≡ record d { cells = d.cells ++ name ∷ []; kinds = d.kinds ++ kind ∷ [] })
 Makes so_far sentence after = ⊥

@@ -1,13 +1,15 @@
 -- Which texts spell a declaration, and the first fault of those that do not.
 use Rattle.std.specs.Prelude.{◌≡◌, ℕ, ◌+◌, ◌<◌, ◌≤◌, true, false, List, [], ◌∷◌, ◌++◌, length, Option, Some, None, IsSome, ◌⊎◌}
-use Rattle.std.specs.List.{list_all}
+use Rattle.std.specs.List.{list_all, IsDistinct}
+use Rattle.std.specs.Str.{bytes_eq}
+use Rattle.pw_info.specs.declared.kind.Kind.{Kind}
 use Rattle.pw_transcript.specs.declared.decl_fault.Why.{Why}
-use Rattle.pw_transcript.specs.declared.decl_fault.Why.TheVariants.{Syntax, DuplicateName, UnknownName, Limit}
+use Rattle.pw_transcript.specs.declared.decl_fault.Why.TheVariants.{Syntax, DuplicateName, UnknownName, WrongArguments, Limit}
 use Rattle.pw_transcript.specs.Words.{words_of, is_idle, is_allowed}
 use Rattle.pw_transcript.specs.Lines.{lines_of}
 use Rattle.pw_transcript.specs.First.{IsFirstIn, HoldsOfNone}
 use Rattle.pw_transcript.specs.Place.{place_of}
-use Rattle.pw_transcript.specs.Declaration.{Declared, DeclarationSentence, Header, User, Premise, PremiseOf, Cell, IsDeclarationSentence, kind_of, Makes}
+use Rattle.pw_transcript.specs.Declaration.{Declared, DeclarationSentence, Header, User, Premise, PremiseOf, Set, Cell, IsDeclarationSentence, kind_names, NamesKind, Makes}
 
 -- the header stands before every other sentence, and once
 abbrev pub IsInPlace : Option Declared → DeclarationSentence → Type 0
@@ -23,25 +25,32 @@ pub record Says (so_far : Option Declared) (line : List ℕ) (sentence : Declara
   pub words : IsDeclarationSentence (words_of line) sentence
   pub place : IsInPlace so_far sentence
 
--- the new name is one that its name space has already
+-- the new name is one that its name space has already, or a member is named twice
 abbrev pub HasDuplicate : Option Declared → DeclarationSentence → Type 0
 HasDuplicate (Some d) (User name) = IsSome (place_of d.users name)
 HasDuplicate (Some d) (Premise name) = IsSome (place_of d.premises name)
 HasDuplicate (Some d) (PremiseOf name user) = IsSome (place_of d.premises name)
+HasDuplicate (Some d) (Set name members) = IsSome (place_of (kind_names d) name) ⊎ (IsDistinct bytes_eq members → ⊥)
 HasDuplicate (Some d) (Cell name kind) = IsSome (place_of d.cells name)
 HasDuplicate so_far sentence = ⊥
 
 -- there is no such user, or no such kind
 abbrev pub HasUnknown : Option Declared → DeclarationSentence → Type 0
 HasUnknown (Some d) (PremiseOf name user) = place_of d.users user ≡ None
-HasUnknown (Some d) (Cell name kind) = kind_of kind ≡ None
+HasUnknown (Some d) (Cell name word) = (kind : Kind) → NamesKind d word kind → ⊥
 HasUnknown so_far sentence = ⊥
 
--- there are as many as may be already: 64 users, 64 premises, 1,024 cells
+-- a set has at least 2 members
+abbrev pub HasTooFew : Option Declared → DeclarationSentence → Type 0
+HasTooFew (Some d) (Set name members) = length members < 2
+HasTooFew so_far sentence = ⊥
+
+-- there are as many as may be already: 64 users, 64 premises, 32 sets, 1,024 cells; or the set has more than 64 members
 abbrev pub IsOneTooMany : Option Declared → DeclarationSentence → Type 0
 IsOneTooMany (Some d) (User name) = 64 ≤ length d.users
 IsOneTooMany (Some d) (Premise name) = 64 ≤ length d.premises
 IsOneTooMany (Some d) (PremiseOf name user) = 64 ≤ length d.premises
+IsOneTooMany (Some d) (Set name members) = (32 ≤ length d.sets) ⊎ (64 < length members)
 IsOneTooMany (Some d) (Cell name kind) = 1024 ≤ length d.cells
 IsOneTooMany so_far sentence = ⊥
 
@@ -51,17 +60,19 @@ pub data LineFault : Type 0 where
   BadSyntax : LineFault
   Duplicate : LineFault
   Unknown : LineFault
+  TooFew : LineFault
   TooMany : LineFault
 
 -- in the order in which they are told
 abbrev pub line_faults : List LineFault
-line_faults = TooLong ∷ BadSyntax ∷ Duplicate ∷ Unknown ∷ TooMany ∷ []
+line_faults = TooLong ∷ BadSyntax ∷ Duplicate ∷ Unknown ∷ TooFew ∷ TooMany ∷ []
 
 abbrev pub why_of : LineFault → Why
 why_of TooLong = Limit
 why_of BadSyntax = Syntax
 why_of Duplicate = DuplicateName
 why_of Unknown = UnknownName
+why_of TooFew = WrongArguments
 why_of TooMany = Limit
 
 -- the line, after what was declared so far, has the fault, whatever else is wrong with it
@@ -70,6 +81,7 @@ Applies so_far line TooLong = 4096 < length line
 Applies so_far line BadSyntax = (is_idle line ≡ false) × ((sentence : DeclarationSentence) → Says so_far line sentence → ⊥)
 Applies so_far line Duplicate = (sentence : DeclarationSentence) × Says so_far line sentence × HasDuplicate so_far sentence
 Applies so_far line Unknown = (sentence : DeclarationSentence) × Says so_far line sentence × HasUnknown so_far sentence
+Applies so_far line TooFew = (sentence : DeclarationSentence) × Says so_far line sentence × HasTooFew so_far sentence
 Applies so_far line TooMany = (sentence : DeclarationSentence) × Says so_far line sentence × IsOneTooMany so_far sentence
 
 -- this is the line's fault: of those that it has, the first

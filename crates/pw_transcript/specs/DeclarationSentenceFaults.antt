@@ -1,19 +1,27 @@
 -- What can be wrong with a sentence of a declaration, once its words fit their form.
-use Rattle.std.specs.Prelude.{◌≡◌, ℕ, List, [], ◌∷◌, Option, Some, ◌⊎◌}
+use Rattle.std.specs.Prelude.{◌≡◌, ℕ, true, List, [], ◌∷◌, Option, Some, ◌⊎◌}
+use Rattle.std.specs.List.{list_all}
+use Rattle.pw_info.specs.Name.{is_name}
 use Rattle.pw_transcript.specs.declared.decl_fault.Why.{Why}
 use Rattle.pw_transcript.specs.declared.decl_fault.Why.TheVariants.{Syntax, Memory}
 use Rattle.pw_transcript.specs.First.{IsFirstIn}
-use Rattle.pw_transcript.specs.Declaration.{Declared, DeclarationSentence, Makes}
-use Rattle.pw_transcript.specs.DeclarationFaults.{LineFault, Duplicate, Unknown, TooMany, HasDuplicate, HasUnknown, IsOneTooMany, IsInPlace, why_of, HasFault}
+use Rattle.pw_transcript.specs.Declaration.{Declared, DeclarationSentence, Set, Makes}
+use Rattle.pw_transcript.specs.DeclarationFaults.{LineFault, Duplicate, Unknown, TooFew, TooMany, HasDuplicate, HasUnknown, HasTooFew, IsOneTooMany, IsInPlace, why_of, HasFault}
+
+-- if the sentence declares a set, its members are names
+abbrev pub NamesMembers : DeclarationSentence → Type 0
+NamesMembers (Set name members) = list_all is_name members ≡ true
+NamesMembers sentence = Unit {0}
 
 -- the faults of a sentence, in the order in which they are told
 abbrev pub sentence_faults : List LineFault
-sentence_faults = Duplicate ∷ Unknown ∷ TooMany ∷ []
+sentence_faults = Duplicate ∷ Unknown ∷ TooFew ∷ TooMany ∷ []
 
 -- the sentence has the fault
 abbrev pub AppliesTo : Option Declared → DeclarationSentence → LineFault → Type 0
 AppliesTo so_far sentence Duplicate = HasDuplicate so_far sentence
 AppliesTo so_far sentence Unknown = HasUnknown so_far sentence
+AppliesTo so_far sentence TooFew = HasTooFew so_far sentence
 AppliesTo so_far sentence TooMany = IsOneTooMany so_far sentence
 AppliesTo so_far sentence fault = ⊥
 

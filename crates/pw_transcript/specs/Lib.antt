@@ -12,7 +12,6 @@ pub mod Gatherers
 pub mod Gathering
 pub mod History
 pub mod Lines
-pub mod Name
 pub mod Past
 pub mod PastCode
 pub mod Place

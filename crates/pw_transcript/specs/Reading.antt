@@ -1,17 +1,17 @@
 -- How a line of a transcript reads: it is blank, it is refused, or it says a command.
-use Rattle.std.specs.Prelude.{◌≡◌, ℕ, ◌<◌, ◌≤◌, ◌==◌, Bool, true, false, List, [], ◌∷◌, length, Option, Some, None, is_some, Result, Ok, Err, slice_index_or}
+use Rattle.std.specs.Prelude.{◌≡◌, ℕ, ◌<◌, ◌≤◌, ◌==◌, Bool, true, false, List, [], ◌∷◌, length, Option, Some, None, is_some, Result, Ok, Err}
 use Rattle.std.specs.List.{list_all, filter_map}
 use Rattle.std.specs.Ordering.{nat_cmp}
 use Rattle.std.specs.FinSet.{FinSet, from_list}
 use Rattle.pw_info.specs.declared.info.Info.{Info}
-use Rattle.pw_info.specs.Spelling.{Members, SpellsInfo}
+use Rattle.pw_info.specs.Spelling.{SpellsInfo}
 use Rattle.pw_transcript.specs.declared.command.Command.{Command}
 use Rattle.pw_transcript.specs.declared.command.Command.TheVariants as commands
 use Rattle.pw_transcript.specs.declared.reply.Refusal.{Refusal}
 use Rattle.pw_transcript.specs.declared.reply.Refusal.TheVariants as refusal
 use Rattle.pw_transcript.specs.First.{IsFirstIn, HoldsOfNone}
 use Rattle.pw_transcript.specs.Place.{place_of}
-use Rattle.pw_transcript.specs.Declaration.{Declared, owner_of, kind_at}
+use Rattle.pw_transcript.specs.Declaration.{Declared, owner_of, kind_at, members_of}
 use Rattle.pw_transcript.specs.Sentence.{Sentence, Tell, Believe, Doubt, Ask, Other, IsSentence}
 use Rattle.pw_transcript.specs.Words.{words_of, is_idle, is_allowed}
 
@@ -20,10 +20,6 @@ use Rattle.pw_transcript.specs.Words.{words_of, is_idle, is_allowed}
 -- a set of premises, each by its number
 abbrev pub Premises : Type 0
 Premises = FinSet nat_cmp
-
--- the names of the members of the declared set kinds
-abbrev pub members_of : Declared → Members
-members_of d set = slice_index_or d.sets set []
 
 -- the word names a premise
 abbrev pub is_known : Declared → List ℕ → Bool

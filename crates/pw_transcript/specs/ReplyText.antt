@@ -1,13 +1,14 @@
 -- How replies are written.
 use Rattle.std.specs.Prelude.{ℕ, ◌+◌, List, [], ◌∷◌, ◌++◌, Option, Some, None, codes}
 use Rattle.std.specs.Fmt.{decimal}
+use Rattle.pw_info.specs.Information.{kind_of}
+use Rattle.pw_info.specs.SetNames.{IsNamed}
 use Rattle.pw_info.specs.Text.{text_of_info}
 use Rattle.pw_transcript.specs.declared.reply.Reply.{Reply}
 use Rattle.pw_transcript.specs.declared.reply.Reply.TheVariants as reply
 use Rattle.pw_transcript.specs.declared.reply.Refusal.{Refusal}
 use Rattle.pw_transcript.specs.declared.reply.Refusal.TheVariants as refusal
-use Rattle.pw_transcript.specs.Declaration.{Declared}
-use Rattle.pw_transcript.specs.Reading.{members_of}
+use Rattle.pw_transcript.specs.Declaration.{Declared, members_of}
 
 -- the number and the words of a refusal
 abbrev pub text_of_refusal : Refusal → List ℕ
@@ -20,6 +21,11 @@ text_of_refusal refusal.NotYourPremise = codes "7 not your premise"
 text_of_refusal refusal.WrongInformation = codes "8 wrong information"
 text_of_refusal refusal.LineTooLong = codes "10 line too long"
 text_of_refusal refusal.Memory = codes "11 memory"
+
+-- if the reply is a value, every member of its kind has its name
+abbrev pub IsReplyNamed : Declared → Reply → Type 0
+IsReplyNamed d (reply.Value info) = IsNamed (members_of d) (kind_of info)
+IsReplyNamed d reply = Unit {0}
 
 -- what a reply says
 abbrev pub text_of_answer : Declared → Reply → List ℕ

@@ -1,9 +1,13 @@
 // The answer to one line.
 
-ghost use Rattle.std.specs.Prelude.{◌≡◌, ◌<◌, ℕ, List, length, true, false, IfOk, OnOk, OnErr};
+ghost use Rattle.std.specs.Prelude.{◌≡◌, ℕ, List, true, false, IfSome, IfOk, OnOk, OnErr};
 ghost use Rattle.std.specs.Option.{option_copied};
 ghost use Rattle.pw_transcript.specs.Answering.{held_line, RepliesToLine, AnswersLine, FailsInLine};
+ghost use Rattle.pw_info.specs.SetNames.{IsNamed};
 ghost use Rattle.pw_transcript.specs.Carrying.{AsksOfKind, NamesCells};
+ghost use Rattle.pw_transcript.specs.Declaration.{members_of};
+ghost use Rattle.pw_transcript.specs.Past.{Fits};
+ghost use Rattle.pw_transcript.specs.ReplyText.{IsReplyNamed};
 
 use crate::command::Command;
 use crate::command_text::read_command;
@@ -18,7 +22,8 @@ use std::alloc::Allocator;
 // The kind of the cell that a command asks for.
 fn kind_asked<A: Allocator + Copy>(declaration: &Declaration<A>, command: &Command) -> Kind
     requires { NamesCells declaration.now command.now }
-    ensures { AsksOfKind declaration.now command.now result }
+    ensures kind { AsksOfKind declaration.now command.now result }
+    ensures named { IsNamed (members_of declaration.now) result }
 {
     match *command {
         Command::Ask { cell, .. } => declaration.cell_kind(cell),
@@ -33,9 +38,10 @@ fn reply_to_line<A: Allocator + Copy, B: Allocator + Copy>(
     line: Option<&[u8]>,
     history: &mut History<B>,
 ) -> Option<Reply>
-    requires users { length history.old.beliefs ≡ length declaration.now.users }
+    requires fits { Fits declaration.now history.old }
+    ensures named { IfSome result (λ reply. IsReplyNamed declaration.now reply) }
     ensures reply { (bytes : List ℕ) → option_copied line.entry ≡ held_line bytes → RepliesToLine declaration.now number bytes history.old history.new result }
-    ensures users { length history.new.beliefs ≡ length history.old.beliefs }
+    ensures fits { Fits declaration.now history.new }
 {
     let Some(line) = line else {
         return Some(Reply::Refused(Refusal::LineTooLong));
@@ -60,12 +66,12 @@ pub(crate) fn answer_line<A: Allocator + Copy, B: Allocator + Copy, O: Output>(
     history: &mut History<B>,
     output: &mut O,
 ) -> Result<bool, Failed>
-    requires users { length history.old.beliefs ≡ length declaration.now.users }
+    requires fits { Fits declaration.now history.old }
     ensures ok { IfOk result (λ replied. (bytes : List ℕ) → option_copied line.entry ≡ held_line bytes → AnswersLine O.passes declaration.now number bytes history.old history.new output.old output.new replied) }
     ensures err { OnErr result ((bytes : List ℕ) → option_copied line.entry ≡ held_line bytes → FailsInLine O.passes declaration.now number bytes history.old output.old output.new) }
     ensures failed { OnErr result (O.has_failed output.new ≡ true) }
     ensures works { OnOk result (O.has_failed output.old ≡ false → O.has_failed output.new ≡ false) }
-    ensures users { length history.new.beliefs ≡ length history.old.beliefs }
+    ensures fits { Fits declaration.now history.new }
 {
     let Some(reply) = reply_to_line(declaration, number, line, history) else {
         return Ok(false);

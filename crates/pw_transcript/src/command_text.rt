@@ -196,6 +196,8 @@ pub fn read_command<A: Allocator + Copy>(
     // No line has another reading.
     ensures only { (other : spec.Reading) → spec.Reads declaration.now line.now other → other ≡ spec.reading_of result }
 {
+    // Members of sets have names, so that no word spells two informations.
+    declaration.limits();
     if line.len() > MOST_LINE_BYTES {
         return Err(Refusal::LineTooLong);
     }

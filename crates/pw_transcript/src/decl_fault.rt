@@ -8,13 +8,17 @@ pub enum Why {
     /// The line has a byte that no line may have, or its words fit no form where they stand.
     #[error("syntax")]
     Syntax,
-    /// There is a user, premise or cell of this name already.
+    /// There is a user, premise, kind or cell of this name already, or a member of a set is named twice.
     #[error("duplicate name")]
     DuplicateName,
     /// There is no user or no kind of this name.
     #[error("unknown name")]
     UnknownName,
-    /// The text or the line is too long, or there is one user, premise or cell too many.
+    /// A set has fewer than 2 members.
+    #[error("wrong arguments")]
+    WrongArguments,
+    /// The text or the line is too long, there is one user, premise, set or cell too many, or a set has more than 64
+    /// members.
     #[error("limit")]
     Limit,
     /// The memory did not suffice.

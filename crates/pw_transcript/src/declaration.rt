@@ -1,16 +1,23 @@
-//! What a declaration declares: users, premises and cells, by name and by number.
-ghost use Rattle.std.specs.Prelude.{◌≡◌, ℕ, None, Some, [], ◌∷◌, ◌++◌, ◌<◌, ◌≤◌, length, slice_get, Contains, IfSome, IfNone, OnOk, OnErr};
+//! What a declaration declares: users, premises, cells and set kinds, by name and by number.
+ghost use Rattle.std.specs.Prelude.{◌≡◌, ℕ, None, Some, [], ◌∷◌, ◌++◌, ◌<◌, ◌≤◌, length, is_some, slice_get, Contains, IfSome, IfNone, OnOk, OnErr};
 ghost use Rattle.pw_transcript.specs.Place.{place_of};
-ghost use Rattle.pw_transcript.specs.Declaration.{nothing_declared, owner_of, kind_at};
+ghost use Rattle.pw_kinds.specs.Places.{IsSize};
+ghost use Rattle.pw_info.specs.declared.kind.Kind.{Kind as KindOfCell};
+ghost use Rattle.pw_info.specs.SetNames.{AreNames, IsNamed};
+ghost use Rattle.pw_transcript.specs.Declaration.{nothing_declared, owner_of, kind_at, kind_names, members_of, NamesKind};
+ghost use Rattle.pw_transcript.specs.DeclarationLimits.{IsWithinLimits};
 
+use crate::built_in_sets::{BUILT_IN_SETS, built_in_kind, built_in_member, built_in_place};
 use crate::name_table::NameTable;
-use pw_info::kind::Kind;
+use pw_info::kind::{Kind, SetKind};
 use pw_info::names::KindNames;
 use std::alloc::{AllocError, Allocator, Global};
 use std::marker::Model;
 
 /// Users, premises and cells, each numbered from 0 in the order of their lines, for each premise the user that it belongs to,
-/// if any, and for each cell its kind. There are at most 64 users, 64 premises and 1,024 cells.
+/// if any, and for each cell its kind; and set kinds with the names of their members, numbered from 2 in the order of their
+/// lines, after `bool` and `sign`. There are at most 64 users, 64 premises, 1,024 cells and 32 declared set kinds, each of
+/// 2 to 64 members.
 #[derive(Drop)]
 pub struct Declaration<A: Allocator = Global> {
     users: NameTable<A>,
@@ -18,20 +25,21 @@ pub struct Declaration<A: Allocator = Global> {
     owners: Vec<Option<u8>, A>,
     cells: NameTable<A>,
     kinds: Vec<Kind, A>,
-    // The names of the members of each set kind.
+    // Of the declared set kinds.
+    set_names: NameTable<A>,
+    // The names of the members of each declared set kind.
     sets: Vec<NameTable<A>, A>,
 }
 
 impl<A: Allocator> Model for Declaration<A> {
     ghost use Rattle.pw_transcript.specs.Declaration.{Declared};
-    ghost use Rattle.std.specs.Prelude.{All, length, ◌≤◌};
     ghost use Rattle.pw_transcript.specs.DeclarationLimits.{IsWithinLimits};
 
     ghost Value = { Declared };
 
-    ghost view = { λ d. record { users = d.users; premises = d.premises; owners = d.owners.items; cells = d.cells; kinds = d.kinds.items; sets = d.sets.items } };
+    ghost view = { λ d. record { users = d.users; premises = d.premises; owners = d.owners.items; cells = d.cells; kinds = d.kinds.items; set_names = d.set_names; sets = d.sets.items } };
 
-    ghost invariant = { λ d. IsWithinLimits (record { users = d.users; premises = d.premises; owners = d.owners.items; cells = d.cells; kinds = d.kinds.items; sets = d.sets.items }) × All (λ names. length names ≤ 64) d.sets.items };
+    ghost invariant = { λ d. IsWithinLimits (record { users = d.users; premises = d.premises; owners = d.owners.items; cells = d.cells; kinds = d.kinds.items; set_names = d.set_names; sets = d.sets.items }) };
 }
 
 impl<A: Allocator + Copy> Declaration<A> {
@@ -45,8 +53,17 @@ impl<A: Allocator + Copy> Declaration<A> {
             owners: Vec::new(alloc),
             cells: NameTable::new(alloc),
             kinds: Vec::new(alloc),
+            set_names: NameTable::new(alloc),
             sets: Vec::new(alloc),
         }
+    }
+
+    /// What holds of every declaration: its limits are kept, members of sets have names, and the kinds of cells are there.
+    pub fn limits(&self)
+        ensures { IsWithinLimits self.now }
+    {
+        // Looks at it, so that what holds of every declaration is known.
+        let _users = &self.users;
     }
 
     /// The number of users, at most 64.
@@ -71,6 +88,37 @@ impl<A: Allocator + Copy> Declaration<A> {
         ensures most { result ≤ 1024 }
     {
         self.cells.len() as u32
+    }
+
+    /// The number of declared set kinds, at most 32; `bool` and `sign` are not counted.
+    pub fn sets(&self) -> u8
+        ensures count { result ≡ length self.now.sets }
+        ensures most { result ≤ 32 }
+    {
+        self.sets.len() as u8
+    }
+
+    /// The kind of this name, if there is one: `interval`, `exact`, `bool`, `sign` or a declared set kind.
+    pub fn kind(&self, name: &[u8]) -> Option<Kind>
+        ensures some { IfSome result (λ kind. NamesKind self.now name.now kind) }
+        ensures known { IfSome result (λ kind. IsNamed (members_of self.now) kind) }
+        ensures none { IfNone result ((kind : KindOfCell) → NamesKind self.now name.now kind → ⊥) }
+    {
+        if let Some(kind) = built_in_kind(name) {
+            return Some(kind);
+        }
+        let place = self.set_names.find(name)?;
+        Some(Kind::Members(SetKind {
+            number: BUILT_IN_SETS + place as u8,
+            size: self.sets[place].len() as u8,
+        }))
+    }
+
+    /// Whether there is a kind of this name.
+    pub(crate) fn has_kind(&self, name: &[u8]) -> bool
+        ensures { result ≡ is_some (place_of (kind_names self.now) name.now) }
+    {
+        built_in_kind(name).is_some() || self.set_names.find(name).is_some()
     }
 
     /// The number of the user of this name, if there is one.
@@ -142,7 +190,8 @@ impl<A: Allocator + Copy> Declaration<A> {
     /// The kind of the cell of this number.
     pub fn cell_kind(&self, cell: u32) -> Kind
         requires { cell < length self.now.cells }
-        ensures { result ≡ kind_at self.now cell }
+        ensures kind { result ≡ kind_at self.now cell }
+        ensures named { IsNamed (members_of self.now) result }
     {
         self.kinds[cell as usize]
     }
@@ -176,6 +225,7 @@ impl<A: Allocator + Copy> Declaration<A> {
     pub(crate) fn add_cell(&mut self, name: &str, kind: Kind) -> Result<(), AllocError>
         requires fresh { place_of self.old.cells name.now ≡ None }
         requires room { length self.old.cells < 1024 }
+        requires known { IsNamed (members_of self.old) kind }
         ensures ok { OnOk result (self.new ≡ record self.old { cells = self.old.cells ++ name.now ∷ []; kinds = self.old.kinds ++ kind ∷ [] }) }
         ensures err { OnErr result (self.new ≡ self.old) }
     {
@@ -184,24 +234,43 @@ impl<A: Allocator + Copy> Declaration<A> {
         self.kinds.push(kind).unwrap();
         Ok(())
     }
+
+    /// Adds a set kind with these members, 2 to 64. It fails only for want of memory, and then nothing changes.
+    pub(crate) fn add_set(&mut self, name: &str, members: NameTable<A>) -> Result<(), AllocError>
+        requires fresh { place_of (kind_names self.old) name.now ≡ None }
+        requires room { length self.old.sets < 32 }
+        requires size { IsSize (length members) }
+        requires names { AreNames members }
+        ensures ok { OnOk result (self.new ≡ record self.old { set_names = self.old.set_names ++ name.now ∷ []; sets = self.old.sets ++ members ∷ [] }) }
+        ensures err { OnErr result (self.new ≡ self.old) }
+    {
+        self.sets.reserve(1)?;
+        self.set_names.add(name)?;
+        self.sets.push(members).unwrap();
+        Ok(())
+    }
 }
 
 impl<A: Allocator + Copy> KindNames for Declaration<A> {
-    ghost use Rattle.pw_transcript.specs.Reading.{members_of};
-
     ghost members = { members_of };
 
     fn member(&self, set: u8, place: u8) -> &str {
-        self.sets[usize::from(set)].name(usize::from(place))
+        if set < BUILT_IN_SETS {
+            return built_in_member(set, place);
+        }
+        self.sets[usize::from(set - BUILT_IN_SETS)].name(usize::from(place))
     }
 
     fn place(&self, set: u8, name: &[u8]) -> Option<u8> {
+        if set < BUILT_IN_SETS {
+            return built_in_place(set, name);
+        }
         let sets = self.sets.as_slice();
-        let set = usize::from(set);
-        if set >= sets.len() {
+        let declared = usize::from(set - BUILT_IN_SETS);
+        if declared >= sets.len() {
             return None;
         }
-        place_in(&sets[set], name)
+        place_in(&sets[declared], name)
     }
 }
 

@@ -1,9 +1,9 @@
 //! The forms of a declaration's lines. No name is looked up.
 ghost use Rattle.std.specs.Prelude.{◌≡◌, None, option_map};
 ghost use Rattle.pw_transcript.specs.Words.{words_of};
-ghost use Rattle.pw_transcript.specs.DeclarationForms.{sentence_in, header_of, user_of, premise_of, cell_of, declaration_sentence_of};
+ghost use Rattle.pw_transcript.specs.DeclarationForms.{sentence_in, header_of, user_of, premise_of, set_of, cell_of, declaration_sentence_of};
 
-use crate::name::read_name;
+use crate::name::{are_names, read_name};
 use crate::words::Words;
 
 /// What a line of a declaration says, by its words.
@@ -17,6 +17,8 @@ pub enum DeclarationForm<'a> {
     Premise { name: &'a str },
     /// `premise NAME of USER`
     PremiseOf { name: &'a str, user: &'a [u8] },
+    /// `set NAME MEMBER..`: the members are names.
+    Set { name: &'a str, members: Words<'a> },
     /// `cell NAME KIND`
     Cell { name: &'a str, kind: &'a [u8] },
 }
@@ -58,6 +60,20 @@ fn read_premise<'a>(mut rest: Words<'a>) -> Option<DeclarationForm<'a>>
     Some(DeclarationForm::PremiseOf { name, user })
 }
 
+// What follows `set`.
+fn read_set<'a>(mut rest: Words<'a>) -> Option<DeclarationForm<'a>>
+    ensures { option_map sentence_in result ≡ set_of rest.entry }
+{
+    let name = read_name(rest.next()?)?;
+    if !are_names(rest.again()) {
+        return None;
+    }
+    Some(DeclarationForm::Set {
+        name,
+        members: rest,
+    })
+}
+
 // What follows `cell`.
 fn read_cell<'a>(mut rest: Words<'a>) -> Option<DeclarationForm<'a>>
     ensures { option_map sentence_in result ≡ cell_of rest.entry }
@@ -82,6 +98,8 @@ pub(crate) fn read_form(line: &[u8]) -> Option<DeclarationForm<'_>>
         read_user(words)
     } else if verb == b"premise".as_slice() {
         read_premise(words)
+    } else if verb == b"set".as_slice() {
+        read_set(words)
     } else if verb == b"cell".as_slice() {
         read_cell(words)
     } else {

@@ -1,16 +1,16 @@
 //! One line of a declaration.
 ghost use Rattle.std.specs.Prelude.{◌≡◌, None, Some, IfErr, OnOk, OnErr};
 ghost use Rattle.pw_transcript.specs.First.{HoldsOfNone};
-ghost use Rattle.pw_transcript.specs.Declaration.{User, Premise, PremiseOf, Cell, Makes, kind_of};
+ghost use Rattle.pw_transcript.specs.Declaration.{User, Premise, PremiseOf, Cell, Makes};
 ghost use Rattle.pw_transcript.specs.DeclarationForms.{sentence_in};
 ghost use Rattle.pw_transcript.specs.DeclarationFaults.{Declares, IsInPlace};
-ghost use Rattle.pw_transcript.specs.DeclarationSentenceFaults.{AppliesTo, sentence_faults, IsSentenceFault, IsFormFault, IsMade, IsLineFault};
+ghost use Rattle.pw_transcript.specs.DeclarationSentenceFaults.{AppliesTo, sentence_faults, IsSentenceFault, IsFormFault, IsMade, IsLineFault, NamesMembers};
 
 use crate::decl_fault::Why;
 use crate::declaration::Declaration;
 use crate::declaration_form::{DeclarationForm, read_form};
+use crate::declaration_set::declare_set;
 use crate::words::{allows_all, idles};
-use pw_info::Kind;
 use std::alloc::Allocator;
 
 const MOST_LINE_BYTES: usize = 4096;
@@ -20,17 +20,6 @@ const MOST_USERS: u8 = 64;
 const MOST_PREMISES: u8 = 64;
 
 const MOST_CELLS: u32 = 1024;
-
-// The kind that a word names.
-fn read_kind(word: &[u8]) -> Option<Kind>
-    ensures { result ≡ kind_of word.now }
-{
-    if word == b"interval".as_slice() {
-        Some(Kind::Interval)
-    } else {
-        None
-    }
-}
 
 fn declare_user<A: Allocator + Copy>(
     declaration: &mut Declaration<A>,
@@ -112,7 +101,7 @@ fn declare_cell<A: Allocator + Copy>(
     if declaration.cell(name.as_bytes()).is_some() {
         return Err(Why::DuplicateName);
     }
-    let Some(kind) = read_kind(kind) else {
+    let Some(kind) = declaration.kind(kind) else {
         return Err(Why::UnknownName);
     };
     if declaration.cells() >= MOST_CELLS {
@@ -126,9 +115,11 @@ fn declare_cell<A: Allocator + Copy>(
 
 // Declares what a sentence after the header says.
 fn declare<A: Allocator + Copy>(
+    alloc: A,
     declaration: &mut Declaration<A>,
     form: DeclarationForm<'_>,
 ) -> Result<(), Why>
+    requires members { NamesMembers (sentence_in form) }
     ensures ok { OnOk result (Makes (Some declaration.old) (sentence_in form.entry) declaration.new) }
     ensures none { OnOk result (HoldsOfNone (AppliesTo (Some declaration.old) (sentence_in form.entry)) sentence_faults) }
     ensures place { OnOk result (IsInPlace (Some declaration.old) (sentence_in form.entry)) }
@@ -140,6 +131,7 @@ fn declare<A: Allocator + Copy>(
         DeclarationForm::User { name } => declare_user(declaration, name),
         DeclarationForm::Premise { name } => declare_premise(declaration, name),
         DeclarationForm::PremiseOf { name, user } => declare_premise_of(declaration, name, user),
+        DeclarationForm::Set { name, members } => declare_set(alloc, declaration, name, members),
         DeclarationForm::Cell { name, kind } => declare_cell(declaration, name, kind),
     }
 }
@@ -150,6 +142,7 @@ fn follow<A: Allocator + Copy>(
     so_far: &mut Option<Declaration<A>>,
     form: DeclarationForm<'_>,
 ) -> Result<(), Why>
+    requires members { NamesMembers (sentence_in form) }
     ensures ok { OnOk result (IsMade so_far.old (sentence_in form.entry) so_far.new) }
     ensures none { OnOk result (HoldsOfNone (AppliesTo so_far.old (sentence_in form.entry)) sentence_faults) }
     ensures place { OnOk result (IsInPlace so_far.old (sentence_in form.entry)) }
@@ -157,7 +150,7 @@ fn follow<A: Allocator + Copy>(
     ensures unchanged { OnErr result (so_far.new ≡ so_far.old) }
 {
     if let Some(declaration) = so_far {
-        return declare(declaration, form);
+        return declare(alloc, declaration, form);
     }
     let DeclarationForm::Header = form else {
         return Err(Why::Syntax);

@@ -2,7 +2,8 @@
 
 use crate::decl_fault::{DeclFault, Why};
 use crate::declaration_text::read_declaration;
-use pw_info::Kind;
+use pw_info::kind::{Kind, SetKind};
+use pw_info::names::KindNames;
 use std::alloc::{AllocError, Global};
 use std::test::Fail;
 
@@ -32,7 +33,6 @@ fn first_faults(rt: HostRuntime) {
         ("workbench 3\n", 1, Why::Syntax),
         ("user ann\n", 1, Why::Syntax),
         ("workbench 1\nworkbench 1\n", 2, Why::Syntax),
-        ("workbench 1\nset a b c\n", 2, Why::Syntax),
         ("workbench 1\nuser Ann\n", 2, Why::Syntax),
         ("workbench 1\nuser under\n", 2, Why::Syntax),
         ("workbench 1\nuser ann bob\n", 2, Why::Syntax),
@@ -50,16 +50,72 @@ fn first_faults(rt: HostRuntime) {
             Why::DuplicateName,
         ),
         (
-            "workbench 1\ncell x interval\ncell x exact\n",
+            "workbench 1\ncell x interval\ncell x whole\n",
             3,
             Why::DuplicateName,
         ),
         ("workbench 1\npremise p of eve\n", 2, Why::UnknownName),
         ("workbench 1\npremise p of EVE\n", 2, Why::UnknownName),
-        ("workbench 1\ncell x exact\n", 2, Why::UnknownName),
+        ("workbench 1\ncell x whole\n", 2, Why::UnknownName),
+        (
+            "workbench 1\ncell x colour\nset colour red green\n",
+            2,
+            Why::UnknownName,
+        ),
     ] {
         assert_eq!(rt; fault_of(rt.alloc(), text), Some((line, why)), "at {text}");
     }
+}
+
+#[test]
+fn first_faults_of_sets(rt: HostRuntime) -> Result<(), Fail> {
+    for (line, why) in [
+        ("set", Some(Why::Syntax)),
+        ("set Colour red green", Some(Why::Syntax)),
+        ("set colour red 9", Some(Why::Syntax)),
+        ("set colour red under", Some(Why::Syntax)),
+        ("set bool 9 9", Some(Why::Syntax)),
+        ("set interval red green", Some(Why::DuplicateName)),
+        ("set exact red green", Some(Why::DuplicateName)),
+        ("set bool red green", Some(Why::DuplicateName)),
+        ("set sign red", Some(Why::DuplicateName)),
+        ("set mood red green", Some(Why::DuplicateName)),
+        ("set colour red red", Some(Why::DuplicateName)),
+        ("set colour red green blue green", Some(Why::DuplicateName)),
+        ("set one m", Some(Why::WrongArguments)),
+        ("set none", Some(Why::Syntax)),
+        ("set empty", Some(Why::WrongArguments)),
+        ("set colour colour mood", None),
+    ] {
+        let text = format!(in rt.alloc(); "workbench 1\nset mood good bad\n{line}")?;
+        let fault = fault_of(rt.alloc(), text.as_str());
+        assert_eq!(rt; fault, why.map(|why| (3, why)), "at {line}");
+    }
+    Ok(())
+}
+
+// A line `set big m0 m1 ..` with so many members.
+fn one_set(alloc: Global, count: u32) -> Result<String, AllocError> {
+    let mut text = String::from_str(alloc, "workbench 1\nset big")?;
+    for number in 0..count {
+        let word = format!(in alloc; " m{number}")?;
+        text.push_str(word.as_str())?;
+    }
+    Ok(text)
+}
+
+#[test]
+fn one_member_too_many(rt: HostRuntime) -> Result<(), Fail> {
+    let full = one_set(rt.alloc(), 64)?;
+    assert_eq!(rt; fault_of(rt.alloc(), full.as_str()), None);
+    let mut over = one_set(rt.alloc(), 65)?;
+    assert_eq!(rt; fault_of(rt.alloc(), over.as_str()), Some((2, Why::Limit)));
+    over.push_str(" m64")?;
+    assert_eq!(rt;
+        fault_of(rt.alloc(), over.as_str()),
+        Some((2, Why::DuplicateName))
+    );
+    Ok(())
 }
 
 #[test]
@@ -67,6 +123,7 @@ fn one_too_many(rt: HostRuntime) -> Result<(), Fail> {
     for (first, rest, most) in [
         ("user u", "", 64),
         ("premise p", "", 64),
+        ("set s", " a b", 32),
         ("cell c", " interval", 1024),
     ] {
         let full = numbered(rt.alloc(), first, rest, most)?;
@@ -148,11 +205,59 @@ fn reads_cells_back(rt: HostRuntime) -> Result<(), Fail> {
 }
 
 #[test]
+fn reads_kinds_back(rt: HostRuntime) -> Result<(), Fail> {
+    let text =
+        "workbench 1\nset mood good bad\nset colour red green blue\ncell k exact\ncell e bool\ncell g colour\ncell q sign";
+    let declaration = read_declaration(rt.alloc(), text.as_bytes())?;
+    assert_eq!(rt; (declaration.sets(), declaration.cells()), (2, 4));
+    assert_eq!(rt; declaration.kind(b"interval"), Some(Kind::Interval));
+    assert_eq!(rt; declaration.kind(b"mode"), None);
+    assert_eq!(rt; declaration.cell_kind(0), Kind::Exact);
+    for (cell, number, size) in [(1u32, 0u8, 2u8), (2, 3, 3), (3, 1, 3)] {
+        assert!(rt; size >= 2 && size <= 64 && cell < declaration.cells());
+        assert_eq!(rt;
+            declaration.cell_kind(cell),
+            Kind::Members(SetKind { number, size })
+        );
+    }
+    Ok(())
+}
+
+#[test]
+fn reads_members_back(rt: HostRuntime) -> Result<(), Fail> {
+    let text = "workbench 1\nset mood good bad\nset colour red green blue";
+    let declaration = read_declaration(rt.alloc(), text.as_bytes())?;
+    for (set, name, place) in [
+        (0u8, "false", Some(0u8)),
+        (0, "true", Some(1)),
+        (0, "neg", None),
+        (1, "neg", Some(0)),
+        (1, "zero", Some(1)),
+        (1, "pos", Some(2)),
+        (2, "bad", Some(1)),
+        (3, "blue", Some(2)),
+        (3, "bad", None),
+        (4, "bad", None),
+        (255, "red", None),
+    ] {
+        assert_eq!(rt;
+            declaration.place(set, name.as_bytes()),
+            place,
+            "{name} of {set}"
+        );
+    }
+    assert_eq!(rt; declaration.member(0, 1), "true");
+    assert_eq!(rt; declaration.member(1, 0), "neg");
+    Ok(())
+}
+
+#[test]
 fn texts_of_faults(rt: HostRuntime) -> Result<(), Fail> {
     for (why, text) in [
         (Why::Syntax, "syntax"),
         (Why::DuplicateName, "duplicate name"),
         (Why::UnknownName, "unknown name"),
+        (Why::WrongArguments, "wrong arguments"),
         (Why::Limit, "limit"),
         (Why::Memory, "memory"),
     ] {

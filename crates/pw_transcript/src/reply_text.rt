@@ -3,7 +3,7 @@
 ghost use Rattle.std.specs.Prelude.{◌≡◌, ◌++◌, true, false, codes, OnOk, OnErr};
 ghost use Rattle.std.specs.Fmt.{decimal};
 ghost use Rattle.pw_info.specs.Passing.{PassesPart};
-ghost use Rattle.pw_transcript.specs.ReplyText.{text_of_refusal, text_of_answer, text_of_reply};
+ghost use Rattle.pw_transcript.specs.ReplyText.{IsReplyNamed, text_of_refusal, text_of_answer, text_of_reply};
 
 use crate::declaration::Declaration;
 use crate::reply::{Refusal, Reply};
@@ -47,6 +47,7 @@ fn write_answer<A: Allocator + Copy, O: Output>(
     declaration: &Declaration<A>,
     output: &mut O,
 ) -> Result<(), Failed>
+    requires named { IsReplyNamed declaration.now reply.now }
     ensures ok { OnOk result (O.passes output.old (text_of_answer declaration.now reply.now) output.new) }
     ensures err { OnErr result (PassesPart O.passes output.old output.new (text_of_answer declaration.now reply.now)) }
     ensures failed { OnErr result (O.has_failed output.new ≡ true) }
@@ -79,6 +80,7 @@ fn write_answer_line<A: Allocator + Copy, O: Output>(
     declaration: &Declaration<A>,
     output: &mut O,
 ) -> Result<(), Failed>
+    requires named { IsReplyNamed declaration.now reply.now }
     ensures ok { OnOk result (O.passes output.old (text_of_answer declaration.now reply.now ++ codes "\n") output.new) }
     ensures err { OnErr result (PassesPart O.passes output.old output.new (text_of_answer declaration.now reply.now ++ codes "\n")) }
     ensures failed { OnErr result (O.has_failed output.new ≡ true) }
@@ -89,7 +91,7 @@ fn write_answer_line<A: Allocator + Copy, O: Output>(
 }
 
 /// Writes the reply to a line: the number of the line, a colon and a space, what the reply says, and a line feed.
-/// It takes no memory. On `Failed` a front of the text was passed.
+/// It takes no memory. On `Failed` a front of the text was passed. The kind of a value is one of the declaration.
 #[tactic(auto, using(pw_info::proofs::PassingFacts::on_err_after))]
 pub fn write_reply<A: Allocator + Copy, O: Output>(
     line: u32,
@@ -97,6 +99,7 @@ pub fn write_reply<A: Allocator + Copy, O: Output>(
     declaration: &Declaration<A>,
     output: &mut O,
 ) -> Result<(), Failed>
+    requires named { IsReplyNamed declaration.now reply.now }
     ensures ok { OnOk result (O.passes output.old (text_of_reply declaration.now line reply.now) output.new) }
     ensures err { OnErr result (PassesPart O.passes output.old output.new (text_of_reply declaration.now line reply.now)) }
     ensures failed { OnErr result (O.has_failed output.new ≡ true) }

@@ -21,7 +21,12 @@ fn world(alloc: Global) -> Result<Declaration, Fail> {
 
 // What is written for a transcript that is handed in whole.
 fn replies(alloc: Global, transcript: &str) -> Result<Vec<u8>, Fail> {
-    let world = world(alloc)?;
+    replies_in(alloc, WORLD, transcript)
+}
+
+// The same after another declaration.
+fn replies_in(alloc: Global, declaration: &str, transcript: &str) -> Result<Vec<u8>, Fail> {
+    let world: Declaration = read_declaration(alloc, declaration.as_bytes())?;
     let mut input = Reading::new(transcript.as_bytes());
     let mut output = Writing::new(Vec::new(alloc));
     run(alloc, &world, &mut input, &mut output)?;
@@ -96,6 +101,61 @@ fn lines_of_every_form_are_answered(rt: HostRuntime) -> Result<(), Fail> {
     ] {
         let written = replies(rt.alloc(), transcript)?;
         assert_eq!(rt; written.as_slice(), wanted.as_bytes(), "at {transcript}");
+    }
+    Ok(())
+}
+
+// Cells of every kind.
+const KINDS: &str =
+    "workbench 1\nuser ann\nuser bob\npremise a\npremise b\nset color red green blue\ncell x interval\ncell k exact\ncell e bool\ncell g color\ncell w color\ncell q sign\n";
+
+#[test]
+fn cells_of_every_kind_are_told(rt: HostRuntime) -> Result<(), Fail> {
+    for (transcript, wanted) in [
+        (
+            "ann tell g {green,red}\nann ask g\nann tell w {blue,green,red}\nann ask w\nann tell g {blue}\nann ask g\n",
+            "1: ok\n2: {red,green}\n3: ok\n4: nothing\n5: ok\n6: contradiction\n",
+        ),
+        (
+            "ann tell k 7 under a\nbob tell k 8 under b\nann ask k\nann doubt b\nann ask k\n",
+            "1: ok\n2: ok\n3: contradiction\n4: ok\n5: 7\n",
+        ),
+        ("ann tell q {pos,neg}\nann ask q\n", "1: ok\n2: {neg,pos}\n"),
+        (
+            "ann tell e {true}\nann ask e\nann ask k\n",
+            "1: ok\n2: {true}\n3: nothing\n",
+        ),
+        (
+            "ann tell g contradiction\nann ask g\nann ask w\n",
+            "1: ok\n2: contradiction\n3: nothing\n",
+        ),
+    ] {
+        let written = replies_in(rt.alloc(), KINDS, transcript)?;
+        assert_eq!(rt; written.as_slice(), wanted.as_bytes(), "at {transcript}");
+    }
+    Ok(())
+}
+
+#[test]
+fn what_spells_nothing_of_a_kind_is_refused(rt: HostRuntime) -> Result<(), Fail> {
+    for transcript in [
+        "ann tell g {red,red}",
+        "ann tell g {red,}",
+        "ann tell g {}",
+        "ann tell g red",
+        "ann tell g {pink}",
+        "ann tell g 1",
+        "ann tell k 1..2",
+        "ann tell k 1000000001",
+        "ann tell e {zero}",
+        "ann tell x {red}",
+    ] {
+        let written = replies_in(rt.alloc(), KINDS, transcript)?;
+        assert_eq!(rt;
+            written.as_slice(),
+            b"1: refused 8 wrong information\n".as_slice(),
+            "at {transcript}"
+        );
     }
     Ok(())
 }

@@ -3,7 +3,7 @@
 ghost use Rattle.std.specs.Prelude.{◌≡◌, ◌+◌, ◌≤◌, ℕ, List, [], ◌∷◌, ◌++◌, length, option_copied, true, false, IfOk, OnOk, OnErr, IsErrOf, if◌then◌else◌};
 ghost use Rattle.pw_transcript.specs.Answering.{held_line, AnswersLine, FailsInLine};
 ghost use Rattle.pw_transcript.specs.FromScratch.{AnswersAll, AnswersAllEnded, AnswersToLimit, AnswersPart};
-ghost use Rattle.pw_transcript.specs.Past.{IsPastOf};
+ghost use Rattle.pw_transcript.specs.Past.{Fits, IsPastOf};
 ghost use Rattle.pw_transcript.specs.Taking.{TakesAtMost};
 ghost use Rattle.pw_transcript.specs.Gatherers.{output_of, held_of, GatheredPasses};
 ghost use Rattle.pw_transcript.specs.Running.{SoFar, AnsweredAll, AnsweredPart, AnsweredEndedPart, AnsweredToLimit};
@@ -89,14 +89,14 @@ impl<B: Allocator + Copy> Progress<B> {
         d: &Declaration<A>,
         output: &mut O,
     ) -> Result<(), Failed>
-        requires users { length self.old.history.beliefs ≡ length d.now.users }
+        requires fits { Fits d.now self.old.history }
         requires lines { self.old.counts.lines ≤ 1000000 }
         requires replies { self.old.counts.replies ≤ self.old.counts.lines }
         ensures ok { OnOk result ((first : O) (bytes : List ℕ) → SoFar O.passes d.now first output.old self.old.history self.old.line self.old.counts.lines self.old.counts.replies bytes → SoFar O.passes d.now first output.new self.new.history self.new.line self.new.counts.lines self.new.counts.replies (bytes ++ 10 ∷ [])) }
         ensures empty { OnOk result (self.new.line ≡ held_line []) }
         ensures err { OnErr result ((first : O) (bytes : List ℕ) → SoFar O.passes d.now first output.old self.old.history self.old.line self.old.counts.lines self.old.counts.replies bytes → AnsweredEndedPart O.passes d.now first output.new (bytes ++ 10 ∷ [])) }
         ensures failed { OnErr result (O.has_failed output.new ≡ true) }
-        ensures users { length self.new.history.beliefs ≡ length self.old.history.beliefs }
+        ensures fits { Fits d.now self.new.history }
         ensures lines { OnOk result (self.new.counts.lines ≡ self.old.counts.lines + 1) }
         ensures replies { self.new.counts.replies ≤ self.new.counts.lines }
     {
@@ -119,14 +119,14 @@ impl<B: Allocator + Copy> Progress<B> {
         bytes: &[u8],
         output: &mut O,
     ) -> Result<bool, Failed>
-        requires users { length self.old.history.beliefs ≡ length d.now.users }
+        requires fits { Fits d.now self.old.history }
         requires lines { self.old.counts.lines ≤ 1000000 }
         requires replies { self.old.counts.replies ≤ self.old.counts.lines }
         ensures all { IfOk result (λ within. within ≡ true → (first : O) (before : List ℕ) → SoFar O.passes d.now first output.old self.old.history self.old.line self.old.counts.lines self.old.counts.replies before → SoFar O.passes d.now first output.new self.new.history self.new.line self.new.counts.lines self.new.counts.replies (before ++ bytes.now)) }
         ensures limit { IfOk result (λ within. within ≡ false → (first : O) (before : List ℕ) → SoFar O.passes d.now first output.old self.old.history self.old.line self.old.counts.lines self.old.counts.replies before → AnsweredToLimit O.passes d.now first output.new (before ++ bytes.now)) }
         ensures err { OnErr result ((first : O) (before : List ℕ) → SoFar O.passes d.now first output.old self.old.history self.old.line self.old.counts.lines self.old.counts.replies before → AnsweredEndedPart O.passes d.now first output.new (before ++ bytes.now)) }
         ensures failed { OnErr result (O.has_failed output.new ≡ true) }
-        ensures users { length self.new.history.beliefs ≡ length self.old.history.beliefs }
+        ensures fits { Fits d.now self.new.history }
         ensures lines { OnOk result (self.new.counts.lines ≤ 1000000) }
         ensures replies { self.new.counts.replies ≤ self.new.counts.lines }
     {
@@ -155,7 +155,7 @@ impl<B: Allocator + Copy> Progress<B> {
         d: &Declaration<A>,
         output: &mut O,
     ) -> Result<(), Failed>
-        requires users { length self.old.history.beliefs ≡ length d.now.users }
+        requires fits { Fits d.now self.old.history }
         requires lines { self.old.counts.lines ≤ 1000000 }
         requires replies { self.old.counts.replies ≤ self.old.counts.lines }
         ensures ok { OnOk result ((first : O) (bytes : List ℕ) → SoFar O.passes d.now first output.old self.old.history self.old.line self.old.counts.lines self.old.counts.replies bytes → AnsweredAll O.passes d.now first output.new self.new.counts.lines self.new.counts.replies bytes) }
@@ -175,7 +175,7 @@ impl<B: Allocator + Copy> Progress<B> {
         bytes: &[u8],
         output: &mut Gathered<'_, O>,
     ) -> Result<bool, Failed>
-        requires users { length self.old.history.beliefs ≡ length d.now.users }
+        requires fits { Fits d.now self.old.history }
         requires lines { self.old.counts.lines ≤ 1000000 }
         requires replies { self.old.counts.replies ≤ self.old.counts.lines }
         ensures all { IfOk result (λ within. within ≡ true → (first : Gathered O) (before : List ℕ) → SoFar (GatheredPasses O.passes) d.now first output.old self.old.history self.old.line self.old.counts.lines self.old.counts.replies before → SoFar (GatheredPasses O.passes) d.now first output.new self.new.history self.new.line self.new.counts.lines self.new.counts.replies (before ++ bytes.now)) }
@@ -183,7 +183,7 @@ impl<B: Allocator + Copy> Progress<B> {
         ensures passed_on { OnOk result (held_of output.new ≡ []) }
         ensures err { OnErr result ((first : Gathered O) (before : List ℕ) → SoFar (GatheredPasses O.passes) d.now first output.old self.old.history self.old.line self.old.counts.lines self.old.counts.replies before → AnsweredEndedPart (GatheredPasses O.passes) d.now first output.new (before ++ bytes.now)) }
         ensures failed { OnErr result (O.has_failed (output_of output.new).now ≡ true) }
-        ensures users { length self.new.history.beliefs ≡ length self.old.history.beliefs }
+        ensures fits { Fits d.now self.new.history }
         ensures lines { OnOk result (self.new.counts.lines ≤ 1000000) }
         ensures replies { self.new.counts.replies ≤ self.new.counts.lines }
     {
@@ -203,7 +203,7 @@ impl<B: Allocator + Copy> Progress<B> {
         d: &Declaration<A>,
         output: &mut Gathered<'_, O>,
     ) -> Result<Lines, Failed>
-        requires users { length self.old.history.beliefs ≡ length d.now.users }
+        requires fits { Fits d.now self.old.history }
         requires lines { self.old.counts.lines ≤ 1000000 }
         requires replies { self.old.counts.replies ≤ self.old.counts.lines }
         ensures ok { IfOk result (λ n. (first : Gathered O) (bytes : List ℕ) → SoFar (GatheredPasses O.passes) d.now first output.old self.old.history self.old.line self.old.counts.lines self.old.counts.replies bytes → AnsweredAll (GatheredPasses O.passes) d.now first output.new n.lines n.replies bytes) }

@@ -12,13 +12,13 @@ const ABOUT: &str =
     "Answers what users tell and ask of shared cells, each under the premises they believe";
 
 const MORE: &str = "Files:
-  DECL        a declaration: first `workbench 1`, then a line for each user, premise and cell, as
-              `user ann`, `premise a`, `premise b of ann` (ann's alone to tell under),
-              `cell x interval`
+  DECL        a declaration: first `workbench 1`, then a line for each user, premise, set and cell,
+              as `user ann`, `premise a`, `premise b of ann` (ann's alone to tell under),
+              `set part cable card`, `cell x interval`, `cell k exact`, `cell f part`
   TRANSCRIPT  a command on each line, read from standard input where no file is named
 
 Command lines:
-  USER tell CELL INFO [under P..]  tells of CELL that it is INFO, as 5 or 1..5, given the premises P..
+  USER tell CELL INFO [under P..]  tells of CELL that it is INFO, as 5, 1..5 or {card}, given the premises P..
   USER believe P..                 USER believes the premises; at the start every user believes all
   USER doubt P..                   USER believes them no longer
   USER ask CELL                    asks what is known of CELL under the premises USER believes

@@ -1,7 +1,7 @@
 use Rattle.std.proofs.Common.{◌≡◌, arith, ap, w64, to_z, of_z}
 use Rattle.std.proofs.lemmas.Int.{ints}
 use Rattle.pw_info.proofs.PassingFacts.{on_err_after, on_err_same}
-use Rattle.pw_info.proofs.Spellings.{text_of_two}
+use Rattle.pw_info.proofs.Writings.{text_of_two}
 use Rattle.pw_info.proofs.text.write_range.Goals as goal
 
 pub returns-clause-err : goal.returns-clause-err

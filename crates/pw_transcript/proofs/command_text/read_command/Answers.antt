@@ -9,7 +9,7 @@ pub returns-in_default-clause-reads : goal.returns-in_default-clause-reads
 returns-in_default-clause-reads g c = no_form c.args.declaration.now c.args.line.now (omega arith) (sym c.idles.ensures ∙ c.if-idles.false) (sym c.in_default.ensures)
 
 pub returns-in_default-clause-only : goal.returns-in_default-clause-only
-returns-in_default-clause-only g c = λ other h. one_reading c.args.declaration.now c.args.line.now other (Refused refusal.Syntax) h
+returns-in_default-clause-only g c = λ other h. one_reading c.args.declaration.now c.args.line.now other (Refused refusal.Syntax) c.limits.ensures h
     (no_form c.args.declaration.now c.args.line.now (omega arith) (sym c.idles.ensures ∙ c.if-idles.false) (sym c.in_default.ensures))
 
 pub returns-in-Ok-clause-reads : goal.returns-in-Ok-clause-reads
@@ -20,7 +20,7 @@ returns-in-Ok-clause-reads g c =
 pub returns-in-Ok-clause-only : goal.returns-in-Ok-clause-only
 returns-in-Ok-clause-only g c = λ other h.
     let says : SaysSentence c.args.line.now (view c.in-Some.sentence) = says_found c.args.line.now (view c.in-Some.sentence) (sym c.idles.ensures ∙ c.if-idles.false) (sym c.allows_all.ensures ∙ c.if-not-allows_all.false) (sym c.in-Some.ensures) in
-    one_reading c.args.declaration.now c.args.line.now other (Says c.in-Ok.command) h
+    one_reading c.args.declaration.now c.args.line.now other (Says c.in-Ok.command) c.limits.ensures h
     (says_of_line c.args.declaration.now c.args.line.now (view c.in-Some.sentence) (omega arith) says c.in-Ok.command c.in-Ok.ensures.none c.in-Ok.ensures.ok)
 
 pub returns-in-Err-clause-reads : goal.returns-in-Err-clause-reads
@@ -31,5 +31,5 @@ returns-in-Err-clause-reads g c =
 pub returns-in-Err-clause-only : goal.returns-in-Err-clause-only
 returns-in-Err-clause-only g c = λ other h.
     let says : SaysSentence c.args.line.now (view c.in-Some.sentence) = says_found c.args.line.now (view c.in-Some.sentence) (sym c.idles.ensures ∙ c.if-idles.false) (sym c.allows_all.ensures ∙ c.if-not-allows_all.false) (sym c.in-Some.ensures) in
-    one_reading c.args.declaration.now c.args.line.now other (Refused c.in-Err.refusal) h
+    one_reading c.args.declaration.now c.args.line.now other (Refused c.in-Err.refusal) c.limits.ensures h
     (first_of_line c.args.declaration.now c.args.line.now (view c.in-Some.sentence) (omega arith) says c.in-Err.refusal c.in-Err.ensures.err)

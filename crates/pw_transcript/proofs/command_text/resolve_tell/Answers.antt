@@ -3,7 +3,8 @@ use Rattle.pw_info.specs.declared.kind.Kind.{Kind}
 use Rattle.pw_info.specs.declared.info.Info.{Info}
 use Rattle.pw_info.specs.Spelling.{SpellsInfo}
 use Rattle.pw_transcript.specs.declared.command.Command.TheVariants as commands
-use Rattle.pw_transcript.specs.Reading.{Premises, members_of, premises_of}
+use Rattle.pw_transcript.specs.Declaration.{members_of}
+use Rattle.pw_transcript.specs.Reading.{Premises, premises_of}
 use Rattle.pw_transcript.proofs.ReadingLemmas.{not_none}
 use Rattle.pw_transcript.proofs.command_text.resolve_tell.Goals as goal
 
@@ -21,7 +22,7 @@ returns-in_default-read_info-clause-err g c =
             (
               c.in-Some-cell.cell,
               sym c.in-Some-cell.ensures.number,
-              subst (λ (k : Kind). (info : Info) → SpellsInfo (members_of c.args.declaration.now) c.args.info.now k info → ⊥) c.cell_kind.ensures none,
+              subst (λ (k : Kind). (info : Info) → SpellsInfo (members_of c.args.declaration.now) c.args.info.now k info → ⊥) c.cell_kind.ensures.kind none,
             ),
           ),
         ),
@@ -36,6 +37,6 @@ returns-clause-ok g c =
       c.in-Some-read_info.info,
       sym c.in-Some.ensures.number,
       sym c.in-Some-cell.ensures.number,
-      subst (λ (k : Kind). SpellsInfo (members_of c.args.declaration.now) c.args.info.now k c.in-Some-read_info.info) c.cell_kind.ensures spelled,
+      subst (λ (k : Kind). SpellsInfo (members_of c.args.declaration.now) c.args.info.now k c.in-Some-read_info.info) c.cell_kind.ensures.kind spelled,
       ap (λ (s : Premises). commands.Tell c.in-Some.user c.in-Some-cell.cell (record { info = c.in-Some-read_info.info; support = s })) (c.in-Some-premise_set.ensures.some ∙ ap (λ (words : List (List ℕ)). premises_of c.args.declaration.now words) c.again.ensures),
     )

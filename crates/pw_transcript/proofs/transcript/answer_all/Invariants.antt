@@ -1,5 +1,6 @@
 use Rattle.std.proofs.Common.{◌≡◌, ◌≤◌, ◌-◌, ℕ, List, [], length}
 use Rattle.pw_transcript.specs.Gatherers.{held_of, GatheredPasses}
+use Rattle.pw_transcript.specs.Past.{Fits}
 use Rattle.pw_transcript.specs.Running.{SoFar}
 use Rattle.pw_transcript.proofs.transcript.answer_all.Given as goal
 
@@ -12,7 +13,7 @@ invariant-loop-taken g l = record {
   count : length bytes ≡ l.total;
   bound : l.total ≤ 67108864;
   passed_on : held_of l.output ≡ [];
-  users : length l.progress.history.beliefs ≡ length l.d.users;
+  fits : Fits l.d l.progress.history;
   lines : l.progress.counts.lines ≤ 1000000;
   replies : l.progress.counts.replies ≤ l.progress.counts.lines;
 }

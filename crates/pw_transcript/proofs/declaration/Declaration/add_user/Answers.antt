@@ -6,4 +6,4 @@ use Rattle.pw_transcript.proofs.declaration.Declaration.add_user.Goals as goal
 pub invariant_of-self-2 : goal.invariant_of-self-2
 invariant_of-self-2 g c =
     let e : c.self.inside.users ≡ c.args.self.now.users = ap (λ (d : Declared). d.users) c.self.view_is in
-    rw c.in_ok-add.ensures.ok (with_user _ c.args.name.now c.self.invariant.0 (omega (arith, ap length e, c.requires.room)), c.self.invariant.1)
+    rw c.in_ok-add.ensures.ok (with_user _ c.args.name.now c.self.invariant (omega (arith, ap length e, c.requires.room)))

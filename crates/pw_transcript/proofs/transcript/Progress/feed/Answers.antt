@@ -9,7 +9,7 @@ loop-rest-init g c = record {
   done = [];
   whole = refl;
   so_far = λ first before s. subst (SoFar g.O.Output.passes c.args.d.now first _ _ _ _ _) (sym (append-nil before)) s;
-  users = refl;
+  fits = c.requires.fits;
   lines = c.requires.lines;
   replies = c.requires.replies;
 }
@@ -51,7 +51,7 @@ loop-rest-preserved g c =
       so_far = λ first before s.
           let held = SoFar-held g.O.Output.passes c.args.d.now first _ _ _ _ _ _ _ piece (inv.so_far first before s) c.in-Some.ensures.some.1 c.extend-in-loop-rest.ensures in
           subst (SoFar g.O.Output.passes c.args.d.now first _ _ _ _ _) (before_line before inv.done piece) (c.in-Ok.ensures.ok first _ held);
-      users = c.end_line.ensures.users ∙ inv.users;
+      fits = c.end_line.ensures.fits;
       lines = omega (arith, c.in-Ok.ensures.lines);
       replies = c.end_line.ensures.replies;
     }

@@ -1,4 +1,5 @@
 use Rattle.std.proofs.Common.{◌≡◌, ◌≤◌, ℕ, List, ◌++◌, length}
+use Rattle.pw_transcript.specs.Past.{Fits}
 use Rattle.pw_transcript.specs.Running.{SoFar}
 use Rattle.pw_transcript.proofs.transcript.Progress.feed.Given as goal
 
@@ -10,7 +11,7 @@ invariant-loop-rest g l = record {
   so_far : (first : _) (before : List ℕ)
       → SoFar g.O.Output.passes l.d first l.fn.output l.fn.self.history l.fn.self.line l.fn.self.counts.lines l.fn.self.counts.replies before
       → SoFar g.O.Output.passes l.d first l.output l.self.history l.self.line l.self.counts.lines l.self.counts.replies (before ++ done);
-  users : length l.self.history.beliefs ≡ length l.fn.self.history.beliefs;
+  fits : Fits l.d l.self.history;
   lines : l.self.counts.lines ≤ 1000000;
   replies : l.self.counts.replies ≤ l.self.counts.lines;
 }

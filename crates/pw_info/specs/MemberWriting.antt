@@ -1,0 +1,20 @@
+-- How far the text of some members of a set is written, place by place.
+use Rattle.std.specs.Prelude.{ℕ, pos, ◌++◌, List, [], ◌∷◌, filter, codes}
+use Rattle.std.specs.List.{range_with_len}
+use Rattle.pw_kinds.specs.declared.members.Members.{Members}
+use Rattle.pw_kinds.specs.Members.{allows}
+use Rattle.pw_info.specs.SetText.{names_at}
+
+-- the possible places below a place, rising
+abbrev pub places_below : Members → ℕ → List ℕ
+places_below part place = filter (λ other. allows part (pos other)) (range_with_len 0 place)
+
+-- what is written once the members at these places are named: nothing where there are none
+abbrev pub opened : List (List ℕ) → List ℕ → List ℕ
+opened names [] = []
+opened names (place ∷ places) = codes "{" ++ names_at names (place ∷ places)
+
+-- what is written before the next name
+abbrev pub mark_after : List ℕ → List ℕ
+mark_after [] = codes "{"
+mark_after (place ∷ places) = codes ","

@@ -1,0 +1,22 @@
+-- How some members of a set are named: `{`, their names joined by `,`, `}`.
+use Rattle.std.specs.Prelude.{ℕ, ℤ, pos, ◌<◌, ◌++◌, Bool, List, All, length, map, codes, nat_eq}
+use Rattle.std.specs.List.{IsDistinct, list_any, join_with_byte}
+use Rattle.std.specs.Ordering.{int_eq}
+use Rattle.pw_info.specs.SetNames.{name_at}
+
+-- places of members of a set of so many: at least one, each there, none twice
+pub record ArePlaces (size : ℕ) (places : List ℕ) : Type 0 where
+  pub some : 0 < length places
+  pub there : All (λ place. place < size) places
+  pub once : IsDistinct nat_eq places
+
+-- whether a number is one of the places
+abbrev pub is_one_of : List ℕ → ℤ → Bool
+is_one_of places v = list_any (λ place. int_eq (pos place) v) places
+
+-- the names of the members at these places, with ',' (44) between each two
+abbrev pub names_at : List (List ℕ) → List ℕ → List ℕ
+names_at names places = join_with_byte 44 (map (name_at names) places)
+
+abbrev pub text_of_set : List (List ℕ) → List ℕ → List ℕ
+text_of_set names places = codes "{" ++ (names_at names places ++ codes "}")

@@ -1,0 +1,119 @@
+// The texts of members of a set: `{`, their names joined by `,`, `}`.
+ghost use Rattle.std.specs.Prelude.{◌≡◌, ◌++◌, ◌<◌, ℕ, ℤ, List, true, false, codes, length, IfSome, IfNone, OnOk, OnErr};
+ghost use Rattle.pw_kinds.specs.Members.{size_of, IsEmpty};
+ghost use Rattle.pw_info.specs.declared.info.Info.{Info};
+ghost use Rattle.pw_info.specs.declared.kind.Kind.TheVariants as kinds;
+ghost use Rattle.pw_info.specs.Information.{kind_of};
+ghost use Rattle.pw_info.specs.Cut.{HasNoComma};
+ghost use Rattle.pw_info.specs.MemberReading.{AddsPlaces, NamesApart};
+ghost use Rattle.pw_info.specs.Passing.{PassesPart};
+ghost use Rattle.pw_info.specs.Spelling.{SpellsValues};
+ghost use Rattle.pw_info.specs.SetText.{text_of_set};
+ghost use Rattle.pw_info.specs.Text.{places_of, text_of_members};
+
+use crate::info::Info;
+use crate::kind::SetKind;
+use crate::names::KindNames;
+use crate::output::{Failed, Output, put_all};
+use pw_kinds::members::Members;
+
+// What stands before the first ',' of a text, and what stands behind it; the whole text and None where it has no ','.
+fn cut_at_comma(text: &[u8]) -> (&[u8], Option<&[u8]>)
+    ensures first { HasNoComma result.0.now }
+    ensures some { IfSome result.1 (λ rest. text.now ≡ result.0.now ++ (codes "," ++ rest.now)) }
+    ensures none { IfNone result.1 (text.now ≡ result.0.now) }
+{
+    match text.iter().position(|byte| *byte == b',') {
+        Some(at) => (&text[..at], Some(&text[at + 1..])),
+        None => (text, None),
+    }
+}
+
+// Reads names of members of the set of this number, joined by ',', none of them twice or among the members that were
+// seen; answers these and those together.
+fn read_names<N: KindNames>(text: &[u8], set: u8, names: &N, seen: Members) -> Option<Members>
+    requires named { length (N.members names.now set) ≡ size_of seen }
+    ensures some { IfSome result (λ part. AddsPlaces (N.members names.now set) text.now seen part) }
+    ensures none { IfNone result ((places : List ℕ) → NamesApart (N.members names.now set) text.now seen places → ⊥) }
+{
+    let (name, rest) = cut_at_comma(text);
+    let place = names.place(set, name)?;
+    if seen.contains(place) {
+        return None;
+    }
+    let seen = seen.with(place);
+    match rest {
+        Some(rest) => read_names(rest, set, names, seen),
+        None => Some(seen),
+    }
+}
+
+/// The information that a word spells in the form of a set of this kind: at least one name of a member, each once, in
+/// any order, joined by `,` in braces. None where it spells none. The set is named there with all its places.
+pub(crate) fn read_members<N: KindNames>(word: &[u8], set: SetKind, names: &N) -> Option<Info>
+    requires named { length (N.members names.now set.number) ≡ set.size }
+    ensures kind { IfSome result (λ info. kind_of info ≡ kinds.Members set) }
+    ensures some { IfSome result (λ info. SpellsValues (N.members names.now) word.now (kinds.Members set) info) }
+    ensures none { IfNone result ((info : Info) → SpellsValues (N.members names.now) word.now (kinds.Members set) info → ⊥) }
+{
+    let list = word.strip_prefix(b"{")?.strip_suffix(b"}")?;
+    let part = read_names(list, set.number, names, Members::empty(set.size))?;
+    Some(Info::of_members(set.number, part))
+}
+
+/// Writes the text of some members of the set of this number, which is named there with all its places.
+pub(crate) fn write_members<N: KindNames, O: Output>(
+    part: Members,
+    set: u8,
+    names: &N,
+    output: &mut O,
+) -> Result<(), Failed>
+    requires named { length (N.members names.now set) ≡ size_of part }
+    ensures ok { OnOk result (O.passes output.old (text_of_members (N.members names.now set) part) output.new) }
+    ensures err { OnErr result (PassesPart O.passes output.old output.new (text_of_members (N.members names.now set) part)) }
+    ensures failed { OnErr result (O.has_failed output.new ≡ true) }
+    ensures works { OnOk result (O.has_failed output.old ≡ false → O.has_failed output.new ≡ false) }
+{
+    if part.is_empty() {
+        return put_all(output, b"contradiction");
+    }
+    if part.is_full() {
+        return put_all(output, b"nothing");
+    }
+    write_set(part, set, names, output)
+}
+
+// Writes `{`, the names of the members joined by `,`, of which there is at least one, and `}`.
+fn write_set<N: KindNames, O: Output>(
+    part: Members,
+    set: u8,
+    names: &N,
+    output: &mut O,
+) -> Result<(), Failed>
+    requires named { length (N.members names.now set) ≡ size_of part }
+    requires some { IsEmpty part → ⊥ }
+    ensures ok { OnOk result (O.passes output.old (text_of_set (N.members names.now set) (places_of part)) output.new) }
+    ensures err { OnErr result (PassesPart O.passes output.old output.new (text_of_set (N.members names.now set) (places_of part))) }
+    ensures failed { OnErr result (O.has_failed output.new ≡ true) }
+    ensures works { OnOk result (O.has_failed output.old ≡ false → O.has_failed output.new ≡ false) }
+{
+    let mut mark = b"{";
+    for place in 0..part.size() {
+        if part.contains(place) {
+            write_name(mark, names.member(set, place), output)?;
+            mark = b",";
+        }
+    }
+    put_all(output, b"}")
+}
+
+// Writes a mark and a name.
+fn write_name<O: Output>(mark: &[u8], name: &str, output: &mut O) -> Result<(), Failed>
+    ensures ok { OnOk result (O.passes output.old (mark.now ++ name.now) output.new) }
+    ensures err { OnErr result (PassesPart O.passes output.old output.new (mark.now ++ name.now)) }
+    ensures failed { OnErr result (O.has_failed output.new ≡ true) }
+    ensures works { OnOk result (O.has_failed output.old ≡ false → O.has_failed output.new ≡ false) }
+{
+    put_all(output, mark)?;
+    put_all(output, name.as_bytes())
+}
