@@ -1,0 +1,29 @@
+-- What a supported value shows in a worldview, which one subsumes which, and what the merge of two rests on.
+use Rattle.std.specs.Prelude.{◌≡◌, ◌≢◌, true, if◌then◌else◌}
+use Rattle.std.specs.Ordering.{nat_cmp}
+use Rattle.std.specs.FinSet.{FinSet, union, is_subset}
+use Rattle.pw_info.specs.declared.info.Info.{Info}
+use Rattle.pw_info.specs.Information.{kind_of, meet, nothing, Implies}
+use Rattle.pw_facts.specs.declared.fact.Fact.{Fact}
+
+-- a set of premises, each by its number
+abbrev pub Premises : Type 0
+Premises = FinSet nat_cmp
+
+-- in a worldview that has every premise of its support a fact shows its information, in any other nothing
+abbrev pub shows : Premises → Fact → Info
+shows worldview fact = if is_subset fact.support worldview then fact.info else nothing (kind_of fact.info)
+
+-- the first says at least as much as the second, and rests on no premise that the second does not rest on
+abbrev pub Subsumes : Fact → Fact → Type 0
+Subsumes a b = Implies a.info b.info × (is_subset a.support b.support ≡ true)
+
+-- the merge of two facts of one kind: it says what both say. Where they say the same it rests on what the second rests
+-- on if the first rests on all of that, else on what the first rests on; where one of them says what the merge says it
+-- rests on what that one rests on; else it rests on what both rest on.
+pub record IsMerge (a b merge : Fact) : Type 0 where
+  pub info : merge.info ≡ meet a.info b.info
+  pub same : a.info ≡ b.info → merge.support ≡ (if is_subset b.support a.support then b.support else a.support)
+  pub first : a.info ≢ b.info → merge.info ≡ a.info → merge.support ≡ a.support
+  pub second : a.info ≢ b.info → merge.info ≡ b.info → merge.support ≡ b.support
+  pub both : merge.info ≢ a.info → merge.info ≢ b.info → merge.support ≡ union a.support b.support

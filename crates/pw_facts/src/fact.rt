@@ -1,0 +1,113 @@
+ghost use Rattle.std.specs.Prelude.{◌≡◌, ◌↔◌, true, IsTrue};
+ghost use Rattle.std.specs.FinSet.{is_subset, union};
+ghost use Rattle.pw_info.specs.Information.{kind_of, meet, Implies};
+ghost use Rattle.pw_facts.specs.Facts.{Premises, shows, Subsumes, IsMerge};
+
+use pw_info::info::Info;
+use pw_premises::PremiseSet;
+
+/// A supported value: an information, and the premises that it rests on. (Radul and Sussman, *The Art of the
+/// Propagator*, on supported values.)
+#[derive(Clone, Copy, Debug, PartialEq, Eq)]
+pub struct Fact {
+    /// What it says of a value.
+    pub info: Info,
+    /// The premises that it rests on.
+    pub support: PremiseSet,
+}
+
+// What the merge of two facts rests on.
+fn merged_support(a: &Fact, b: &Fact) -> PremiseSet
+    requires { kind_of a.now.info ≡ kind_of b.now.info }
+    ensures { IsMerge a.now b.now (record { info = meet a.now.info b.now.info; support = result }) }
+{
+    match (a.info.implies(&b.info), b.info.implies(&a.info)) {
+        (true, true) if b.support.is_subset(&a.support) => b.support,
+        (true, _) => a.support,
+        (false, true) => b.support,
+        (false, false) => a.support.join(b.support),
+    }
+}
+
+/// The merge of two facts of one kind: it says what both say. Where they say the same it rests on what `b` rests on if
+/// that is a subset of what `a` rests on, else on what `a` rests on; where one says what the merge says it rests on
+/// what that one rests on; else it rests on what both rest on.
+pub fn merge_facts(a: &Fact, b: &Fact) -> Fact
+    requires { kind_of a.now.info ≡ kind_of b.now.info }
+    ensures rule { IsMerge a.now b.now result }
+    ensures kind { kind_of result.info ≡ kind_of a.now.info }
+    // In every worldview that has what it rests on, the two together show what it says.
+    ensures shows { (w : Premises) → is_subset result.support w ≡ true → meet (shows w a.now) (shows w b.now) ≡ result.info }
+    // It rests on nothing that neither rests on.
+    ensures rests { is_subset result.support (union a.now.support b.now.support) ≡ true }
+{
+    Fact {
+        info: a.info.meet(&b.info),
+        support: merged_support(a, b),
+    }
+}
+
+/// Whether fact `a`, of the same kind as `b`, says at least what `b` says and rests on a subset of what `b` rests on.
+pub fn subsumes(a: &Fact, b: &Fact) -> bool
+    requires { kind_of a.now.info ≡ kind_of b.now.info }
+    ensures answer { IsTrue result ↔ Subsumes a.now b.now }
+    // Then it shows at least as much in every worldview.
+    ensures shows { IsTrue result → (w : Premises) → Implies (shows w a.now) (shows w b.now) }
+{
+    a.info.implies(&b.info) && a.support.is_subset(&b.support)
+}
+
+#[cfg(test)]
+mod tests {
+    use super::*;
+    use pw_info::kind::Kind;
+    use pw_kinds::interval::Interval;
+
+    // The fact that a number lies from `lo` to `hi`, under these premises.
+    fn fact(lo: i64, hi: i64, support: PremiseSet) -> Fact
+        ensures { kind_of result.info ≡ Kind.Interval }
+    {
+        let info = match Interval::new(lo, hi) {
+            Some(part) => Info::of_interval(part),
+            None => Info::nothing(Kind::Interval),
+        };
+        Fact { info, support }
+    }
+
+    #[test]
+    fn the_narrower_interval_keeps_its_support(rt: HostRuntime) {
+        let wide = fact(5, 9, PremiseSet::one(0));
+        let narrow = fact(5, 7, PremiseSet::one(1));
+        assert!(rt; merge_facts(&wide, &narrow) == narrow);
+    }
+
+    #[test]
+    fn overlapping_intervals_join_their_supports(rt: HostRuntime) {
+        let one = fact(5, 9, PremiseSet::one(0));
+        let other = fact(0, 7, PremiseSet::one(1));
+        let both = fact(5, 7, PremiseSet::first(2));
+        assert!(rt; merge_facts(&one, &other) == both);
+    }
+
+    #[test]
+    fn equal_facts_keep_the_smaller_support(rt: HostRuntime) {
+        let more = fact(3, 3, PremiseSet::first(2));
+        let fewer = fact(3, 3, PremiseSet::one(1));
+        assert!(rt; merge_facts(&more, &fewer) == fewer);
+    }
+
+    #[test]
+    fn equal_facts_keep_the_first_of_two_supports(rt: HostRuntime) {
+        let one = fact(3, 3, PremiseSet::one(0));
+        let other = fact(3, 3, PremiseSet::one(1));
+        assert!(rt; merge_facts(&one, &other) == one);
+    }
+
+    #[test]
+    fn more_under_fewer_premises_subsumes(rt: HostRuntime) {
+        let one = fact(3, 3, PremiseSet::empty());
+        let other = fact(1, 5, PremiseSet::one(0));
+        assert!(rt; subsumes(&one, &other));
+        assert!(rt; !subsumes(&other, &one));
+    }
+}
