@@ -1,0 +1,6 @@
+pub mod Together
+pub mod MergesTogether
+pub mod Rests
+pub mod Stores
+pub mod Wholes
+pub mod Supports

@@ -1,0 +1,3 @@
+pub mod Cells
+pub mod CellCode
+pub mod OneCell

@@ -1,0 +1,44 @@
+-- What is true of the facts of one cell, and of the list that a change leaves of them.
+use Rattle.std.specs.Prelude.{◌≡◌, ◌≢◌, ◌⊎◌, ℕ, true, List, All, AllPairs, Contains, map}
+use Rattle.std.specs.FinSet.{contains, is_subset}
+use Rattle.pw_info.specs.declared.kind.Kind.{Kind}
+use Rattle.pw_info.specs.Information.{kind_of, Implies}
+use Rattle.pw_facts.specs.declared.fact.Fact.{Fact}
+use Rattle.pw_facts.specs.Facts.{Premises, Subsumes}
+use Rattle.pw_cells.specs.Cells.{shown_by}
+
+abbrev pub AreOfKind : Kind → List Fact → Type 0
+AreOfKind kind facts = All (λ f. kind_of f.info ≡ kind) facts
+
+-- a fact of the list subsumes this one
+abbrev pub SubsumedBy : List Fact → Fact → Type 0
+SubsumedBy facts fact = (f : Fact) × Contains facts f × Subsumes f fact
+
+abbrev pub AreApart : List Fact → Type 0
+AreApart facts = (f g : Fact) → Contains facts f → Contains facts g → Subsumes f g → f ≡ g
+
+-- no two facts have one support
+abbrev pub OneEach : List Fact → Type 0
+OneEach facts = AllPairs (λ s t. s ≢ t) (map (λ f. f.support) facts)
+
+-- the facts of a cell are of its kind, in every worldview what is kept says at least what was told, no two told facts
+-- have one support, and no kept fact subsumes another
+pub record IsWhole (kind : Kind) (told kept : List Fact) : Type 0 where
+  pub told_kinds : AreOfKind kind told
+  pub kept_kinds : AreOfKind kind kept
+  pub says : (w : Premises) → Implies (shown_by kind w kept) (shown_by kind w told)
+  pub one_each : OneEach told
+  pub apart : AreApart kept
+
+-- `rest` has just those of the facts that this fact does not subsume
+pub record IsRest (fact : Fact) (facts rest : List Fact) : Type 0 where
+  pub stays : All (λ f. Contains rest f ⊎ Subsumes fact f) facts
+  pub within : All (λ f. Contains facts f) rest
+  pub gone : All (λ f. Subsumes fact f → ⊥) rest
+
+-- the fact says what the facts show together in the worldview, and rests on premises of theirs that give the same
+pub record IsMergeOf (kind : Kind) (worldview : Premises) (facts : List Fact) (merge : Fact) : Type 0 where
+  pub info : merge.info ≡ shown_by kind worldview facts
+  pub within : is_subset merge.support worldview ≡ true
+  pub same : shown_by kind merge.support facts ≡ merge.info
+  pub rests : (p : ℕ) → contains merge.support p ≡ true → (f : Fact) × Contains facts f × (contains f.support p ≡ true)

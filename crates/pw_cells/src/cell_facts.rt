@@ -1,0 +1,238 @@
+// The facts of one cell.
+
+ghost use Rattle.std.specs.Prelude.{◌≡◌, ◌<◌, ◌≤◌, ◌⊎◌, ◌↔◌, ◌++◌, ◌∷◌, [], true, false, vec_len, vec_capacity, position, Contains, IsTrue, IfOk, OnOk, OnErr};
+ghost use Rattle.std.specs.FinSet.{is_subset};
+ghost use Rattle.pw_info.specs.Information.{kind_of, meet, Implies};
+ghost use Rattle.pw_premises.specs.PremiseSubsets.{has_same_numbers};
+ghost use Rattle.pw_facts.specs.declared.fact.Fact.{Fact as Supported};
+ghost use Rattle.pw_facts.specs.Facts.{Premises, shows};
+ghost use Rattle.pw_cells.specs.Cells.{new_cell, shown_by};
+ghost use Rattle.pw_cells.specs.OneCell.{AreOfKind, AreApart, OneEach, SubsumedBy, IsRest, IsMergeOf};
+
+use pw_facts::{Fact, merge_facts, subsumes};
+use pw_info::info::Info;
+use pw_info::kind::Kind;
+use pw_premises::PremiseSet;
+use std::alloc::{AllocError, Allocator};
+use std::marker::Model;
+
+// A cell's kind, what was told of it, and what is kept of it. What was told under one support is held as one fact, with
+// its meet, so that asking for it costs no more for a cell that was told of often.
+#[derive(Drop)]
+pub(crate) struct CellFacts<A: Allocator> {
+    kind: Kind,
+    told: Vec<Fact, A>,
+    kept: Vec<Fact, A>,
+}
+
+impl<A: Allocator> Model for CellFacts<A> {
+    ghost use Rattle.pw_info.specs.contracts.kind.Kind as kinds;
+    ghost use Rattle.pw_facts.specs.contracts.fact.Fact as facts;
+    ghost use Rattle.pw_cells.specs.Cells.{Cell};
+    ghost use Rattle.pw_cells.specs.CellCode.{cell_code};
+    ghost use Rattle.pw_cells.specs.OneCell.{IsWhole};
+
+    ghost Value = { Cell };
+
+    ghost coded = { cell_code kinds.the_row.coded facts.the_row.coded };
+
+    ghost view = { λ a. record { kind = a.kind; told = a.told.items; kept = a.kept.items } };
+
+    ghost invariant = { λ a. IsWhole a.kind a.told.items a.kept.items };
+}
+
+impl<A: Allocator + Copy> CellFacts<A> {
+    // A cell of which nothing was told. It takes no memory.
+    pub(crate) fn new(alloc: A, kind: Kind) -> CellFacts<A>
+        ensures { result ≡ new_cell kind }
+    {
+        CellFacts {
+            kind,
+            told: Vec::new(alloc),
+            kept: Vec::new(alloc),
+        }
+    }
+
+    pub(crate) fn kind(&self) -> Kind
+        ensures { result ≡ self.now.kind }
+    {
+        self.kind
+    }
+
+    // Records that a fact was told, and keeps it. Where memory is refused nothing changes.
+    pub(crate) fn tell(&mut self, fact: &Fact) -> Result<(), AllocError>
+        requires { kind_of fact.now.info ≡ self.old.kind }
+        ensures told { OnOk result ((w : Premises) → shown_by self.old.kind w self.new.told ≡ meet (shown_by self.old.kind w self.old.told) (shows w fact.now)) }
+        ensures kept { OnOk result ((w : Premises) → shown_by self.old.kind w self.new.kept ≡ meet (shown_by self.old.kind w self.old.kept) (shows w fact.now)) }
+        ensures facts { OnOk result ((f : Supported) → Contains self.new.kept f → (f ≡ fact.now) ⊎ Contains self.old.kept f) }
+        ensures kind { self.new.kind ≡ self.old.kind }
+        ensures err { OnErr result (self.new ≡ self.old) }
+    {
+        let place = place_of(self.told.as_slice(), &fact.support);
+        let known = is_subsumed(self.kept.as_slice(), fact);
+        // Both growths come first, so that a refused one changes nothing.
+        reserve_unless(&mut self.told, place.is_some())?;
+        reserve_unless(&mut self.kept, known)?;
+        add_told(&mut self.told, place, fact);
+        assimilate(&mut self.kept, known, fact);
+        Ok(())
+    }
+
+    // Keeps a fact, and answers whether it was news. Where memory is refused nothing changes.
+    pub(crate) fn keep(&mut self, fact: &Fact) -> Result<bool, AllocError>
+        requires { kind_of fact.now.info ≡ self.old.kind }
+        ensures answer { IfOk result (λ news. (news ≡ false) ↔ SubsumedBy self.old.kept fact.now) }
+        ensures known { IfOk result (λ news. news ≡ false → self.new ≡ self.old) }
+        ensures kept { OnOk result ((w : Premises) → shown_by self.old.kind w self.new.kept ≡ meet (shown_by self.old.kind w self.old.kept) (shows w fact.now)) }
+        ensures facts { OnOk result ((f : Supported) → Contains self.new.kept f → (f ≡ fact.now) ⊎ Contains self.old.kept f) }
+        ensures told { self.new.told ≡ self.old.told }
+        ensures kind { self.new.kind ≡ self.old.kind }
+        ensures err { OnErr result (self.new ≡ self.old) }
+    {
+        let known = is_subsumed(self.kept.as_slice(), fact);
+        reserve_unless(&mut self.kept, known)?;
+        assimilate(&mut self.kept, known, fact);
+        Ok(!known)
+    }
+
+    // What was told, in a worldview.
+    pub(crate) fn told(&self, worldview: &PremiseSet) -> Info
+        ensures value { result ≡ shown_by self.now.kind worldview.now self.now.told }
+        ensures kind { kind_of result ≡ self.now.kind }
+        ensures larger { (w : Premises) → is_subset worldview.now w ≡ true → Implies (shown_by self.now.kind w self.now.told) result }
+    {
+        shown(self.kind, self.told.as_slice(), worldview)
+    }
+
+    // What is kept, in a worldview, with premises that it rests on.
+    pub(crate) fn kept(&self, worldview: &PremiseSet) -> Fact
+        ensures merge { IsMergeOf self.now.kind worldview.now self.now.kept result }
+        ensures kind { kind_of result.info ≡ self.now.kind }
+        ensures told { Implies result.info (shown_by self.now.kind worldview.now self.now.told) }
+        ensures larger { (w : Premises) → is_subset worldview.now w ≡ true → Implies (shown_by self.now.kind w self.now.kept) result.info }
+    {
+        merged(self.kind, self.kept.as_slice(), worldview)
+    }
+}
+
+// Where the first fact with this support is.
+fn place_of(told: &[Fact], support: &PremiseSet) -> Option<usize>
+    ensures { result ≡ position (λ f. has_same_numbers f.support support.now) told.now }
+{
+    told.iter().position(|held| held.support == *support)
+}
+
+// Whether a kept fact subsumes this one.
+fn is_subsumed(kept: &[Fact], fact: &Fact) -> bool
+    requires { AreOfKind (kind_of fact.now.info) kept.now }
+    ensures { IsTrue result ↔ SubsumedBy kept.now fact.now }
+{
+    for held in kept {
+        if subsumes(held, fact) {
+            return true;
+        }
+    }
+    false
+}
+
+// Makes room for one more fact, unless it is known.
+fn reserve_unless<A: Allocator>(facts: &mut Vec<Fact, A>, known: bool) -> Result<(), AllocError>
+    ensures items { facts.new.items ≡ facts.old.items }
+    ensures room { OnOk result (known ≡ false → vec_len facts.new < vec_capacity facts.new) }
+{
+    if known {
+        return Ok(());
+    }
+    facts.reserve(1)
+}
+
+// Adds a fact to those that were told: into the first with its support, which is at the place, else where there is room.
+fn add_told<A: Allocator>(told: &mut Vec<Fact, A>, place: Option<usize>, fact: &Fact)
+    requires kinds { AreOfKind (kind_of fact.now.info) told.old.items }
+    requires one_each { OneEach told.old.items }
+    requires place { place ≡ position (λ f. has_same_numbers f.support fact.now.support) told.old.items }
+    requires room { place ≡ None → vec_len told.old < vec_capacity told.old }
+    ensures kinds { AreOfKind (kind_of fact.now.info) told.new.items }
+    ensures one_each { OneEach told.new.items }
+    ensures shown { (w : Premises) → shown_by (kind_of fact.now.info) w told.new.items ≡ meet (shown_by (kind_of fact.now.info) w told.old.items) (shows w fact.now) }
+{
+    match place {
+        Some(place) => told[place].info = told[place].info.meet(&fact.info),
+        None => append(told, fact),
+    }
+}
+
+// Keeps a fact where there is room and drops those that it subsumes, unless it is known: then a kept fact subsumes it.
+fn assimilate<A: Allocator>(kept: &mut Vec<Fact, A>, known: bool, fact: &Fact)
+    requires kinds { AreOfKind (kind_of fact.now.info) kept.old.items }
+    requires known { IsTrue known ↔ SubsumedBy kept.old.items fact.now }
+    requires apart { AreApart kept.old.items }
+    requires room { known ≡ false → vec_len kept.old < vec_capacity kept.old }
+    ensures kinds { AreOfKind (kind_of fact.now.info) kept.new.items }
+    ensures known { known ≡ true → kept.new.items ≡ kept.old.items }
+    ensures apart { AreApart kept.new.items }
+    ensures shown { (w : Premises) → shown_by (kind_of fact.now.info) w kept.new.items ≡ meet (shown_by (kind_of fact.now.info) w kept.old.items) (shows w fact.now) }
+    ensures facts { (f : Supported) → Contains kept.new.items f → (f ≡ fact.now) ⊎ Contains kept.old.items f }
+{
+    if !known {
+        drop_subsumed(kept, fact);
+        append(kept, fact);
+    }
+}
+
+// Drops the facts that this one subsumes. (`retain` takes no test that may be asked of facts of one kind alone.)
+fn drop_subsumed<A: Allocator>(kept: &mut Vec<Fact, A>, fact: &Fact)
+    requires { AreOfKind (kind_of fact.now.info) kept.old.items }
+    ensures rest { IsRest fact.now kept.old.items kept.new.items }
+    ensures len { vec_len kept.new ≤ vec_len kept.old }
+    ensures capacity { vec_capacity kept.new ≡ vec_capacity kept.old }
+{
+    let mut left = 0;
+    for place in 0..kept.len() {
+        let held = kept[place];
+        if !subsumes(fact, &held) {
+            kept[left] = held;
+            left += 1;
+        }
+    }
+    kept.truncate(left);
+}
+
+// Appends a fact where there is room.
+fn append<A: Allocator>(facts: &mut Vec<Fact, A>, fact: &Fact)
+    requires { vec_len facts.old < vec_capacity facts.old }
+    ensures { facts.new.items ≡ facts.old.items ++ fact.now ∷ [] }
+{
+    let _ = facts.push(*fact);
+}
+
+// What the facts show together in a worldview.
+fn shown(kind: Kind, facts: &[Fact], worldview: &PremiseSet) -> Info
+    requires { AreOfKind kind facts.now }
+    ensures { result ≡ shown_by kind worldview.now facts.now }
+{
+    let mut info = Info::nothing(kind);
+    for fact in facts {
+        if fact.support.is_subset(worldview) {
+            info = info.meet(&fact.info);
+        }
+    }
+    info
+}
+
+// The merge of the facts that rest on premises of the worldview alone.
+fn merged(kind: Kind, facts: &[Fact], worldview: &PremiseSet) -> Fact
+    requires { AreOfKind kind facts.now }
+    ensures { IsMergeOf kind worldview.now facts.now result }
+{
+    let mut merge = Fact {
+        info: Info::nothing(kind),
+        support: PremiseSet::empty(),
+    };
+    for held in facts {
+        if held.support.is_subset(worldview) {
+            merge = merge_facts(&merge, held);
+        }
+    }
+    merge
+}
