@@ -116,8 +116,8 @@ fn a_line_refused_for_memory_counts_as_blank(rt: HostRuntime) -> Result<(), Fail
 
 #[test]
 fn believing_doubting_and_asking_take_no_memory(rt: HostRuntime) -> Result<(), Fail> {
-    // The first growth is that of the beliefs, in setting up.
-    let refusing = Refusing::all_from(rt.alloc(), 2);
+    // The first two growths are those of the cells and of the beliefs, in setting up.
+    let refusing = Refusing::all_from(rt.alloc(), 3);
     let transcript = "ann doubt b\nann ask x\nann believe b\nbob ask y\nann tell x 1\nann ask x\n";
     let (answer, written) = outcome(rt.alloc(), &refusing, transcript)?;
     assert_eq!(rt;

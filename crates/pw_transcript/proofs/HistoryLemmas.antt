@@ -1,26 +1,23 @@
--- What is kept from line to line is what the lines from scratch leave, and replies, texts and readings of one more line.
-use Rattle.std.proofs.Common.{◌≡◌, ◌≢◌, ℕ, suc, ◌+◌, ◌<◌, ◌≤◌, Bool, eqb, List, [], ◌∷◌, ◌++◌, length, get_or, set, replicate, Option, Some, None, Contains, refl, sym, ap, ◌∙◌, subst, inl, inr, append-nil, append_assoc, arith}
+-- Replies, texts and readings of one more line, and the names that a line says.
+use Rattle.std.proofs.Common.{◌≡◌, ℕ, suc, ◌+◌, ◌<◌, ◌≤◌, Bool, eqb, List, [], ◌∷◌, ◌++◌, length, Option, Some, None, Contains, refl, sym, ap, ◌∙◌, inl, inr, append-nil, append_assoc, arith}
 use Rattle.std.specs.Prelude.{if◌then◌else◌, is_some}
-use Rattle.std.specs.List.{position_from, range_with_len}
-use Rattle.std.specs.FinSet.{empty, union, difference, from_list}
+use Rattle.std.specs.List.{position_from}
+use Rattle.std.specs.FinSet.{union, difference}
 use Rattle.std.specs.Str.{bytes_eq}
-use Rattle.std.proofs.lemmas.Bool.{cases_Bool, eqb-true, eqb-false}
-use Rattle.std.proofs.lemmas.List.{length-set, length-replicate, get_or-replicate, get_or-set_same, get_or-set_other}
-use Rattle.pw_info.specs.declared.kind.Kind.{Kind}
+use Rattle.std.proofs.lemmas.Bool.{cases_Bool}
 use Rattle.pw_transcript.specs.declared.command.Command.{Command}
 use Rattle.pw_transcript.specs.declared.command.Command.TheVariants as commands
 use Rattle.pw_transcript.specs.declared.reply.Reply.{Reply}
 use Rattle.pw_transcript.specs.declared.reply.Refusal.TheVariants as refusal
-use Rattle.pw_transcript.specs.Declaration.{Declared}
+use Rattle.pw_info.specs.Information.{kind_of}
+use Rattle.pw_transcript.specs.Declaration.{Declared, kind_at}
 use Rattle.pw_transcript.specs.Place.{place_of}
 use Rattle.pw_transcript.specs.Sentence.{Sentence, Tell, Believe, Doubt, Ask, Other}
 use Rattle.pw_transcript.specs.Reading.{Premises, Means, Reading, Blank, Refused, Says, Reads}
 use Rattle.pw_transcript.specs.History.{Entry, entries_from, entries_before, all_premises, beliefs_after, beliefs_at}
-use Rattle.pw_transcript.specs.Answer.{answer_to, user_of, reply_to, replies_after, replies_of}
+use Rattle.pw_transcript.specs.Answer.{user_of, reply_to, replies_after, replies_of}
 use Rattle.pw_transcript.specs.ReplyText.{text_if_any, text_from, text_of_replies}
 use Rattle.pw_transcript.specs.FromScratch.{ReadAs, ComesTo, ComeTo, count_of_replies}
-use Rattle.pw_transcript.specs.Carrying.{AsksOfKind, IsCarriedOut, NamesCells}
-use Rattle.pw_transcript.specs.Past.{Past, beliefs_in, past_after, reply_in, IsPastOf}
 
 -- ---- entries
 
@@ -207,9 +204,15 @@ module _ (d : Declared) where
   Means-user (Ask user_word cell_word) command (user, cell, at_user, at_cell, is) = rw is (place_of-lt d.users user_word user at_user)
   Means-user (Other user_word) command means = absurd means
 
-  Means-cell : (sentence : Sentence) (command : Command) → Means d sentence command → NamesCells d command
+  -- the cell that a command names is declared, and what it tells is of its kind
+  abbrev pub NamesDeclared : Command → Type 0
+  NamesDeclared (commands.Tell user cell fact) = (cell < length d.cells) × (kind_of fact.info ≡ kind_at d cell)
+  NamesDeclared (commands.Ask user cell) = cell < length d.cells
+  NamesDeclared command = Unit {0}
+
+  Means-cell : (sentence : Sentence) (command : Command) → Means d sentence command → NamesDeclared command
   Means-cell (Tell user_word cell_word info_word words) command (user, cell, info, at_user, at_cell, spells, is) =
-      rw is (place_of-lt d.cells cell_word cell at_cell)
+      rw is (place_of-lt d.cells cell_word cell at_cell, spells.0)
   Means-cell (Believe user_word words) command (user, at_user, is) = rw is tt
   Means-cell (Doubt user_word words) command (user, at_user, is) = rw is tt
   Means-cell (Ask user_word cell_word) command (user, cell, at_user, at_cell, is) = rw is (place_of-lt d.cells cell_word cell at_cell)
@@ -219,115 +222,19 @@ module _ (d : Declared) where
   pub Reads-user : (line : List ℕ) (command : Command) → Reads d line (Says command) → user_of command < length d.users
   Reads-user line command (none, (sentence, says, means)) = Means-user sentence command means
 
-  -- the cell that a command of a line names is declared
-  pub Reads-cell : (line : List ℕ) (command : Command) → Reads d line (Says command) → NamesCells d command
+  pub Reads-cell : (line : List ℕ) (command : Command) → Reads d line (Says command) → NamesDeclared command
   Reads-cell line command (none, (sentence, says, means)) = Means-cell sentence command means
 
-  -- if the line says a command, its user is declared
-  abbrev pub IsOfUser : Reading → Type 0
-  IsOfUser (Says command) = user_of command < length d.users
-  IsOfUser reading = Unit {0}
+  -- if the line says a command, its user and what it names are declared
+  abbrev pub IsDeclared : Reading → Type 0
+  IsDeclared (Says command) = (user_of command < length d.users) × NamesDeclared command
+  IsDeclared reading = Unit {0}
 
-  pub IsOfUser-from_Reads : (line : List ℕ) (reading : Reading) → Reads d line reading → IsOfUser reading
-  IsOfUser-from_Reads line Blank reads = tt
-  IsOfUser-from_Reads line (Refused refusal) reads = tt
-  IsOfUser-from_Reads line (Says command) reads = Reads-user line command reads
+  pub IsDeclared-from_Reads : (line : List ℕ) (reading : Reading) → Reads d line reading → IsDeclared reading
+  IsDeclared-from_Reads line Blank reads = tt
+  IsDeclared-from_Reads line (Refused refusal) reads = tt
+  IsDeclared-from_Reads line (Says command) reads = (Reads-user line command reads, Reads-cell line command reads)
 
-  pub IsOfUser-from_ComesTo : (line : List ℕ) (reading : Reading) → ComesTo d line reading → IsOfUser reading
-  IsOfUser-from_ComesTo line reading (inl reads) = IsOfUser-from_Reads line reading reads
-  IsOfUser-from_ComesTo line reading (inr refused) = rw refused.0 tt
-
-  -- ---- what is kept
-
-  -- before the first line, what `new` makes is kept
-  pub IsPastOf-none : IsPastOf d [] (record { entries = []; beliefs = replicate (length d.users) (all_premises d) })
-  IsPastOf-none = record {
-    entries = refl;
-    users = length-replicate (length d.users) (all_premises d);
-    beliefs = λ user below. get_or-replicate (length d.users) user (all_premises d) empty below;
-  }
-
-  -- the same by the numbers of users and premises that `new` is given
-  pub IsPastOf-new : (users premises : ℕ) (past : Past) → past ≡ record { entries = []; beliefs = replicate users (from_list (range_with_len 0 premises)) } →
-      users ≡ length d.users → premises ≡ length d.premises → IsPastOf d [] past
-  IsPastOf-new users premises past is many all =
-      subst (IsPastOf d []) (sym (is ∙ (λ i. record { entries = []; beliefs = replicate (many i) (from_list (range_with_len 0 (all i))) }))) IsPastOf-none
-
-  -- a line keeps the number of users
-  pub length-past_after : (number : ℕ) (past : Past) (reading : Reading) → length (past_after number past reading).beliefs ≡ length past.beliefs
-  length-past_after number past Blank = refl
-  length-past_after number past (Refused refusal) = refl
-  length-past_after number past (Says (commands.Tell user cell fact)) = refl
-  length-past_after number past (Says (commands.Believe user premises)) = length-set past.beliefs user (union (beliefs_in past user) premises)
-  length-past_after number past (Says (commands.Doubt user premises)) = length-set past.beliefs user (difference (beliefs_in past user) premises)
-  length-past_after number past (Says (commands.Ask user cell)) = refl
-
-  entries-past_after : (number : ℕ) (past : Past) (reading : Reading) →
-      (past_after number past reading).entries ≡ past.entries ++ entries_of number reading
-  entries-past_after number past Blank = sym (append-nil past.entries)
-  entries-past_after number past (Refused refusal) = sym (append-nil past.entries)
-  entries-past_after number past (Says (commands.Tell user cell fact)) = refl
-  entries-past_after number past (Says (commands.Believe user premises)) = sym (append-nil past.entries)
-  entries-past_after number past (Says (commands.Doubt user premises)) = sym (append-nil past.entries)
-  entries-past_after number past (Says (commands.Ask user cell)) = sym (append-nil past.entries)
-
-  -- what is set for one user is that user's alone
-  get_or-set_by : (f : Premises → Premises) (beliefs : List Premises) (at user : ℕ) → at < length beliefs →
-      get_or (set beliefs at (f (get_or beliefs at empty))) user empty
-      ≡ (if eqb at user then f (get_or beliefs user empty) else get_or beliefs user empty)
-  get_or-set_by f beliefs at user below = elim (cases_Bool (eqb at user)) [
-    | inl same ↦ let e : at ≡ user = eqb-true at user same in
-        rw same (ap (λ u. get_or (set beliefs at (f (get_or beliefs at empty))) u empty) (sym e)
-        ∙ get_or-set_same beliefs at (f (get_or beliefs at empty)) empty below ∙ ap (λ u. f (get_or beliefs u empty)) e)
-    | inr other ↦ let apart : user ≢ at = λ e. eqb-false at user other (sym e) in
-        rw other (get_or-set_other beliefs at user (f (get_or beliefs at empty)) empty apart)
-  ]
-
-  -- a line changes what its user believes as it does from scratch, and what no other believes
-  beliefs-past_after : (number : ℕ) (past : Past) (reading : Reading) (user : ℕ) → length past.beliefs ≡ length d.users → IsOfUser reading →
-      beliefs_in (past_after number past reading) user ≡ beliefs_after user (beliefs_in past user) (reading ∷ [])
-  beliefs-past_after number past Blank user many there = refl
-  beliefs-past_after number past (Refused refusal) user many there = refl
-  beliefs-past_after number past (Says (commands.Tell other cell fact)) user many there = refl
-  beliefs-past_after number past (Says (commands.Believe other premises)) user many there =
-      get_or-set_by (λ beliefs. union beliefs premises) past.beliefs other user (omega arith)
-  beliefs-past_after number past (Says (commands.Doubt other premises)) user many there =
-      get_or-set_by (λ beliefs. difference beliefs premises) past.beliefs other user (omega arith)
-  beliefs-past_after number past (Says (commands.Ask other cell)) user many there = refl
-
-  -- what is kept after one more line is what the lines leave with it
-  pub IsPastOf-snoc : (readings : List Reading) (past : Past) (reading : Reading) → IsPastOf d readings past → IsOfUser reading →
-      IsPastOf d (readings ++ reading ∷ []) (past_after (length readings + 1) past reading)
-  IsPastOf-snoc readings past reading kept there = record {
-    entries = entries-past_after (length readings + 1) past reading ∙ ap (λ es. es ++ entries_of (length readings + 1) reading) kept.entries
-        ∙ sym (entries_before-snoc readings reading);
-    users = length-past_after (length readings + 1) past reading ∙ kept.users;
-    beliefs = λ user below. beliefs-past_after (length readings + 1) past reading user kept.users there
-        ∙ ap (λ beliefs. beliefs_after user beliefs (reading ∷ [])) (kept.beliefs user below)
-        ∙ sym (beliefs_at-snoc d user readings reading);
-  }
-
-  -- the reply from what is kept is the reply from scratch
-  pub reply_in-is : (readings : List Reading) (past : Past) (reading : Reading) → IsPastOf d readings past → IsOfUser reading →
-      reply_in d past reading ≡ reply_to d readings reading
-  reply_in-is readings past Blank kept there = refl
-  reply_in-is readings past (Refused refusal) kept there = refl
-  reply_in-is readings past (Says command) kept there =
-      λ i. Some (answer_to d (kept.entries i) (kept.beliefs (user_of command) there i) command)
-
-  -- the user of a line is among those whose beliefs are kept
-  pub user-kept : (readings : List Reading) (past : Past) (command : Command) → IsPastOf d readings past → user_of command < length d.users →
-      user_of command < length past.beliefs
-  user-kept readings past command kept there = omega (arith, kept.users)
-
-  -- a command that a line says and that is carried out: what the line comes to, what it leaves and its reply
-  pub comes_to-carried_out : (line : List ℕ) (number : ℕ) (kind : Kind) (old new : Past) (command : Command) (answer : Reply) →
-      Reads d line (Says command) → AsksOfKind d command kind → IsCarriedOut number kind old command new answer →
-      (reading : Reading) × ComesTo d line reading × (new ≡ past_after number old reading) × (reply_in d old reading ≡ Some answer)
-  comes_to-carried_out line number kind old new command answer reads of_kind (inl answered) =
-      (Says command, inl reads, answered.1, answered.0 d of_kind)
-  comes_to-carried_out line number kind old new (commands.Tell user cell fact) answer reads of_kind (inr refused) =
-      (Refused refusal.Memory, inr (refl, commands.Tell user cell fact, tt, reads), refused.1, ap Some (sym refused.0))
-  comes_to-carried_out line number kind old new (commands.Believe user premises) answer reads of_kind (inr refused) = absurd refused
-  comes_to-carried_out line number kind old new (commands.Doubt user premises) answer reads of_kind (inr refused) = absurd refused
-  comes_to-carried_out line number kind old new (commands.Ask user cell) answer reads of_kind (inr refused) = absurd refused
+  pub IsDeclared-from_ComesTo : (line : List ℕ) (reading : Reading) → ComesTo d line reading → IsDeclared reading
+  IsDeclared-from_ComesTo line reading (inl reads) = IsDeclared-from_Reads line reading reads
+  IsDeclared-from_ComesTo line reading (inr refused) = rw refused.0 tt

@@ -8,7 +8,7 @@ use Rattle.pw_info.specs.Spelling.{SpellsInfo}
 use Rattle.pw_info.proofs.Spellings.{one_info}
 use Rattle.pw_transcript.specs.declared.command.Command.{Command}
 use Rattle.pw_transcript.specs.declared.command.Command.TheVariants as commands
-use Rattle.pw_transcript.specs.declared.fact.Fact.{Fact}
+use Rattle.pw_facts.specs.declared.fact.Fact.{Fact}
 use Rattle.pw_transcript.specs.declared.reply.Refusal.{Refusal}
 use Rattle.pw_transcript.specs.declared.reply.Refusal.TheVariants as refusal
 use Rattle.pw_transcript.specs.First.{IsFirstIn, HoldsOfNone}

@@ -8,20 +8,21 @@ use Rattle.pw_info.proofs.PassingFacts.{PassesPart-after, PassesPart-all, Passes
 use Rattle.std.specs.Borrow.{GName}
 use Rattle.pw_transcript.specs.declared.gathered.Gathered.{Gathered}
 use Rattle.pw_transcript.specs.Gatherers.{output_of, held_of, GatheredPasses}
-use Rattle.pw_transcript.proofs.GatheringFacts.{gathered_part}
+use Rattle.pw_transcript.proofs.GatheringFacts.{gathered_part, gathered_whole}
 use Rattle.pw_transcript.specs.declared.reply.Refusal.TheVariants as refusal
 use Rattle.pw_transcript.specs.Lines.{lines_of, HasNoEnd, text_of_lines, last_line}
 use Rattle.pw_transcript.specs.Declaration.{Declared}
 use Rattle.pw_transcript.specs.Reading.{Reading, Refused}
 use Rattle.pw_transcript.specs.Answer.{replies_of}
 use Rattle.pw_transcript.specs.Answering.{held_line, AnswersLine, FailsInLine}
-use Rattle.pw_transcript.specs.Past.{Past, past_after, reply_in, IsPastOf}
+use Rattle.pw_transcript.specs.Past.{Past, reply_in, IsPastOf}
 use Rattle.pw_transcript.specs.ReplyText.{text_if_any, text_of_replies}
-use Rattle.pw_transcript.specs.FromScratch.{ReadAs, ComesTo, ComeTo, count_of_replies, AnswersAll, AnswersAllEnded, AnswersToLimit, AnswersPart}
+use Rattle.pw_transcript.specs.FromScratch.{ReadAs, ComesTo, ComeTo, count_of_replies, AnswersAll, AnswersEnded, AnswersAllEnded, AnswersToLimit, AnswersPart}
 use Rattle.pw_transcript.specs.Taking.{TakesAtMost}
 use Rattle.pw_transcript.specs.Running.{SoFar, AnsweredAll, AnsweredPart, AnsweredEndedPart, AnsweredToLimit}
 use Rattle.pw_transcript.proofs.LineLemmas.{lines_of_ended_lines, lines_of_text, text_held, text_ended, HasNoEnd-append, ended_more}
-use Rattle.pw_transcript.proofs.HistoryLemmas.{text_of_replies_of-snoc, count_of_replies_of-snoc, ComeTo-snoc, length-ComeTo, IsOfUser-from_ComesTo, IsPastOf-snoc, reply_in-is}
+use Rattle.pw_transcript.proofs.HistoryLemmas.{text_of_replies_of-snoc, count_of_replies_of-snoc, ComeTo-snoc, length-ComeTo, IsDeclared-from_ComesTo}
+use Rattle.pw_transcript.proofs.PastLemmas.{IsPastOf-snoc, reply_in-is}
 
 -- ---- readings
 
@@ -105,11 +106,11 @@ module _ {O : Type 0} (passes : O → List ℕ → O → Type 0) (d : Declared) 
   -- the replies to the lines so far, and the reply to one more line
   text_more : (past : Past) (ended : List (List ℕ)) (readings : List Reading) (line : List ℕ) (reading : Reading) (number : ℕ) →
       ComeTo d ended readings → IsPastOf d readings past → ComesTo d line reading → number ≡ length ended + 1 →
-      text_of_replies d (replies_of d readings) ++ text_if_any d number (reply_in d past reading)
+      text_of_replies d (replies_of d readings) ++ text_if_any d number (reply_in past reading)
       ≡ text_of_replies d (replies_of d (readings ++ reading ∷ []))
   text_more past ended readings line reading number come is comes count =
-      ap (λ n. text_of_replies d (replies_of d readings) ++ text_if_any d n (reply_in d past reading)) (count ∙ ap (λ n. n + 1) (length-ComeTo d ended readings come))
-      ∙ ap (λ r. text_of_replies d (replies_of d readings) ++ text_if_any d (length readings + 1) r) (reply_in-is d readings past reading is (IsOfUser-from_ComesTo d line reading comes))
+      ap (λ n. text_of_replies d (replies_of d readings) ++ text_if_any d n (reply_in past reading)) (count ∙ ap (λ n. n + 1) (length-ComeTo d ended readings come))
+      ∙ ap (λ r. text_of_replies d (replies_of d readings) ++ text_if_any d (length readings + 1) r) (reply_in-is d readings past reading is (IsDeclared-from_ComesTo d line reading comes))
       ∙ sym (text_of_replies_of-snoc d readings reading)
 
   -- a line feed after a text
@@ -128,9 +129,6 @@ module _ {O : Type 0} (passes : O → List ℕ → O → Type 0) (d : Declared) 
         SoFar passes d first next past' held' lines' replies' (bytes ++ 10 ∷ [])
     SoFar-ended first now next past past' held held' lines lines' replies replies' replied bytes s answers empty one_line one_reply =
         let a : AnswersLine passes d (lines + 1) s.last past past' now next replied = answers s.last s.held_is in
-        let same : length s.ended ≡ length s.readings = length-ComeTo d s.ended s.readings s.come in
-        let next_past : past_after (length s.readings + 1) past a.reading ≡ past' =
-        ap (λ n. past_after (n + 1) past a.reading) (sym same ∙ sym s.line_count) ∙ sym a.left in
         record {
           ended = s.ended ++ s.last ∷ [];
           last = [];
@@ -140,14 +138,14 @@ module _ {O : Type 0} (passes : O → List ℕ → O → Type 0) (d : Declared) 
           unended = tt;
           held_is = empty;
           come = ComeTo-snoc d s.ended s.readings s.last a.reading s.come a.comes;
-          past_is = subst (IsPastOf d (s.readings ++ a.reading ∷ [])) next_past (IsPastOf-snoc d s.readings past a.reading s.past_is (IsOfUser-from_ComesTo d s.last a.reading a.comes));
+          past_is = IsPastOf-snoc d s.readings past past' a.reading s.past_is (IsDeclared-from_ComesTo d s.last a.reading a.comes) a.left;
           passed = subst (λ (text : List ℕ). passes first text next)
               (text_more past s.ended s.readings s.last a.reading (lines + 1) s.come s.past_is a.comes (ap (λ n. n + 1) s.line_count))
               (joins first now next _ _ s.passed a.passed);
           line_count = one_line ∙ ap (λ n. n + 1) s.line_count ∙ sym (length-append s.ended (s.last ∷ []));
           reply_count = one_reply ∙ ap (λ n. n + (if replied then 1 else 0)) s.reply_count
               ∙ ap (λ (b : Bool). count_of_replies (replies_of d s.readings) + (if b then 1 else 0))
-              (a.replied_is ∙ ap is_some (reply_in-is d s.readings past a.reading s.past_is (IsOfUser-from_ComesTo d s.last a.reading a.comes)))
+              (a.replied_is ∙ ap is_some (reply_in-is d s.readings past a.reading s.past_is (IsDeclared-from_ComesTo d s.last a.reading a.comes)))
               ∙ sym (count_of_replies_of-snoc d s.readings a.reading);
         }
 
@@ -482,6 +480,34 @@ module _ {I O : Type 0} (takes : I → List ℕ → I → Type 0) (passes : O �
         come = tt;
         part = PassesPart-none passes o o' [] passed;
       }
+
+  -- where nothing was held at first and nothing is at last, answers passed to a gathering output were passed to its output
+  gathered_ended : (name : GName) (i i' : I) (first last : O) (s t : Gathered O) (ended : List (List ℕ)) (rest : List ℕ) →
+      (output_of s).ghost_name ≡ name → (output_of s).now ≡ first → held_of s ≡ [] → held_of t ≡ [] →
+      AnswersEnded takes (GatheredPasses passes) d i i' s t ended rest → (name ≡ (output_of t).ghost_name → last ≡ (output_of t).now) →
+      AnswersEnded takes passes d i i' first last ended rest
+  gathered_ended name i i' first last s t ended rest named at none left a ends =
+      record {
+        readings = a.readings;
+        taken = a.taken;
+        no_end = a.no_end;
+        come = a.come;
+        passed = gathered_whole passes name first last s t _ named at none left a.passed ends;
+      }
+
+  pub gathered_answers_ended : (name : GName) (i i' : I) (first last : O) (s t : Gathered O) →
+      (output_of s).ghost_name ≡ name → (output_of s).now ≡ first → held_of s ≡ [] → held_of t ≡ [] →
+      AnswersAllEnded takes (GatheredPasses passes) d i i' s t → (name ≡ (output_of t).ghost_name → last ≡ (output_of t).now) →
+      AnswersAllEnded takes passes d i i' first last
+  gathered_answers_ended name i i' first last s t named at none left a ends =
+      record { ended = a.ended; rest = a.rest; answers = gathered_ended name i i' first last s t a.ended a.rest named at none left a.answers ends; unended = a.unended }
+
+  pub gathered_answers_to_limit : (name : GName) (i i' : I) (first last : O) (s t : Gathered O) →
+      (output_of s).ghost_name ≡ name → (output_of s).now ≡ first → held_of s ≡ [] → held_of t ≡ [] →
+      AnswersToLimit takes (GatheredPasses passes) d i i' s t → (name ≡ (output_of t).ghost_name → last ≡ (output_of t).now) →
+      AnswersToLimit takes passes d i i' first last
+  gathered_answers_to_limit name i i' first last s t named at none left a ends =
+      record { ended = a.ended; rest = a.rest; answers = gathered_ended name i i' first last s t a.ended a.rest named at none left a.answers ends; past = a.past }
 
   -- where nothing was held at first, of a front that was passed to a gathering output a front was passed to its output
   pub gathered_answers_part : {T E : Type 0} (name : GName) (i i' : I) (first last : O) (s t : Gathered O) (r : Result T E) →

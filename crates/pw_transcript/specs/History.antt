@@ -3,7 +3,7 @@ use Rattle.std.specs.Prelude.{ℕ, ◌+◌, ◌==◌, List, [], ◌∷◌, lengt
 use Rattle.std.specs.List.{range_with_len}
 use Rattle.std.specs.FinSet.{union, difference, from_list}
 use Rattle.pw_transcript.specs.declared.command.Command.TheVariants as commands
-use Rattle.pw_transcript.specs.declared.fact.Fact.{Fact}
+use Rattle.pw_facts.specs.declared.fact.Fact.{Fact}
 use Rattle.pw_transcript.specs.Declaration.{Declared}
 use Rattle.pw_transcript.specs.Reading.{Premises, Reading, Says}
 

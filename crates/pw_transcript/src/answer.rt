@@ -3,55 +3,36 @@
 ghost use Rattle.std.specs.Prelude.{◌≡◌, ℕ, List, true, false, IfSome, IfOk, OnOk, OnErr};
 ghost use Rattle.std.specs.Option.{option_copied};
 ghost use Rattle.pw_transcript.specs.Answering.{held_line, RepliesToLine, AnswersLine, FailsInLine};
-ghost use Rattle.pw_info.specs.SetNames.{IsNamed};
-ghost use Rattle.pw_transcript.specs.Carrying.{AsksOfKind, NamesCells};
-ghost use Rattle.pw_transcript.specs.Declaration.{members_of};
 ghost use Rattle.pw_transcript.specs.Past.{Fits};
 ghost use Rattle.pw_transcript.specs.ReplyText.{IsReplyNamed};
 
-use crate::command::Command;
 use crate::command_text::read_command;
 use crate::declaration::Declaration;
 use crate::history::History;
 use crate::reply::{Refusal, Reply};
 use crate::reply_text::write_reply;
-use pw_info::kind::Kind;
 use pw_info::output::{Failed, Output};
 use std::alloc::Allocator;
-
-// The kind of the cell that a command asks for.
-fn kind_asked<A: Allocator + Copy>(declaration: &Declaration<A>, command: &Command) -> Kind
-    requires { NamesCells declaration.now command.now }
-    ensures kind { AsksOfKind declaration.now command.now result }
-    ensures named { IsNamed (members_of declaration.now) result }
-{
-    match *command {
-        Command::Ask { cell, .. } => declaration.cell_kind(cell),
-        _ => Kind::Interval,
-    }
-}
 
 // The reply to a line, None where it gets none. The line is handed in where it has at most 1,024 bytes.
 fn reply_to_line<A: Allocator + Copy, B: Allocator + Copy>(
     declaration: &Declaration<A>,
-    number: u32,
     line: Option<&[u8]>,
     history: &mut History<B>,
 ) -> Option<Reply>
     requires fits { Fits declaration.now history.old }
     ensures named { IfSome result (λ reply. IsReplyNamed declaration.now reply) }
-    ensures reply { (bytes : List ℕ) → option_copied line.entry ≡ held_line bytes → RepliesToLine declaration.now number bytes history.old history.new result }
+    ensures reply { (bytes : List ℕ) → option_copied line.entry ≡ held_line bytes → RepliesToLine declaration.now bytes history.old history.new result }
     ensures fits { Fits declaration.now history.new }
 {
+    // Cells have kinds whose members are named.
+    declaration.limits();
     let Some(line) = line else {
         return Some(Reply::Refused(Refusal::LineTooLong));
     };
     match read_command(line, declaration) {
         Ok(None) => None,
-        Ok(Some(command)) => {
-            let kind = kind_asked(declaration, &command);
-            Some(history.carry_out(number, &command, kind))
-        }
+        Ok(Some(command)) => Some(history.carry_out(&command)),
         Err(refusal) => Some(Reply::Refused(refusal)),
     }
 }
@@ -73,7 +54,7 @@ pub(crate) fn answer_line<A: Allocator + Copy, B: Allocator + Copy, O: Output>(
     ensures works { OnOk result (O.has_failed output.old ≡ false → O.has_failed output.new ≡ false) }
     ensures fits { Fits declaration.now history.new }
 {
-    let Some(reply) = reply_to_line(declaration, number, line, history) else {
+    let Some(reply) = reply_to_line(declaration, line, history) else {
         return Ok(false);
     };
     match write_reply(number, &reply, declaration, output) {

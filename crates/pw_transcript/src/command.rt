@@ -1,4 +1,4 @@
-use crate::fact::Fact;
+use pw_facts::Fact;
 use pw_premises::PremiseSet;
 
 /// What a line of a transcript asks for. Users, cells and premises go by their numbers in the declaration.

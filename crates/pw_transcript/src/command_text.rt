@@ -8,10 +8,10 @@ ghost use Rattle.pw_transcript.specs.Reading as spec;
 
 use crate::command::Command;
 use crate::declaration::Declaration;
-use crate::fact::Fact;
 use crate::reply::Refusal;
 use crate::sentence::{Spoken, read_sentence};
 use crate::words::{Words, allows_all, idles};
+use pw_facts::Fact;
 use pw_info::text::read_info;
 use pw_premises::PremiseSet;
 use std::alloc::Allocator;

@@ -187,6 +187,15 @@ impl<A: Allocator + Copy> Declaration<A> {
         self.owners[usize::from(premise)]
     }
 
+    /// The kinds of the cells, at most 1,024, by the numbers of the cells.
+    pub(crate) fn kinds(&self) -> &[Kind]
+        ensures kinds { result.now ≡ self.now.kinds }
+        ensures each { length self.now.kinds ≡ length self.now.cells }
+        ensures most { length result.now ≤ 1024 }
+    {
+        &self.kinds
+    }
+
     /// The kind of the cell of this number.
     pub fn cell_kind(&self, cell: u32) -> Kind
         requires { cell < length self.now.cells }

@@ -14,7 +14,6 @@ mod declaration_set;
 #[cfg(test)]
 mod declaration_tests;
 pub mod declaration_text;
-pub mod fact;
 mod gathered;
 mod history;
 pub mod input;
@@ -38,7 +37,6 @@ pub use command_text::read_command;
 pub use decl_fault::{DeclFault, Why};
 pub use declaration::Declaration;
 pub use declaration_text::read_declaration;
-pub use fact::Fact;
 pub use input::{Input, Reading};
 pub use reply::{Refusal, Reply};
 pub use reply_text::write_reply;

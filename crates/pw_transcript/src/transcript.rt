@@ -290,7 +290,7 @@ fn answer_all<A: Allocator + Copy, B: Allocator + Copy, I: Input, O: Output>(
 /// What is taken is answered before more is taken, and what was written is passed on then. A line ends at a line feed; the
 /// last one needs none. There are at most 1,000,000 lines and 67,108,864 bytes, of which at most 67,108,865 are taken.
 /// A failure ends it with
-/// - `Memory`, before anything is taken or written, if there is no memory for the users' beliefs,
+/// - `Memory`, before anything is taken or written, if there is no memory for the cells and the users' beliefs,
 /// - `Read`, if the input failed: the replies to all lines that ended are written then,
 /// - `Write`, if the output failed: a front of the replies is written then,
 /// - `Limit`, at a byte after 1,000,000 ended lines, or at the 67,108,865th byte: the replies to all lines that end before
@@ -314,7 +314,7 @@ pub fn run<A: Allocator + Copy, B: Allocator + Copy, I: Input, O: Output>(
     ensures part { OnErr result (AnswersPart I.takes O.passes d.now input.old input.new output.old output.new) }
     ensures most { TakesAtMost I.takes input.old input.new 67108865 }
 {
-    let Ok(history) = History::new(alloc, d.users(), d.premises()) else {
+    let Ok(history) = History::new(alloc, d.kinds(), d.users(), d.premises()) else {
         return Err(RunFault::Memory);
     };
     let mut gathered = Gathered::new(output);

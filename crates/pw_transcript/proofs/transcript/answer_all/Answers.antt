@@ -2,7 +2,6 @@ use Rattle.std.proofs.Common.{◌≡◌, ◌+◌, ◌≤◌, ℕ, List, [], ◌+
 use Rattle.std.proofs.lemmas.Grind.{common_steps}
 use Rattle.pw_transcript.specs.Gatherers.{GatheredPasses, GatheredPasses-none}
 use Rattle.pw_transcript.specs.Running.{SoFar}
-use Rattle.pw_transcript.proofs.FitLemmas.{fits_start}
 use Rattle.pw_transcript.proofs.RunLemmas.{SoFar-start, SoFar-part, AnsweredToLimit-part, AnsweredPart-ended, answers_all, answers_all_ended, answers_part, answers_front, answers_to_last_line, answers_to_last_byte, taken_no_more, taken_most, kept_whole, kept_all, length_taken, length_kept}
 use Rattle.pw_transcript.proofs.transcript.answer_all.Goals as goal
 
@@ -15,7 +14,7 @@ loop-taken-init g c = record {
   count = refl;
   bound = omega arith;
   passed_on = c.requires.empty;
-  fits = fits_start c.args.d.now c.args.history c.requires.start;
+  fits = c.requires.start.fits;
   lines = omega arith;
   replies = omega arith;
 }
