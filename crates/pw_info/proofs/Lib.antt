@@ -4,6 +4,7 @@ pub mod Dots
 pub mod ExampleNames
 pub mod Informations
 pub mod MemberTexts
+pub mod NameTests
 pub mod NamesInARow
 pub mod Numbers
 pub mod PassingFacts

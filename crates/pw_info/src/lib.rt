@@ -5,6 +5,7 @@ pub mod info;
 pub mod kind;
 pub mod laws;
 mod member_text;
+pub mod name;
 pub mod names;
 pub mod number;
 pub mod output;

@@ -101,6 +101,8 @@ unsafe impl<B: Allocator> Allocator for Refusing<B> {
 #[cfg(test)]
 mod cell_tests;
 #[cfg(test)]
+mod registry_tests;
+#[cfg(test)]
 mod tests;
 #[cfg(test)]
 mod transcript_tests;

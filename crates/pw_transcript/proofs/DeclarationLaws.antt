@@ -7,6 +7,7 @@ use Rattle.pw_info.specs.declared.kind.Kind.{Kind}
 use Rattle.pw_info.specs.declared.kind.Kind.TheVariants as kinds
 use Rattle.pw_info.specs.Name.{is_name}
 use Rattle.pw_info.proofs.Informations.{same_set}
+use Rattle.pw_info.proofs.NameTests.{passed, passes}
 use Rattle.pw_transcript.specs.declared.decl_fault.Why.{Why}
 use Rattle.pw_transcript.specs.Lines.{lines_of}
 use Rattle.pw_transcript.specs.Words.{words_of, is_idle}
@@ -14,7 +15,7 @@ use Rattle.pw_transcript.specs.Declaration.{Declared, DeclarationSentence, Heade
 use Rattle.pw_transcript.specs.DeclarationForms.{declaration_sentence_of, header_of, user_of, premise_of, set_of, cell_of}
 use Rattle.pw_transcript.specs.DeclarationFaults.{Says, Declares, Leads, SpellsDeclaration, IsFaultNext, IsFirstFault, line_faults, Applies, HasFault, why_of}
 use Rattle.pw_transcript.proofs.FirstLemmas.{one_first, none_is_first}
-use Rattle.pw_transcript.proofs.NameLemmas.{passed, passes, all_passed, all_pass}
+use Rattle.pw_transcript.proofs.NameLemmas.{all_passed, all_pass}
 
 some_is : {A : Type 0} (x y : A) → Some x ≡ Some y → x ≡ y
 some_is x y e = cc

@@ -5,13 +5,13 @@ use Rattle.std.specs.List.{position_from}
 use Rattle.std.specs.FinSet.{union, difference}
 use Rattle.std.specs.Str.{bytes_eq}
 use Rattle.std.proofs.lemmas.Bool.{cases_Bool}
+use Rattle.pw_procs.specs.Place.{place_of}
 use Rattle.pw_transcript.specs.declared.command.Command.{Command}
 use Rattle.pw_transcript.specs.declared.command.Command.TheVariants as commands
 use Rattle.pw_transcript.specs.declared.reply.Reply.{Reply}
 use Rattle.pw_transcript.specs.declared.reply.Refusal.TheVariants as refusal
 use Rattle.pw_info.specs.Information.{kind_of}
 use Rattle.pw_transcript.specs.Declaration.{Declared, kind_at}
-use Rattle.pw_transcript.specs.Place.{place_of}
 use Rattle.pw_transcript.specs.Sentence.{Sentence, Tell, Believe, Doubt, Ask, Other}
 use Rattle.pw_transcript.specs.Reading.{Premises, Means, Reading, Blank, Refused, Says, Reads}
 use Rattle.pw_transcript.specs.History.{Entry, entries_from, entries_before, all_premises, beliefs_after, beliefs_at}

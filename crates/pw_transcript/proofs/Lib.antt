@@ -13,7 +13,6 @@ pub mod LineLemmas
 pub mod MemberLemmas
 pub mod NameLemmas
 pub mod PastLemmas
-pub mod PlaceLemmas
 pub mod PremiseLists
 pub mod ReadingLemmas
 pub mod RunLemmas

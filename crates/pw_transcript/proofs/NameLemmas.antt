@@ -1,4 +1,4 @@
-use Rattle.std.proofs.Common.{◌≡◌, ℕ, suc, zero, ◌<◌, true, false, List, [], ◌∷◌, refl, arith, ◌↔◌}
+use Rattle.std.proofs.Common.{◌≡◌, ℕ, suc, zero, ◌<◌, true, false, List, [], ◌∷◌, refl, arith}
 use Rattle.std.specs.List.{list_all, All}
 use Rattle.std.proofs.lemmas.List.Elements.{All-nil, All-cons, All-head, All-tail}
 use Rattle.std.proofs.lemmas.Bool.Decides.{nat_tests}
@@ -8,24 +8,7 @@ use Rattle.std.specs.Borrow.{Bor}
 use Rattle.std.specs.Str.{IsUtf8, IsAscii}
 use Rattle.std.proofs.lemmas.Str.{IsUtf8-from_ascii}
 use Rattle.pw_info.specs.Name.{IsName, is_name, is_name_byte}
-
--- a word that passes the test is a name
-pub passed : (word : List ℕ) → is_name word ≡ true → IsName word
-unfolding is_name
-passed word e = record {
-  short = grind (arith, nat_tests);
-  first = grind (arith, nat_tests);
-  bytes = grind (arith, nat_tests);
-  free = grind (arith, nat_tests);
-}
-
--- a name passes the test
-pub passes : (word : List ℕ) → IsName word → is_name word ≡ true
-unfolding is_name
-passes word name = grind (arith, nat_tests, name.short, name.first, name.bytes, name.free)
-
-pub exact : (word : List ℕ) → (is_name word ≡ true) ↔ IsName word
-exact word = (passed word, passes word)
+use Rattle.pw_info.proofs.NameTests.{passed, passes}
 
 -- words that pass the test are names
 pub all_passed : (words : List (List ℕ)) → list_all is_name words ≡ true → All IsName words

@@ -4,7 +4,7 @@ use Rattle.std.specs.Ordering.{nat_cmp}
 use Rattle.std.specs.Cmp.{nat_cmp_total}
 use Rattle.std.specs.Ordering.{eq_by_cmp}
 use Rattle.std.specs.FinSet.{empty, insert, contains, union, same_set, contains-empty, contains-insert, contains-union, nat_cmp-IsAntisymmetric}
-use Rattle.pw_transcript.specs.Place.{place_of}
+use Rattle.pw_procs.specs.Place.{place_of}
 use Rattle.pw_transcript.specs.Declaration.{Declared}
 use Rattle.pw_transcript.specs.Reading.{Premises, premises_of}
 

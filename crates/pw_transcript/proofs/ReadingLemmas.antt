@@ -6,6 +6,7 @@ use Rattle.pw_info.specs.declared.kind.Kind.TheVariants as kinds
 use Rattle.pw_info.specs.SetNames.{IsNamed}
 use Rattle.pw_info.specs.Spelling.{SpellsInfo}
 use Rattle.pw_info.proofs.Spellings.{one_info}
+use Rattle.pw_procs.specs.Place.{place_of}
 use Rattle.pw_transcript.specs.declared.command.Command.{Command}
 use Rattle.pw_transcript.specs.declared.command.Command.TheVariants as commands
 use Rattle.pw_facts.specs.declared.fact.Fact.{Fact}
@@ -14,7 +15,6 @@ use Rattle.pw_transcript.specs.declared.reply.Refusal.TheVariants as refusal
 use Rattle.pw_transcript.specs.First.{IsFirstIn, HoldsOfNone}
 use Rattle.pw_transcript.specs.Declaration.{Declared, kind_at, members_of}
 use Rattle.pw_transcript.specs.DeclarationLimits.{IsWithinLimits}
-use Rattle.pw_transcript.specs.Place.{place_of}
 use Rattle.pw_transcript.specs.Sentence.{Sentence, Tell, Believe, Doubt, Ask, Other, sentence_of}
 use Rattle.pw_transcript.specs.Words.{words_of, is_idle, is_allowed}
 use Rattle.pw_transcript.specs.Reading.{premises_of, Means, AppliesTo, sentence_refusals, SaysSentence, AppliesToLine, Applies, line_refusals, Reading, Blank, Refused, Says, Reads}

@@ -13,9 +13,9 @@ use Rattle.pw_info.specs.declared.kind.Kind.{Kind}
 use Rattle.pw_info.specs.declared.kind.Kind.TheVariants as kinds
 use Rattle.pw_info.specs.Name.{IsName, is_name, is_reserved}
 use Rattle.pw_info.specs.SetNames.{AreNames, IsNamed}
-use Rattle.pw_transcript.specs.Place.{place_of}
+use Rattle.pw_info.proofs.NameTests.{passed}
+use Rattle.pw_procs.specs.Place.{place_of}
 use Rattle.pw_transcript.specs.Declaration.{Declared, nothing_declared, built_in_sets, built_in_kind_names, kind_names, members_of, NamesKind}
-use Rattle.pw_transcript.proofs.NameLemmas.{passed}
 
 -- ---- the members of set kinds
 

@@ -4,7 +4,7 @@ use Rattle.pw_info.specs.declared.kind.Kind.{Kind}
 use Rattle.pw_info.specs.declared.kind.Kind.TheVariants as kinds
 use Rattle.pw_info.specs.Name.{IsName}
 use Rattle.pw_info.specs.SetNames.{SetNames}
-use Rattle.pw_transcript.specs.Place.{place_of}
+use Rattle.pw_procs.specs.Place.{place_of}
 
 -- what is declared: the names of the users, premises, cells and set kinds in the order of their lines,
 -- for each premise the number of the user that it belongs to, if any, for each cell its kind,

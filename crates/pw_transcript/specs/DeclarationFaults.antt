@@ -3,12 +3,12 @@ use Rattle.std.specs.Prelude.{◌≡◌, ℕ, ◌+◌, ◌<◌, ◌≤◌, true,
 use Rattle.std.specs.List.{list_all, IsDistinct}
 use Rattle.std.specs.Str.{bytes_eq}
 use Rattle.pw_info.specs.declared.kind.Kind.{Kind}
+use Rattle.pw_procs.specs.Place.{place_of}
 use Rattle.pw_transcript.specs.declared.decl_fault.Why.{Why}
 use Rattle.pw_transcript.specs.declared.decl_fault.Why.TheVariants.{Syntax, DuplicateName, UnknownName, WrongArguments, Limit}
 use Rattle.pw_transcript.specs.Words.{words_of, is_idle, is_allowed}
 use Rattle.pw_transcript.specs.Lines.{lines_of}
 use Rattle.pw_transcript.specs.First.{IsFirstIn, HoldsOfNone}
-use Rattle.pw_transcript.specs.Place.{place_of}
 use Rattle.pw_transcript.specs.Declaration.{Declared, DeclarationSentence, Header, User, Premise, PremiseOf, Set, Cell, IsDeclarationSentence, kind_names, NamesKind, Makes}
 
 -- the header stands before every other sentence, and once

@@ -14,7 +14,6 @@ pub mod History
 pub mod Lines
 pub mod Past
 pub mod PastCode
-pub mod Place
 pub mod Readers
 pub mod Reading
 pub mod ReplyText

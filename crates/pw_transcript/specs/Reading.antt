@@ -5,12 +5,12 @@ use Rattle.std.specs.Ordering.{nat_cmp}
 use Rattle.std.specs.FinSet.{FinSet, from_list}
 use Rattle.pw_info.specs.declared.info.Info.{Info}
 use Rattle.pw_info.specs.Spelling.{SpellsInfo}
+use Rattle.pw_procs.specs.Place.{place_of}
 use Rattle.pw_transcript.specs.declared.command.Command.{Command}
 use Rattle.pw_transcript.specs.declared.command.Command.TheVariants as commands
 use Rattle.pw_transcript.specs.declared.reply.Refusal.{Refusal}
 use Rattle.pw_transcript.specs.declared.reply.Refusal.TheVariants as refusal
 use Rattle.pw_transcript.specs.First.{IsFirstIn, HoldsOfNone}
-use Rattle.pw_transcript.specs.Place.{place_of}
 use Rattle.pw_transcript.specs.Declaration.{Declared, owner_of, kind_at, members_of}
 use Rattle.pw_transcript.specs.Sentence.{Sentence, Tell, Believe, Doubt, Ask, Other, IsSentence}
 use Rattle.pw_transcript.specs.Words.{words_of, is_idle, is_allowed}

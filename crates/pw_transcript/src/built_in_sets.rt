@@ -1,8 +1,8 @@
 // The kinds that every declaration has: `interval`, `exact`, and the sets `bool` and `sign`.
 ghost use Rattle.std.specs.Prelude.{◌≡◌, ◌<◌, [], None, Some, IfSome, IfNone, length, slice_get, slice_index_or, Contains};
 ghost use Rattle.pw_info.specs.SetNames.{IsNamed};
+ghost use Rattle.pw_procs.specs.Place.{place_of};
 ghost use Rattle.pw_transcript.specs.Declaration.{Declared, NamesKind, built_in_kind_names, built_in_sets, members_of};
-ghost use Rattle.pw_transcript.specs.Place.{place_of};
 
 use pw_info::kind::{Kind, SetKind};
 

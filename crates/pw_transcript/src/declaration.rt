@@ -1,16 +1,16 @@
 //! What a declaration declares: users, premises, cells and set kinds, by name and by number.
 ghost use Rattle.std.specs.Prelude.{◌≡◌, ℕ, None, Some, [], ◌∷◌, ◌++◌, ◌<◌, ◌≤◌, length, is_some, slice_get, Contains, IfSome, IfNone, OnOk, OnErr};
-ghost use Rattle.pw_transcript.specs.Place.{place_of};
 ghost use Rattle.pw_kinds.specs.Places.{IsSize};
 ghost use Rattle.pw_info.specs.declared.kind.Kind.{Kind as KindOfCell};
 ghost use Rattle.pw_info.specs.SetNames.{AreNames, IsNamed};
+ghost use Rattle.pw_procs.specs.Place.{place_of};
 ghost use Rattle.pw_transcript.specs.Declaration.{nothing_declared, owner_of, kind_at, kind_names, members_of, NamesKind};
 ghost use Rattle.pw_transcript.specs.DeclarationLimits.{IsWithinLimits};
 
 use crate::built_in_sets::{BUILT_IN_SETS, built_in_kind, built_in_member, built_in_place};
-use crate::name_table::NameTable;
 use pw_info::kind::{Kind, SetKind};
 use pw_info::names::KindNames;
+use pw_procs::name_table::NameTable;
 use std::alloc::{AllocError, Allocator, Global};
 use std::marker::Model;
 

@@ -10,8 +10,8 @@ ghost use Rattle.pw_transcript.specs.DeclarationSentenceFaults.{AppliesTo, sente
 use crate::decl_fault::Why;
 use crate::declaration::Declaration;
 use crate::name::read_name;
-use crate::name_table::NameTable;
 use crate::words::Words;
+use pw_procs::name_table::NameTable;
 use std::alloc::{AllocError, Allocator};
 
 const MOST_SETS: u8 = 32;

@@ -4,6 +4,7 @@ use crate::arguments::{Job, read_arguments};
 use crate::ending::Stop;
 use crate::fault::Fault;
 use crate::files::load_declaration;
+use crate::procedures::do_job;
 use pw_info::output::Writing;
 use pw_transcript::Declaration;
 use pw_transcript::input::Reading;
@@ -24,8 +25,8 @@ fn answer<R: Print + AllocGlobal, T: Read + Drop>(
     Ok(())
 }
 
-// Loads the declaration, and answers the transcript over it.
-fn do_job<'a, R: Files + Input + Print + AllocGlobal>(
+/// Loads the declaration, and answers the transcript over it.
+pub fn answer_job<'a, R: Files + Input + Print + AllocGlobal>(
     rt: &R,
     job: &Job<'a>,
 ) -> Result<(), Fault<'a>> {

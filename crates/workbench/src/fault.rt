@@ -2,7 +2,7 @@
 
 use pw_transcript::DeclFault;
 use pw_transcript::transcript::RunFault;
-use std::alloc::{AllocError, Allocator};
+use std::alloc::{AllocError, AllocFailed, Allocator};
 use thiserror::Error;
 
 /// A fault that ends the program with status 1. Its text is its line on standard error.
@@ -20,6 +20,18 @@ pub enum Fault<'a> {
     /// The memory did not suffice, elsewhere than in the declaration and the run.
     #[error("memory")]
     Memory,
+}
+
+impl<'a> From<AllocError> for Fault<'a> {
+    fn from(_: AllocError) -> Fault<'a> {
+        Fault::Memory
+    }
+}
+
+impl<'a, T: Drop> From<AllocFailed<T>> for Fault<'a> {
+    fn from(_: AllocFailed<T>) -> Fault<'a> {
+        Fault::Memory
+    }
 }
 
 /// The line of a fault, without its line end.

@@ -6,6 +6,7 @@ mod arguments;
 mod ending;
 mod fault;
 mod files;
+mod procedures;
 
 use answering::carry_out;
 use arguments::words_of;

@@ -1,6 +1,6 @@
 use Rattle.std.proofs.Common.{◌≡◌, true, None, sym, ◌∙◌, ap}
 use Rattle.std.specs.Prelude.{is_some}
-use Rattle.pw_transcript.specs.Place.{place_of}
+use Rattle.pw_procs.specs.Place.{place_of}
 use Rattle.pw_transcript.specs.Declaration.{Declared, built_in_kind_names, kind_names}
 use Rattle.pw_transcript.proofs.SetLemmas.{declared_kind, kind_is_there, is_some-option_map, at_some, at_none}
 use Rattle.pw_transcript.proofs.declaration.Declaration.has_kind.Goals as goal

@@ -1,6 +1,6 @@
 use Rattle.std.proofs.Common.{◌≡◌, ◌+◌, ◌<◌, Some, None, length, sym, ◌∙◌, ap, arith}
 use Rattle.pw_kinds.specs.Places.{IsSize}
-use Rattle.pw_transcript.specs.Place.{place_of}
+use Rattle.pw_procs.specs.Place.{place_of}
 use Rattle.pw_transcript.specs.Declaration.{Declared}
 use Rattle.pw_transcript.proofs.SetLemmas.{members_read, size_read, declared_place, no_kind}
 use Rattle.pw_transcript.proofs.declaration.Declaration.kind.Goals as goal

@@ -1,0 +1,10 @@
+pub mod Slots
+pub mod Values
+pub mod Quotient
+pub mod Rules
+pub mod Meaning
+pub mod Shapes
+pub mod Arguments
+pub mod Signature
+pub mod Registering
+pub mod Place

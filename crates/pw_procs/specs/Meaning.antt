@@ -1,0 +1,127 @@
+-- The table of meanings: of each its inputs, its output, and its value over all values that the inputs leave possible.
+use Rattle.std.specs.Prelude.{◌≡◌, Bool, true, false, not, ◌&&◌, ◌||◌, ◌+ℤ◌, ◌-ℤ◌, ◌*ℤ◌, List, [], ◌∷◌, map, if◌then◌else◌}
+use Rattle.std.specs.Int.Signed.{le_z}
+use Rattle.std.specs.Ordering.{int_eq}
+use Rattle.pw_info.specs.declared.kind.Kind.{Kind}
+use Rattle.pw_info.specs.declared.kind.Kind.TheVariants as kinds
+use Rattle.pw_info.specs.declared.info.Info.{Info}
+use Rattle.pw_info.specs.Information.{allows, kind_of, closest, nothing, contradiction}
+use Rattle.pw_procs.specs.declared.slot.Slot.{Slot}
+use Rattle.pw_procs.specs.declared.slot.Slot.TheVariants as slots
+use Rattle.pw_procs.specs.declared.meaning.Meaning.{Meaning}
+use Rattle.pw_procs.specs.declared.meaning.Meaning.TheVariants as meanings
+use Rattle.pw_procs.specs.Slots.{kind_in}
+use Rattle.pw_procs.specs.Values.{some, is_possible, input, answers_of_one, answers_of_two, hull_of, truths_of, truth, is_true, bool}
+use Rattle.pw_procs.specs.Quotient.{quotient_of}
+use Rattle.pw_procs.specs.Rules.{value_of_rules, AreRules}
+
+-- the hull of all sums
+abbrev pub sum_of : Info → Info → Info
+sum_of x y = hull_of (answers_of_two (λ a b. a +ℤ b) x y)
+
+-- the hull of all differences
+abbrev pub difference_of : Info → Info → Info
+difference_of t x = hull_of (answers_of_two (λ a b. a -ℤ b) t x)
+
+-- the hull of all products
+abbrev pub product_of : Info → Info → Info
+product_of x y = hull_of (answers_of_two (λ a b. a *ℤ b) x y)
+
+-- the hull of all squares
+abbrev pub square_of : Info → Info
+square_of x = hull_of (answers_of_one (λ a. a *ℤ a) x)
+
+-- all answers to: is the first at most the second?
+abbrev pub at_most_of : Info → Info → Info
+at_most_of x y = truths_of (answers_of_two (λ a b. truth (le_z a b)) x y)
+
+-- all answers to: are the two equal?
+abbrev pub equality_of : Info → Info → Info
+equality_of x y = truths_of (answers_of_two (λ a b. truth (int_eq a b)) x y)
+
+-- all that `not` answers
+abbrev pub negation_of : Info → Info
+negation_of p = truths_of (answers_of_one (λ a. truth (not (is_true a))) p)
+
+-- all that `and` answers
+abbrev pub conjunction_of : Info → Info → Info
+conjunction_of p q = truths_of (answers_of_two (λ a b. truth (is_true a && is_true b)) p q)
+
+-- all that `or` answers
+abbrev pub disjunction_of : Info → Info → Info
+disjunction_of p q = truths_of (answers_of_two (λ a b. truth (is_true a || is_true b)) p q)
+
+-- what passes where the truth p is exactly true; nothing where p may be false, whatever the other input is
+abbrev pub switched : Info → Info → Info
+switched p x =
+    if not (is_possible p) then contradiction (kind_of x)
+    else if allows p (truth false) then nothing (kind_of x)
+    else x
+
+-- the interval of an exact number: the hull of those that are possible, so nothing of any, and no number of one that is
+-- out of range
+abbrev pub point_of : Info → Info
+point_of k = hull_of (some k)
+
+-- the exact number of an interval: the number where just one is possible
+abbrev pub fixed_of : Info → Info
+fixed_of x = closest kinds.Exact (allows x)
+
+-- the meaning is given by rules: it is none of the table
+abbrev pub is_given_by_rules : Meaning → Bool
+is_given_by_rules (meanings.Rules rules) = true
+is_given_by_rules _ = false
+
+-- the slots of the inputs of a meaning of the table
+abbrev pub inputs_of_meaning : Meaning → List Slot
+inputs_of_meaning meanings.Adder = slots.Fixed kinds.Interval ∷ slots.Fixed kinds.Interval ∷ []
+inputs_of_meaning meanings.Subtractor = slots.Fixed kinds.Interval ∷ slots.Fixed kinds.Interval ∷ []
+inputs_of_meaning meanings.Multiplier = slots.Fixed kinds.Interval ∷ slots.Fixed kinds.Interval ∷ []
+inputs_of_meaning meanings.Squarer = slots.Fixed kinds.Interval ∷ []
+inputs_of_meaning meanings.Divider = slots.Fixed kinds.Interval ∷ slots.Fixed kinds.Interval ∷ []
+inputs_of_meaning meanings.AtMost = slots.Fixed kinds.Interval ∷ slots.Fixed kinds.Interval ∷ []
+inputs_of_meaning meanings.Equal = slots.Same ∷ slots.Same ∷ []
+inputs_of_meaning meanings.Inverter = slots.Fixed bool ∷ []
+inputs_of_meaning meanings.Conjoiner = slots.Fixed bool ∷ slots.Fixed bool ∷ []
+inputs_of_meaning meanings.Disjoiner = slots.Fixed bool ∷ slots.Fixed bool ∷ []
+inputs_of_meaning meanings.Switch = slots.Fixed bool ∷ slots.Same ∷ []
+inputs_of_meaning meanings.Copy = slots.Same ∷ []
+inputs_of_meaning meanings.Point = slots.Fixed kinds.Exact ∷ []
+inputs_of_meaning meanings.Fixed = slots.Fixed kinds.Interval ∷ []
+inputs_of_meaning (meanings.Rules rules) = []
+
+-- the slot of its output
+abbrev pub output_of_meaning : Meaning → Slot
+output_of_meaning meanings.AtMost = slots.Fixed bool
+output_of_meaning meanings.Equal = slots.Fixed bool
+output_of_meaning meanings.Inverter = slots.Fixed bool
+output_of_meaning meanings.Conjoiner = slots.Fixed bool
+output_of_meaning meanings.Disjoiner = slots.Fixed bool
+output_of_meaning meanings.Switch = slots.Same
+output_of_meaning meanings.Copy = slots.Same
+output_of_meaning meanings.Fixed = slots.Fixed kinds.Exact
+output_of_meaning _ = slots.Fixed kinds.Interval
+
+-- slots are a meaning's: those of the table; of rules any fixed kinds that the rules have
+abbrev pub AreSlotsOf : Meaning → List Slot → Slot → Type 0
+AreSlotsOf (meanings.Rules rules) inputs output =
+    (kinds : List Kind) × (kind : Kind) × (inputs ≡ map slots.Fixed kinds) × (output ≡ slots.Fixed kind) × AreRules kinds kind rules.items
+AreSlotsOf meaning inputs output = (inputs ≡ inputs_of_meaning meaning) × (output ≡ output_of_meaning meaning)
+
+-- the value of a meaning whose output has this slot; of rules the slot is of a fixed kind
+abbrev pub value_of_meaning : Slot → Meaning → List Info → Info
+value_of_meaning output meanings.Adder inputs = sum_of (input inputs 0) (input inputs 1)
+value_of_meaning output meanings.Subtractor inputs = difference_of (input inputs 0) (input inputs 1)
+value_of_meaning output meanings.Multiplier inputs = product_of (input inputs 0) (input inputs 1)
+value_of_meaning output meanings.Squarer inputs = square_of (input inputs 0)
+value_of_meaning output meanings.Divider inputs = quotient_of (input inputs 0) (input inputs 1)
+value_of_meaning output meanings.AtMost inputs = at_most_of (input inputs 0) (input inputs 1)
+value_of_meaning output meanings.Equal inputs = equality_of (input inputs 0) (input inputs 1)
+value_of_meaning output meanings.Inverter inputs = negation_of (input inputs 0)
+value_of_meaning output meanings.Conjoiner inputs = conjunction_of (input inputs 0) (input inputs 1)
+value_of_meaning output meanings.Disjoiner inputs = disjunction_of (input inputs 0) (input inputs 1)
+value_of_meaning output meanings.Switch inputs = switched (input inputs 0) (input inputs 1)
+value_of_meaning output meanings.Copy inputs = input inputs 0
+value_of_meaning output meanings.Point inputs = point_of (input inputs 0)
+value_of_meaning output meanings.Fixed inputs = fixed_of (input inputs 0)
+value_of_meaning output (meanings.Rules rules) inputs = value_of_rules (kind_in kinds.Interval output) rules.items inputs

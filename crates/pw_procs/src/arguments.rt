@@ -1,0 +1,59 @@
+ghost use Rattle.pw_procs.specs.Shapes.{AreArguments};
+
+const MOST_CELLS: usize = 9;
+
+/// The cells that a procedure is put between, each by its number: one to nine. Two with the same cells are equal.
+#[derive(Clone, Copy, Debug, PartialEq, Eq)]
+pub struct Arguments {
+    held: [u32; 9],
+    count: usize,
+    ghost shape: { AreArguments held count },
+}
+
+impl Arguments {
+    ghost use Rattle.std.specs.Prelude.{◌≡◌, ◌↔◌, ◌≤◌, length, IsSome, IfSome};
+    ghost use Rattle.pw_procs.specs.Arguments.{cells_of};
+
+    /// These cells, in order. None unless there are one to nine.
+    pub fn of(cells: &[u32]) -> Option<Arguments>
+        ensures some { IsSome result ↔ ((1 ≤ length cells.now) × (length cells.now ≤ 9)) }
+        ensures cells { IfSome result (λ arguments. cells_of arguments ≡ cells.now) }
+    {
+        if cells.is_empty() || cells.len() > MOST_CELLS {
+            return None;
+        }
+        let mut held = [0; 9];
+        held[..cells.len()].copy_from_slice(cells);
+        Some(Arguments {
+            held,
+            count: cells.len(),
+        })
+    }
+
+    /// The numbers of the cells, in order.
+    pub fn cells(&self) -> &[u32]
+        ensures { result.now ≡ cells_of self.now }
+    {
+        &self.held[..self.count]
+    }
+}
+
+#[cfg(test)]
+mod tests {
+    use super::*;
+    use std::test::Fail;
+
+    #[test]
+    fn one_to_nine_cells(rt: HostRuntime) -> Result<(), Fail> {
+        let cells = [7, 0, 7, 1023, 1, 2, 3, 4, u32::MAX, 5];
+        for count in [0, 10] {
+            assert_eq!(rt; Arguments::of(&cells[..count]), None, "{count}");
+        }
+        for count in [1, 2, 8, 9] {
+            let arguments = Arguments::of(&cells[..count]).ok_or("no arguments")?;
+            assert_eq!(rt; arguments.cells(), &cells[..count], "{count}");
+        }
+        assert!(rt; Arguments::of(&[1]) != Arguments::of(&[1, 0]));
+        Ok(())
+    }
+}

@@ -1,0 +1,75 @@
+//! Names in the order in which they were added.
+ghost use Rattle.std.specs.Prelude.{◌≡◌, None, Some, [], ◌∷◌, ◌++◌, ◌<◌, length, slice_get, IfSome, OnOk, OnErr};
+ghost use Rattle.pw_procs.specs.Place.{place_of};
+
+use indexmap::IndexSet;
+use std::alloc::{AllocError, Allocator, Global};
+use std::hash::{BuildHasherDefault, FoldHasher};
+use std::marker::Model;
+
+/// A list of different names. The number of a name is its position, from 0.
+#[derive(Drop)]
+pub struct NameTable<A: Allocator = Global> {
+    set: IndexSet<String<A>, BuildHasherDefault<FoldHasher>, A>,
+}
+
+impl<A: Allocator> Model for NameTable<A> {
+    ghost use Rattle.std.specs.Prelude.{List, ℕ, map};
+    ghost use Rattle.std.specs.String.{string_bytes};
+
+    ghost Value = { List (List ℕ) };
+
+    ghost view = { λ t. map string_bytes t.set.keys };
+}
+
+impl<A: Allocator + Copy> NameTable<A> {
+    /// A table with no name. It takes no memory.
+    pub fn new(alloc: A) -> NameTable<A>
+        ensures { result ≡ [] }
+    {
+        NameTable {
+            set: IndexSet::new(alloc),
+        }
+    }
+
+    /// The number of names.
+    pub fn len(&self) -> usize
+        ensures { result ≡ length self.now }
+    {
+        self.set.len()
+    }
+
+    /// The number of the name that is equal to this word, if there is one.
+    pub fn find(&self, word: &[u8]) -> Option<usize>
+        ensures number { result ≡ place_of self.now word.now }
+        ensures within { IfSome result (λ number. number < length self.now) }
+    {
+        let set = &self.set;
+        let Ok(text) = str::from_utf8(word) else {
+            return None;
+        };
+        set.get_index_of(text)
+    }
+
+    /// The name of this number.
+    pub fn name(&self, number: usize) -> &str
+        requires { number < length self.now }
+        ensures name { slice_get self.now number ≡ Some result.now }
+        // No two names are equal.
+        ensures own { place_of self.now result.now ≡ Some number }
+    {
+        self.set.as_slice()[number].as_str()
+    }
+
+    /// Adds a name, which gets the next number. It fails only for want of memory, and then the table stays as it was.
+    pub fn add(&mut self, name: &str) -> Result<(), AllocError>
+        requires { place_of self.old name.now ≡ None }
+        ensures ok { OnOk result (self.new ≡ self.old ++ name.now ∷ []) }
+        ensures err { OnErr result (self.new ≡ self.old) }
+    {
+        let alloc = *self.set.allocator();
+        let key = String::from_str(alloc, name)?;
+        self.set.insert(key)?;
+        Ok(())
+    }
+}

@@ -1,0 +1,63 @@
+//! Lists of procedures, as a registry takes them.
+ghost use Rattle.std.specs.Prelude.{◌≡◌, ◌++◌, ◌∷◌, [], map, false, OnOk, OnErr};
+ghost use Rattle.std.specs.String.{string_bytes};
+ghost use Rattle.pw_info.specs.Information.{kind_of};
+ghost use Rattle.pw_procs.specs.Slots.{Fits};
+ghost use Rattle.pw_procs.specs.Meaning.{is_given_by_rules, inputs_of_meaning, output_of_meaning, value_of_meaning};
+ghost use Rattle.pw_procs.specs.Rules.{AreRules, value_of_rules};
+
+use crate::meaning::Meaning;
+use crate::rule::Rule;
+use crate::signature::Signature;
+use crate::slot::Slot;
+use crate::stored::{Body, Stored};
+use crate::table::signature_of;
+use pw_info::kind::Kind;
+use std::alloc::{AllocError, Global};
+
+/// Puts a procedure with a meaning of the table at the end of a list. Its body answers the meaning on every list that
+/// fits. It fails only for want of memory, and then the list stays as it was.
+pub fn add_of_table(
+    alloc: Global,
+    list: &mut Vec<Stored>,
+    name: &str,
+    meaning: Meaning,
+    body: Body,
+) -> Result<(), AllocError>
+    requires table { is_given_by_rules meaning ≡ false }
+    requires callable { (p : _) → Fits (inputs_of_meaning meaning) p.now → Body.pre body p }
+    requires answers { (p : _) (r : _) → Fits (inputs_of_meaning meaning) p.now → Body.post body p r → r ≡ value_of_meaning (output_of_meaning meaning) meaning p.now }
+    ensures ok { OnOk result (map (λ s. string_bytes s.name) list.new.items ≡ map (λ s. string_bytes s.name) list.old.items ++ name.now ∷ []) }
+    ensures err { OnErr result (list.new.items ≡ list.old.items) }
+{
+    let Some(signature) = signature_of(&meaning) else {
+        unreachable!("a meaning of the table");
+    };
+    let name = String::from_str(alloc, name)?;
+    list.push(Stored::new(name, signature, meaning, body))?;
+    Ok(())
+}
+
+/// Puts a procedure of one input that is given by rules at the end of a list. Its body answers the value of the rules on
+/// every input of the kind. It fails only for want of memory, and then the list stays as it was.
+pub fn add_by_rules(
+    alloc: Global,
+    list: &mut Vec<Stored>,
+    name: &str,
+    kinds: (Kind, Kind),
+    rules: Vec<Rule>,
+    body: Body,
+) -> Result<(), AllocError>
+    requires rules { AreRules (kinds.0 ∷ []) kinds.1 rules.items }
+    requires callable { (p : _) → map kind_of p.now ≡ kinds.0 ∷ [] → Body.pre body p }
+    requires answers { (p : _) (r : _) → map kind_of p.now ≡ kinds.0 ∷ [] → Body.post body p r → r ≡ value_of_rules kinds.1 rules.items p.now }
+    ensures ok { OnOk result (map (λ s. string_bytes s.name) list.new.items ≡ map (λ s. string_bytes s.name) list.old.items ++ name.now ∷ []) }
+    ensures err { OnErr result (list.new.items ≡ list.old.items) }
+{
+    let Some(signature) = Signature::new(&[Slot::Fixed(kinds.0)], Slot::Fixed(kinds.1)) else {
+        unreachable!("one input");
+    };
+    let name = String::from_str(alloc, name)?;
+    list.push(Stored::new(name, signature, Meaning::Rules(rules), body))?;
+    Ok(())
+}

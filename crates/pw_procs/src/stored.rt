@@ -1,0 +1,63 @@
+ghost use Rattle.std.specs.Prelude.{◌≡◌};
+ghost use Rattle.std.specs.String.{string_bytes};
+ghost use Rattle.pw_procs.specs.Signature.{Fits, IsSignatureOf, value_under};
+
+use crate::meaning::Meaning;
+use crate::signature::Signature;
+use pw_info::info::Info;
+
+/// What a procedure runs: from the informations of its inputs to that of its output.
+pub type Body = Box<dyn Fn(&[Info]) -> Info>;
+
+/// A procedure: a name, what it takes and answers, what it means, and a body that answers its meaning on every list
+/// that fits. Whoever makes one proves that; whoever calls it needs no more than the meaning.
+#[derive(Drop)]
+pub struct Stored {
+    name: String,
+    signature: Signature,
+    meaning: Meaning,
+    body: Body,
+    ghost slots: { ∥ IsSignatureOf meaning signature ∥₁ },
+    ghost callable: { (p : _) → Fits signature p.now → Body.pre body p },
+    ghost answers: { (p : _) (r : _) → Fits signature p.now → Body.post body p r → r ≡ value_under signature meaning p.now },
+}
+
+impl Stored {
+    /// The procedure of this name, signature, meaning and body. The signature is one of the meaning; the body may be
+    /// called on every list that fits, and answers the meaning's value there. It takes no memory.
+    pub fn new(name: String, signature: Signature, meaning: Meaning, body: Body) -> Stored
+        requires slots { IsSignatureOf meaning signature }
+        requires callable { (p : _) → Fits signature p.now → Body.pre body p }
+        requires answers { (p : _) (r : _) → Fits signature p.now → Body.post body p r → r ≡ value_under signature meaning p.now }
+        ensures name { string_bytes result.name ≡ string_bytes name }
+        ensures signature { result.signature ≡ signature }
+        ensures meaning { result.meaning ≡ meaning }
+    {
+        Stored {
+            name,
+            signature,
+            meaning,
+            body,
+        }
+    }
+
+    /// The value of its meaning on inputs that fit.
+    pub fn call(&self, inputs: &[Info]) -> Info
+        requires { Fits self.now.signature inputs.now }
+        ensures { result ≡ value_under self.now.signature self.now.meaning inputs.now }
+    {
+        (self.body)(inputs)
+    }
+
+    pub fn name(&self) -> &str
+        ensures { result.now ≡ string_bytes self.now.name }
+    {
+        self.name.as_str()
+    }
+
+    pub fn signature(&self) -> &Signature
+        ensures { result.now ≡ self.now.signature }
+    {
+        &self.signature
+    }
+}

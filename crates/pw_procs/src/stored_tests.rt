@@ -1,0 +1,364 @@
+// Each procedure by its stored closure, at the calls whose answers were found by hand.
+ghost use Rattle.std.specs.Prelude.{◌≡◌, ◌∷◌, [], List, map, IfOk};
+ghost use Rattle.pw_info.specs.declared.info.Info.{Info as Information};
+ghost use Rattle.pw_info.specs.Information.{kind_of};
+ghost use Rattle.pw_procs.specs.Rules.{AreRules, value_of_rules};
+ghost use Rattle.pw_procs.specs.Slots.{Fits};
+ghost use Rattle.pw_procs.specs.Meaning.{inputs_of_meaning};
+
+use crate::bodies;
+use crate::evaluator::value_of;
+use crate::kinds::members_of;
+use crate::meaning::Meaning;
+use crate::procedures::{add_by_rules, add_of_table};
+use crate::rule::Rule;
+use crate::rule_tables::{add_rule, copied};
+use crate::rules::by_rules;
+use crate::stored::{Body, Stored};
+use crate::tests::{Call, from_to, number_calls, other_calls, truth_calls};
+use pw_info::info::Info;
+use pw_info::kind::{Kind, SetKind};
+use std::alloc::{AllocError, Global};
+use std::process::Abort;
+use std::test::Fail;
+
+// The name of the procedure of a meaning.
+fn name_of(meaning: &Meaning) -> &'static str {
+    match meaning {
+        Meaning::Adder => "adder",
+        Meaning::Subtractor => "subtractor",
+        Meaning::Multiplier => "multiplier",
+        Meaning::Squarer => "squarer",
+        Meaning::Divider => "divider",
+        Meaning::AtMost => "at_most",
+        Meaning::Equal => "equal",
+        Meaning::Inverter => "inverter",
+        Meaning::Conjoiner => "conjoiner",
+        Meaning::Disjoiner => "disjoiner",
+        Meaning::Switch => "switch",
+        Meaning::Copy => "copy",
+        Meaning::Point => "point",
+        Meaning::Fixed => "fixed",
+        Meaning::Rules(_) => "rules",
+    }
+}
+
+// What a procedure answers to inputs that fit.
+fn answer(stored: &Stored, inputs: &[Info]) -> Option<Info> {
+    if !stored.signature().fits(inputs) {
+        return None;
+    }
+    Some(stored.call(inputs))
+}
+
+// That a procedure answers the calls of its name among these, and that there are some.
+fn answer_calls<R: Abort>(rt: &R, stored: &Stored, calls: &[Call]) {
+    let mut called = false;
+    for call in calls {
+        if name_of(&call.meaning) == stored.name() {
+            called = true;
+            assert_eq!(rt; answer(stored, call.inputs()), Some(call.want), "{call:?}");
+        }
+    }
+    assert!(rt; called, "no call of {}", stored.name());
+}
+
+// That each procedure does.
+fn answer_all<R: Abort>(rt: &R, list: &[Stored], calls: &[Call]) {
+    for stored in list {
+        answer_calls(rt, stored, calls);
+    }
+}
+
+#[test]
+fn numbers(rt: HostRuntime) -> Result<(), Fail> {
+    let alloc = rt.alloc();
+    let mut list = Vec::new(alloc);
+    let body: Body = Box::new(
+        alloc,
+        |inputs: &[Info]| -> Info
+            requires { Fits (inputs_of_meaning Meaning.Adder) inputs.now }
+        { bodies::adder(inputs) },
+    )?;
+    add_of_table(alloc, &mut list, "adder", Meaning::Adder, body)?;
+    let body: Body = Box::new(
+        alloc,
+        |inputs: &[Info]| -> Info
+            requires { Fits (inputs_of_meaning Meaning.Subtractor) inputs.now }
+        { bodies::subtractor(inputs) },
+    )?;
+    add_of_table(alloc, &mut list, "subtractor", Meaning::Subtractor, body)?;
+    let body: Body = Box::new(
+        alloc,
+        |inputs: &[Info]| -> Info
+            requires { Fits (inputs_of_meaning Meaning.Multiplier) inputs.now }
+        { bodies::multiplier(inputs) },
+    )?;
+    add_of_table(alloc, &mut list, "multiplier", Meaning::Multiplier, body)?;
+    let body: Body = Box::new(
+        alloc,
+        |inputs: &[Info]| -> Info
+            requires { Fits (inputs_of_meaning Meaning.Squarer) inputs.now }
+        { bodies::squarer(inputs) },
+    )?;
+    add_of_table(alloc, &mut list, "squarer", Meaning::Squarer, body)?;
+    let body: Body = Box::new(
+        alloc,
+        |inputs: &[Info]| -> Info
+            requires { Fits (inputs_of_meaning Meaning.Divider) inputs.now }
+        { bodies::divider(inputs) },
+    )?;
+    add_of_table(alloc, &mut list, "divider", Meaning::Divider, body)?;
+    let body: Body = Box::new(
+        alloc,
+        |inputs: &[Info]| -> Info
+            requires { Fits (inputs_of_meaning Meaning.Copy) inputs.now }
+        { bodies::copy(inputs) },
+    )?;
+    add_of_table(alloc, &mut list, "copy", Meaning::Copy, body)?;
+    answer_all(&rt, &list, &number_calls());
+    Ok(())
+}
+
+#[test]
+fn truths(rt: HostRuntime) -> Result<(), Fail> {
+    let alloc = rt.alloc();
+    let mut list = Vec::new(alloc);
+    let body: Body = Box::new(
+        alloc,
+        |inputs: &[Info]| -> Info
+            requires { Fits (inputs_of_meaning Meaning.AtMost) inputs.now }
+        { bodies::at_most(inputs) },
+    )?;
+    add_of_table(alloc, &mut list, "at_most", Meaning::AtMost, body)?;
+    let body: Body = Box::new(
+        alloc,
+        |inputs: &[Info]| -> Info
+            requires { Fits (inputs_of_meaning Meaning.Equal) inputs.now }
+        { bodies::equal(inputs) },
+    )?;
+    add_of_table(alloc, &mut list, "equal", Meaning::Equal, body)?;
+    let body: Body = Box::new(
+        alloc,
+        |inputs: &[Info]| -> Info
+            requires { Fits (inputs_of_meaning Meaning.Inverter) inputs.now }
+        { bodies::inverter(inputs) },
+    )?;
+    add_of_table(alloc, &mut list, "inverter", Meaning::Inverter, body)?;
+    let body: Body = Box::new(
+        alloc,
+        |inputs: &[Info]| -> Info
+            requires { Fits (inputs_of_meaning Meaning.Conjoiner) inputs.now }
+        { bodies::conjoiner(inputs) },
+    )?;
+    add_of_table(alloc, &mut list, "conjoiner", Meaning::Conjoiner, body)?;
+    let body: Body = Box::new(
+        alloc,
+        |inputs: &[Info]| -> Info
+            requires { Fits (inputs_of_meaning Meaning.Disjoiner) inputs.now }
+        { bodies::disjoiner(inputs) },
+    )?;
+    add_of_table(alloc, &mut list, "disjoiner", Meaning::Disjoiner, body)?;
+    answer_all(&rt, &list, &truth_calls());
+    Ok(())
+}
+
+#[test]
+fn others(rt: HostRuntime) -> Result<(), Fail> {
+    let alloc = rt.alloc();
+    let mut list = Vec::new(alloc);
+    let body: Body = Box::new(
+        alloc,
+        |inputs: &[Info]| -> Info
+            requires { Fits (inputs_of_meaning Meaning.Equal) inputs.now }
+        { bodies::equal(inputs) },
+    )?;
+    add_of_table(alloc, &mut list, "equal", Meaning::Equal, body)?;
+    let body: Body = Box::new(
+        alloc,
+        |inputs: &[Info]| -> Info
+            requires { Fits (inputs_of_meaning Meaning.Switch) inputs.now }
+        { bodies::switch(inputs) },
+    )?;
+    add_of_table(alloc, &mut list, "switch", Meaning::Switch, body)?;
+    let body: Body = Box::new(
+        alloc,
+        |inputs: &[Info]| -> Info
+            requires { Fits (inputs_of_meaning Meaning.Point) inputs.now }
+        { bodies::point(inputs) },
+    )?;
+    add_of_table(alloc, &mut list, "point", Meaning::Point, body)?;
+    let body: Body = Box::new(
+        alloc,
+        |inputs: &[Info]| -> Info
+            requires { Fits (inputs_of_meaning Meaning.Fixed) inputs.now }
+        { bodies::fixed(inputs) },
+    )?;
+    add_of_table(alloc, &mut list, "fixed", Meaning::Fixed, body)?;
+    answer_all(&rt, &list, &other_calls());
+    Ok(())
+}
+
+// The rules of the sign of a number: negative, zero and positive.
+fn sign_rules(alloc: Global, sign: SetKind) -> Result<Vec<Rule>, AllocError>
+    ensures { IfOk result (λ rules. AreRules (Kind.Interval ∷ []) (Kind.Members sign) rules.items) }
+{
+    let mut rules = Vec::new(alloc);
+    add_rule(
+        alloc,
+        &mut rules,
+        from_to((-1_000_000, -1)),
+        members_of(sign, 0b001),
+    )?;
+    add_rule(alloc, &mut rules, from_to((0, 0)), members_of(sign, 0b010))?;
+    add_rule(
+        alloc,
+        &mut rules,
+        from_to((1, 1_000_000)),
+        members_of(sign, 0b100),
+    )?;
+    add_rule(
+        alloc,
+        &mut rules,
+        from_to((-1_000_000, 0)),
+        members_of(sign, 0b011),
+    )?;
+    add_rule(
+        alloc,
+        &mut rules,
+        from_to((0, 1_000_000)),
+        members_of(sign, 0b110),
+    )?;
+    Ok(rules)
+}
+
+// The rules of a light by a number: red, green and blue.
+fn light_rules(alloc: Global, light: SetKind) -> Result<Vec<Rule>, AllocError>
+    ensures { IfOk result (λ rules. AreRules (Kind.Interval ∷ []) (Kind.Members light) rules.items) }
+{
+    let mut rules = Vec::new(alloc);
+    add_rule(alloc, &mut rules, from_to((0, 9)), members_of(light, 0b001))?;
+    add_rule(
+        alloc,
+        &mut rules,
+        from_to((5, 20)),
+        members_of(light, 0b011),
+    )?;
+    Ok(rules)
+}
+
+// A copy of the rules, for the body.
+fn table_of(alloc: Global, rules: &[Rule], output: Kind) -> Result<Vec<Rule>, AllocError>
+    requires { AreRules (Kind.Interval ∷ []) output rules.now }
+    ensures rules { IfOk result (λ table. AreRules (Kind.Interval ∷ []) output table.items) }
+    ensures value { IfOk result (λ table. (inputs : List Information) → value_of_rules output table.items inputs ≡ value_of_rules output rules.now inputs) }
+{
+    let table = copied(alloc, rules)?;
+    Ok(table)
+}
+
+// That a procedure answers the members of these masks to these intervals.
+fn tells<R: Abort>(rt: &R, stored: &Stored, set: SetKind, calls: &[((i64, i64), u64)]) {
+    for (ends, mask) in calls {
+        let got = answer(stored, &[from_to(*ends)]);
+        assert_eq!(rt;
+            got,
+            Some(members_of(set, *mask)),
+            "{} of {ends:?}",
+            stored.name()
+        );
+    }
+}
+
+// That the rules mean these answers.
+fn evaluate<R: Abort>(
+    rt: &R,
+    alloc: Global,
+    set: SetKind,
+    rules: &[Rule],
+    calls: &[((i64, i64), u64)],
+) -> Result<(), AllocError> {
+    for (ends, mask) in calls {
+        let meaning = Meaning::Rules(copied(alloc, rules)?);
+        let want = value_of(alloc, &meaning, Kind::Members(set), &[from_to(*ends)])?;
+        assert_eq!(rt; members_of(set, *mask), want, "{ends:?}");
+    }
+    Ok(())
+}
+
+#[test]
+fn sign(rt: HostRuntime) -> Result<(), Fail> {
+    let alloc = rt.alloc();
+    let set = SetKind { number: 1, size: 3 };
+    let output = Kind::Members(set);
+    let calls = [
+        ((0, 0), 0b010),
+        ((-5, 5), 0b111),
+        ((-7, -7), 0b001),
+        ((-7, 0), 0b011),
+        ((0, 3), 0b110),
+        ((1, 0), 0),
+    ];
+    let rules = sign_rules(alloc, set)?;
+    evaluate(&rt, alloc, set, &rules, &calls)?;
+    let table = table_of(alloc, &rules, output)?;
+    let body: Body = Box::new(
+        alloc,
+        move |inputs: &[Info]| -> Info
+            requires kinds { map kind_of inputs.now ≡ Kind.Interval ∷ [] }
+            requires rules { AreRules (Kind.Interval ∷ []) output table.items }
+            ensures { result ≡ value_of_rules output table.items inputs.now }
+        { by_rules(output, &table, inputs) },
+    )?;
+    let mut list = Vec::new(alloc);
+    add_by_rules(
+        alloc,
+        &mut list,
+        "sign",
+        (Kind::Interval, output),
+        rules,
+        body,
+    )?;
+    for stored in &list {
+        tells(&rt, stored, set, &calls);
+    }
+    Ok(())
+}
+
+#[test]
+fn light(rt: HostRuntime) -> Result<(), Fail> {
+    let alloc = rt.alloc();
+    let set = SetKind { number: 2, size: 3 };
+    let output = Kind::Members(set);
+    let calls = [
+        ((5, 9), 0b001),
+        ((9, 10), 0b011),
+        ((0, 20), 0b111),
+        ((0, 4), 0b001),
+        ((1, 0), 0),
+    ];
+    let rules = light_rules(alloc, set)?;
+    evaluate(&rt, alloc, set, &rules, &calls)?;
+    let table = table_of(alloc, &rules, output)?;
+    let body: Body = Box::new(
+        alloc,
+        move |inputs: &[Info]| -> Info
+            requires kinds { map kind_of inputs.now ≡ Kind.Interval ∷ [] }
+            requires rules { AreRules (Kind.Interval ∷ []) output table.items }
+            ensures { result ≡ value_of_rules output table.items inputs.now }
+        { by_rules(output, &table, inputs) },
+    )?;
+    let mut list = Vec::new(alloc);
+    add_by_rules(
+        alloc,
+        &mut list,
+        "light",
+        (Kind::Interval, output),
+        rules,
+        body,
+    )?;
+    for stored in &list {
+        tells(&rt, stored, set, &calls);
+    }
+    Ok(())
+}
