@@ -101,7 +101,13 @@ unsafe impl<B: Allocator> Allocator for Refusing<B> {
 #[cfg(test)]
 mod cell_tests;
 #[cfg(test)]
+mod declaration_tests;
+#[cfg(test)]
+mod input_tests;
+#[cfg(test)]
 mod registry_tests;
+#[cfg(test)]
+mod run_tests;
 #[cfg(test)]
 mod tests;
 #[cfg(test)]

@@ -11,8 +11,6 @@ mod declaration_form;
 pub mod declaration_laws;
 mod declaration_line;
 mod declaration_set;
-#[cfg(test)]
-mod declaration_tests;
 pub mod declaration_text;
 mod gathered;
 mod history;
@@ -25,8 +23,6 @@ pub mod reading;
 pub mod reply;
 pub mod reply_text;
 pub mod sentence;
-#[cfg(test)]
-mod tests;
 mod text_lines;
 pub mod transcript;
 pub mod words;

@@ -3,8 +3,6 @@ ghost use Rattle.std.specs.Prelude.{◌≡◌, ◌∷◌, [], List, map, IfOk};
 ghost use Rattle.pw_info.specs.Information.{kind_of};
 ghost use Rattle.pw_info.specs.declared.info.Info.{Info as Information};
 ghost use Rattle.pw_procs.specs.Rules.{AreRules, value_of_rules};
-ghost use Rattle.pw_procs.specs.Slots.{Fits};
-ghost use Rattle.pw_procs.specs.Meaning.{inputs_of_meaning};
 
 use crate::answering::answer_job;
 use crate::arguments::Job;
@@ -30,6 +28,13 @@ const NEGATIVE: u64 = 1;
 const ZERO: u64 = 2;
 
 const POSITIVE: u64 = 4;
+
+// The kind of the set of signs.
+fn sign_set() -> SetKind
+    ensures { result.size ≡ 3 }
+{
+    SetKind { number: 1, size: 3 }
+}
 
 // The numbers from one to another; the contradiction where there are none.
 fn from_to(lo: i64, hi: i64) -> Info
@@ -81,6 +86,35 @@ fn table_of(alloc: Global, rules: &[Rule], output: Kind) -> Result<Vec<Rule>, Al
     Ok(table)
 }
 
+// Puts the fourteen procedures of the table at the end of a list, each boxed where this stands: what holds a boxed
+// closure may not leave the function that made it.
+macro_rules! add_table {
+    (each $alloc:expr, $list:expr, $($name:literal $meaning:ident $body:ident,)*) => {
+        $(
+            add_of_table($alloc, $list, $name, Meaning::$meaning, Box::new($alloc, bodies::$body)?)?;
+        )*
+    };
+    ($alloc:expr, $list:expr) => {
+        add_table! {
+            each $alloc, $list,
+            "adder" Adder adder,
+            "subtractor" Subtractor subtractor,
+            "multiplier" Multiplier multiplier,
+            "squarer" Squarer squarer,
+            "divider" Divider divider,
+            "at_most" AtMost at_most,
+            "equal" Equal equal,
+            "inverter" Inverter inverter,
+            "conjoiner" Conjoiner conjoiner,
+            "disjoiner" Disjoiner disjoiner,
+            "switch" Switch switch,
+            "copy" Copy copy,
+            "point" Point point,
+            "fixed" Fixed fixed,
+        }
+    };
+}
+
 /// Makes the procedures and a registry of them, and then does the job.
 ///
 /// The memory for them may be wanting. What holds a boxed closure stays inside this function.
@@ -90,7 +124,7 @@ pub fn do_job<'a, R: Files + Input + Print + AllocGlobal>(
 ) -> Result<(), Fault<'a>> {
     let alloc = rt.alloc();
     let mut list = Vec::new(alloc);
-    let set = SetKind { number: 1, size: 3 };
+    let set = sign_set();
     let sign = Kind::Members(set);
     let rules = sign_rules(alloc, set)?;
     let table = table_of(alloc, &rules, sign)?;
@@ -110,104 +144,7 @@ pub fn do_job<'a, R: Files + Input + Print + AllocGlobal>(
         rules,
         body,
     )?;
-    let body: Body = Box::new(
-        alloc,
-        |inputs: &[Info]| -> Info
-            requires { Fits (inputs_of_meaning Meaning.Adder) inputs.now }
-        { bodies::adder(inputs) },
-    )?;
-    add_of_table(alloc, &mut list, "adder", Meaning::Adder, body)?;
-    let body: Body = Box::new(
-        alloc,
-        |inputs: &[Info]| -> Info
-            requires { Fits (inputs_of_meaning Meaning.Subtractor) inputs.now }
-        { bodies::subtractor(inputs) },
-    )?;
-    add_of_table(alloc, &mut list, "subtractor", Meaning::Subtractor, body)?;
-    let body: Body = Box::new(
-        alloc,
-        |inputs: &[Info]| -> Info
-            requires { Fits (inputs_of_meaning Meaning.Multiplier) inputs.now }
-        { bodies::multiplier(inputs) },
-    )?;
-    add_of_table(alloc, &mut list, "multiplier", Meaning::Multiplier, body)?;
-    let body: Body = Box::new(
-        alloc,
-        |inputs: &[Info]| -> Info
-            requires { Fits (inputs_of_meaning Meaning.Squarer) inputs.now }
-        { bodies::squarer(inputs) },
-    )?;
-    add_of_table(alloc, &mut list, "squarer", Meaning::Squarer, body)?;
-    let body: Body = Box::new(
-        alloc,
-        |inputs: &[Info]| -> Info
-            requires { Fits (inputs_of_meaning Meaning.Divider) inputs.now }
-        { bodies::divider(inputs) },
-    )?;
-    add_of_table(alloc, &mut list, "divider", Meaning::Divider, body)?;
-    let body: Body = Box::new(
-        alloc,
-        |inputs: &[Info]| -> Info
-            requires { Fits (inputs_of_meaning Meaning.AtMost) inputs.now }
-        { bodies::at_most(inputs) },
-    )?;
-    add_of_table(alloc, &mut list, "at_most", Meaning::AtMost, body)?;
-    let body: Body = Box::new(
-        alloc,
-        |inputs: &[Info]| -> Info
-            requires { Fits (inputs_of_meaning Meaning.Equal) inputs.now }
-        { bodies::equal(inputs) },
-    )?;
-    add_of_table(alloc, &mut list, "equal", Meaning::Equal, body)?;
-    let body: Body = Box::new(
-        alloc,
-        |inputs: &[Info]| -> Info
-            requires { Fits (inputs_of_meaning Meaning.Inverter) inputs.now }
-        { bodies::inverter(inputs) },
-    )?;
-    add_of_table(alloc, &mut list, "inverter", Meaning::Inverter, body)?;
-    let body: Body = Box::new(
-        alloc,
-        |inputs: &[Info]| -> Info
-            requires { Fits (inputs_of_meaning Meaning.Conjoiner) inputs.now }
-        { bodies::conjoiner(inputs) },
-    )?;
-    add_of_table(alloc, &mut list, "conjoiner", Meaning::Conjoiner, body)?;
-    let body: Body = Box::new(
-        alloc,
-        |inputs: &[Info]| -> Info
-            requires { Fits (inputs_of_meaning Meaning.Disjoiner) inputs.now }
-        { bodies::disjoiner(inputs) },
-    )?;
-    add_of_table(alloc, &mut list, "disjoiner", Meaning::Disjoiner, body)?;
-    let body: Body = Box::new(
-        alloc,
-        |inputs: &[Info]| -> Info
-            requires { Fits (inputs_of_meaning Meaning.Switch) inputs.now }
-        { bodies::switch(inputs) },
-    )?;
-    add_of_table(alloc, &mut list, "switch", Meaning::Switch, body)?;
-    let body: Body = Box::new(
-        alloc,
-        |inputs: &[Info]| -> Info
-            requires { Fits (inputs_of_meaning Meaning.Copy) inputs.now }
-        { bodies::copy(inputs) },
-    )?;
-    add_of_table(alloc, &mut list, "copy", Meaning::Copy, body)?;
-    let body: Body = Box::new(
-        alloc,
-        |inputs: &[Info]| -> Info
-            requires { Fits (inputs_of_meaning Meaning.Point) inputs.now }
-        { bodies::point(inputs) },
-    )?;
-    add_of_table(alloc, &mut list, "point", Meaning::Point, body)?;
-    let body: Body = Box::new(
-        alloc,
-        |inputs: &[Info]| -> Info
-            requires { Fits (inputs_of_meaning Meaning.Fixed) inputs.now }
-        { bodies::fixed(inputs) },
-    )?;
-    add_of_table(alloc, &mut list, "fixed", Meaning::Fixed, body)?;
+    add_table!(alloc, &mut list);
     // Each has a name of its own that a procedure may have, so nothing but memory can be wanting.
     let Ok(_registry) = Registry::new(alloc, list) else {
         return Err(Fault::Memory);
@@ -222,7 +159,7 @@ mod tests {
 
     #[test]
     fn signs_of_numbers(rt: HostRuntime) -> Result<(), Fail> {
-        let set = SetKind { number: 1, size: 3 };
+        let set = sign_set();
         let sign = Kind::Members(set);
         let rules = sign_rules(rt.alloc(), set)?;
         for (lo, hi, signs) in [
@@ -237,6 +174,57 @@ mod tests {
             let got = by_rules(sign, &rules, &[from_to(lo, hi)]);
             assert_eq!(rt; got, members_of(set, signs), "{lo}..{hi}");
         }
+        Ok(())
+    }
+    #[test]
+    fn procedures_by_name(rt: HostRuntime) -> Result<(), Fail> {
+        let alloc = rt.alloc();
+        let mut list = Vec::new(alloc);
+        let set = sign_set();
+        let sign = Kind::Members(set);
+        let rules = sign_rules(alloc, set)?;
+        let table = table_of(alloc, &rules, sign)?;
+        let body: Body = Box::new(
+            alloc,
+            move |numbers: &[Info]| -> Info
+                requires kinds { map kind_of numbers.now ≡ Kind.Interval ∷ [] }
+                requires rules { AreRules (Kind.Interval ∷ []) sign table.items }
+                ensures { result ≡ value_of_rules sign table.items numbers.now }
+            { by_rules(sign, &table, numbers) },
+        )?;
+        add_by_rules(
+            alloc,
+            &mut list,
+            "sign",
+            (Kind::Interval, sign),
+            rules,
+            body,
+        )?;
+        add_table!(alloc, &mut list);
+        let Ok(registry) = Registry::new(alloc, list) else {
+            return Err("no registry".into());
+        };
+        assert_eq!(rt; registry.len(), 15);
+        for name in [
+            "adder",
+            "subtractor",
+            "multiplier",
+            "squarer",
+            "divider",
+            "at_most",
+            "equal",
+            "inverter",
+            "conjoiner",
+            "disjoiner",
+            "switch",
+            "copy",
+            "point",
+            "fixed",
+            "sign",
+        ] {
+            assert!(rt; registry.find(name.as_bytes()).is_some(), "{name}");
+        }
+        assert_eq!(rt; registry.find(b"sum"), None);
         Ok(())
     }
 }

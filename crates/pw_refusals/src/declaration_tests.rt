@@ -1,9 +1,9 @@
 // Declarations that are read back, and the first faults of others.
 
-use crate::decl_fault::{DeclFault, Why};
-use crate::declaration_text::read_declaration;
 use pw_info::kind::{Kind, SetKind};
 use pw_info::names::KindNames;
+use pw_transcript::decl_fault::{DeclFault, Why};
+use pw_transcript::declaration_text::read_declaration;
 use std::alloc::{AllocError, Global};
 use std::test::Fail;
 

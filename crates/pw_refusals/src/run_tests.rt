@@ -2,12 +2,13 @@
 
 ghost use Rattle.std.specs.Prelude.{None};
 
-use crate::declaration::Declaration;
-use crate::declaration_text::read_declaration;
-use crate::input::{Input, Reading};
-use crate::transcript::{Lines, RunFault, run};
 use pw_info::output::{Failed, Output, Writing};
+use pw_transcript::declaration::Declaration;
+use pw_transcript::declaration_text::read_declaration;
+use pw_transcript::input::{Input, Reading};
+use pw_transcript::transcript::{Lines, RunFault, run};
 use std::alloc::Global;
+use std::cell::Cell;
 use std::io;
 use std::io::{ErrorKind, Read, Write};
 use std::test::Fail;
@@ -331,6 +332,112 @@ fn a_failing_output_gets_a_front_of_the_replies(rt: HostRuntime) -> Result<(), F
             "at {room}"
         );
     }
+    Ok(())
+}
+
+// More replies than are held back at once.
+#[test]
+fn many_replies_are_passed_on_or_a_front(rt: HostRuntime) -> Result<(), Fail> {
+    let mut transcript = String::new(rt.alloc());
+    let mut wanted = String::new(rt.alloc());
+    for line in 1..=2000u32 {
+        transcript.push_str("ann ask x\n")?;
+        let reply = format!(in rt.alloc(); "{line}: nothing\n")?;
+        wanted.push_str(reply.as_str())?;
+    }
+    let wanted = wanted.as_bytes();
+    assert_eq!(rt; wanted.len(), 26_893);
+    let world = world(rt.alloc())?;
+    for room in [0, 1, 16_383, 16_384, 16_385, 26_892, 26_893, 26_894usize] {
+        let mut input = Reading::new(transcript.as_bytes());
+        let mut output = Writing::new(Full {
+            text: Vec::new(rt.alloc()),
+            room,
+        });
+        let answer = run(rt.alloc(), &world, &mut input, &mut output);
+        assert_eq!(rt; answer.is_ok(), room >= wanted.len(), "at {room}");
+        let front = &wanted[..room.min(wanted.len())];
+        assert_eq!(rt; output.into_writer().text.as_slice(), front, "at {room}");
+    }
+    Ok(())
+}
+
+// A reader that gives a line a read, and says whether what was written before a read was not as many bytes as the line tells.
+#[derive(Drop)]
+struct Asking<'a> {
+    lines: &'a [(&'a str, usize)],
+    given: usize,
+    written: &'a Cell<usize>,
+    differs: &'a Cell<bool>,
+}
+
+impl Read for Asking<'_> {
+    ghost remaining = { λ _. None };
+
+    fn read(&mut self, buffer: &mut [u8]) -> io::Result<usize> {
+        if self.given >= self.lines.len() {
+            return Ok(0);
+        }
+        let (line, before) = self.lines[self.given];
+        if buffer.len() < line.len() {
+            return Err(io::Error::from(ErrorKind::UnexpectedEof));
+        }
+        if self.written.get() != before {
+            self.differs.set(true);
+        }
+        buffer[..line.len()].copy_from_slice(line.as_bytes());
+        self.given += 1;
+        Ok(line.len())
+    }
+}
+
+// A writer that counts.
+#[derive(Drop)]
+struct Counting<'a> {
+    written: &'a Cell<usize>,
+}
+
+impl Write for Counting<'_> {
+    ghost contents = { λ _. None };
+
+    fn write(&mut self, bytes: &[u8]) -> io::Result<usize> {
+        let count = self.written.get();
+        self.written.set(count.saturating_add(bytes.len()));
+        Ok(bytes.len())
+    }
+
+    fn flush(&mut self) -> io::Result<()> {
+        Ok(())
+    }
+}
+
+#[test]
+fn a_line_is_answered_before_the_next_is_taken(rt: HostRuntime) -> Result<(), Fail> {
+    let world = world(rt.alloc())?;
+    let written = Cell::new(0);
+    let differs = Cell::new(false);
+    let mut input = Reading::new(Asking {
+        lines: &[
+            ("ann tell x 1..2\n", 0),
+            ("ann ask x\n", 6),
+            ("# nothing\n", 14),
+            ("bob ask x\n", 14),
+        ],
+        given: 0,
+        written: &written,
+        differs: &differs,
+    });
+    let mut output = Writing::new(Counting { written: &written });
+    let answer = run(rt.alloc(), &world, &mut input, &mut output);
+    assert_eq!(rt;
+        answer,
+        Ok(Lines {
+            lines: 4,
+            replies: 3
+        })
+    );
+    assert_eq!(rt; written.get(), 22);
+    assert!(rt; !differs.get());
     Ok(())
 }
 
