@@ -3,8 +3,6 @@ ghost use Rattle.std.specs.Prelude.{◌≡◌, ◌∷◌, [], List, map, IfOk};
 ghost use Rattle.pw_info.specs.declared.info.Info.{Info as Information};
 ghost use Rattle.pw_info.specs.Information.{kind_of};
 ghost use Rattle.pw_procs.specs.Rules.{AreRules, value_of_rules};
-ghost use Rattle.pw_procs.specs.Slots.{Fits};
-ghost use Rattle.pw_procs.specs.Meaning.{inputs_of_meaning};
 
 use crate::bodies;
 use crate::evaluator::value_of;
@@ -74,47 +72,17 @@ fn answer_all<R: Abort>(rt: &R, list: &[Stored], calls: &[Call]) {
 fn numbers(rt: HostRuntime) -> Result<(), Fail> {
     let alloc = rt.alloc();
     let mut list = Vec::new(alloc);
-    let body: Body = Box::new(
-        alloc,
-        |inputs: &[Info]| -> Info
-            requires { Fits (inputs_of_meaning Meaning.Adder) inputs.now }
-        { bodies::adder(inputs) },
-    )?;
+    let body: Body = Box::new(alloc, bodies::adder)?;
     add_of_table(alloc, &mut list, "adder", Meaning::Adder, body)?;
-    let body: Body = Box::new(
-        alloc,
-        |inputs: &[Info]| -> Info
-            requires { Fits (inputs_of_meaning Meaning.Subtractor) inputs.now }
-        { bodies::subtractor(inputs) },
-    )?;
+    let body: Body = Box::new(alloc, bodies::subtractor)?;
     add_of_table(alloc, &mut list, "subtractor", Meaning::Subtractor, body)?;
-    let body: Body = Box::new(
-        alloc,
-        |inputs: &[Info]| -> Info
-            requires { Fits (inputs_of_meaning Meaning.Multiplier) inputs.now }
-        { bodies::multiplier(inputs) },
-    )?;
+    let body: Body = Box::new(alloc, bodies::multiplier)?;
     add_of_table(alloc, &mut list, "multiplier", Meaning::Multiplier, body)?;
-    let body: Body = Box::new(
-        alloc,
-        |inputs: &[Info]| -> Info
-            requires { Fits (inputs_of_meaning Meaning.Squarer) inputs.now }
-        { bodies::squarer(inputs) },
-    )?;
+    let body: Body = Box::new(alloc, bodies::squarer)?;
     add_of_table(alloc, &mut list, "squarer", Meaning::Squarer, body)?;
-    let body: Body = Box::new(
-        alloc,
-        |inputs: &[Info]| -> Info
-            requires { Fits (inputs_of_meaning Meaning.Divider) inputs.now }
-        { bodies::divider(inputs) },
-    )?;
+    let body: Body = Box::new(alloc, bodies::divider)?;
     add_of_table(alloc, &mut list, "divider", Meaning::Divider, body)?;
-    let body: Body = Box::new(
-        alloc,
-        |inputs: &[Info]| -> Info
-            requires { Fits (inputs_of_meaning Meaning.Copy) inputs.now }
-        { bodies::copy(inputs) },
-    )?;
+    let body: Body = Box::new(alloc, bodies::copy)?;
     add_of_table(alloc, &mut list, "copy", Meaning::Copy, body)?;
     answer_all(&rt, &list, &number_calls());
     Ok(())
@@ -124,40 +92,15 @@ fn numbers(rt: HostRuntime) -> Result<(), Fail> {
 fn truths(rt: HostRuntime) -> Result<(), Fail> {
     let alloc = rt.alloc();
     let mut list = Vec::new(alloc);
-    let body: Body = Box::new(
-        alloc,
-        |inputs: &[Info]| -> Info
-            requires { Fits (inputs_of_meaning Meaning.AtMost) inputs.now }
-        { bodies::at_most(inputs) },
-    )?;
+    let body: Body = Box::new(alloc, bodies::at_most)?;
     add_of_table(alloc, &mut list, "at_most", Meaning::AtMost, body)?;
-    let body: Body = Box::new(
-        alloc,
-        |inputs: &[Info]| -> Info
-            requires { Fits (inputs_of_meaning Meaning.Equal) inputs.now }
-        { bodies::equal(inputs) },
-    )?;
+    let body: Body = Box::new(alloc, bodies::equal)?;
     add_of_table(alloc, &mut list, "equal", Meaning::Equal, body)?;
-    let body: Body = Box::new(
-        alloc,
-        |inputs: &[Info]| -> Info
-            requires { Fits (inputs_of_meaning Meaning.Inverter) inputs.now }
-        { bodies::inverter(inputs) },
-    )?;
+    let body: Body = Box::new(alloc, bodies::inverter)?;
     add_of_table(alloc, &mut list, "inverter", Meaning::Inverter, body)?;
-    let body: Body = Box::new(
-        alloc,
-        |inputs: &[Info]| -> Info
-            requires { Fits (inputs_of_meaning Meaning.Conjoiner) inputs.now }
-        { bodies::conjoiner(inputs) },
-    )?;
+    let body: Body = Box::new(alloc, bodies::conjoiner)?;
     add_of_table(alloc, &mut list, "conjoiner", Meaning::Conjoiner, body)?;
-    let body: Body = Box::new(
-        alloc,
-        |inputs: &[Info]| -> Info
-            requires { Fits (inputs_of_meaning Meaning.Disjoiner) inputs.now }
-        { bodies::disjoiner(inputs) },
-    )?;
+    let body: Body = Box::new(alloc, bodies::disjoiner)?;
     add_of_table(alloc, &mut list, "disjoiner", Meaning::Disjoiner, body)?;
     answer_all(&rt, &list, &truth_calls());
     Ok(())
@@ -167,33 +110,13 @@ fn truths(rt: HostRuntime) -> Result<(), Fail> {
 fn others(rt: HostRuntime) -> Result<(), Fail> {
     let alloc = rt.alloc();
     let mut list = Vec::new(alloc);
-    let body: Body = Box::new(
-        alloc,
-        |inputs: &[Info]| -> Info
-            requires { Fits (inputs_of_meaning Meaning.Equal) inputs.now }
-        { bodies::equal(inputs) },
-    )?;
+    let body: Body = Box::new(alloc, bodies::equal)?;
     add_of_table(alloc, &mut list, "equal", Meaning::Equal, body)?;
-    let body: Body = Box::new(
-        alloc,
-        |inputs: &[Info]| -> Info
-            requires { Fits (inputs_of_meaning Meaning.Switch) inputs.now }
-        { bodies::switch(inputs) },
-    )?;
+    let body: Body = Box::new(alloc, bodies::switch)?;
     add_of_table(alloc, &mut list, "switch", Meaning::Switch, body)?;
-    let body: Body = Box::new(
-        alloc,
-        |inputs: &[Info]| -> Info
-            requires { Fits (inputs_of_meaning Meaning.Point) inputs.now }
-        { bodies::point(inputs) },
-    )?;
+    let body: Body = Box::new(alloc, bodies::point)?;
     add_of_table(alloc, &mut list, "point", Meaning::Point, body)?;
-    let body: Body = Box::new(
-        alloc,
-        |inputs: &[Info]| -> Info
-            requires { Fits (inputs_of_meaning Meaning.Fixed) inputs.now }
-        { bodies::fixed(inputs) },
-    )?;
+    let body: Body = Box::new(alloc, bodies::fixed)?;
     add_of_table(alloc, &mut list, "fixed", Meaning::Fixed, body)?;
     answer_all(&rt, &list, &other_calls());
     Ok(())

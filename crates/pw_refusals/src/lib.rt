@@ -1,4 +1,4 @@
-//! For tests alone: an allocator that refuses the growths that a test chooses.
+//! For tests alone: an allocator that refuses the growths that a test chooses, and tests of declarations and runs.
 #![tactic(auto)]
 
 ghost use Rattle.std.specs.Prelude.{◌≡◌, ℕ, ◌<◌, ◌≤◌, ◌^◌, ◌↔◌, IsTrue};

@@ -1,10 +1,7 @@
 // A registry with each growth of memory refused in turn: the list of procedures is handed back whole, and makes the
 // registry once there is memory.
-ghost use Rattle.pw_procs.specs.Slots.{Fits};
-ghost use Rattle.pw_procs.specs.Meaning.{inputs_of_meaning};
 
 use crate::Refusing;
-use pw_info::info::Info;
 use pw_procs::bodies;
 use pw_procs::meaning::Meaning;
 use pw_procs::registry::Registry;
@@ -24,12 +21,7 @@ fn a_refused_registry_hands_its_list_back(rt: HostRuntime) -> Result<(), Fail> {
         let Some(signature) = Signature::new(&[Slot::Same], Slot::Same) else {
             return Err("no signature".into());
         };
-        let body: Body = Box::new(
-            alloc,
-            |inputs: &[Info]| -> Info
-                requires { Fits (inputs_of_meaning Meaning.Copy) inputs.now }
-            { bodies::copy(inputs) },
-        )?;
+        let body: Body = Box::new(alloc, bodies::copy)?;
         entries.push(Stored::new(
             String::from_str(alloc, name)?,
             signature,

@@ -176,6 +176,7 @@ mod tests {
         }
         Ok(())
     }
+
     #[test]
     fn procedures_by_name(rt: HostRuntime) -> Result<(), Fail> {
         let alloc = rt.alloc();

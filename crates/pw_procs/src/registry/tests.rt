@@ -1,6 +1,4 @@
 // Lists of procedures under several names.
-ghost use Rattle.pw_procs.specs.Slots.{Fits};
-ghost use Rattle.pw_procs.specs.Meaning.{inputs_of_meaning};
 
 use super::Registry;
 use crate::bodies;
@@ -64,12 +62,7 @@ fn register(alloc: Global, names: &[&str]) -> Result<Outcome, Fail> {
     let signature = Signature::new(&[Slot::Same], Slot::Same).ok_or("no signature")?;
     let mut list = Vec::new(alloc);
     for name in names {
-        let body: Body = Box::new(
-            alloc,
-            |inputs: &[Info]| -> Info
-                requires { Fits (inputs_of_meaning Meaning.Copy) inputs.now }
-            { bodies::copy(inputs) },
-        )?;
+        let body: Body = Box::new(alloc, bodies::copy)?;
         list.push(Stored::new(
             String::from_str(alloc, name)?,
             signature,
