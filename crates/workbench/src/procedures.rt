@@ -177,6 +177,25 @@ mod tests {
         Ok(())
     }
 
+    // The names that a registry of the program has.
+    const NAMES: [&str; 15] = [
+        "adder",
+        "subtractor",
+        "multiplier",
+        "squarer",
+        "divider",
+        "at_most",
+        "equal",
+        "inverter",
+        "conjoiner",
+        "disjoiner",
+        "switch",
+        "copy",
+        "point",
+        "fixed",
+        "sign",
+    ];
+
     #[test]
     fn procedures_by_name(rt: HostRuntime) -> Result<(), Fail> {
         let alloc = rt.alloc();
@@ -206,23 +225,7 @@ mod tests {
             return Err("no registry".into());
         };
         assert_eq!(rt; registry.len(), 15);
-        for name in [
-            "adder",
-            "subtractor",
-            "multiplier",
-            "squarer",
-            "divider",
-            "at_most",
-            "equal",
-            "inverter",
-            "conjoiner",
-            "disjoiner",
-            "switch",
-            "copy",
-            "point",
-            "fixed",
-            "sign",
-        ] {
+        for name in NAMES {
             assert!(rt; registry.find(name.as_bytes()).is_some(), "{name}");
         }
         assert_eq!(rt; registry.find(b"sum"), None);
