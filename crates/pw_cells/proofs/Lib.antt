@@ -1,6 +1,8 @@
+pub mod Closest
 pub mod Together
 pub mod MergesTogether
 pub mod Rests
+pub mod Assimilations
 pub mod Stores
 pub mod Wholes
 pub mod Supports

@@ -1,8 +1,10 @@
 -- A cell of a store, as it is read and as it is written.
-use Rattle.std.proofs.Common.{◌≡◌, ℕ, ◌<◌, length, get_or, set, map, get_or-set_same, sym, ◌∙◌, ap, subst}
+use Rattle.std.proofs.Common.{◌≡◌, ℕ, zero, suc, ◌<◌, List, [], ◌∷◌, length, get_or, set, map, get_or-set_same, refl, sym, ◌∙◌, ap, subst}
+use Rattle.std.specs.Prelude.{slice_index_or}
 use Rattle.std.proofs.lemmas.List.{get_or_default}
 use Rattle.std.proofs.Math.Seq.{map-set_same}
-use Rattle.pw_cells.specs.Cells.{Cell, Store, cell_at, kinds_of}
+use Rattle.pw_info.specs.declared.kind.Kind.TheVariants as kinds
+use Rattle.pw_cells.specs.Cells.{Cell, Store, cell_at, new_cell, kinds_of}
 
 there : (inside now : Store) (c : ℕ) → inside ≡ now → c < length now.cells → c < length inside.cells
 there inside now c is within = subst (λ (s : Store). c < length s.cells) (sym is) within
@@ -13,11 +15,24 @@ cell_read inside now c x read is within =
     read ∙ get_or_default inside.cells c x _ (there inside now c is within) ∙ ap (λ s. cell_at s c) is
 
 -- and so is what was written there, whatever is read past the end
-pub cell_written : (inside now : Store) (c : ℕ) (x d : Cell) → inside ≡ now → c < length now.cells → x ≡ get_or (set inside.cells c x) c d
+cell_written : (inside now : Store) (c : ℕ) (x d : Cell) → inside ≡ now → c < length now.cells → x ≡ get_or (set inside.cells c x) c d
 cell_written inside now c x d is within = sym (get_or-set_same inside.cells c x d (there inside now c is within))
+
+-- what holds of a cell as it was and as it is written holds of the cell of this number before and after
+pub cell_changed : (P : Cell → Cell → Type 0) (inside now : Store) (c : ℕ) (x y d : Cell) → x ≡ get_or inside.cells c x → inside ≡ now → c < length now.cells
+    → P x y → P (cell_at now c) (get_or (set inside.cells c y) c d)
+cell_changed P inside now c x y d read is within p =
+    subst (λ (new : Cell). P (cell_at now c) new) (cell_written inside now c y d is within)
+    (subst (λ (old : Cell). P old y) (cell_read inside now c x read is within) p)
 
 -- a cell of the same kind in its place leaves the kinds
 pub same_kinds : (inside now : Store) (c : ℕ) (x y : Cell) → x ≡ get_or inside.cells c x → inside ≡ now → y.kind ≡ x.kind
     → map (λ (c : Cell). c.kind) (set inside.cells c y) ≡ kinds_of now
 same_kinds inside now c x y read is kind =
     map-set_same (λ (c : Cell). c.kind) inside.cells c y x (kind ∙ ap (λ (c : Cell). c.kind) read) ∙ ap kinds_of is
+
+-- the kinds are listed in the order of the cells
+pub kind-listed : (cells : List Cell) (c : ℕ) → (slice_index_or cells c (new_cell kinds.Interval)).kind ≡ slice_index_or (map (λ (x : Cell). x.kind) cells) c kinds.Interval
+kind-listed [] c = refl
+kind-listed (x ∷ cells) zero = refl
+kind-listed (x ∷ cells) (suc c) = kind-listed cells c

@@ -9,8 +9,8 @@ use Rattle.std.proofs.lemmas.List.Sums.{fails_before_first}
 use Rattle.std.proofs.Math.Seq.{map-set_same}
 use Rattle.pw_kinds.proofs.Order.{not_both}
 use Rattle.pw_premises.specs.PremiseSubsets.{has_same_numbers, same_numbers_equal}
+use Rattle.pw_premises.specs.Premises.{Premises}
 use Rattle.pw_facts.specs.declared.fact.Fact.{Fact}
-use Rattle.pw_facts.specs.Facts.{Premises}
 use Rattle.pw_cells.specs.OneCell.{OneEach}
 
 -- a fact written over one with its support

@@ -1,5 +1,5 @@
 -- What facts of one kind show together: a value stays possible just where each of them leaves it possible.
-use Rattle.std.proofs.Common.{◌≡◌, ℕ, ℤ, ◌<◌, true, false, ◌&&◌, length, get_or, set, get_or-set_same, get_or-set_other, length-set, arith, List, [], ◌∷◌, ◌++◌, inl, inr, sym, ◌∙◌, ap, subst}
+use Rattle.std.proofs.Common.{◌≡◌, ℕ, ℤ, ◌<◌, true, false, ◌&&◌, refl, length, get_or, set, get_or-set_same, get_or-set_other, length-set, arith, List, [], ◌∷◌, ◌++◌, inl, inr, sym, ◌∙◌, ap, subst}
 use Rattle.std.specs.Prelude.{fold, All, Contains}
 use Rattle.std.specs.FinSet.{is_subset}
 use Rattle.std.proofs.lemmas.Bool.{cases_Bool, cases_eq}
@@ -11,14 +11,16 @@ use Rattle.pw_info.specs.declared.kind.Kind.{Kind}
 use Rattle.pw_info.specs.declared.info.Info.{Info}
 use Rattle.pw_info.specs.Information.{kind_of, is_value, allows, meet, nothing, Implies}
 use Rattle.pw_info.proofs.Informations.{kind-closest, kind-meet, allows-nothing, allows-meet, allows_value, meet_self, meet_nothing, meet_implied, Implies-antisym}
+use Rattle.pw_premises.specs.Premises.{Premises}
 use Rattle.pw_facts.specs.declared.fact.Fact.{Fact}
-use Rattle.pw_facts.specs.Facts.{Premises, shows}
+use Rattle.pw_facts.specs.Facts.{shows}
 use Rattle.pw_facts.proofs.Shown.{shows-supported, shows-unsupported, kind-shows, larger_shows, subsumption_shows}
-use Rattle.pw_cells.specs.Cells.{shown_by}
-use Rattle.pw_cells.specs.OneCell.{AreOfKind, SubsumedBy, IsRest}
+use Rattle.pw_cells.specs.Cells.{shown_by, IsSubsumedBy}
+use Rattle.pw_cells.specs.OneCell.{AreOfKind, IsRest}
+use Rattle.pw_cells.proofs.Closest.{meet_mono}
 
 -- in the worldview the fact leaves the value possible
-abbrev pub LeavesOpen : Premises → ℤ → Fact → Type 0
+abbrev LeavesOpen : Premises → ℤ → Fact → Type 0
 LeavesOpen w v f = allows (shows w f) v ≡ true
 
 -- ---- from any information on
@@ -58,10 +60,10 @@ allows_fold k w v i (f ∷ fs) e all h open_all =
 pub kind-shown_by : (k : Kind) (w : Premises) (fs : List Fact) → kind_of (shown_by k w fs) ≡ k
 kind-shown_by k w fs = kind-fold k w (nothing k) fs (kind-closest k (λ v. true))
 
-pub shown_allows : (k : Kind) (w : Premises) (v : ℤ) (fs : List Fact) → AreOfKind k fs → allows (shown_by k w fs) v ≡ true → All (LeavesOpen w v) fs
+shown_allows : (k : Kind) (w : Premises) (v : ℤ) (fs : List Fact) → AreOfKind k fs → allows (shown_by k w fs) v ≡ true → All (LeavesOpen w v) fs
 shown_allows k w v fs all h = (fold_allows k w v (nothing k) fs (kind-closest k (λ x. true)) all h).1
 
-pub allows_shown : (k : Kind) (w : Premises) (v : ℤ) (fs : List Fact) → AreOfKind k fs → is_value k v ≡ true → All (LeavesOpen w v) fs → allows (shown_by k w fs) v ≡ true
+allows_shown : (k : Kind) (w : Premises) (v : ℤ) (fs : List Fact) → AreOfKind k fs → is_value k v ≡ true → All (LeavesOpen w v) fs → allows (shown_by k w fs) v ≡ true
 allows_shown k w v fs all value = allows_fold k w v (nothing k) fs (kind-closest k (λ x. true)) all (allows-nothing k v ∙ value)
 
 -- what is possible is a value of the kind
@@ -69,13 +71,13 @@ shown_value : (k : Kind) (w : Premises) (v : ℤ) (fs : List Fact) → allows (s
 shown_value k w v fs h = subst (λ (x : Kind). is_value x v ≡ true) (kind-shown_by k w fs) (allows_value (shown_by k w fs) v h)
 
 -- facts that leave no more possible say at least as much together
-pub shown_implies : (k : Kind) (w u : Premises) (xs ys : List Fact) → AreOfKind k xs → AreOfKind k ys
+shown_implies : (k : Kind) (w u : Premises) (xs ys : List Fact) → AreOfKind k xs → AreOfKind k ys
     → ((v : ℤ) → All (LeavesOpen w v) xs → All (LeavesOpen u v) ys) → Implies (shown_by k w xs) (shown_by k u ys)
 shown_implies k w u xs ys all_x all_y open_y v h =
     allows_shown k u v ys all_y (shown_value k w v xs h) (open_y v (shown_allows k w v xs all_x h))
 
 -- facts that leave the same possible say the same together
-pub same_shown : (k : Kind) (w : Premises) (xs ys : List Fact) → AreOfKind k xs → AreOfKind k ys
+same_shown : (k : Kind) (w : Premises) (xs ys : List Fact) → AreOfKind k xs → AreOfKind k ys
     → ((v : ℤ) → All (LeavesOpen w v) xs → All (LeavesOpen w v) ys) → ((v : ℤ) → All (LeavesOpen w v) ys → All (LeavesOpen w v) xs)
     → shown_by k w xs ≡ shown_by k w ys
 same_shown k w xs ys all_x all_y to from = Implies-antisym _ _ (kind-shown_by k w xs ∙ sym (kind-shown_by k w ys))
@@ -85,9 +87,16 @@ same_shown k w xs ys all_x all_y to from = Implies-antisym _ _ (kind-shown_by k 
 pub shown-push : (k : Kind) (w : Premises) (fs : List Fact) (f : Fact) → shown_by k w (fs ++ f ∷ []) ≡ meet (shown_by k w fs) (shows w f)
 shown-push k w fs f = fold_push (with_shown w) (nothing k) fs f
 
--- in a larger worldview they say at least as much
-pub larger_shown : (k : Kind) (v w : Premises) (fs : List Fact) → AreOfKind k fs → is_subset v w ≡ true → Implies (shown_by k w fs) (shown_by k v fs)
-larger_shown k v w fs all sub = shown_implies k w v fs fs all all (λ z. All-weaker (LeavesOpen w z) (LeavesOpen v z) (λ f. larger_shows v w f sub z) fs)
+-- in a larger worldview they say at least as much, of whatever kinds they are
+larger_fold : (v w : Premises) → is_subset v w ≡ true → (i j : Info) (fs : List Fact) → kind_of i ≡ kind_of j → Implies i j
+    → Implies (fold (with_shown w) i fs) (fold (with_shown v) j fs)
+larger_fold v w sub i j [] k implies = implies
+larger_fold v w sub i j (f ∷ fs) k implies =
+    larger_fold v w sub (meet i (shows w f)) (meet j (shows v f)) fs (kind-meet i (shows w f) ∙ k ∙ sym (kind-meet j (shows v f)))
+    (meet_mono i j (shows w f) (shows v f) k implies (larger_shows v w f sub))
+
+pub larger_shown : (k : Kind) (v w : Premises) (fs : List Fact) → is_subset v w ≡ true → Implies (shown_by k w fs) (shown_by k v fs)
+larger_shown k v w fs sub = larger_fold v w sub (nothing k) (nothing k) fs refl (λ x h. h)
 
 -- ---- merges with what a fact shows
 
@@ -113,7 +122,7 @@ shown_unsupported k w fs f is e =
 
 -- ---- a fact that one of them subsumes adds nothing
 
-pub shown_known : (k : Kind) (w : Premises) (fs : List Fact) (f : Fact) → AreOfKind k fs → kind_of f.info ≡ k → SubsumedBy fs f
+pub shown_known : (k : Kind) (w : Premises) (fs : List Fact) (f : Fact) → AreOfKind k fs → kind_of f.info ≡ k → IsSubsumedBy fs f
     → meet (shown_by k w fs) (shows w f) ≡ shown_by k w fs
 shown_known k w fs f all is known = meet_implied _ _ (kind_together k w fs f is) (λ v h.
     let held : Fact = known.0 in

@@ -6,14 +6,10 @@ use Rattle.pw_info.specs.declared.kind.Kind.{Kind}
 use Rattle.pw_info.specs.declared.info.Info.{Info}
 use Rattle.pw_info.specs.Information.{kind_of, meet, Implies}
 use Rattle.pw_facts.specs.declared.fact.Fact.{Fact}
-use Rattle.pw_facts.specs.Facts.{Premises, shows, Subsumes}
-use Rattle.pw_cells.specs.Cells.{shown_by}
-use Rattle.pw_cells.specs.OneCell.{AreOfKind, AreApart, OneEach, SubsumedBy, IsRest, IsWhole}
+use Rattle.pw_facts.specs.Facts.{shows, Subsumes}
+use Rattle.pw_cells.specs.Cells.{shown_by, IsSubsumedBy}
+use Rattle.pw_cells.specs.OneCell.{AreOfKind, AreApart, OneEach, IsRest, IsWhole, ShowsMore}
 use Rattle.pw_cells.proofs.Together.{kind_together, meet_first, meet_keeps}
-
--- the facts after show what those before and this one show
-abbrev pub ShowsMore : Fact → List Fact → List Fact → Type 0
-ShowsMore f before after = (w : Premises) → shown_by (kind_of f.info) w after ≡ meet (shown_by (kind_of f.info) w before) (shows w f)
 
 pub whole_told : (k : Kind) (f : Fact) (told kept told' kept' : List Fact) → kind_of f.info ≡ k → IsWhole k told kept
     → AreOfKind (kind_of f.info) told' → AreOfKind (kind_of f.info) kept' → OneEach told' → AreApart kept' → ShowsMore f told told' → ShowsMore f kept kept' → IsWhole k told' kept'
@@ -44,7 +40,7 @@ whole_kept k f told kept kept' is whole kept_kinds apart more_kept =
     }) whole
 
 -- what is left with the fact stays apart, where none that was there subsumes it
-pub apart_rest : (f : Fact) (facts rest : List Fact) → AreApart facts → (SubsumedBy facts f → ⊥) → IsRest f facts rest → AreApart (rest ++ f ∷ [])
+pub apart_rest : (f : Fact) (facts rest : List Fact) → AreApart facts → (IsSubsumedBy facts f → ⊥) → IsRest f facts rest → AreApart (rest ++ f ∷ [])
 apart_rest f facts rest apart news left x y has_x has_y subsumes = elim (Contains-push_cases rest f x has_x) [
   | inl in_x ↦ elim (Contains-push_cases rest f y has_y) [
     | inl in_y ↦ apart x y (was x in_x) (was y in_y) subsumes

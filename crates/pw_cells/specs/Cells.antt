@@ -1,11 +1,13 @@
 -- What a store of cells shows.
-use Rattle.std.specs.Prelude.{ℕ, List, [], Contains, map, fold, slice_index_or}
+use Rattle.std.specs.Prelude.{◌≡◌, ℕ, true, List, [], Contains, map, fold, slice_index_or}
+use Rattle.std.specs.FinSet.{contains}
 use Rattle.pw_info.specs.declared.kind.Kind.{Kind}
 use Rattle.pw_info.specs.declared.kind.Kind.TheVariants as kinds
 use Rattle.pw_info.specs.declared.info.Info.{Info}
 use Rattle.pw_info.specs.Information.{meet, nothing}
+use Rattle.pw_premises.specs.Premises.{Premises}
 use Rattle.pw_facts.specs.declared.fact.Fact.{Fact}
-use Rattle.pw_facts.specs.Facts.{Premises, shows, Subsumes}
+use Rattle.pw_facts.specs.Facts.{shows, Subsumes}
 
 -- a cell: its kind, the facts that stand for what was told of it, and the facts that are kept of it
 pub record Cell : Type 0 where
@@ -18,15 +20,21 @@ pub record Store : Type 0 where
   pub cells : List Cell
   pub room : ℕ
 
+-- how many cells there may be: as many as their numbers, of 32 bits, can count
+abbrev pub most_cells : ℕ
+most_cells = 4294967295
+
 -- a cell of which nothing was told
 abbrev pub new_cell : Kind → Cell
 new_cell kind = record { kind = kind; told = []; kept = [] }
 
+-- the cell of this number; past the last cell one of intervals, of which nothing was told
 abbrev pub cell_at : Store → ℕ → Cell
 cell_at store cell = slice_index_or store.cells cell (new_cell kinds.Interval)
 
-abbrev pub kind_at : Store → ℕ → Kind
-kind_at store cell = (cell_at store cell).kind
+-- the kind of the cell of this number, and the kinds of all in their order
+abbrev pub kind_in_store : Store → ℕ → Kind
+kind_in_store store cell = (cell_at store cell).kind
 
 abbrev pub kinds_of : Store → List Kind
 kinds_of store = map (λ (c : Cell). c.kind) store.cells
@@ -39,14 +47,24 @@ kept_at store cell = (cell_at store cell).kept
 abbrev pub shown_by : Kind → Premises → List Fact → Info
 shown_by kind worldview facts = fold (λ info fact. meet info (shows worldview fact)) (nothing kind) facts
 
--- what was told of a cell, in a worldview
+-- what was told of a cell, in a worldview: of the cell itself, and of the one of this number
+abbrev pub told_of : Cell → Premises → Info
+told_of cell worldview = shown_by cell.kind worldview cell.told
+
 abbrev pub told_in : Store → ℕ → Premises → Info
-told_in store cell worldview = shown_by (kind_at store cell) worldview (cell_at store cell).told
+told_in store cell worldview = told_of (cell_at store cell) worldview
 
--- what is kept of a cell, in a worldview
+-- what is kept of a cell, in a worldview, likewise
+abbrev pub kept_of : Cell → Premises → Info
+kept_of cell worldview = shown_by cell.kind worldview cell.kept
+
 abbrev pub kept_in : Store → ℕ → Premises → Info
-kept_in store cell worldview = shown_by (kind_at store cell) worldview (kept_at store cell)
+kept_in store cell worldview = kept_of (cell_at store cell) worldview
 
--- a fact that is kept of the cell subsumes this one
-abbrev pub IsSubsumed : Store → ℕ → Fact → Type 0
-IsSubsumed store cell fact = (f : Fact) × Contains (kept_at store cell) f × Subsumes f fact
+-- a fact of the list subsumes this one
+abbrev pub IsSubsumedBy : List Fact → Fact → Type 0
+IsSubsumedBy facts fact = (f : Fact) × Contains facts f × Subsumes f fact
+
+-- each of the premises is a premise of some fact of the list
+abbrev pub ArePremisesOf : List Fact → Premises → Type 0
+ArePremisesOf facts premises = (p : ℕ) → contains premises p ≡ true → (f : Fact) × Contains facts f × (contains f.support p ≡ true)

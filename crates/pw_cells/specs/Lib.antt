@@ -1,3 +1,4 @@
 pub mod Cells
 pub mod CellCode
 pub mod OneCell
+pub mod Changes

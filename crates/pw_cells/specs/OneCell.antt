@@ -1,19 +1,18 @@
 -- What is true of the facts of one cell, and of the list that a change leaves of them.
-use Rattle.std.specs.Prelude.{◌≡◌, ◌≢◌, ◌⊎◌, ℕ, true, List, All, AllPairs, Contains, map}
-use Rattle.std.specs.FinSet.{contains, is_subset}
+use Rattle.std.specs.Prelude.{◌≡◌, ◌≢◌, ◌⊎◌, true, List, All, AllPairs, Contains, map}
+use Rattle.std.specs.FinSet.{is_subset}
 use Rattle.pw_info.specs.declared.kind.Kind.{Kind}
-use Rattle.pw_info.specs.Information.{kind_of, Implies}
+use Rattle.pw_info.specs.Information.{kind_of, meet, Implies}
+use Rattle.pw_premises.specs.Premises.{Premises}
 use Rattle.pw_facts.specs.declared.fact.Fact.{Fact}
-use Rattle.pw_facts.specs.Facts.{Premises, Subsumes}
-use Rattle.pw_cells.specs.Cells.{shown_by}
+use Rattle.pw_facts.specs.Facts.{shows, Subsumes}
+use Rattle.pw_cells.specs.Cells.{shown_by, ArePremisesOf}
 
+-- each of the facts is of the kind
 abbrev pub AreOfKind : Kind → List Fact → Type 0
 AreOfKind kind facts = All (λ f. kind_of f.info ≡ kind) facts
 
--- a fact of the list subsumes this one
-abbrev pub SubsumedBy : List Fact → Fact → Type 0
-SubsumedBy facts fact = (f : Fact) × Contains facts f × Subsumes f fact
-
+-- none of the facts subsumes another
 abbrev pub AreApart : List Fact → Type 0
 AreApart facts = (f g : Fact) → Contains facts f → Contains facts g → Subsumes f g → f ≡ g
 
@@ -30,6 +29,10 @@ pub record IsWhole (kind : Kind) (told kept : List Fact) : Type 0 where
   pub one_each : OneEach told
   pub apart : AreApart kept
 
+-- facts of the fact's kind show more: in every worldview what they showed before, merged with what the fact shows there
+abbrev pub ShowsMore : Fact → List Fact → List Fact → Type 0
+ShowsMore fact old new = (w : Premises) → shown_by (kind_of fact.info) w new ≡ meet (shown_by (kind_of fact.info) w old) (shows w fact)
+
 -- `rest` has just those of the facts that this fact does not subsume
 pub record IsRest (fact : Fact) (facts rest : List Fact) : Type 0 where
   pub stays : All (λ f. Contains rest f ⊎ Subsumes fact f) facts
@@ -37,8 +40,8 @@ pub record IsRest (fact : Fact) (facts rest : List Fact) : Type 0 where
   pub gone : All (λ f. Subsumes fact f → ⊥) rest
 
 -- the fact says what the facts show together in the worldview, and rests on premises of theirs that give the same
-pub record IsMergeOf (kind : Kind) (worldview : Premises) (facts : List Fact) (merge : Fact) : Type 0 where
+pub record StandsFor (kind : Kind) (worldview : Premises) (facts : List Fact) (merge : Fact) : Type 0 where
   pub info : merge.info ≡ shown_by kind worldview facts
   pub within : is_subset merge.support worldview ≡ true
   pub same : shown_by kind merge.support facts ≡ merge.info
-  pub rests : (p : ℕ) → contains merge.support p ≡ true → (f : Fact) × Contains facts f × (contains f.support p ≡ true)
+  pub rests : ArePremisesOf facts merge.support

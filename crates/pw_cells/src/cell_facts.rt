@@ -1,17 +1,16 @@
 // The facts of one cell.
 
-ghost use Rattle.std.specs.Prelude.{◌≡◌, ◌<◌, ◌≤◌, ◌⊎◌, ◌↔◌, ◌++◌, ◌∷◌, [], true, false, vec_len, vec_capacity, position, Contains, IsTrue, IfOk, OnOk, OnErr};
-ghost use Rattle.std.specs.FinSet.{is_subset};
-ghost use Rattle.pw_info.specs.Information.{kind_of, meet, Implies};
+ghost use Rattle.std.specs.Prelude.{◌≡◌, ◌<◌, ◌≤◌, ◌↔◌, ◌++◌, ◌∷◌, [], true, false, vec_len, vec_capacity, position, IsTrue, IfOk, OnOk, OnErr};
+ghost use Rattle.pw_info.specs.Information.{kind_of, Implies};
 ghost use Rattle.pw_premises.specs.PremiseSubsets.{has_same_numbers};
-ghost use Rattle.pw_facts.specs.declared.fact.Fact.{Fact as Supported};
-ghost use Rattle.pw_facts.specs.Facts.{Premises, shows};
-ghost use Rattle.pw_cells.specs.Cells.{new_cell, shown_by};
-ghost use Rattle.pw_cells.specs.OneCell.{AreOfKind, AreApart, OneEach, SubsumedBy, IsRest, IsMergeOf};
+ghost use Rattle.pw_facts.specs.Facts.{IsMergeOfAll, visible_facts};
+ghost use Rattle.pw_facts.specs.Worldviews.{IsLeastAbove, IsMostBelow};
+ghost use Rattle.pw_cells.specs.Cells.{new_cell, shown_by, told_of, kept_of, IsSubsumedBy};
+ghost use Rattle.pw_cells.specs.Changes.{GainsFact, Assimilates};
+ghost use Rattle.pw_cells.specs.OneCell.{AreOfKind, AreApart, OneEach, IsRest, ShowsMore, StandsFor};
 
 use pw_facts::{Fact, merge_facts, subsumes};
-use pw_info::info::Info;
-use pw_info::kind::Kind;
+use pw_info::{Info, Kind};
 use pw_premises::PremiseSet;
 use std::alloc::{AllocError, Allocator};
 use std::marker::Model;
@@ -62,9 +61,9 @@ impl<A: Allocator + Copy> CellFacts<A> {
     // Records that a fact was told, and keeps it. Where memory is refused nothing changes.
     pub(crate) fn tell(&mut self, fact: &Fact) -> Result<(), AllocError>
         requires { kind_of fact.now.info ≡ self.old.kind }
-        ensures told { OnOk result ((w : Premises) → shown_by self.old.kind w self.new.told ≡ meet (shown_by self.old.kind w self.old.told) (shows w fact.now)) }
-        ensures kept { OnOk result ((w : Premises) → shown_by self.old.kind w self.new.kept ≡ meet (shown_by self.old.kind w self.old.kept) (shows w fact.now)) }
-        ensures facts { OnOk result ((f : Supported) → Contains self.new.kept f → (f ≡ fact.now) ⊎ Contains self.old.kept f) }
+        ensures told { OnOk result (GainsFact fact.now (told_of self.old) (told_of self.new)) }
+        ensures kept { OnOk result (GainsFact fact.now (kept_of self.old) (kept_of self.new)) }
+        ensures assimilates { OnOk result (Assimilates fact.now self.old.kept self.new.kept) }
         ensures kind { self.new.kind ≡ self.old.kind }
         ensures err { OnErr result (self.new ≡ self.old) }
     {
@@ -81,10 +80,10 @@ impl<A: Allocator + Copy> CellFacts<A> {
     // Keeps a fact, and answers whether it was news. Where memory is refused nothing changes.
     pub(crate) fn keep(&mut self, fact: &Fact) -> Result<bool, AllocError>
         requires { kind_of fact.now.info ≡ self.old.kind }
-        ensures answer { IfOk result (λ news. (news ≡ false) ↔ SubsumedBy self.old.kept fact.now) }
+        ensures answer { IfOk result (λ news. (news ≡ false) ↔ IsSubsumedBy self.old.kept fact.now) }
         ensures known { IfOk result (λ news. news ≡ false → self.new ≡ self.old) }
-        ensures kept { OnOk result ((w : Premises) → shown_by self.old.kind w self.new.kept ≡ meet (shown_by self.old.kind w self.old.kept) (shows w fact.now)) }
-        ensures facts { OnOk result ((f : Supported) → Contains self.new.kept f → (f ≡ fact.now) ⊎ Contains self.old.kept f) }
+        ensures kept { OnOk result (GainsFact fact.now (kept_of self.old) (kept_of self.new)) }
+        ensures assimilates { OnOk result (Assimilates fact.now self.old.kept self.new.kept) }
         ensures told { self.new.told ≡ self.old.told }
         ensures kind { self.new.kind ≡ self.old.kind }
         ensures err { OnErr result (self.new ≡ self.old) }
@@ -97,19 +96,21 @@ impl<A: Allocator + Copy> CellFacts<A> {
 
     // What was told, in a worldview.
     pub(crate) fn told(&self, worldview: &PremiseSet) -> Info
-        ensures value { result ≡ shown_by self.now.kind worldview.now self.now.told }
+        ensures value { result ≡ told_of self.now worldview.now }
         ensures kind { kind_of result ≡ self.now.kind }
-        ensures larger { (w : Premises) → is_subset worldview.now w ≡ true → Implies (shown_by self.now.kind w self.now.told) result }
+        ensures larger { IsLeastAbove worldview.now (told_of self.now) result }
     {
         shown(self.kind, self.told.as_slice(), worldview)
     }
 
     // What is kept, in a worldview, with premises that it rests on.
     pub(crate) fn kept(&self, worldview: &PremiseSet) -> Fact
-        ensures merge { IsMergeOf self.now.kind worldview.now self.now.kept result }
+        ensures merge { IsMergeOfAll (visible_facts worldview.now self.now.kept) result }
+        ensures stands { StandsFor self.now.kind worldview.now self.now.kept result }
         ensures kind { kind_of result.info ≡ self.now.kind }
-        ensures told { Implies result.info (shown_by self.now.kind worldview.now self.now.told) }
-        ensures larger { (w : Premises) → is_subset worldview.now w ≡ true → Implies (shown_by self.now.kind w self.now.kept) result.info }
+        ensures told { Implies result.info (told_of self.now worldview.now) }
+        ensures larger { IsLeastAbove result.support (kept_of self.now) result.info }
+        ensures smaller { IsMostBelow worldview.now (kept_of self.now) result.info }
     {
         merged(self.kind, self.kept.as_slice(), worldview)
     }
@@ -125,7 +126,7 @@ fn place_of(told: &[Fact], support: &PremiseSet) -> Option<usize>
 // Whether a kept fact subsumes this one.
 fn is_subsumed(kept: &[Fact], fact: &Fact) -> bool
     requires { AreOfKind (kind_of fact.now.info) kept.now }
-    ensures { IsTrue result ↔ SubsumedBy kept.now fact.now }
+    ensures { IsTrue result ↔ IsSubsumedBy kept.now fact.now }
 {
     for held in kept {
         if subsumes(held, fact) {
@@ -154,7 +155,7 @@ fn add_told<A: Allocator>(told: &mut Vec<Fact, A>, place: Option<usize>, fact: &
     requires room { place ≡ None → vec_len told.old < vec_capacity told.old }
     ensures kinds { AreOfKind (kind_of fact.now.info) told.new.items }
     ensures one_each { OneEach told.new.items }
-    ensures shown { (w : Premises) → shown_by (kind_of fact.now.info) w told.new.items ≡ meet (shown_by (kind_of fact.now.info) w told.old.items) (shows w fact.now) }
+    ensures shown { ShowsMore fact.now told.old.items told.new.items }
 {
     match place {
         Some(place) => told[place].info = told[place].info.meet(&fact.info),
@@ -165,14 +166,14 @@ fn add_told<A: Allocator>(told: &mut Vec<Fact, A>, place: Option<usize>, fact: &
 // Keeps a fact where there is room and drops those that it subsumes, unless it is known: then a kept fact subsumes it.
 fn assimilate<A: Allocator>(kept: &mut Vec<Fact, A>, known: bool, fact: &Fact)
     requires kinds { AreOfKind (kind_of fact.now.info) kept.old.items }
-    requires known { IsTrue known ↔ SubsumedBy kept.old.items fact.now }
+    requires known { IsTrue known ↔ IsSubsumedBy kept.old.items fact.now }
     requires apart { AreApart kept.old.items }
     requires room { known ≡ false → vec_len kept.old < vec_capacity kept.old }
     ensures kinds { AreOfKind (kind_of fact.now.info) kept.new.items }
     ensures known { known ≡ true → kept.new.items ≡ kept.old.items }
     ensures apart { AreApart kept.new.items }
-    ensures shown { (w : Premises) → shown_by (kind_of fact.now.info) w kept.new.items ≡ meet (shown_by (kind_of fact.now.info) w kept.old.items) (shows w fact.now) }
-    ensures facts { (f : Supported) → Contains kept.new.items f → (f ≡ fact.now) ⊎ Contains kept.old.items f }
+    ensures shown { ShowsMore fact.now kept.old.items kept.new.items }
+    ensures assimilates { Assimilates fact.now kept.old.items kept.new.items }
 {
     if !known {
         drop_subsumed(kept, fact);
@@ -223,7 +224,8 @@ fn shown(kind: Kind, facts: &[Fact], worldview: &PremiseSet) -> Info
 // The merge of the facts that rest on premises of the worldview alone.
 fn merged(kind: Kind, facts: &[Fact], worldview: &PremiseSet) -> Fact
     requires { AreOfKind kind facts.now }
-    ensures { IsMergeOf kind worldview.now facts.now result }
+    ensures stands { StandsFor kind worldview.now facts.now result }
+    ensures merge { IsMergeOfAll (visible_facts worldview.now facts.now) result }
 {
     let mut merge = Fact {
         info: Info::nothing(kind),

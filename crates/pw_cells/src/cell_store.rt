@@ -1,14 +1,17 @@
-ghost use Rattle.std.specs.Prelude.{◌≡◌, ◌≢◌, ◌↔◌, ◌⊎◌, ◌+◌, ◌≤◌, ◌<◌, ◌++◌, ℕ, [], true, false, length, map, Contains, IsOk, IfOk, vec_len, vec_capacity, OnOk, OnErr};
-ghost use Rattle.std.specs.FinSet.{contains, is_subset};
-ghost use Rattle.pw_info.specs.Information.{kind_of, meet, Implies};
-ghost use Rattle.pw_facts.specs.declared.fact.Fact.{Fact as Supported};
-ghost use Rattle.pw_facts.specs.Facts.{Premises, shows};
-ghost use Rattle.pw_cells.specs.Cells as spec;
+// The store: cells by number, each with what was told of it and what is kept of it.
+
+ghost use Rattle.std.specs.Prelude.{◌≡◌, ◌↔◌, ◌+◌, ◌≤◌, ◌<◌, ◌++◌, [], true, false, length, map, IsOk, IfOk, vec_len, vec_capacity, OnOk, OnErr};
+ghost use Rattle.std.specs.FinSet.{is_subset};
+ghost use Rattle.pw_info.specs.Information.{kind_of, Implies};
+ghost use Rattle.pw_premises.specs.Premises.{Premises};
+ghost use Rattle.pw_facts.specs.Facts.{IsMergeOfAll, visible_facts};
+ghost use Rattle.pw_facts.specs.Worldviews.{IsLeastAbove, IsMostBelow};
+ghost use Rattle.pw_cells.specs.Changes.{GainsFact, Assimilates, LeavesOthers};
+ghost use Rattle.pw_cells.specs.Cells.{new_cell, kind_in_store, kinds_of, kept_at, told_in, kept_in, most_cells, IsSubsumedBy, ArePremisesOf};
 
 use crate::cell_facts::CellFacts;
 use pw_facts::Fact;
-use pw_info::info::Info;
-use pw_info::kind::Kind;
+use pw_info::{Info, Kind};
 use pw_premises::PremiseSet;
 use std::alloc::{AllocError, Allocator, Global};
 use std::marker::Model;
@@ -25,7 +28,7 @@ impl<A: Allocator> Model for CellStore<A> {
     ghost use Rattle.std.specs.Prelude.{◌-◌, ◌≤◌, length, vec_len, vec_capacity};
     ghost use Rattle.pw_info.specs.contracts.kind.Kind as kinds;
     ghost use Rattle.pw_facts.specs.contracts.fact.Fact as facts;
-    ghost use Rattle.pw_cells.specs.Cells.{Store};
+    ghost use Rattle.pw_cells.specs.Cells.{Store, most_cells};
     ghost use Rattle.pw_cells.specs.CellCode.{store_code};
 
     ghost Value = { Store };
@@ -34,7 +37,7 @@ impl<A: Allocator> Model for CellStore<A> {
 
     ghost view = { λ a. record { cells = a.cells.items; room = vec_capacity a.cells - vec_len a.cells } };
 
-    ghost invariant = { λ a. length a.cells.items ≤ 4294967295 };
+    ghost invariant = { λ a. length a.cells.items ≤ most_cells };
 }
 
 impl<A: Allocator + Copy> CellStore<A> {
@@ -57,7 +60,7 @@ impl<A: Allocator + Copy> CellStore<A> {
     /// The kind of the cell, which is there.
     pub fn kind(&self, cell: u32) -> Kind
         requires { cell < length self.now.cells }
-        ensures { result ≡ spec.kind_at self.now cell }
+        ensures { result ≡ kind_in_store self.now cell }
     {
         self.cells[cell as usize].kind()
     }
@@ -65,7 +68,7 @@ impl<A: Allocator + Copy> CellStore<A> {
     /// Makes room for so many more cells: the next `add_cells` of at most so many succeeds, whatever is told or kept in
     /// between. It fails only for want of memory, and then nothing changes.
     pub fn reserve(&mut self, cells: u32) -> Result<(), AllocError>
-        requires { length self.old.cells + cells ≤ 4294967295 }
+        requires { length self.old.cells + cells ≤ most_cells }
         ensures room { OnOk result (cells ≤ self.new.room) }
         ensures cells { self.new.cells ≡ self.old.cells }
         ensures err { OnErr result (self.new ≡ self.old) }
@@ -76,9 +79,9 @@ impl<A: Allocator + Copy> CellStore<A> {
     /// Adds cells of these kinds, of which nothing was told, and answers the number of the first. It fails only for want of
     /// memory, not where there is room, and then nothing changes.
     pub fn add_cells(&mut self, kinds: &[Kind]) -> Result<u32, AllocError>
-        requires { length self.old.cells + length kinds.now ≤ 4294967295 }
+        requires { length self.old.cells + length kinds.now ≤ most_cells }
         ensures first { IfOk result (λ first. first ≡ length self.old.cells) }
-        ensures cells { OnOk result (self.new.cells ≡ self.old.cells ++ map spec.new_cell kinds.now) }
+        ensures cells { OnOk result (self.new.cells ≡ self.old.cells ++ map new_cell kinds.now) }
         ensures succeeds { length kinds.now ≤ self.old.room → IsOk result }
         ensures err { OnErr result (self.new ≡ self.old) }
     {
@@ -92,13 +95,12 @@ impl<A: Allocator + Copy> CellStore<A> {
     /// kind. It fails only for want of memory, and then nothing changes.
     pub fn tell(&mut self, cell: u32, fact: Fact) -> Result<(), AllocError>
         requires there { cell < length self.old.cells }
-        requires kind { kind_of fact.info ≡ spec.kind_at self.old cell }
-        ensures told { OnOk result ((w : Premises) → spec.told_in self.new cell w ≡ meet (spec.told_in self.old cell w) (shows w fact)) }
-        ensures kept { OnOk result ((w : Premises) → spec.kept_in self.new cell w ≡ meet (spec.kept_in self.old cell w) (shows w fact)) }
-        // Each fact that is kept was kept before, or is this one.
-        ensures facts { OnOk result ((f : Supported) → Contains (spec.kept_at self.new cell) f → (f ≡ fact) ⊎ Contains (spec.kept_at self.old cell) f) }
-        ensures others { (c : ℕ) → c ≢ cell → spec.cell_at self.new c ≡ spec.cell_at self.old c }
-        ensures kinds { spec.kinds_of self.new ≡ spec.kinds_of self.old }
+        requires kind { kind_of fact.info ≡ kind_in_store self.old cell }
+        ensures told { OnOk result (GainsFact fact (told_in self.old cell) (told_in self.new cell)) }
+        ensures kept { OnOk result (GainsFact fact (kept_in self.old cell) (kept_in self.new cell)) }
+        ensures assimilates { OnOk result (Assimilates fact (kept_at self.old cell) (kept_at self.new cell)) }
+        ensures others { LeavesOthers cell self.old self.new }
+        ensures kinds { kinds_of self.new ≡ kinds_of self.old }
         ensures room { self.new.room ≡ self.old.room }
         ensures err { OnErr result (self.new ≡ self.old) }
     {
@@ -110,14 +112,14 @@ impl<A: Allocator + Copy> CellStore<A> {
     /// nothing changes.
     pub fn keep(&mut self, cell: u32, fact: Fact) -> Result<bool, AllocError>
         requires there { cell < length self.old.cells }
-        requires kind { kind_of fact.info ≡ spec.kind_at self.old cell }
-        ensures answer { IfOk result (λ news. (news ≡ false) ↔ spec.IsSubsumed self.old cell fact) }
+        requires kind { kind_of fact.info ≡ kind_in_store self.old cell }
+        ensures answer { IfOk result (λ news. (news ≡ false) ↔ IsSubsumedBy (kept_at self.old cell) fact) }
         ensures known { IfOk result (λ news. news ≡ false → self.new ≡ self.old) }
-        ensures told { (w : Premises) → spec.told_in self.new cell w ≡ spec.told_in self.old cell w }
-        ensures kept { OnOk result ((w : Premises) → spec.kept_in self.new cell w ≡ meet (spec.kept_in self.old cell w) (shows w fact)) }
-        ensures facts { OnOk result ((f : Supported) → Contains (spec.kept_at self.new cell) f → (f ≡ fact) ⊎ Contains (spec.kept_at self.old cell) f) }
-        ensures others { (c : ℕ) → c ≢ cell → spec.cell_at self.new c ≡ spec.cell_at self.old c }
-        ensures kinds { spec.kinds_of self.new ≡ spec.kinds_of self.old }
+        ensures told { (w : Premises) → told_in self.new cell w ≡ told_in self.old cell w }
+        ensures kept { OnOk result (GainsFact fact (kept_in self.old cell) (kept_in self.new cell)) }
+        ensures assimilates { OnOk result (Assimilates fact (kept_at self.old cell) (kept_at self.new cell)) }
+        ensures others { LeavesOthers cell self.old self.new }
+        ensures kinds { kinds_of self.new ≡ kinds_of self.old }
         ensures room { self.new.room ≡ self.old.room }
         ensures err { OnErr result (self.new ≡ self.old) }
     {
@@ -128,10 +130,10 @@ impl<A: Allocator + Copy> CellStore<A> {
     /// memory. The cell is there.
     pub fn told(&self, cell: u32, worldview: &PremiseSet) -> Info
         requires { cell < length self.now.cells }
-        ensures value { result ≡ spec.told_in self.now cell worldview.now }
-        ensures kind { kind_of result ≡ spec.kind_at self.now cell }
+        ensures value { result ≡ told_in self.now cell worldview.now }
+        ensures kind { kind_of result ≡ kind_in_store self.now cell }
         // A larger worldview is told at least as much.
-        ensures larger { (w : Premises) → is_subset worldview.now w ≡ true → Implies (spec.told_in self.now cell w) result }
+        ensures larger { IsLeastAbove worldview.now (told_in self.now cell) result }
     {
         self.cells[cell as usize].told(worldview)
     }
@@ -140,17 +142,20 @@ impl<A: Allocator + Copy> CellStore<A> {
     /// of the worldview that it rests on. It takes no memory. The cell is there.
     pub fn kept(&self, cell: u32, worldview: &PremiseSet) -> Fact
         requires { cell < length self.now.cells }
-        ensures info { result.info ≡ spec.kept_in self.now cell worldview.now }
-        ensures kind { kind_of result.info ≡ spec.kind_at self.now cell }
+        // It is the merge of the kept facts that are visible, one after another in some order.
+        ensures merge { IsMergeOfAll (visible_facts worldview.now (kept_at self.now cell)) result }
+        ensures info { result.info ≡ kept_in self.now cell worldview.now }
+        ensures kind { kind_of result.info ≡ kind_in_store self.now cell }
         ensures within { is_subset result.support worldview.now ≡ true }
         // These premises give the same information.
-        ensures same { spec.kept_in self.now cell result.support ≡ result.info }
+        ensures same { kept_in self.now cell result.support ≡ result.info }
         // Each is a premise of a fact that is kept of the cell.
-        ensures rests { (p : ℕ) → contains result.support p ≡ true → (f : Supported) × Contains (spec.kept_at self.now cell) f × (contains f.support p ≡ true) }
+        ensures rests { ArePremisesOf (kept_at self.now cell) result.support }
         // What is kept says at least what was told.
-        ensures told { Implies result.info (spec.told_in self.now cell worldview.now) }
-        // A larger worldview keeps at least as much.
-        ensures larger { (w : Premises) → is_subset worldview.now w ≡ true → Implies (spec.kept_in self.now cell w) result.info }
+        ensures told { Implies result.info (told_in self.now cell worldview.now) }
+        // A worldview that has these premises keeps at least as much, and one inside the worldview at most as much.
+        ensures larger { IsLeastAbove result.support (kept_in self.now cell) result.info }
+        ensures smaller { IsMostBelow worldview.now (kept_in self.now cell) result.info }
     {
         self.cells[cell as usize].kept(worldview)
     }
@@ -159,7 +164,7 @@ impl<A: Allocator + Copy> CellStore<A> {
 // Appends a cell of each kind where there is room.
 fn append_cells<A: Allocator + Copy>(cells: &mut Vec<CellFacts<A>, A>, kinds: &[Kind])
     requires { vec_len cells.old + length kinds.now ≤ vec_capacity cells.old }
-    ensures { cells.new.items ≡ cells.old.items ++ map spec.new_cell kinds.now }
+    ensures { cells.new.items ≡ cells.old.items ++ map new_cell kinds.now }
 {
     let alloc = *cells.allocator();
     for kind in kinds {

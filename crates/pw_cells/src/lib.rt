@@ -2,7 +2,8 @@
 #![tactic(auto)]
 
 mod cell_facts;
-pub mod cell_store;
+mod cell_store;
+pub mod laws;
 
 pub use cell_store::CellStore;
 

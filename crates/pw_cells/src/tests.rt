@@ -5,9 +5,8 @@ ghost use Rattle.pw_cells.specs.Cells.{kinds_of};
 
 use crate::CellStore;
 use pw_facts::Fact;
-use pw_info::info::Info;
-use pw_info::kind::Kind;
-use pw_kinds::interval::Interval;
+use pw_info::{Info, Kind};
+use pw_kinds::Interval;
 use pw_premises::PremiseSet;
 use std::alloc::AllocError;
 use std::test::Fail;

@@ -7,12 +7,13 @@ use Rattle.pw_info.specs.Information.{kind_of, allows, meet, nothing, Implies}
 use Rattle.pw_info.proofs.Informations.{kind-closest, meet_comm, meet_nothing, meet_implied, implied_from_meet}
 use Rattle.pw_kinds.proofs.Order.{not_both}
 use Rattle.pw_premises.specs.PremiseSubsets.{is_subset_refl, is_subset_trans, is_subset_union_left, is_subset_union_right, has_same_numbers, same_numbers_equal}
+use Rattle.pw_premises.specs.Premises.{Premises}
 use Rattle.pw_facts.specs.declared.fact.Fact.{Fact}
-use Rattle.pw_facts.specs.Facts.{Premises, shows, IsMerge}
+use Rattle.pw_facts.specs.Facts.{shows, IsMerge}
 use Rattle.pw_facts.proofs.Shown.{implies_same, shows-supported, shows-unsupported}
 
 -- the fact that says what both say and rests on these premises
-abbrev pub meet_under : Fact → Fact → Premises → Fact
+abbrev meet_under : Fact → Fact → Premises → Fact
 meet_under a b premises = record { info = meet a.info b.info; support = premises }
 
 -- ---- what the code builds

@@ -6,10 +6,11 @@ use Rattle.std.proofs.lemmas.Bool.{cases_Bool}
 use Rattle.pw_info.specs.declared.kind.Kind.{Kind}
 use Rattle.pw_info.specs.declared.info.Info.{Info}
 use Rattle.pw_info.specs.Information.{kind_of, is_value, allows, nothing, Implies}
-use Rattle.pw_info.proofs.Informations.{kind-closest, allows-nothing, allows_value}
-use Rattle.pw_premises.specs.PremiseSubsets.{is_subset_trans}
+use Rattle.pw_info.proofs.Informations.{kind-closest, allows-nothing, allows_value, Implies-antisym}
+use Rattle.pw_premises.specs.PremiseSubsets.{is_subset_refl, is_subset_trans, is_subset_antisym}
+use Rattle.pw_premises.specs.Premises.{Premises}
 use Rattle.pw_facts.specs.declared.fact.Fact.{Fact}
-use Rattle.pw_facts.specs.Facts.{Premises, shows, Subsumes}
+use Rattle.pw_facts.specs.Facts.{shows, Subsumes}
 
 -- where its support is believed a fact shows what it says
 pub shows-supported : (w : Premises) (f : Fact) → is_subset f.support w ≡ true → shows w f ≡ f.info
@@ -59,3 +60,14 @@ subsumption_shows w a b k s = implies_shown (shows w a) w b (kind-shows w a ∙ 
 -- subsumption is transitive
 pub subsumes_trans : (a b c : Fact) → Subsumes a b → Subsumes b c → Subsumes a c
 subsumes_trans a b c s t = (λ v e. t.0 v (s.0 v e), is_subset_trans a.support b.support c.support s.1 t.1)
+
+-- each fact subsumes itself
+pub subsumes_refl : (a : Fact) → Subsumes a a
+subsumes_refl a = (λ v e. e, is_subset_refl a.support)
+
+-- facts of one kind that subsume each other are equal
+pub subsumes_antisym : (a b : Fact) → kind_of a.info ≡ kind_of b.info → Subsumes a b → Subsumes b a → a ≡ b
+subsumes_antisym a b k s t =
+    let info : a.info ≡ b.info = Implies-antisym a.info b.info k s.0 t.0 in
+    let support : a.support ≡ b.support = is_subset_antisym a.support b.support s.1 t.1 in
+    λ i. record { info = info i; support = support i }

@@ -1,14 +1,11 @@
 -- What a supported value shows in a worldview, which one subsumes which, and what the merge of two rests on.
-use Rattle.std.specs.Prelude.{◌≡◌, ◌≢◌, true, if◌then◌else◌}
-use Rattle.std.specs.Ordering.{nat_cmp}
-use Rattle.std.specs.FinSet.{FinSet, union, is_subset}
+use Rattle.std.specs.Prelude.{◌≡◌, ◌≢◌, true, if◌then◌else◌, List, [], ◌∷◌, filter, IsPermutation}
+use Rattle.std.specs.FinSet.{empty, union, is_subset}
+use Rattle.pw_info.specs.declared.kind.Kind.{Kind}
 use Rattle.pw_info.specs.declared.info.Info.{Info}
 use Rattle.pw_info.specs.Information.{kind_of, meet, nothing, Implies}
+use Rattle.pw_premises.specs.Premises.{Premises}
 use Rattle.pw_facts.specs.declared.fact.Fact.{Fact}
-
--- a set of premises, each by its number
-abbrev pub Premises : Type 0
-Premises = FinSet nat_cmp
 
 -- in a worldview that has every premise of its support a fact shows its information, in any other nothing
 abbrev pub shows : Premises → Fact → Info
@@ -27,3 +24,24 @@ pub record IsMerge (a b merge : Fact) : Type 0 where
   pub first : a.info ≢ b.info → merge.info ≡ a.info → merge.support ≡ a.support
   pub second : a.info ≢ b.info → merge.info ≡ b.info → merge.support ≡ b.support
   pub both : merge.info ≢ a.info → merge.info ≢ b.info → merge.support ≡ union a.support b.support
+
+-- in every worldview that has what the third rests on, the first two together show what it says
+abbrev pub ShowTogether : Fact → Fact → Fact → Type 0
+ShowTogether a b merge = (w : Premises) → is_subset merge.support w ≡ true → meet (shows w a) (shows w b) ≡ merge.info
+
+-- no information of a kind, on no premise
+abbrev pub nothing_known : Kind → Fact
+nothing_known kind = record { info = nothing kind; support = empty }
+
+-- merging these facts into the first, one after another, comes to the last
+abbrev pub MergesTo : Fact → List Fact → Fact → Type 0
+MergesTo first [] last = last ≡ first
+MergesTo first (f ∷ fs) last = (merge : Fact) × IsMerge first f merge × MergesTo merge fs last
+
+-- the merge of these facts, one after another in some order, from nothing on
+abbrev pub IsMergeOfAll : List Fact → Fact → Type 0
+IsMergeOfAll facts merge = (order : List Fact) × IsPermutation facts order × MergesTo (nothing_known (kind_of merge.info)) order merge
+
+-- those of the facts whose premises are all in the worldview
+abbrev pub visible_facts : Premises → List Fact → List Fact
+visible_facts worldview facts = filter (λ f. is_subset f.support worldview) facts

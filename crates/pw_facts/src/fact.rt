@@ -1,9 +1,12 @@
+// Facts, their merge, and which subsumes which.
+
 ghost use Rattle.std.specs.Prelude.{◌≡◌, ◌↔◌, true, IsTrue};
 ghost use Rattle.std.specs.FinSet.{is_subset, union};
 ghost use Rattle.pw_info.specs.Information.{kind_of, meet, Implies};
-ghost use Rattle.pw_facts.specs.Facts.{Premises, shows, Subsumes, IsMerge};
+ghost use Rattle.pw_premises.specs.Premises.{Premises};
+ghost use Rattle.pw_facts.specs.Facts.{shows, Subsumes, IsMerge, ShowTogether};
 
-use pw_info::info::Info;
+use pw_info::Info;
 use pw_premises::PremiseSet;
 
 /// A supported value: an information, and the premises that it rests on. (Radul and Sussman, *The Art of the
@@ -37,7 +40,7 @@ pub fn merge_facts(a: &Fact, b: &Fact) -> Fact
     ensures rule { IsMerge a.now b.now result }
     ensures kind { kind_of result.info ≡ kind_of a.now.info }
     // In every worldview that has what it rests on, the two together show what it says.
-    ensures shows { (w : Premises) → is_subset result.support w ≡ true → meet (shows w a.now) (shows w b.now) ≡ result.info }
+    ensures shows { ShowTogether a.now b.now result }
     // It rests on nothing that neither rests on.
     ensures rests { is_subset result.support (union a.now.support b.now.support) ≡ true }
 {
@@ -60,8 +63,8 @@ pub fn subsumes(a: &Fact, b: &Fact) -> bool
 #[cfg(test)]
 mod tests {
     use super::*;
-    use pw_info::kind::Kind;
-    use pw_kinds::interval::Interval;
+    use pw_info::Kind;
+    use pw_kinds::Interval;
 
     // The fact that a number lies from `lo` to `hi`, under these premises.
     fn fact(lo: i64, hi: i64, support: PremiseSet) -> Fact

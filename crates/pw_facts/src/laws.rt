@@ -1,21 +1,23 @@
 //! Laws of facts, each the contract of a function that does nothing: they hold of every fact.
-ghost use Rattle.std.specs.Prelude.{◌≡◌, true};
-ghost use Rattle.std.specs.FinSet.{is_subset};
+ghost use Rattle.std.specs.Prelude.{◌≡◌};
 ghost use Rattle.pw_info.specs.Information.{kind_of, Implies};
+ghost use Rattle.pw_premises.specs.Premises.{Premises};
 ghost use Rattle.pw_facts.specs.declared.fact.Fact.{Fact};
-ghost use Rattle.pw_facts.specs.Facts.{Premises, shows, Subsumes, IsMerge};
+ghost use Rattle.pw_facts.specs.Facts.{shows, Subsumes, IsMerge};
+ghost use Rattle.pw_facts.specs.Worldviews.{IsMonotone};
 
 /// What a fact shows is of its kind; a larger worldview shows at least as much, and none shows more than the fact says.
 pub fn worldviews_show_what_is_supported()
     ensures kind { (w : Premises) (f : Fact) → kind_of (shows w f) ≡ kind_of f.info }
-    ensures larger { (v w : Premises) (f : Fact) → is_subset v w ≡ true → Implies (shows w f) (shows v f) }
+    ensures larger { (f : Fact) → IsMonotone (λ w. shows w f) }
     ensures most { (w : Premises) (f : Fact) → Implies f.info (shows w f) }
 {}
 
-/// Subsumption is reflexive and transitive.
+/// Subsumption is a partial order on the facts of one kind.
 pub fn subsumption_is_an_order()
     ensures reflexive { (a : Fact) → Subsumes a a }
     ensures transitive { (a b c : Fact) → Subsumes a b → Subsumes b c → Subsumes a c }
+    ensures antisymmetric { (a b : Fact) → kind_of a.info ≡ kind_of b.info → Subsumes a b → Subsumes b a → a ≡ b }
 {}
 
 /// Two facts of one kind have one merge.

@@ -1,7 +1,7 @@
 //! Supported values: an information, and the premises that it rests on.
 #![tactic(auto)]
 
-pub mod fact;
+mod fact;
 pub mod laws;
 
 pub use fact::{Fact, merge_facts, subsumes};

@@ -1,3 +1,4 @@
+-- Ranges as words, cut at their first '.'.
 use Rattle.std.proofs.Common.{rules, ◌≡◌, ℕ, zero, suc, ℤ, pos, negsuc, ◌≤ℤ◌, List, [], ◌∷◌, ◌++◌, refl, sym, ◌∙◌, subst, inl, inr, arith, Option, Some, None, IfNone, is_some}
 use Rattle.std.proofs.lemmas.Bool.{cases_Bool}
 use Rattle.std.proofs.lemmas.Bool.Decides.{Decides-int_eq}
@@ -5,7 +6,7 @@ use Rattle.std.proofs.lemmas.Str.Parse.{digit_at}
 use Rattle.std.specs.Fmt.{signed_decimal}
 use Rattle.std.specs.Ordering.{int_eq}
 use Rattle.std.specs.Str.Parse.{AllDigits}
-use Rattle.pw_info.specs.Number.{IsWithin, SpellsNumber}
+use Rattle.pw_info.specs.Number.{IsUpTo, SpellsNumber}
 use Rattle.pw_info.specs.Cut.{HasNoDot, SpellsCut}
 use Rattle.pw_info.specs.Range.{SpellsRange, text_of_range}
 use Rattle.pw_info.proofs.Cuts.{no_cut, one_cut}
@@ -48,7 +49,7 @@ one_range_lem word lo hi least greatest (inr (front, back, is, low, high, order)
     (one_number_lem front lo least low low', one_number_lem back hi greatest high (subst (λ (w : List ℕ). SpellsNumber w greatest) same high'))
 
 -- what is written for a range spells it
-pub text_spells : (lo hi : ℤ) → lo ≤ℤ hi → IsWithin 1000000000 lo → IsWithin 1000000000 hi → SpellsRange (text_of_range lo hi) lo hi
+pub text_spells : (lo hi : ℤ) → lo ≤ℤ hi → IsUpTo 1000000000 lo → IsUpTo 1000000000 hi → SpellsRange (text_of_range lo hi) lo hi
 text_spells lo hi order low high =
     let one = signed_decimal_spells lo low in
     let other = signed_decimal_spells hi high in
@@ -60,14 +61,14 @@ text_spells lo hi order low high =
 
 -- what a word that is cut at its first dot does not spell within most, as LO..HI, it spells in no way
 pub none_from_cut : (word front rest : List ℕ) (most : ℕ) → word ≡ front ++ (46 ∷ rest) → HasNoDot front
-    → ((lo hi : ℤ) → SpellsCut front rest lo hi → IsWithin most lo → IsWithin most hi → ⊥)
-    → (lo hi : ℤ) → SpellsRange word lo hi → IsWithin most lo → IsWithin most hi → ⊥
+    → ((lo hi : ℤ) → SpellsCut front rest lo hi → IsUpTo most lo → IsUpTo most hi → ⊥)
+    → (lo hi : ℤ) → SpellsRange word lo hi → IsUpTo most lo → IsUpTo most hi → ⊥
 none_from_cut word front rest most is clear none lo hi spelled = none lo hi (cut word front rest lo hi is clear spelled)
 
 -- what a word with no dot does not spell within most, as a number, it spells in no way
 pub none_from_uncut : (word : List ℕ) (most : ℕ) → HasNoDot word
-    → ((n : ℤ) → SpellsNumber word n → IsWithin most n → ⊥)
-    → (lo hi : ℤ) → SpellsRange word lo hi → IsWithin most lo → IsWithin most hi → ⊥
+    → ((n : ℤ) → SpellsNumber word n → IsUpTo most n → ⊥)
+    → (lo hi : ℤ) → SpellsRange word lo hi → IsUpTo most lo → IsUpTo most hi → ⊥
 none_from_uncut word most clear none lo hi spelled low high = none lo (uncut word lo hi clear spelled).0 low
 
 -- a fact at one answer's None, and what follows from it, at another answer's

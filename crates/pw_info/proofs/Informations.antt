@@ -1,11 +1,13 @@
 -- Laws of informations, over what they leave possible.
-use Rattle.std.proofs.Common.{◌≡◌, ℕ, ℤ, pos, negsuc, ◌≤ℤ◌, Bool, true, false, ◌&&◌, refl, sym, ◌∙◌, ap, subst}
+use Rattle.std.proofs.Common.{◌≡◌, ℕ, ℤ, pos, negsuc, ◌≤ℤ◌, ◌<◌, Bool, true, false, ◌&&◌, refl, sym, ◌∙◌, ap, subst}
 use Rattle.std.proofs.Props.{props}
 use mathlib.Core.HLevel.{is_prop→PathP}
-use Rattle.pw_kinds.specs.Span.{first, last}
-use Rattle.pw_kinds.specs.Places.{IsSize}
+use Rattle.pw_kinds.specs.Ranges.{interval_lowest, interval_highest}
+use Rattle.pw_kinds.specs.Places.{IsSize, is_place}
 use Rattle.pw_kinds.specs.declared.members.Members.{Members}
 use Rattle.pw_kinds.specs.Interval as interval
+use Rattle.pw_kinds.specs.Exact as exact
+use Rattle.pw_kinds.specs.Members as members
 use Rattle.pw_kinds.specs.Members.{size_of, IsFull}
 use Rattle.pw_kinds.proofs.Order.{both_true, true_both, same_test, is_false, not_both, true_between}
 use Rattle.pw_kinds.proofs.Intervals as intervals
@@ -16,7 +18,7 @@ use Rattle.pw_info.specs.declared.kind.Kind.{Kind}
 use Rattle.pw_info.specs.declared.kind.Kind.TheVariants as kinds
 use Rattle.pw_info.specs.declared.info.Info.{Info}
 use Rattle.pw_info.specs.declared.info.Info.TheVariants as info
-use Rattle.pw_info.specs.Information.{set_kind, kind_of, is_value, allows, meet, nothing, contradiction, closest, IsNothing, IsContradiction, Implies}
+use Rattle.pw_info.specs.Information.{set_kind, kind_of, is_value, allows, meet, nothing, contradiction, closest, IsNothing, IsContradiction, Implies, PassesMore}
 
 -- ---- kinds of sets
 
@@ -60,7 +62,7 @@ same_values a b k same = absurd (cc)
 
 -- what is possible is a value of the kind
 pub allows_value : (a : Info) (v : ℤ) → allows a v ≡ true → is_value (kind_of a) v ≡ true
-allows_value (info.Interval i) v e = let range : (first ≤ℤ v) × (v ≤ℤ last) = intervals.allows_in_range i v e in true_between first v last range.0 range.1
+allows_value (info.Interval i) v e = let range : (interval_lowest ≤ℤ v) × (v ≤ℤ interval_highest) = intervals.allows_in_range i v e in true_between interval_lowest v interval_highest range.0 range.1
 allows_value (info.Members n part) v e = sets.allows_in_size part v e
 allows_value (info.Exact f) v e = exacts.allows_in_range f v e
 
@@ -75,7 +77,7 @@ kind-meet a b = kind-closest (kind_of a) (λ v. allows a v && allows b v)
 
 -- the information of a kind that leaves possible just what passes is the closest
 pub closest_is : (p : ℤ → Bool) (a : Info) → ((v : ℤ) → is_value (kind_of a) v ≡ true → allows a v ≡ p v) → a ≡ closest (kind_of a) p
-closest_is p (info.Interval i) same = ap info.Interval (intervals.closest_is p i (λ v l h. same v (true_between first v last l h)))
+closest_is p (info.Interval i) same = ap info.Interval (intervals.closest_is p i (λ v l h. same v (true_between interval_lowest v interval_highest l h)))
 closest_is p (info.Members n part) same =
     ap (info.Members n) (sets.closest_is (size_of part) p part refl (λ k l. same (pos k) (sets.place_true (size_of part) k l)))
 closest_is p (info.Exact e) same = ap info.Exact (exacts.closest_is p e same)
@@ -93,7 +95,7 @@ empty_closest = intervals.closest_is (λ v. false) interval.empty (λ v l h. int
 pub allows-contradiction : (k : Kind) (v : ℤ) → allows (contradiction k) v ≡ false
 allows-contradiction kinds.Interval v = ap (λ i. interval.allows i v) (sym empty_closest) ∙ intervals.empty_none v
 allows-contradiction (kinds.Members set) v = sets.allows-empty set.size set.sized v
-allows-contradiction kinds.Exact v = exacts.allows-none v
+allows-contradiction kinds.Exact v = exacts.allows-empty v
 
 pub allows-meet : (a b : Info) → kind_of a ≡ kind_of b → (v : ℤ) → allows (meet a b) v ≡ (allows a v && allows b v)
 allows-meet (info.Interval i) (info.Interval j) k v = intervals.allows-meet i j v
@@ -160,6 +162,25 @@ meet_contradiction a =
 -- two of a kind that imply each other are equal
 pub Implies-antisym : (a b : Info) → kind_of a ≡ kind_of b → Implies a b → Implies b a → a ≡ b
 Implies-antisym a b k p q = same_values a b k (λ v. same_test _ _ (p v) (q v))
+
+-- every information implies nothing of its kind
+pub implies_nothing : (a : Info) (k : Kind) → kind_of a ≡ k → Implies a (nothing k)
+implies_nothing a k kind v e = allows-nothing k v ∙ subst (λ (l : Kind). is_value l v ≡ true) kind (allows_value a v e)
+
+members_mono : (size : ℕ) → IsSize size → (p q : ℤ → Bool) → ((v : ℤ) → is_place size v ≡ true → p v ≡ true → q v ≡ true)
+    → members.IsWithin (members.closest size p) (members.closest size q)
+members_mono size h p q more (pos k) e =
+    let below : k < size = subst (λ (s : ℕ). k < s) (sets.size_of-closest size p h) (sets.allows_below (members.closest size p) k e) in
+    sets.allows-closest size q h k below ∙ more (pos k) (sets.place_true size k below) (sym (sets.allows-closest size p h k below) ∙ e)
+members_mono size h p q more (negsuc k) e = absurd (not_both _ e refl)
+
+-- the closest of a kind grows with the test
+pub closest_mono : (k : Kind) (p q : ℤ → Bool) → PassesMore k p q → Implies (closest k p) (closest k q)
+closest_mono kinds.Interval p q more =
+    (intervals.closest_closest p).smallest (interval.closest q) (λ v r e. (intervals.closest_closest q).holds v r (more v r e))
+closest_mono (kinds.Members set) p q more = members_mono set.size set.sized p q more
+closest_mono kinds.Exact p q more =
+    (exacts.closest_closest p).smallest (exact.closest q) (λ v r e. (exacts.closest_closest q).holds v r (more v r e))
 
 -- the first of two implies the second just where it is their merge
 pub meet_implied : (a b : Info) → kind_of a ≡ kind_of b → Implies a b → meet a b ≡ a

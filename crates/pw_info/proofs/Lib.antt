@@ -2,11 +2,16 @@ pub mod Cuts
 pub mod Digits
 pub mod Dots
 pub mod ExampleNames
+pub mod FirstLemmas
 pub mod Informations
+pub mod LineLemmas
 pub mod MemberTexts
+pub mod NameLemmas
 pub mod NameTests
 pub mod NamesInARow
 pub mod Numbers
 pub mod PassingFacts
+pub mod Ranks
 pub mod Spellings
+pub mod WordLemmas
 pub mod Writings

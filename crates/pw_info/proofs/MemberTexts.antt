@@ -20,12 +20,12 @@ use Rattle.pw_kinds.proofs.Order.{both_true, is_false, not_both, same_test, true
 use Rattle.pw_info.specs.declared.info.Info.TheVariants as info
 use Rattle.pw_info.specs.Information.{set_kind, IsNothing}
 use Rattle.pw_info.specs.MemberWriting.{mark_after, opened, places_below}
-use Rattle.pw_info.specs.Passing.{PassesPart}
+use Rattle.pw_info.specs.Passing.{PassesPart, IsWritten, IsBrokenOff}
 use Rattle.pw_info.specs.SetNames.{SetNames, name_at}
 use Rattle.pw_info.specs.SetText.{ArePlaces, is_one_of, text_of_set}
 use Rattle.pw_info.specs.Spelling.{SpellsInfo}
 use Rattle.pw_info.specs.Text.{places_of, text_of_members, text_of_places}
-use Rattle.pw_info.proofs.PassingFacts.{PassesPart-after, PassesPart-append}
+use Rattle.pw_info.proofs.PassingFacts.{PassesPart-append, broken_off_then, written_then}
 
 -- ---- the possible places
 
@@ -275,25 +275,29 @@ module _ {S : Type 0} (passes : S → List ℕ → S → Type 0) (s t : S) (name
       (PassesPart-append passes s t (opened names (places_below part (size_of part))) (codes "}")
       (front_longer n (size_of part - n) (size_of part) (omega arith) front))
 
--- ---- one more name is passed
+-- ---- one more name is written
 
-module _ {S : Type 0} (passes : S → List ℕ → S → Type 0)
+module _ {S : Type 0} (passes : S → List ℕ → S → Type 0) (has_failed : S → Bool)
     (joins : (s t u : S) (xs ys : List ℕ) → passes s xs t → passes t ys u → passes s (xs ++ ys) u)
     (s t u : S) (names : List (List ℕ)) (part : Members) (n : ℕ) (mark name : List ℕ)
     (is : allows part (pos n) ≡ true) (before : mark ≡ mark_after (places_below part n)) (named : slice_get names n ≡ Some name)
-    (so_far : passes s (opened names (places_below part n)) t) where
+    (so_far : IsWritten passes has_failed s t (opened names (places_below part n))) where
   -- the whole of it, behind what is written
-  pub passed_more : passes t (mark ++ name) u → passes s (opened names (places_below part (n + 1))) u
-  passed_more more =
-      subst (λ text. passes s text u) (sym (opened_by names part n mark name is before named))
-      (joins s t u (opened names (places_below part n)) (mark ++ name) so_far more)
+  pub written_more : IsWritten passes has_failed t u (mark ++ name) → IsWritten passes has_failed s u (opened names (places_below part (n + 1)))
+  written_more more =
+      subst (IsWritten passes has_failed s u) (sym (opened_by names part n mark name is before named))
+      (written_then passes has_failed joins s t u (opened names (places_below part n)) (mark ++ name) so_far more)
 
   -- a front of it
-  pub front_more : n < size_of part → PassesPart passes t u (mark ++ name) → PassesPart passes s u (text_of_set names (places_of part))
-  front_more below front =
-      front_of_set passes s u names part (n + 1) (omega arith) (λ none. not_both _ is (none (pos n)))
-      (subst (PassesPart passes s u) (sym (opened_by names part n mark name is before named))
-      (PassesPart-after passes joins s t u (opened names (places_below part n)) (mark ++ name) so_far front))
+  pub broken_off_more : n < size_of part → IsBrokenOff passes has_failed t u (mark ++ name)
+      → IsBrokenOff passes has_failed s u (text_of_set names (places_of part))
+  broken_off_more below broken =
+      let both = broken_off_then passes has_failed joins s t u (opened names (places_below part n)) (mark ++ name) so_far broken in
+      record {
+        front = front_of_set passes s u names part (n + 1) (omega arith) (λ none. not_both _ is (none (pos n)))
+            (subst (PassesPart passes s u) (sym (opened_by names part n mark name is before named)) both.front);
+        failed = both.failed;
+      }
 
 -- ---- what is written spells what it was written for
 

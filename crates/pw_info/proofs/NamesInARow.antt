@@ -1,4 +1,4 @@
--- Names of members in a row, with ',' (44) between each two: one place is read of each name, and no other row reads so.
+-- Names of members in a row, with ',' between each two: one place is read of each name, and no other row reads so.
 use Rattle.std.proofs.Common.{◌≡◌, ℕ, zero, suc, ℤ, pos, ◌<◌, Bool, true, false, ◌||◌, ◌⊎◌, List, [], ◌∷◌, ◌++◌, length, All, Contains, Option, Some, None, IfSome, IfNone, Bor, slice_get, get_or, nat_eq, inl, inr, refl, sym, ◌∙◌, ap, subst, arith}
 use Rattle.std.proofs.lemmas.Bool.{cases_order, or_parts}
 use Rattle.std.proofs.lemmas.Bool.Decides.{Decides-int_eq, Decides-eqb, Decides-like, same_from_decides}
@@ -17,7 +17,7 @@ use Rattle.pw_info.specs.Cut.{HasNoComma}
 use Rattle.pw_info.specs.MemberReading.{NamesApart, AddsPlaces}
 use Rattle.pw_info.specs.Name.{is_name_byte}
 use Rattle.pw_info.specs.SetNames.{AreNames, name_at}
-use Rattle.pw_info.specs.SetText.{ArePlaces, is_one_of, names_at}
+use Rattle.pw_info.specs.SetText.{ArePlaces, is_one_of, row_of}
 use Rattle.pw_info.proofs.Cuts.{no_cut, one_cut}
 
 -- ---- names
@@ -52,17 +52,17 @@ one_place names i j known inside inside' same = elim (cases_order i j) [
 
 -- a row tells its places
 pub one_row : (names : List (List ℕ)) (places others : List ℕ) → AreNames names → All (λ p. p < length names) places → All (λ p. p < length names) others
-    → 0 < length places → 0 < length others → names_at names places ≡ names_at names others → places ≡ others
+    → 0 < length places → 0 < length others → row_of names places ≡ row_of names others → places ≡ others
 one_row names [] others known there there' some some' same = absurd (omega arith)
 one_row names places [] known there there' some some' same = absurd (omega arith)
 one_row names (p ∷ []) (q ∷ []) known there there' some some' same =
     ap (λ (n : ℕ). n ∷ []) (one_place names p q known (there 0 0 (omega arith)) (there' 0 0 (omega arith)) same)
 one_row names (p ∷ []) (q ∷ r ∷ others) known there there' some some' same =
-    absurd (no_cut 44 (name_at names p) (name_at names q) (names_at names (r ∷ others)) (name_no_comma names p known (there 0 0 (omega arith))) same)
+    absurd (no_cut 44 (name_at names p) (name_at names q) (row_of names (r ∷ others)) (name_no_comma names p known (there 0 0 (omega arith))) same)
 one_row names (p ∷ r ∷ places) (q ∷ []) known there there' some some' same =
-    absurd (no_cut 44 (name_at names q) (name_at names p) (names_at names (r ∷ places)) (name_no_comma names q known (there' 0 0 (omega arith))) (sym same))
+    absurd (no_cut 44 (name_at names q) (name_at names p) (row_of names (r ∷ places)) (name_no_comma names q known (there' 0 0 (omega arith))) (sym same))
 one_row names (p ∷ r ∷ places) (q ∷ s ∷ others) known there there' some some' same =
-    let (first, rest) = one_cut 44 (name_at names p) (names_at names (r ∷ places)) (name_at names q) (names_at names (s ∷ others))
+    let (first, rest) = one_cut 44 (name_at names p) (row_of names (r ∷ places)) (name_at names q) (row_of names (s ∷ others))
     (name_no_comma names p known (there 0 0 (omega arith))) (name_no_comma names q known (there' 0 0 (omega arith))) same in
     let head : p ≡ q = one_place names p q known (there 0 0 (omega arith)) (there' 0 0 (omega arith)) first in
     let tail : r ∷ places ≡ s ∷ others = one_row names (r ∷ places) (s ∷ others) known (All-tail (λ n. n < length names) p (r ∷ places) there) (All-tail (λ n. n < length names) q (s ∷ others) there') (omega arith) (omega arith) rest in
@@ -81,14 +81,14 @@ begins_cut text word None clear some none = (clear, inl none)
 
 -- what a row begins with is the name at its first place
 first_name : (names : List (List ℕ)) (text word : List ℕ) (place : ℕ) (places : List ℕ) → AreNames names → place < length names
-    → Begins text word → text ≡ names_at names (place ∷ places) → word ≡ name_at names place
+    → Begins text word → text ≡ row_of names (place ∷ places) → word ≡ name_at names place
 first_name names text word p [] known inside (clear, inl is) row = sym is ∙ row
 first_name names text word p [] known inside (clear, inr (rest, is)) row =
     absurd (no_cut 44 (name_at names p) word rest (name_no_comma names p known inside) (sym row ∙ is))
 first_name names text word p (q ∷ places) known inside (clear, inl is) row =
-    absurd (no_cut 44 word (name_at names p) (names_at names (q ∷ places)) clear (sym is ∙ row))
+    absurd (no_cut 44 word (name_at names p) (row_of names (q ∷ places)) clear (sym is ∙ row))
 first_name names text word p (q ∷ places) known inside (clear, inr (rest, is)) row =
-    (one_cut 44 word rest (name_at names p) (names_at names (q ∷ places)) clear (name_no_comma names p known inside) (sym is ∙ row)).0
+    (one_cut 44 word rest (name_at names p) (row_of names (q ∷ places)) clear (name_no_comma names p known inside) (sym is ∙ row)).0
 
 -- the first place of a row has a name
 first_inside : (names : List (List ℕ)) (text : List ℕ) (seen : Members) (place : ℕ) (places : List ℕ) → length names ≡ size_of seen
@@ -182,7 +182,7 @@ one_name_adds names word place seen more read = record {
 }
 
 row_of_more : (names : List (List ℕ)) (place : ℕ) (places : List ℕ) → 0 < length places
-    → names_at names (place ∷ places) ≡ name_at names place ++ (44 ∷ names_at names places)
+    → row_of names (place ∷ places) ≡ name_at names place ++ (44 ∷ row_of names places)
 row_of_more names place [] some = absurd (omega arith)
 row_of_more names place (q ∷ places) some = refl
 
@@ -204,8 +204,8 @@ pub name_and_row_add : (names : List (List ℕ)) (text word rest : List ℕ) (pl
 name_and_row_add names text word rest place seen more part read is adds =
     let others : List ℕ = adds.places in
     let first : word ≡ name_at names place = sym (get_or_from_slice_get names place word [] read.found) in
-    let row : names_at names (place ∷ others) ≡ name_at names place ++ (44 ∷ names_at names others) = row_of_more names place others adds.named.are_places.some in
-    let behind : rest ≡ names_at names others = adds.named.text_is in
+    let row : row_of names (place ∷ others) ≡ name_at names place ++ (44 ∷ row_of names others) = row_of_more names place others adds.named.are_places.some in
+    let behind : rest ≡ row_of names others = adds.named.text_is in
     record {
       places = place ∷ others;
       named = record {
@@ -220,7 +220,7 @@ name_and_row_add names text word rest place seen more part read is adds =
 
 -- what stands behind the first place of a row is a row of others
 row_behind : (names : List (List ℕ)) (text word rest : List ℕ) (place : ℕ) (seen more : Members) (places : List ℕ) → IsRead names word place seen more
-    → NamesApart names text seen (place ∷ places) → 0 < length places → rest ≡ names_at names places → NamesApart names rest more places
+    → NamesApart names text seen (place ∷ places) → 0 < length places → rest ≡ row_of names places → NamesApart names rest more places
 row_behind names text word rest place seen more places read row some is = record {
   are_places = record {
     some = some;
@@ -241,7 +241,7 @@ rest_is_row names text word rest place seen more (p ∷ []) read clear is row =
     absurd (no_cut 44 (name_at names p) word rest (name_no_comma names p read.known (first_inside names text seen p [] read.named row)) (sym row.text_is ∙ is))
 rest_is_row names text word rest place seen more (p ∷ q ∷ places) read clear is row =
     let inside : p < length names = first_inside names text seen p (q ∷ places) read.named row in
-    let (first, left) = one_cut 44 word rest (name_at names p) (names_at names (q ∷ places)) clear (name_no_comma names p read.known inside) (sym is ∙ row.text_is) in
+    let (first, left) = one_cut 44 word rest (name_at names p) (row_of names (q ∷ places)) clear (name_no_comma names p read.known inside) (sym is ∙ row.text_is) in
     let same : p ≡ place = one_place names p place read.known inside (slice_get_within names place word read.found)
     (sym first ∙ sym (get_or_from_slice_get names place word [] read.found)) in (
       q ∷ places,

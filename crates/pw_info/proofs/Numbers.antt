@@ -1,3 +1,4 @@
+-- Which words spell a number, and that these are its decimal digits.
 use Rattle.std.proofs.Common.{rules, ◌≡◌, ℕ, zero, suc, ℤ, pos, negsuc, ◌-ℤ◌, ◌-◌, ◌^◌, ◌<◌, ◌≤◌, List, [], ◌∷◌, length, get_or, take, drop, refl, sym, subst, arith, ◌∙◌}
 use Rattle.std.proofs.lemmas.Int.{ints}
 use Rattle.std.proofs.lemmas.List.{take_all}
@@ -6,7 +7,7 @@ use Rattle.std.proofs.lemmas.Str.Parse.{IsNumeralModel, numerals_by_value, tells
 use Rattle.std.specs.Fmt.{decimal, signed_decimal}
 use Rattle.std.specs.Int.{IsInRange}
 use Rattle.std.specs.Str.Parse.{AllDigits, digits_value}
-use Rattle.pw_info.specs.Number.{IsWithin, SpellsNumber, SpellsPositive}
+use Rattle.pw_info.specs.Number.{IsUpTo, SpellsNumber, SpellsPositive}
 use Rattle.pw_info.proofs.Digits.{one_digit_more}
 
 -- what begins with a digit 1 to 9 is not empty
@@ -25,21 +26,21 @@ positive_above word n spelled =
 
 -- such a word, as a number
 pub above_zero : (word : List ℕ) (n most : ℕ) (z : ℤ) → z ≡ pos n → SpellsPositive word n → n ≤ most
-    → SpellsNumber word z × IsWithin most z
+    → SpellsNumber word z × IsUpTo most z
 above_zero word zero most z is spelled small = absurd (let above = positive_above word 0 spelled in omega arith)
 above_zero word (suc n) most z is spelled small =
-    subst (λ (v : ℤ). SpellsNumber word v × IsWithin most v) (sym is) (spelled, (omega (arith, ints), omega (arith, ints)))
+    subst (λ (v : ℤ). SpellsNumber word v × IsUpTo most v) (sym is) (spelled, (omega (arith, ints), omega (arith, ints)))
 
 -- such a word behind a minus, as a number
 pub below_zero : (word : List ℕ) (n most : ℕ) (z : ℤ) → z ≡ pos 0 -ℤ pos n → 0 < length word → get_or word 0 0 ≡ 45
-    → SpellsPositive (take (length word - 1) (drop 1 word)) n → n ≤ most → SpellsNumber word z × IsWithin most z
+    → SpellsPositive (take (length word - 1) (drop 1 word)) n → n ≤ most → SpellsNumber word z × IsUpTo most z
 below_zero [] n most z is some minus spelled small = absurd (omega arith)
 below_zero (c ∷ word) zero most z is some minus spelled small =
     absurd (let above = positive_above (take (length (c ∷ word) - 1) word) 0 spelled in omega arith)
 below_zero (c ∷ word) (suc n) most z is some minus spelled small =
     let same : take (length (c ∷ word) - 1) word ≡ word = take_all (length (c ∷ word) - 1) word (omega arith) in
     let negative : z ≡ negsuc n = omega (arith, ints) in
-    subst (λ (v : ℤ). SpellsNumber (c ∷ word) v × IsWithin most v) (sym negative)
+    subst (λ (v : ℤ). SpellsNumber (c ∷ word) v × IsUpTo most v) (sym negative)
     ((minus, subst (λ (digits : List ℕ). SpellsPositive digits (suc n)) same spelled), (omega (arith, ints), omega (arith, ints)))
 
 -- std's lemmas on decimal digits, at its own words for digits
@@ -63,13 +64,13 @@ positive_is_decimal word n fits spelled =
     cc
 
 -- the decimal digits of a number, behind a minus where it is below 0, spell it
-pub signed_decimal_spells : (n : ℤ) → IsWithin 1000000000 n → SpellsNumber (signed_decimal n) n
+pub signed_decimal_spells : (n : ℤ) → IsUpTo 1000000000 n → SpellsNumber (signed_decimal n) n
 signed_decimal_spells (pos zero) within = decimal_digit 0 (omega arith)
 signed_decimal_spells (pos (suc n)) within = decimal_spells (suc n) (omega arith) (omega (arith, ints))
 signed_decimal_spells (negsuc n) within = (refl, decimal_spells (suc n) (omega arith) (omega (arith, ints)))
 
 -- and only they do
-pub spelled_is_signed_decimal : (word : List ℕ) (n : ℤ) → IsWithin 1000000000 n → SpellsNumber word n → word ≡ signed_decimal n
+pub spelled_is_signed_decimal : (word : List ℕ) (n : ℤ) → IsUpTo 1000000000 n → SpellsNumber word n → word ≡ signed_decimal n
 spelled_is_signed_decimal word (pos zero) within spelled = spelled ∙ sym (decimal_digit 0 (omega arith))
 spelled_is_signed_decimal word (pos (suc n)) within spelled = positive_is_decimal word (suc n) (omega (arith, ints)) spelled
 spelled_is_signed_decimal [] (negsuc n) within spelled = absurd spelled

@@ -1,8 +1,9 @@
--- A front of a text is a front of a longer one, and a text with a front of the next one is a front of both.
-use Rattle.std.proofs.Common.{◌≡◌, ℕ, ◌+◌, ◌-◌, List, [], ◌++◌, length, take, drop, Result, Ok, Err, OnOk, OnErr, sym, ap, ◌∙◌, subst, arith, length-append, length-drop, append_assoc, take_all}
-use Rattle.std.proofs.lemmas.List.{take-append-le, take-append-drop}
+-- Texts passed one after another: what of both was passed, and written, when the first or the second broke off.
+use Rattle.std.proofs.Common.{◌≡◌, ℕ, ◌+◌, ◌-◌, Bool, true, List, [], ◌∷◌, ◌++◌, ◌==◌, length, take, drop, Result, Ok, Err, IsErr, sym, ap, ◌∙◌, subst, arith, length-append, length-drop, append_assoc, take_all}
+use Rattle.std.proofs.lemmas.Bool.{eqb-true}
+use Rattle.std.proofs.lemmas.List.{append-nil, take-append-le, take-append-drop}
 use Rattle.std.proofs.Math.Seq.{take-append-add, take-length}
-use Rattle.pw_info.specs.Passing.{PassesPart}
+use Rattle.pw_info.specs.Passing.{PassesPart, IsWritten, IsBrokenOff, Writes}
 
 -- the first n and the rest, as code slices it
 pub take-rest : (xs : List ℕ) (n : ℕ) → take n xs ++ take (length xs - n) (drop n xs) ≡ xs
@@ -13,10 +14,10 @@ pub taken_rest : (all before xs : List ℕ) (n : ℕ) → all ≡ before ++ xs �
 taken_rest all before xs n e =
     e ∙ ap (λ l. before ++ l) (sym (take-rest xs n)) ∙ sym (append_assoc before (take n xs) (take (length xs - n) (drop n xs)))
 
--- what holds, holds where there is an error
-pub on_err_holds : {T E P : Type 0} (r : Result T E) → P → OnErr r P
-on_err_holds (Ok x) holds = tt
-on_err_holds (Err e) holds = holds
+-- before an empty rest stands all
+pub taken_all : (all before rest : List ℕ) → all ≡ before ++ rest → (length rest == 0) ≡ true → before ≡ all
+taken_all all before [] e none = sym (append-nil before) ∙ sym e
+taken_all all before (x ∷ rest) e none = absurd (let empty = eqb-true (length (x ∷ rest)) 0 none in omega arith)
 
 module _ {S : Type 0} (passes : S → List ℕ → S → Type 0) where
   -- nothing is a front of any text
@@ -36,13 +37,6 @@ module _ {S : Type 0} (passes : S → List ℕ → S → Type 0) where
         part = subst (λ l. passes s l t) (sym (take-append-le p.count xs ys p.within)) p.part;
       }
 
-  -- what holds of a text holds of an equal one
-  pub on_ok_same : {T E : Type 0} (r : Result T E) (s t : S) (xs ys : List ℕ) → xs ≡ ys → OnOk r (passes s ys t) → OnOk r (passes s xs t)
-  on_ok_same r s t xs ys e p = subst (λ (text : List ℕ). OnOk r (passes s text t)) (sym e) p
-
-  pub on_err_same : {T E : Type 0} (r : Result T E) (s t : S) (xs ys : List ℕ) → xs ≡ ys → OnErr r (PassesPart passes s t ys) → OnErr r (PassesPart passes s t xs)
-  on_err_same r s t xs ys e p = subst (λ (text : List ℕ). OnErr r (PassesPart passes s t text)) (sym e) p
-
   module _ (joins : (s t u : S) (xs ys : List ℕ) → passes s xs t → passes t ys u → passes s (xs ++ ys) u) where
     -- after a text, a front of the next one is a front of both
     pub PassesPart-after : (s t u : S) (xs ys : List ℕ) → passes s xs t → PassesPart passes t u ys → PassesPart passes s u (xs ++ ys)
@@ -53,14 +47,40 @@ module _ {S : Type 0} (passes : S → List ℕ → S → Type 0) where
           part = subst (λ l. passes s l u) (sym (take-append-add xs ys q.count)) (joins s t u xs (take q.count ys) p q.part);
         }
 
-    -- the same where the next text's put worked
-    pub on_ok_after : {T E : Type 0} (s t u : S) (xs ys : List ℕ) (r : Result T E)
-        → passes s xs t → OnOk r (passes t ys u) → OnOk r (passes s (xs ++ ys) u)
-    on_ok_after s t u xs ys (Ok x) p q = joins s t u xs ys p q
-    on_ok_after s t u xs ys (Err e) p q = q
+-- ---- writing one text after another
 
-    -- the same where the next text's put failed
-    pub on_err_after : {T E : Type 0} (s t u : S) (xs ys : List ℕ) (r : Result T E)
-        → passes s xs t → OnErr r (PassesPart passes t u ys) → OnErr r (PassesPart passes s u (xs ++ ys))
-    on_err_after s t u xs ys (Ok x) p q = q
-    on_err_after s t u xs ys (Err e) p q = PassesPart-after s t u xs ys p q
+module _ {S : Type 0} (passes : S → List ℕ → S → Type 0) (has_failed : S → Bool) where
+  -- what writes a text writes an equal one
+  pub writes_same : {T E : Type 0} (s t : S) (result : Result T E) (xs ys : List ℕ) → xs ≡ ys
+      → Writes passes has_failed s t result ys → Writes passes has_failed s t result xs
+  writes_same s t result xs ys same writes = subst (Writes passes has_failed s t result) (sym same) writes
+
+  -- where the first of two texts is broken off, a call that answers the failure writes both
+  pub first_fails : {T E : Type 0} (s t : S) (result : Result T E) (text xs ys : List ℕ) → IsErr result
+      → IsBrokenOff passes has_failed s t xs → text ≡ xs ++ ys → Writes passes has_failed s t result text
+  first_fails s t (Ok x) text xs ys fails broken is = absurd (cc)
+  first_fails s t (Err e) text xs ys fails broken is = subst (IsBrokenOff passes has_failed s t) (sym is)
+      (record { front = PassesPart-append passes s t xs ys broken.front; failed = broken.failed })
+
+  module _ (joins : (s t u : S) (xs ys : List ℕ) → passes s xs t → passes t ys u → passes s (xs ++ ys) u) where
+    -- two texts, one written after the other, are written
+    pub written_then : (s t u : S) (xs ys : List ℕ) → IsWritten passes has_failed s t xs → IsWritten passes has_failed t u ys
+        → IsWritten passes has_failed s u (xs ++ ys)
+    written_then s t u xs ys first second =
+        record { passed = joins s t u xs ys first.passed second.passed; works = λ e. second.works (first.works e) }
+
+    -- where the first of two texts is written and the second broken off, both are broken off
+    pub broken_off_then : (s t u : S) (xs ys : List ℕ) → IsWritten passes has_failed s t xs → IsBrokenOff passes has_failed t u ys
+        → IsBrokenOff passes has_failed s u (xs ++ ys)
+    broken_off_then s t u xs ys first second =
+        record { front = PassesPart-after passes joins s t u xs ys first.passed second.front; failed = second.failed }
+
+    both_written : {T E : Type 0} (s t u : S) (result : Result T E) (xs ys : List ℕ) → IsWritten passes has_failed s t xs
+        → Writes passes has_failed t u result ys → Writes passes has_failed s u result (xs ++ ys)
+    both_written s t u (Ok x) xs ys first second = written_then s t u xs ys first second
+    both_written s t u (Err e) xs ys first second = broken_off_then s t u xs ys first second
+
+    -- after a text is written, a call that writes the next one writes both
+    pub second_writes : {T E : Type 0} (s t u : S) (result : Result T E) (text xs ys : List ℕ) → IsWritten passes has_failed s t xs
+        → Writes passes has_failed t u result ys → text ≡ xs ++ ys → Writes passes has_failed s u result text
+    second_writes s t u result text xs ys first second is = writes_same s u result text (xs ++ ys) is (both_written s t u result xs ys first second)

@@ -17,10 +17,10 @@ use Rattle.pw_info.specs.declared.kind.Kind.TheVariants as kinds
 use Rattle.pw_info.specs.declared.info.Info.{Info}
 use Rattle.pw_info.specs.Information.{set_kind, kind_of, allows, nothing, contradiction}
 use Rattle.pw_info.specs.MemberReading.{NamesApart, AddsPlaces}
-use Rattle.pw_info.specs.Number.{IsWithin, SpellsNumber}
+use Rattle.pw_info.specs.Number.{IsUpTo, SpellsNumber}
 use Rattle.pw_info.specs.Range.{SpellsRange, SpellsNoRange}
 use Rattle.pw_info.specs.SetNames.{SetNames, AreNames, IsNamed}
-use Rattle.pw_info.specs.SetText.{ArePlaces, is_one_of, names_at}
+use Rattle.pw_info.specs.SetText.{ArePlaces, is_one_of, row_of}
 use Rattle.pw_info.specs.Spelling.{SpellsInfo, SpellsValues}
 use Rattle.pw_info.proofs.Dots.{one_range_lem, uncut}
 use Rattle.pw_info.proofs.Informations.{same_set, same_values, nothing_is, contradiction_is}
@@ -41,7 +41,7 @@ IfSome_both None p q follows = tt
 
 -- a range in order and in range spells the information that leaves its numbers possible
 pub values_spelled : (sets : SetNames) (word : List ℕ) (lo hi : ℤ) (part : Interval) (info : Info)
-    → SpellsRange word lo hi → IsWithin 1000000 lo → IsWithin 1000000 hi → IsFromTo part lo hi
+    → SpellsRange word lo hi → IsUpTo 1000000 lo → IsUpTo 1000000 hi → IsFromTo part lo hi
     → ((v : ℤ) → allows info v ≡ interval.allows part v) → SpellsValues sets word kinds.Interval info
 values_spelled sets word lo hi part info spelled low high values same = (lo, hi, spelled, low, high, λ v. same v ∙ values v)
 
@@ -51,7 +51,7 @@ from_same_ends part lo hi from to same_lo same_hi values v =
     values v ∙ ap (λ (n : ℤ). le_z n v && le_z v to) same_lo ∙ ap (λ (n : ℤ). le_z lo v && le_z v n) same_hi
 
 -- a word that spells no range within the bounds spells no values
-pub no_values : (word : List ℕ) → ((lo hi : ℤ) → SpellsRange word lo hi → IsWithin 1000000 lo → IsWithin 1000000 hi → ⊥)
+pub no_values : (word : List ℕ) → ((lo hi : ℤ) → SpellsRange word lo hi → IsUpTo 1000000 lo → IsUpTo 1000000 hi → ⊥)
     → (sets : SetNames) (info : Info) → SpellsValues sets word kinds.Interval info → ⊥
 no_values word none sets info (lo, hi, spelled, low, high, values) = none lo hi spelled low high
 
@@ -77,8 +77,8 @@ pub no_set : (sets : SetNames) (word list : List ℕ) (set : SetKind) (start : M
     → word ≡ 123 ∷ (list ++ (125 ∷ [])) → ((places : List ℕ) → NamesApart (sets set.number) list start places → ⊥)
     → (info : Info) → SpellsValues sets word (kinds.Members set) info → ⊥
 no_set sets word list set start size empty is none info (places, are, spelled, values) =
-    let whole : 123 ∷ (list ++ (125 ∷ [])) ≡ 123 ∷ (names_at (sets set.number) places ++ (125 ∷ [])) = sym is ∙ spelled in
-    let same : list ≡ names_at (sets set.number) places = append_cancel_right list (names_at (sets set.number) places) (125 ∷ []) (cc) in
+    let whole : 123 ∷ (list ++ (125 ∷ [])) ≡ 123 ∷ (row_of (sets set.number) places ++ (125 ∷ [])) = sym is ∙ spelled in
+    let same : list ≡ row_of (sets set.number) places = append_cancel_right list (row_of (sets set.number) places) (125 ∷ []) (cc) in
     none places (record { are_places = subst (λ (s : ℕ). ArePlaces s places) (sym size) are; text_is = same; apart = λ k d inside. empty (pos (get_or places k d)) })
 
 -- ---- reading an information
@@ -147,9 +147,9 @@ one_values sets word kinds.Interval a b known named k (lo, hi, spelled, low, hig
     let (same_lo, same_hi) = one_range_lem word lo hi least greatest spelled spelled' in
     same_values a b k (λ v. values v ∙ ap (λ (n : ℤ). le_z n v && le_z v hi) same_lo ∙ ap (λ (n : ℤ). le_z least v && le_z v n) same_hi ∙ sym (values' v))
 one_values sets word (kinds.Members set) a b known named k (places, are, spelled, values) (others, are', spelled', values') =
-    let whole : 123 ∷ (names_at (sets set.number) places ++ (125 ∷ [])) ≡ 123 ∷ (names_at (sets set.number) others ++ (125 ∷ [])) = sym spelled ∙ spelled' in
-    let row : names_at (sets set.number) places ≡ names_at (sets set.number) others =
-    append_cancel_right (names_at (sets set.number) places) (names_at (sets set.number) others) (125 ∷ []) (cc) in
+    let whole : 123 ∷ (row_of (sets set.number) places ++ (125 ∷ [])) ≡ 123 ∷ (row_of (sets set.number) others ++ (125 ∷ [])) = sym spelled ∙ spelled' in
+    let row : row_of (sets set.number) places ≡ row_of (sets set.number) others =
+    append_cancel_right (row_of (sets set.number) places) (row_of (sets set.number) others) (125 ∷ []) (cc) in
     let same : places ≡ others = one_row (sets set.number) places others (known set.number) (named_places sets set places named are) (named_places sets set others named are') are.some are'.some row in
     same_values a b k (λ v. values v ∙ ap (λ (ps : List ℕ). is_one_of ps v) same ∙ sym (values' v))
 one_values sets word kinds.Exact a b known named k (n, spelled, within, values) (m, spelled', within', values') =

@@ -6,11 +6,10 @@ use Rattle.std.proofs.lemmas.Int.{ints}
 use Rattle.std.specs.Fmt.{signed_decimal}
 use Rattle.std.specs.Ordering.{int_eq}
 use Rattle.pw_kinds.specs.declared.exact.Exact.{Exact}
-use Rattle.pw_kinds.specs.declared.exact.Exact.TheVariants.{Any, One, Nothing}
+use Rattle.pw_kinds.specs.declared.exact.Exact.TheVariants.{Any, One, Empty}
 use Rattle.pw_kinds.specs.declared.interval.Interval.{Interval}
-use Rattle.pw_kinds.specs.Span.{first, last, IsInRange}
+use Rattle.pw_kinds.specs.Ranges.{interval_lowest, interval_highest, IsInIntervalRange, IsInExactRange}
 use Rattle.pw_kinds.specs.Exact.{IsAny, IsOne}
-use Rattle.pw_kinds.specs.Number.{IsNumber}
 use Rattle.pw_kinds.specs.Interval.{greatest_of, IsEmpty, IsWhole, IsLeastOf, IsGreatestOf}
 use Rattle.pw_kinds.proofs.Order.{true_both, between_true}
 use Rattle.pw_kinds.proofs.Exacts as exacts
@@ -37,26 +36,26 @@ pub text_of_empty : (part : Interval) → IsEmpty part → text_of_interval part
 text_of_empty part none = ap (λ (o : Option ℤ). text_of_ends o (greatest_of part)) (intervals.least_of_empty part none)
 
 -- the ends of an interval with every number are those of the whole range
-whole_ends : (part : Interval) → IsWhole part → IsLeastOf part first × IsGreatestOf part last
+whole_ends : (part : Interval) → IsWhole part → IsLeastOf part interval_lowest × IsGreatestOf part interval_highest
 whole_ends part every =
-    ((every first refl, λ v e. (intervals.allows_in_range part v e).0), (every last refl, λ v e. (intervals.allows_in_range part v e).1))
+    ((every interval_lowest refl, λ v e. (intervals.allows_in_range part v e).0), (every interval_highest refl, λ v e. (intervals.allows_in_range part v e).1))
 
 -- an interval with the ends of the whole range has every number
-ends_whole : (part : Interval) (lo hi : ℤ) → IsLeastOf part lo → IsGreatestOf part hi → (int_eq lo first && int_eq hi last) ≡ true → IsWhole part
+ends_whole : (part : Interval) (lo hi : ℤ) → IsLeastOf part lo → IsGreatestOf part hi → (int_eq lo interval_lowest && int_eq hi interval_highest) ≡ true → IsWhole part
 ends_whole part lo hi (low, least) (high, most) ends v e =
-    let (at_first, at_last) = true_both (int_eq lo first) (int_eq hi last) ends in
-    let same_lo : lo ≡ first = (Decides-int_eq lo first).0 at_first in
-    let same_hi : hi ≡ last = (Decides-int_eq hi last).0 at_last in
-    let range : (first ≤ℤ v) × (v ≤ℤ last) = between_true first v last e in
+    let (at_first, at_last) = true_both (int_eq lo interval_lowest) (int_eq hi interval_highest) ends in
+    let same_lo : lo ≡ interval_lowest = (Decides-int_eq lo interval_lowest).0 at_first in
+    let same_hi : hi ≡ interval_highest = (Decides-int_eq hi interval_highest).0 at_last in
+    let range : (interval_lowest ≤ℤ v) × (v ≤ℤ interval_highest) = between_true interval_lowest v interval_highest e in
     intervals.allows_between_allowed part lo v hi low high
     (subst (λ (n : ℤ). n ≤ℤ v) (sym same_lo) range.0) (subst (λ (n : ℤ). v ≤ℤ n) (sym same_hi) range.1)
 
 -- an interval with every number is written as nothing
 pub text_of_whole : (part : Interval) → IsWhole part → text_of_interval part ≡ codes "nothing"
-text_of_whole part every = let (low, high) = whole_ends part every in text_from_ends part first last low high
+text_of_whole part every = let (low, high) = whole_ends part every in text_from_ends part interval_lowest interval_highest low high
 
 -- an interval that lacks a number is written as the range of its ends
-text_of_part : (part : Interval) (lo hi : ℤ) → (int_eq lo first && int_eq hi last) ≡ false → IsLeastOf part lo → IsGreatestOf part hi
+text_of_part : (part : Interval) (lo hi : ℤ) → (int_eq lo interval_lowest && int_eq hi interval_highest) ≡ false → IsLeastOf part lo → IsGreatestOf part hi
     → text_of_interval part ≡ text_of_range lo hi
 text_of_part part lo hi apart low high =
     text_from_ends part lo hi low high ∙ ap (λ (b : Bool). if b then codes "nothing" else text_of_range lo hi) apart
@@ -64,7 +63,7 @@ text_of_part part lo hi apart low high =
 -- the same with the ends as the code passes them on
 pub text_of_some : (part : Interval) (lo hi from to : ℤ) → from ≡ lo → to ≡ hi → (IsWhole part → false ≡ true)
     → IsLeastOf part lo → IsGreatestOf part hi → text_of_interval part ≡ text_of_range from to
-text_of_some part lo hi from to same_lo same_hi lacks low high = elim (cases_Bool (int_eq lo first && int_eq hi last)) [
+text_of_some part lo hi from to same_lo same_hi lacks low high = elim (cases_Bool (int_eq lo interval_lowest && int_eq hi interval_highest)) [
   | inl whole ↦ absurd (let differ = lacks (ends_whole part lo hi low high whole) in cc)
   | inr apart ↦
       text_of_part part lo hi apart low high
@@ -92,27 +91,27 @@ text_of_any part any = ap text_of_exact (exacts.is_any_is part any)
 pub text_of_one : (part : Exact) (n from : ℤ) → from ≡ n → IsOne part n → text_of_exact part ≡ signed_decimal from
 text_of_one Any n from same one = absurd (exacts.any_not_one n one)
 text_of_one (One number) n from same one = ap signed_decimal (sym (same ∙ exacts.eq_true n number.value (one n ∙ exacts.self_eq n)))
-text_of_one Nothing n from same one = absurd (let differ : false ≡ true = one n ∙ exacts.self_eq n in cc)
+text_of_one Empty n from same one = absurd (let differ : false ≡ true = one n ∙ exacts.self_eq n in cc)
 
 -- what is neither any number nor one is written as the contradiction
 pub text_of_none : (part : Exact) → (IsAny part → false ≡ true) → ((n : ℤ) → IsOne part n → None ≡ Some n)
     → text_of_exact part ≡ codes "contradiction"
 text_of_none Any any one = absurd (let differ = any (λ v e. e) in cc)
 text_of_none (One number) any one = absurd (let differ = one number.value (λ v. refl) in cc)
-text_of_none Nothing any one = refl
+text_of_none Empty any one = refl
 
 -- ---- what is written spells what it was written for
 
 -- the text of an interval with a least and a greatest number
 ends_spelled : (sets : SetNames) (part : Interval) (lo hi : ℤ) → IsLeastOf part lo → IsGreatestOf part hi
     → SpellsInfo sets (text_of_interval part) kinds.Interval (info.Interval part)
-ends_spelled sets part lo hi low high = elim (cases_Bool (int_eq lo first && int_eq hi last)) [
+ends_spelled sets part lo hi low high = elim (cases_Bool (int_eq lo interval_lowest && int_eq hi interval_highest)) [
   | inl whole ↦
       let every : IsWhole part = ends_whole part lo hi low high whole in
       (refl, inl (text_of_whole part every, every))
   | inr apart ↦
-      let at_lo : IsInRange lo = intervals.allows_in_range part lo low.0 in
-      let at_hi : IsInRange hi = intervals.allows_in_range part hi high.0 in
+      let at_lo : IsInIntervalRange lo = intervals.allows_in_range part lo low.0 in
+      let at_hi : IsInIntervalRange hi = intervals.allows_in_range part hi high.0 in
       let order : lo ≤ℤ hi = low.1 hi high.0 in
       let range : SpellsRange (text_of_range lo hi) lo hi =
       text_spells lo hi order (omega (arith, ints), omega (arith, ints)) (omega (arith, ints), omega (arith, ints)) in
@@ -131,6 +130,6 @@ interval_spelled sets part = elim (intervals.empty_or_ends part) [
 pub exact_spelled : (sets : SetNames) (part : Exact) → SpellsInfo sets (text_of_exact part) kinds.Exact (info.Exact part)
 exact_spelled sets Any = (refl, inl (refl, λ v e. e))
 exact_spelled sets (One number) =
-    let within : IsNumber number.value = (number.at_least, number.at_most) in
+    let within : IsInExactRange number.value = (number.at_least, number.at_most) in
     (refl, inr (inr (number.value, signed_decimal_spells number.value within, within, λ v. refl)))
-exact_spelled sets Nothing = (refl, inr (inl (refl, λ v. refl)))
+exact_spelled sets Empty = (refl, inr (inl (refl, λ v. refl)))

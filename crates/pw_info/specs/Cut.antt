@@ -1,13 +1,15 @@
+-- Words and texts that are cut at their first '.' or ','.
 use Rattle.std.specs.Prelude.{◌≡◌, ◌≢◌, ℕ, ℤ, ◌≤ℤ◌, List, ◌++◌, codes, slice_index, EachIndex}
+use Rattle.pw_info.specs.Bytes.{comma, dot}
 use Rattle.pw_info.specs.Number.{SpellsNumber}
 
--- no byte of a word is '.' (46)
+-- no byte of a word is '.'
 abbrev pub HasNoDot : List ℕ → Type 0
-HasNoDot word = EachIndex word (λ k. slice_index word k ≢ 46)
+HasNoDot word = EachIndex word (λ k. slice_index word k ≢ dot)
 
--- no byte of a text is ',' (44)
+-- no byte of a text is ','
 abbrev pub HasNoComma : List ℕ → Type 0
-HasNoComma text = EachIndex text (λ k. slice_index text k ≢ 44)
+HasNoComma text = EachIndex text (λ k. slice_index text k ≢ comma)
 
 -- what stands before the first '.' of a word, and what stands behind it, spell LO..HI, with LO at most HI
 abbrev pub SpellsCut : List ℕ → List ℕ → ℤ → ℤ → Type 0

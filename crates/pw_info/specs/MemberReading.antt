@@ -2,12 +2,12 @@
 use Rattle.std.specs.Prelude.{◌≡◌, ℕ, ℤ, pos, false, ◌||◌, List, All}
 use Rattle.pw_kinds.specs.declared.members.Members.{Members}
 use Rattle.pw_kinds.specs.Members.{size_of, allows}
-use Rattle.pw_info.specs.SetText.{ArePlaces, is_one_of, names_at}
+use Rattle.pw_info.specs.SetText.{ArePlaces, is_one_of, row_of}
 
 -- the text names the members at these places, none of which was seen
 pub record NamesApart (names : List (List ℕ)) (text : List ℕ) (seen : Members) (places : List ℕ) : Type 0 where
   pub are_places : ArePlaces (size_of seen) places
-  pub text_is : text ≡ names_at names places
+  pub text_is : text ≡ row_of names places
   pub apart : All (λ place. allows seen (pos place) ≡ false) places
 
 -- the text names some members, none of which was seen; these and those that were seen are possible, and no others

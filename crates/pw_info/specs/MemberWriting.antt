@@ -3,7 +3,7 @@ use Rattle.std.specs.Prelude.{ℕ, pos, ◌++◌, List, [], ◌∷◌, filter, c
 use Rattle.std.specs.List.{range_with_len}
 use Rattle.pw_kinds.specs.declared.members.Members.{Members}
 use Rattle.pw_kinds.specs.Members.{allows}
-use Rattle.pw_info.specs.SetText.{names_at}
+use Rattle.pw_info.specs.SetText.{row_of}
 
 -- the possible places below a place, rising
 abbrev pub places_below : Members → ℕ → List ℕ
@@ -12,7 +12,7 @@ places_below part place = filter (λ other. allows part (pos other)) (range_with
 -- what is written once the members at these places are named: nothing where there are none
 abbrev pub opened : List (List ℕ) → List ℕ → List ℕ
 opened names [] = []
-opened names (place ∷ places) = codes "{" ++ names_at names (place ∷ places)
+opened names (place ∷ places) = codes "{" ++ row_of names (place ∷ places)
 
 -- what is written before the next name
 abbrev pub mark_after : List ℕ → List ℕ

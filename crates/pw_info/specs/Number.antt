@@ -1,24 +1,30 @@
+-- Numbers as words.
 use Rattle.std.specs.Prelude.{◌≡◌, ℕ, zero, suc, ℤ, pos, negsuc, neg_ℤ, ◌≤ℤ◌, List, [], ◌∷◌, slice_index, codes}
 use Rattle.std.specs.Int.{IsInRange}
 use Rattle.std.specs.Str.Parse.{AllDigits, digits_value}
+use Rattle.pw_info.specs.Bytes.{digit_1, digit_9, minus}
 
 -- a digit 1 to 9 and further digits, and the number that they stand for
 pub record SpellsPositive (word : List ℕ) (n : ℕ) : Type 0 where
-  -- the first byte is one of '1' to '9' (49 to 57)
-  pub first : IsInRange 49 57 (slice_index word 0)
+  -- the first byte is one of '1' to '9'
+  pub first : IsInRange digit_1 digit_9 (slice_index word 0)
   -- each byte is one of '0' to '9'
   pub digits : AllDigits 10 word
   -- read in base ten they give the number
   pub value : n ≡ digits_value 10 word
 
 -- a word spells a number: '0', or a digit 1 to 9 and further digits,
--- with '-' (45) in front of them for a number below 0
+-- with '-' in front of them for a number below 0
 abbrev pub SpellsNumber : List ℕ → ℤ → Type 0
 SpellsNumber word (pos zero) = word ≡ codes "0"
 SpellsNumber word (pos (suc n)) = SpellsPositive word (suc n)
 SpellsNumber [] (negsuc n) = ⊥
-SpellsNumber (c ∷ word) (negsuc n) = (c ≡ 45) × SpellsPositive word (suc n)
+SpellsNumber (c ∷ word) (negsuc n) = (c ≡ minus) × SpellsPositive word (suc n)
 
--- a number stands between -most and most, both included
-abbrev pub IsWithin : ℕ → ℤ → Type 0
-IsWithin most n = (neg_ℤ (pos most) ≤ℤ n) × (n ≤ℤ pos most)
+-- a number stands from -most to most
+abbrev pub IsUpTo : ℕ → ℤ → Type 0
+IsUpTo most n = (neg_ℤ (pos most) ≤ℤ n) × (n ≤ℤ pos most)
+
+-- the greatest number that is read and written, of any kind
+abbrev pub greatest_number : ℕ
+greatest_number = 1000000000

@@ -19,6 +19,10 @@ pub record AreNames (names : List (List ℕ)) : Type 0 where
   pub each : All IsName names
   pub differ : IsDistinct bytes_eq names
 
+-- so are those of each set
+abbrev pub AllAreNames : SetNames → Type 0
+AllAreNames sets = (set : ℕ) → AreNames (sets set)
+
 -- every member of the kind, where it is a set kind, has its name
 abbrev pub IsNamed : SetNames → Kind → Type 0
 IsNamed sets kinds.Interval = Unit {0}

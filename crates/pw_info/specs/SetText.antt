@@ -2,6 +2,7 @@
 use Rattle.std.specs.Prelude.{ℕ, ℤ, pos, ◌<◌, ◌++◌, Bool, List, All, length, map, codes, nat_eq}
 use Rattle.std.specs.List.{IsDistinct, list_any, join_with_byte}
 use Rattle.std.specs.Ordering.{int_eq}
+use Rattle.pw_info.specs.Bytes.{comma}
 use Rattle.pw_info.specs.SetNames.{name_at}
 
 -- places of members of a set of so many: at least one, each there, none twice
@@ -14,9 +15,10 @@ pub record ArePlaces (size : ℕ) (places : List ℕ) : Type 0 where
 abbrev pub is_one_of : List ℕ → ℤ → Bool
 is_one_of places v = list_any (λ place. int_eq (pos place) v) places
 
--- the names of the members at these places, with ',' (44) between each two
-abbrev pub names_at : List (List ℕ) → List ℕ → List ℕ
-names_at names places = join_with_byte 44 (map (name_at names) places)
+-- the names of the members at these places in a row, with ',' between each two
+abbrev pub row_of : List (List ℕ) → List ℕ → List ℕ
+row_of names places = join_with_byte comma (map (name_at names) places)
 
+-- `{`, the names at these places, `}`
 abbrev pub text_of_set : List (List ℕ) → List ℕ → List ℕ
-text_of_set names places = codes "{" ++ (names_at names places ++ codes "}")
+text_of_set names places = codes "{" ++ (row_of names places ++ codes "}")

@@ -2,8 +2,7 @@
 use Rattle.std.specs.Prelude.{◌≡◌, ℕ, ℤ, ◌&&◌, List, codes, ◌⊎◌}
 use Rattle.std.specs.Int.Signed.{le_z}
 use Rattle.std.specs.Ordering.{int_eq}
-use Rattle.pw_kinds.specs.Span.{IsInRange}
-use Rattle.pw_kinds.specs.Number.{IsNumber}
+use Rattle.pw_kinds.specs.Ranges.{IsInIntervalRange, IsInExactRange}
 use Rattle.pw_info.specs.declared.kind.Kind.{Kind}
 use Rattle.pw_info.specs.declared.kind.Kind.TheVariants as kinds
 use Rattle.pw_info.specs.declared.info.Info.{Info}
@@ -12,6 +11,10 @@ use Rattle.pw_info.specs.Number.{SpellsNumber}
 use Rattle.pw_info.specs.Range.{SpellsRange}
 use Rattle.pw_info.specs.SetNames.{SetNames}
 use Rattle.pw_info.specs.SetText.{ArePlaces, is_one_of, text_of_set}
+
+-- it holds of one at most: any two of which it holds are equal
+abbrev pub AtMostOne : {X : Type 0} → (X → Type 0) → Type 0
+AtMostOne {X} Holds = (x y : X) → Holds x → Holds y → x ≡ y
 
 -- the numbers from lo to hi are possible, and no others
 abbrev pub AllowsFromTo : Info → ℤ → ℤ → Type 0
@@ -29,10 +32,10 @@ AllowsPlaces info places = (v : ℤ) → allows info v ≡ is_one_of places v
 -- that number, in range; for a set the names of some of its members, in any order, none twice
 abbrev pub SpellsValues : SetNames → List ℕ → Kind → Info → Type 0
 SpellsValues sets word kinds.Interval info =
-    (lo : ℤ) × (hi : ℤ) × SpellsRange word lo hi × IsInRange lo × IsInRange hi × AllowsFromTo info lo hi
+    (lo : ℤ) × (hi : ℤ) × SpellsRange word lo hi × IsInIntervalRange lo × IsInIntervalRange hi × AllowsFromTo info lo hi
 SpellsValues sets word (kinds.Members set) info =
     (places : List ℕ) × ArePlaces set.size places × (word ≡ text_of_set (sets set.number) places) × AllowsPlaces info places
-SpellsValues sets word kinds.Exact info = (n : ℤ) × SpellsNumber word n × IsNumber n × AllowsOne info n
+SpellsValues sets word kinds.Exact info = (n : ℤ) × SpellsNumber word n × IsInExactRange n × AllowsOne info n
 
 -- a word spells an information of a kind: `nothing`, `contradiction`, or in the kind's own form
 abbrev pub SpellsInfo : SetNames → List ℕ → Kind → Info → Type 0

@@ -6,8 +6,8 @@ use Rattle.std.specs.Ordering.{int_eq}
 use Rattle.pw_kinds.specs.declared.interval.Interval.{Interval}
 use Rattle.pw_kinds.specs.declared.members.Members.{Members}
 use Rattle.pw_kinds.specs.declared.exact.Exact.{Exact}
-use Rattle.pw_kinds.specs.declared.exact.Exact.TheVariants.{Any, One, Nothing}
-use Rattle.pw_kinds.specs.Span.{first, last}
+use Rattle.pw_kinds.specs.declared.exact.Exact.TheVariants.{Any, One, Empty}
+use Rattle.pw_kinds.specs.Ranges.{interval_lowest, interval_highest}
 use Rattle.pw_kinds.specs.Interval.{least_of, greatest_of}
 use Rattle.pw_kinds.specs.Members.{size_of, allows}
 use Rattle.pw_info.specs.declared.info.Info.{Info}
@@ -19,7 +19,7 @@ use Rattle.pw_info.specs.SetText.{text_of_set}
 -- by the least and the greatest number that is possible: `nothing` where these are the ends of the whole range, else
 -- the one number or LO..HI; `contradiction` where there are none
 abbrev pub text_of_ends : Option ℤ → Option ℤ → List ℕ
-text_of_ends (Some lo) (Some hi) = if int_eq lo first && int_eq hi last then codes "nothing" else text_of_range lo hi
+text_of_ends (Some lo) (Some hi) = if int_eq lo interval_lowest && int_eq hi interval_highest then codes "nothing" else text_of_range lo hi
 text_of_ends _ _ = codes "contradiction"
 
 abbrev pub text_of_interval : Interval → List ℕ
@@ -42,7 +42,7 @@ text_of_members names part = text_of_places names (size_of part) (places_of part
 abbrev pub text_of_exact : Exact → List ℕ
 text_of_exact Any = codes "nothing"
 text_of_exact (One number) = signed_decimal number.value
-text_of_exact Nothing = codes "contradiction"
+text_of_exact Empty = codes "contradiction"
 
 -- the text of an information
 abbrev pub text_of_info : SetNames → Info → List ℕ

@@ -1,3 +1,4 @@
+// One type of information over all kinds of values.
 ghost use Rattle.std.specs.Prelude.{◌≡◌, ◌≢◌, ◌↔◌, ◌&&◌, ℕ, ℤ, Bool, true, IsTrue, IfSome, IfNone};
 ghost use Rattle.pw_kinds.specs.Interval as interval;
 ghost use Rattle.pw_kinds.specs.Members as members;
@@ -6,9 +7,7 @@ ghost use Rattle.pw_info.specs.declared.kind.SetKind.{SetKind as SetOfMembers};
 ghost use Rattle.pw_info.specs.Information.{set_kind, kind_of, allows, meet, nothing, contradiction, IsNothing, IsContradiction, Implies};
 
 use crate::kind::{Kind, SetKind};
-use pw_kinds::exact::Exact;
-use pw_kinds::interval::Interval;
-use pw_kinds::members::Members;
+use pw_kinds::{Exact, Interval, Members};
 
 /// What is known of a value: its kind, and which values of the kind are still possible. Two informations of one kind
 /// that leave the same values possible are equal.
@@ -88,6 +87,7 @@ impl Info {
         }
     }
 
+    /// The kind of value that this is information of.
     pub fn kind(&self) -> Kind
         ensures { result ≡ kind_of self.now }
     {
@@ -182,7 +182,7 @@ impl Info {
         match *self {
             Info::Interval(part) => part.is_empty(),
             Info::Members { part, .. } => part.is_empty(),
-            Info::Exact(part) => part.is_none(),
+            Info::Exact(part) => part.is_empty(),
         }
     }
 }

@@ -1,22 +1,31 @@
-//! One type of information over all kinds, and its texts.
+//! One type of information over all kinds, its texts; lines and words, of which every text is made.
 #![tactic(auto)]
 
-pub mod info;
-pub mod kind;
+mod info;
+mod kind;
 pub mod laws;
+mod lines;
 mod member_text;
-pub mod name;
-pub mod names;
-pub mod number;
-pub mod output;
-pub mod range;
-pub mod text;
+mod name;
+mod names;
+mod number;
+mod output;
+mod range;
+mod text;
+mod text_lines;
+mod word_names;
+mod words;
 
 pub use info::Info;
 pub use kind::{Kind, SetKind};
+pub use lines::next_line;
+pub use name::is_name;
 pub use names::KindNames;
-pub use output::{Failed, Output, Writing};
+pub use output::{Failed, Output, Writing, put_all};
 pub use text::{read_info, write_info};
+pub use text_lines::TextLines;
+pub use word_names::{are_names, read_name};
+pub use words::{Words, allows_all, idles};
 
 #[cfg(test)]
 mod tests;

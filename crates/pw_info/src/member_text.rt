@@ -1,12 +1,12 @@
 // The texts of members of a set: `{`, their names joined by `,`, `}`.
-ghost use Rattle.std.specs.Prelude.{◌≡◌, ◌++◌, ◌<◌, ℕ, ℤ, List, true, false, codes, length, IfSome, IfNone, OnOk, OnErr};
+ghost use Rattle.std.specs.Prelude.{◌≡◌, ◌++◌, ℕ, List, codes, length, IfSome, IfNone};
 ghost use Rattle.pw_kinds.specs.Members.{size_of, IsEmpty};
 ghost use Rattle.pw_info.specs.declared.info.Info.{Info};
 ghost use Rattle.pw_info.specs.declared.kind.Kind.TheVariants as kinds;
 ghost use Rattle.pw_info.specs.Information.{kind_of};
 ghost use Rattle.pw_info.specs.Cut.{HasNoComma};
 ghost use Rattle.pw_info.specs.MemberReading.{AddsPlaces, NamesApart};
-ghost use Rattle.pw_info.specs.Passing.{PassesPart};
+ghost use Rattle.pw_info.specs.Passing.{Writes};
 ghost use Rattle.pw_info.specs.Spelling.{SpellsValues};
 ghost use Rattle.pw_info.specs.SetText.{text_of_set};
 ghost use Rattle.pw_info.specs.Text.{places_of, text_of_members};
@@ -15,7 +15,7 @@ use crate::info::Info;
 use crate::kind::SetKind;
 use crate::names::KindNames;
 use crate::output::{Failed, Output, put_all};
-use pw_kinds::members::Members;
+use pw_kinds::Members;
 
 // What stands before the first ',' of a text, and what stands behind it; the whole text and None where it has no ','.
 fn cut_at_comma(text: &[u8]) -> (&[u8], Option<&[u8]>)
@@ -69,10 +69,7 @@ pub(crate) fn write_members<N: KindNames, O: Output>(
     output: &mut O,
 ) -> Result<(), Failed>
     requires named { length (N.members names.now set) ≡ size_of part }
-    ensures ok { OnOk result (O.passes output.old (text_of_members (N.members names.now set) part) output.new) }
-    ensures err { OnErr result (PassesPart O.passes output.old output.new (text_of_members (N.members names.now set) part)) }
-    ensures failed { OnErr result (O.has_failed output.new ≡ true) }
-    ensures works { OnOk result (O.has_failed output.old ≡ false → O.has_failed output.new ≡ false) }
+    ensures { Writes O.passes O.has_failed output.old output.new result (text_of_members (N.members names.now set) part) }
 {
     if part.is_empty() {
         return put_all(output, b"contradiction");
@@ -92,10 +89,7 @@ fn write_set<N: KindNames, O: Output>(
 ) -> Result<(), Failed>
     requires named { length (N.members names.now set) ≡ size_of part }
     requires some { IsEmpty part → ⊥ }
-    ensures ok { OnOk result (O.passes output.old (text_of_set (N.members names.now set) (places_of part)) output.new) }
-    ensures err { OnErr result (PassesPart O.passes output.old output.new (text_of_set (N.members names.now set) (places_of part))) }
-    ensures failed { OnErr result (O.has_failed output.new ≡ true) }
-    ensures works { OnOk result (O.has_failed output.old ≡ false → O.has_failed output.new ≡ false) }
+    ensures { Writes O.passes O.has_failed output.old output.new result (text_of_set (N.members names.now set) (places_of part)) }
 {
     let mut mark = b"{";
     for place in 0..part.size() {
@@ -108,11 +102,9 @@ fn write_set<N: KindNames, O: Output>(
 }
 
 // Writes a mark and a name.
+#[tactic(auto, using(crate::proofs::PassingFacts::first_fails, crate::proofs::PassingFacts::second_writes))]
 fn write_name<O: Output>(mark: &[u8], name: &str, output: &mut O) -> Result<(), Failed>
-    ensures ok { OnOk result (O.passes output.old (mark.now ++ name.now) output.new) }
-    ensures err { OnErr result (PassesPart O.passes output.old output.new (mark.now ++ name.now)) }
-    ensures failed { OnErr result (O.has_failed output.new ≡ true) }
-    ensures works { OnOk result (O.has_failed output.old ≡ false → O.has_failed output.new ≡ false) }
+    ensures { Writes O.passes O.has_failed output.old output.new result (mark.now ++ name.now) }
 {
     put_all(output, mark)?;
     put_all(output, name.as_bytes())

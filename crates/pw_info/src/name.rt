@@ -1,5 +1,5 @@
-//! The test of a name of a user, a premise, a set kind, a member, a cell.
-ghost use Rattle.std.specs.Prelude.{◌≡◌, ◌↔◌, ℕ, List, true};
+// The test of a name of a user, a premise, a set kind, a member, a cell.
+ghost use Rattle.std.specs.Prelude.{◌≡◌};
 ghost use Rattle.std.specs.List.{list_all};
 ghost use Rattle.pw_info.specs.Name as spec;
 
@@ -45,11 +45,6 @@ fn are_name_bytes(word: &[u8]) -> bool
 {
     word.iter().all(|byte| is_name_byte(*byte))
 }
-
-/// The test of a name is the definition of a name.
-pub fn name_test_is_exact()
-    ensures { (word : List ℕ) → (spec.is_name word ≡ true) ↔ spec.IsName word }
-{}
 
 /// Whether the word is a name: 1 to 32 bytes of `a` to `z`, `0` to `9` and `_`, of which the first is a letter, and none of
 /// the words `under`, `none`, `nothing`, `contradiction`, `line`, `of`, `local` and `end`.

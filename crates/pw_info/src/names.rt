@@ -1,3 +1,4 @@
+// Where the names of the members of sets are looked up.
 ghost use Rattle.std.specs.Prelude.{◌≡◌, ◌<◌, ℕ, List, length, Some, IfSome, IfNone, slice_get, Contains};
 ghost use Rattle.pw_info.specs.SetNames.{AreNames};
 

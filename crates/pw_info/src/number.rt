@@ -1,11 +1,10 @@
-// Numbers as words: the reader, and the laws of their spelling.
-ghost use Rattle.std.specs.Prelude.{◌≡◌, ℕ, ℤ, ◌≤◌, List, IfSome, IfNone};
-ghost use Rattle.std.specs.Fmt.{signed_decimal};
-ghost use Rattle.pw_info.specs.Number.{IsWithin, SpellsNumber, SpellsPositive};
+// Numbers as words: the reader.
+ghost use Rattle.std.specs.Prelude.{ℕ, ℤ, ◌≤◌, IfSome, IfNone};
+ghost use Rattle.pw_info.specs.Number.{IsUpTo, SpellsNumber, SpellsPositive, greatest_number};
 
 // Reads a digit 1 to 9 and further digits.
 fn read_positive(word: &[u8], most: u32) -> Option<u32>
-    requires { most ≤ 1000000000 }
+    requires { most ≤ greatest_number }
     ensures some { IfSome result (λ n. SpellsPositive word.now n × (n ≤ most)) }
     ensures none { IfNone result ((n : ℕ) → SpellsPositive word.now n → n ≤ most → ⊥) }
 {
@@ -30,10 +29,10 @@ fn read_positive(word: &[u8], most: u32) -> Option<u32>
 ///
 /// `most` is at most 1,000,000,000. `None` means that the word spells no number from `-most` to `most`,
 /// however long it is.
-pub fn read_number(word: &[u8], most: u32) -> Option<i64>
-    requires { most ≤ 1000000000 }
-    ensures some { IfSome result (λ n. SpellsNumber word.now n × IsWithin most n) }
-    ensures none { IfNone result ((n : ℤ) → SpellsNumber word.now n → IsWithin most n → ⊥) }
+pub(crate) fn read_number(word: &[u8], most: u32) -> Option<i64>
+    requires { most ≤ greatest_number }
+    ensures some { IfSome result (λ n. SpellsNumber word.now n × IsUpTo most n) }
+    ensures none { IfNone result ((n : ℤ) → SpellsNumber word.now n → IsUpTo most n → ⊥) }
 {
     if let [b'-', digits @ ..] = word {
         let below = read_positive(digits, most)?;
@@ -45,19 +44,3 @@ pub fn read_number(word: &[u8], most: u32) -> Option<i64>
     let above = read_positive(word, most)?;
     Some(i64::from(above))
 }
-
-/// A word spells at most one number.
-pub fn one_number()
-    ensures { (word : List ℕ) (m n : ℤ) → SpellsNumber word m → SpellsNumber word n → m ≡ n }
-{}
-
-/// The decimal digits of a number, behind `-` where it is negative, spell it.
-pub fn written_is_spelled()
-    ensures { (n : ℤ) → IsWithin 1000000000 n → SpellsNumber (signed_decimal n) n }
-{}
-
-/// A number has one spelling: its decimal digits, behind `-` where it is negative.
-pub fn one_spelling()
-    ensures { (word : List ℕ) (n : ℤ) → IsWithin 1000000000 n → SpellsNumber word n
-        → word ≡ signed_decimal n }
-{}

@@ -1,8 +1,8 @@
 // The end that takes bytes: what it was passed, and when it has failed.
-ghost use Rattle.std.specs.Prelude.{◌≡◌, ℕ, List, [], ◌++◌, Bool, true, false, is_err, IsErr, OnOk, OnErr, Some};
+ghost use Rattle.std.specs.Prelude.{◌≡◌, ℕ, List, [], ◌++◌, Bool, true, false, is_err, IsErr, Some};
 ghost use Rattle.std.specs.Io.KnownBytes.{Appends};
 ghost use Rattle.std.proofs.KnownBytes.{Appends-nil, Appends-trans};
-ghost use Rattle.pw_info.specs.Passing.{PutPasses, PassesPart};
+ghost use Rattle.pw_info.specs.Passing.{PutPasses, Writes};
 
 use std::io::Write;
 
@@ -112,14 +112,9 @@ impl<W: Write> Output for Writing<W> {
     ghost joins = { λ s t u xs ys p q. Appends-trans (W.contents (writer_of s)) (W.contents (writer_of t)) (W.contents (writer_of u)) xs ys p q };
 }
 
-/// Puts all of the bytes.
-///
-/// A put that fails ends it with `Failed`: a front of the bytes was passed then.
+/// Puts all of the bytes. A put that fails ends it with `Failed`: a front of the bytes was passed then.
 pub fn put_all<O: Output>(output: &mut O, bytes: &[u8]) -> Result<(), Failed>
-    ensures ok { OnOk result (O.passes output.old bytes.now output.new) }
-    ensures err { OnErr result (PassesPart O.passes output.old output.new bytes.now) }
-    ensures failed { OnErr result (O.has_failed output.new ≡ true) }
-    ensures works { OnOk result (O.has_failed output.old ≡ false → O.has_failed output.new ≡ false) }
+    ensures { Writes O.passes O.has_failed output.old output.new result bytes.now }
 {
     let mut rest = bytes;
     while !rest.is_empty() {

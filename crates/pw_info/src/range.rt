@@ -1,8 +1,8 @@
-// Ranges as words: the reader, and the laws of their spelling.
-ghost use Rattle.std.specs.Prelude.{◌≡◌, ℕ, ℤ, pos, neg_ℤ, ◌≤◌, ◌≤ℤ◌, List, ◌++◌, codes, IfSome, IfNone};
-ghost use Rattle.pw_info.specs.Number.{IsWithin};
+// Ranges as words: the reader.
+ghost use Rattle.std.specs.Prelude.{◌≡◌, ℤ, ◌≤◌, ◌++◌, codes, IfSome, IfNone};
+ghost use Rattle.pw_info.specs.Number.{IsUpTo, greatest_number};
 ghost use Rattle.pw_info.specs.Cut.{HasNoDot, SpellsCut};
-ghost use Rattle.pw_info.specs.Range.{SpellsNoRange, SpellsRange, text_of_range};
+ghost use Rattle.pw_info.specs.Range.{SpellsRange};
 
 use crate::number::read_number;
 
@@ -18,11 +18,10 @@ fn split_at_dot(word: &[u8]) -> Option<(&[u8], &[u8])>
 
 // Reads `LO..HI` with LO at most HI, from what stands before the first '.' and what stands behind it.
 fn read_ends(front: &[u8], rest: &[u8], most: u32) -> Option<(i64, i64)>
-    requires { most ≤ 1000000000 }
+    requires { most ≤ greatest_number }
     ensures some { IfSome result (λ ends. SpellsCut front.now rest.now ends.0 ends.1) }
-    ensures within { IfSome result (λ ends. IsWithin most ends.0 × IsWithin most ends.1) }
-    ensures none { IfNone result ((lo hi : ℤ) → SpellsCut front.now rest.now lo hi
-        → IsWithin most lo → IsWithin most hi → ⊥) }
+    ensures within { IfSome result (λ ends. IsUpTo most ends.0 × IsUpTo most ends.1) }
+    ensures none { IfNone result ((lo hi : ℤ) → SpellsCut front.now rest.now lo hi → IsUpTo most lo → IsUpTo most hi → ⊥) }
 {
     let [b'.', back @ ..] = rest else {
         return None;
@@ -40,50 +39,14 @@ fn read_ends(front: &[u8], rest: &[u8], most: u32) -> Option<(i64, i64)>
 ///
 /// `most` is at most 1,000,000,000. `None` means that the word spells no range whose ends stand from
 /// `-most` to `most`, however long it is.
-pub fn read_range(word: &[u8], most: u32) -> Option<(i64, i64)>
-    requires { most ≤ 1000000000 }
+pub(crate) fn read_range(word: &[u8], most: u32) -> Option<(i64, i64)>
+    requires { most ≤ greatest_number }
     ensures some { IfSome result (λ ends. SpellsRange word.now ends.0 ends.1) }
-    ensures within { IfSome result (λ ends. IsWithin most ends.0 × IsWithin most ends.1) }
-    ensures none { IfNone result ((lo hi : ℤ) → SpellsRange word.now lo hi
-        → IsWithin most lo → IsWithin most hi → ⊥) }
+    ensures within { IfSome result (λ ends. IsUpTo most ends.0 × IsUpTo most ends.1) }
+    ensures none { IfNone result ((lo hi : ℤ) → SpellsRange word.now lo hi → IsUpTo most lo → IsUpTo most hi → ⊥) }
 {
     match split_at_dot(word) {
         Some((front, rest)) => read_ends(front, rest, most),
         None => read_number(word, most).map(|number| (number, number)),
     }
 }
-
-/// A word spells at most one range.
-pub fn one_range()
-    ensures { (word : List ℕ) (lo hi least greatest : ℤ) → SpellsRange word lo hi
-        → SpellsRange word least greatest → (lo ≡ least) × (hi ≡ greatest) }
-{}
-
-/// What is written for a range spells it.
-pub fn written_range_is_spelled()
-    ensures { (lo hi : ℤ) → lo ≤ℤ hi → IsWithin 1000000000 lo → IsWithin 1000000000 hi
-        → SpellsRange (text_of_range lo hi) lo hi }
-{}
-
-/// The words `nothing` and `contradiction` spell no range, so they are free to name other things.
-pub fn named_words_spell_no_range()
-    ensures nothing { SpellsNoRange (codes "nothing") }
-    ensures contradiction { SpellsNoRange (codes "contradiction") }
-{}
-
-/// What some words spell.
-pub fn spelling_examples()
-    ensures one_number { SpellsRange (codes "5") (pos 5) (pos 5) }
-    ensures equal_ends { SpellsRange (codes "5..5") (pos 5) (pos 5) }
-    ensures around_zero { SpellsRange (codes "-3..4") (neg_ℤ (pos 3)) (pos 4) }
-    ensures falling { SpellsNoRange (codes "9..3") }
-    ensures leading_zeros { SpellsNoRange (codes "007") }
-    ensures minus_zero { SpellsNoRange (codes "-0") }
-    ensures plus_sign { SpellsNoRange (codes "+1") }
-    ensures no_upper_end { SpellsNoRange (codes "1..") }
-    ensures no_lower_end { SpellsNoRange (codes "..2") }
-    ensures three_dots { SpellsNoRange (codes "1...2") }
-    ensures three_ends { SpellsNoRange (codes "1..2..3") }
-    ensures set { SpellsNoRange (codes "{red}") }
-    ensures empty { SpellsNoRange (codes "") }
-{}

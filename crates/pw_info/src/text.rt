@@ -1,12 +1,11 @@
 // The texts of informations: reading and writing them.
-ghost use Rattle.std.specs.Prelude.{◌≡◌, ◌++◌, ℕ, List, true, false, codes, IfSome, IfNone, OnOk, OnErr};
+ghost use Rattle.std.specs.Prelude.{◌≡◌, ◌++◌, codes, IfSome, IfNone};
 ghost use Rattle.std.specs.Fmt.{signed_decimal};
 ghost use Rattle.pw_info.specs.declared.info.Info.{Info};
-ghost use Rattle.pw_info.specs.declared.kind.Kind.{Kind};
 ghost use Rattle.pw_info.specs.Information.{kind_of};
-ghost use Rattle.pw_info.specs.Passing.{PassesPart};
+ghost use Rattle.pw_info.specs.Passing.{Writes};
 ghost use Rattle.pw_info.specs.Range.{text_of_range};
-ghost use Rattle.pw_info.specs.SetNames.{SetNames, AreNames, IsNamed};
+ghost use Rattle.pw_info.specs.SetNames.{SetNames, IsNamed};
 ghost use Rattle.pw_info.specs.Spelling.{SpellsInfo, SpellsValues};
 ghost use Rattle.pw_info.specs.Text.{text_of_exact, text_of_info, text_of_interval};
 
@@ -18,8 +17,12 @@ use crate::number::read_number;
 use crate::output::{Failed, Output, put_all};
 use crate::range::read_range;
 use itoa::Buffer;
-use pw_kinds::exact::Exact;
-use pw_kinds::interval::Interval;
+use pw_kinds::{Exact, Interval};
+
+// The numbers of intervals, and exact numbers, lie from the negative of these to these.
+const GREATEST_OF_INTERVALS: u32 = 1_000_000;
+
+const GREATEST_EXACT: u32 = 1_000_000_000;
 
 /// The information of the kind that a word spells: `nothing`, `contradiction`; for an interval `N` or `LO..HI` with
 /// LO at most HI, both from -1,000,000 to 1,000,000; for an exact number `N`, from -1,000,000,000 to 1,000,000,000; for
@@ -49,7 +52,7 @@ fn read_interval(word: &[u8]) -> Option<Info>
     ensures some { IfSome result (λ info. (sets : SetNames) → SpellsValues sets word.now Kind.Interval info) }
     ensures none { IfNone result ((sets : SetNames) (info : Info) → SpellsValues sets word.now Kind.Interval info → ⊥) }
 {
-    let (lo, hi) = read_range(word, 1_000_000)?;
+    let (lo, hi) = read_range(word, GREATEST_OF_INTERVALS)?;
     let interval = Interval::new(lo, hi)?;
     Some(Info::of_interval(interval))
 }
@@ -60,7 +63,7 @@ fn read_exact(word: &[u8]) -> Option<Info>
     ensures some { IfSome result (λ info. (sets : SetNames) → SpellsValues sets word.now Kind.Exact info) }
     ensures none { IfNone result ((sets : SetNames) (info : Info) → SpellsValues sets word.now Kind.Exact info → ⊥) }
 {
-    let number = read_number(word, 1_000_000_000)?;
+    let number = read_number(word, GREATEST_EXACT)?;
     let exact = Exact::one(number)?;
     Some(Info::of_exact(exact))
 }
@@ -73,10 +76,7 @@ pub fn write_info<N: KindNames, O: Output>(
     output: &mut O,
 ) -> Result<(), Failed>
     requires named { IsNamed (N.members names.now) (kind_of info.now) }
-    ensures ok { OnOk result (O.passes output.old (text_of_info (N.members names.now) info.now) output.new) }
-    ensures err { OnErr result (PassesPart O.passes output.old output.new (text_of_info (N.members names.now) info.now)) }
-    ensures failed { OnErr result (O.has_failed output.new ≡ true) }
-    ensures works { OnOk result (O.has_failed output.old ≡ false → O.has_failed output.new ≡ false) }
+    ensures { Writes O.passes O.has_failed output.old output.new result (text_of_info (N.members names.now) info.now) }
 {
     match *info {
         Info::Interval(part) => write_interval(part, output),
@@ -86,10 +86,7 @@ pub fn write_info<N: KindNames, O: Output>(
 }
 
 fn write_interval<O: Output>(part: Interval, output: &mut O) -> Result<(), Failed>
-    ensures ok { OnOk result (O.passes output.old (text_of_interval part) output.new) }
-    ensures err { OnErr result (PassesPart O.passes output.old output.new (text_of_interval part)) }
-    ensures failed { OnErr result (O.has_failed output.new ≡ true) }
-    ensures works { OnOk result (O.has_failed output.old ≡ false → O.has_failed output.new ≡ false) }
+    ensures { Writes O.passes O.has_failed output.old output.new result (text_of_interval part) }
 {
     if part.is_empty() {
         return put_all(output, b"contradiction");
@@ -101,10 +98,7 @@ fn write_interval<O: Output>(part: Interval, output: &mut O) -> Result<(), Faile
 }
 
 fn write_exact<O: Output>(part: Exact, output: &mut O) -> Result<(), Failed>
-    ensures ok { OnOk result (O.passes output.old (text_of_exact part) output.new) }
-    ensures err { OnErr result (PassesPart O.passes output.old output.new (text_of_exact part)) }
-    ensures failed { OnErr result (O.has_failed output.new ≡ true) }
-    ensures works { OnOk result (O.has_failed output.old ≡ false → O.has_failed output.new ≡ false) }
+    ensures { Writes O.passes O.has_failed output.old output.new result (text_of_exact part) }
 {
     if part.is_any() {
         return put_all(output, b"nothing");
@@ -115,12 +109,10 @@ fn write_exact<O: Output>(part: Exact, output: &mut O) -> Result<(), Failed>
     }
 }
 
+#[tactic(auto, using(crate::proofs::PassingFacts::first_fails, crate::proofs::PassingFacts::second_writes))]
 // Writes `N` where both ends are that number, else `LO..HI`.
 fn write_range<O: Output>(lo: i64, hi: i64, output: &mut O) -> Result<(), Failed>
-    ensures ok { OnOk result (O.passes output.old (text_of_range lo hi) output.new) }
-    ensures err { OnErr result (PassesPart O.passes output.old output.new (text_of_range lo hi)) }
-    ensures failed { OnErr result (O.has_failed output.new ≡ true) }
-    ensures works { OnOk result (O.has_failed output.old ≡ false → O.has_failed output.new ≡ false) }
+    ensures { Writes O.passes O.has_failed output.old output.new result (text_of_range lo hi) }
 {
     if lo == hi {
         return write_number(lo, output);
@@ -130,11 +122,9 @@ fn write_range<O: Output>(lo: i64, hi: i64, output: &mut O) -> Result<(), Failed
 }
 
 // Writes `..` and a number.
+#[tactic(auto, using(crate::proofs::PassingFacts::first_fails, crate::proofs::PassingFacts::second_writes))]
 fn write_end<O: Output>(number: i64, output: &mut O) -> Result<(), Failed>
-    ensures ok { OnOk result (O.passes output.old (codes ".." ++ signed_decimal number) output.new) }
-    ensures err { OnErr result (PassesPart O.passes output.old output.new (codes ".." ++ signed_decimal number)) }
-    ensures failed { OnErr result (O.has_failed output.new ≡ true) }
-    ensures works { OnOk result (O.has_failed output.old ≡ false → O.has_failed output.new ≡ false) }
+    ensures { Writes O.passes O.has_failed output.old output.new result (codes ".." ++ signed_decimal number) }
 {
     put_all(output, b"..")?;
     write_number(number, output)
@@ -142,25 +132,11 @@ fn write_end<O: Output>(number: i64, output: &mut O) -> Result<(), Failed>
 
 // Writes a number.
 fn write_number<O: Output>(number: i64, output: &mut O) -> Result<(), Failed>
-    ensures ok { OnOk result (O.passes output.old (signed_decimal number) output.new) }
-    ensures err { OnErr result (PassesPart O.passes output.old output.new (signed_decimal number)) }
-    ensures failed { OnErr result (O.has_failed output.new ≡ true) }
-    ensures works { OnOk result (O.has_failed output.old ≡ false → O.has_failed output.new ≡ false) }
+    ensures { Writes O.passes O.has_failed output.old output.new result (signed_decimal number) }
 {
     let mut digits = Buffer::new();
     put_all(output, digits.format(number).as_bytes())
 }
-
-/// A word spells at most one information of a kind, where the members of each set have names.
-pub fn one_information()
-    ensures { (sets : SetNames) (word : List ℕ) (kind : Kind) (a b : Info) → ((set : ℕ) → AreNames (sets set)) → IsNamed sets kind →
-        SpellsInfo sets word kind a → SpellsInfo sets word kind b → a ≡ b }
-{}
-
-/// What is written for an information spells it: what is written is read as the same information.
-pub fn text_is_a_spelling()
-    ensures { (sets : SetNames) (info : Info) → SpellsInfo sets (text_of_info sets info) (kind_of info) info }
-{}
 
 #[cfg(test)]
 mod tests;

@@ -2,7 +2,8 @@
 use Rattle.std.proofs.Common.{◌≡◌, ℤ, pos, ◌≤ℤ◌, ◌<ℤ◌, Bool, true, false, Some, arith, sym, ◌∙◌}
 use Rattle.std.proofs.lemmas.Int.{ints}
 use Rattle.pw_kinds.specs.declared.interval.Interval.{Interval}
-use Rattle.pw_kinds.specs.Span.{first, last, IsSpan}
+use Rattle.pw_kinds.specs.Ranges.{interval_lowest, interval_highest}
+use Rattle.pw_kinds.specs.Span.{IsSpan}
 use Rattle.pw_kinds.specs.Interval.{allows, IsWithin, IsFromTo, IsLeastOf, IsGreatestOf, IsClosest, empty, whole, closest, meet_of, least_of, greatest_of}
 use Rattle.pw_kinds.proofs.Order.{both_true, true_both, same_test, is_false, not_both, between_true, true_between}
 use Rattle.pw_kinds.proofs.Intervals.{allows_true, true_allows, allows-whole, allows-meet, empty_none, same_values, closest_is, closest_closest, least_of_is, greatest_of_is}
@@ -62,15 +63,15 @@ pub empty_within : (i : Interval) → IsWithin empty i
 empty_within i v e = absurd (not_both _ e (empty_none v))
 
 pub whole_not_within : IsWithin whole empty → ⊥
-whole_not_within w = not_both _ (w (pos 0) (allows-whole (pos 0) ∙ true_between first (pos 0) last (omega (arith, ints)) (omega (arith, ints)))) (empty_none (pos 0))
+whole_not_within w = not_both _ (w (pos 0) (allows-whole (pos 0) ∙ true_between interval_lowest (pos 0) interval_highest (omega (arith, ints)) (omega (arith, ints)))) (empty_none (pos 0))
 
 -- the closest interval to a test that passes at both ends of a stretch, and nowhere outside it
-pub closest_from_to : (p : ℤ → Bool) (lo hi : ℤ) → first ≤ℤ lo → lo ≤ℤ hi → hi ≤ℤ last → p lo ≡ true → p hi ≡ true
+pub closest_from_to : (p : ℤ → Bool) (lo hi : ℤ) → interval_lowest ≤ℤ lo → lo ≤ℤ hi → hi ≤ℤ interval_highest → p lo ≡ true → p hi ≡ true
     → ((v : ℤ) → p v ≡ true → (lo ≤ℤ v) × (v ≤ℤ hi)) → IsFromTo (closest p) lo hi
 closest_from_to p lo hi low ordered high at_lo at_hi inside v =
     let c : IsClosest p (closest p) = closest_closest p in
-    let lo_holds : allows (closest p) lo ≡ true = c.holds lo (true_between first lo last low (omega (arith, ints))) at_lo in
-    let hi_holds : allows (closest p) hi ≡ true = c.holds hi (true_between first hi last (omega (arith, ints)) high) at_hi in
+    let lo_holds : allows (closest p) lo ≡ true = c.holds lo (true_between interval_lowest lo interval_highest low (omega (arith, ints))) at_lo in
+    let hi_holds : allows (closest p) hi ≡ true = c.holds hi (true_between interval_lowest hi interval_highest (omega (arith, ints)) high) at_hi in
     let low_end : ((closest p).lo ≤ℤ lo) × (lo ≤ℤ (closest p).hi) = allows_true (closest p) lo lo_holds in
     let high_end : ((closest p).lo ≤ℤ hi) × (hi ≤ℤ (closest p).hi) = allows_true (closest p) hi hi_holds in
     let span : IsSpan lo hi = record { low = low; high = high; empty = λ h. absurd (omega (arith, ints)) } in
@@ -80,5 +81,5 @@ closest_from_to p lo hi low ordered high at_lo at_hi inside v =
     (λ e. let at : (lo ≤ℤ v) × (v ≤ℤ hi) = between_true lo v hi e in true_allows (closest p) v (omega (arith, ints)) (omega (arith, ints)))
 
 -- the closest interval to a test that nothing in range passes
-pub closest_none : (p : ℤ → Bool) → ((v : ℤ) → first ≤ℤ v → v ≤ℤ last → p v ≡ false) → closest p ≡ empty
+pub closest_none : (p : ℤ → Bool) → ((v : ℤ) → interval_lowest ≤ℤ v → v ≤ℤ interval_highest → p v ≡ false) → closest p ≡ empty
 closest_none p none = sym (closest_is p empty (λ v low high. empty_none v ∙ sym (none v low high)))

@@ -6,8 +6,9 @@ use Rattle.std.proofs.lemmas.Int.{ints, clamps, by_lt_z}
 use Rattle.std.proofs.Props.{props}
 use mathlib.Core.HLevel.{is_prop→PathP}
 use Rattle.pw_kinds.specs.declared.interval.Interval.{Interval}
-use Rattle.pw_kinds.specs.Span.{first, last, values, is_in_range, IsSpan}
-use Rattle.pw_kinds.specs.Interval.{allows, empty, checked, between, closest, whole, meet_of, least_of, greatest_of, IsEmpty, IsWithin, IsFromTo, IsLeastOf, IsGreatestOf, IsClosest}
+use Rattle.pw_kinds.specs.Ranges.{interval_lowest, interval_highest, interval_numbers, is_in_interval_range}
+use Rattle.pw_kinds.specs.Span.{IsSpan}
+use Rattle.pw_kinds.specs.Interval.{allows, empty, checked, from_to, between, closest, whole, meet_of, least_of, greatest_of, IsEmpty, IsWithin, IsFromTo, AreEnds, IsLeastOf, IsGreatestOf, IsClosest}
 use Rattle.pw_kinds.proofs.Order.{true_le, both_true, true_both, same_test, is_false, not_both, between_true, true_between}
 use Rattle.pw_kinds.proofs.Searches.{IsLeast, IsGreatest, least_is, greatest_is}
 
@@ -25,12 +26,12 @@ pub allows_true : (i : Interval) (v : ℤ) → allows i v ≡ true → (i.lo ≤
 allows_true i v e = between_true i.lo v i.hi e
 
 -- what is possible is in range
-pub allows_in_range : (i : Interval) (v : ℤ) → allows i v ≡ true → (first ≤ℤ v) × (v ≤ℤ last)
+pub allows_in_range : (i : Interval) (v : ℤ) → allows i v ≡ true → (interval_lowest ≤ℤ v) × (v ≤ℤ interval_highest)
 allows_in_range i v e =
     let ends : (i.lo ≤ℤ v) × (v ≤ℤ i.hi) = allows_true i v e in
     let span : IsSpan i.lo i.hi = i.span in
-    let low : first ≤ℤ i.lo = span.low in
-    let high : i.hi ≤ℤ last = span.high in
+    let low : interval_lowest ≤ℤ i.lo = span.low in
+    let high : i.hi ≤ℤ interval_highest = span.high in
     (omega (arith, ints), omega (arith, ints))
 
 -- an interval with its ends crossed is the empty one
@@ -56,28 +57,42 @@ same_values i j same = by_lt_z i.hi i.lo
     let high' : (i.lo ≤ℤ j.hi) × (j.hi ≤ℤ i.hi) = allows_true i j.hi (same j.hi ∙ true_allows j j.hi (omega (arith, ints)) (omega (arith, ints))) in
     same_ends i j (omega (arith, ints)) (omega (arith, ints)))
 
-checked_ends : (lo hi : ℤ) (b : Bool) (e : (le_z first lo && le_z lo hi && le_z hi last) ≡ b) → b ≡ true → ((checked lo hi b e).lo ≡ lo) × ((checked lo hi b e).hi ≡ hi)
+checked_ends : (lo hi : ℤ) (b : Bool) (e : (le_z interval_lowest lo && le_z lo hi && le_z hi interval_highest) ≡ b) → b ≡ true → ((checked lo hi b e).lo ≡ lo) × ((checked lo hi b e).hi ≡ hi)
 unfolding checked
 checked_ends lo hi true e t = (refl, refl)
 checked_ends lo hi false e t = absurd (cc)
 
-in_order : (lo hi : ℤ) → first ≤ℤ lo → lo ≤ℤ hi → hi ≤ℤ last → (le_z first lo && le_z lo hi && le_z hi last) ≡ true
-in_order lo hi p q r = both_true _ _ (both_true _ _ (true_le first lo p) (true_le lo hi q)) (true_le hi last r)
+in_order : (lo hi : ℤ) → interval_lowest ≤ℤ lo → lo ≤ℤ hi → hi ≤ℤ interval_highest → (le_z interval_lowest lo && le_z lo hi && le_z hi interval_highest) ≡ true
+in_order lo hi p q r = both_true _ _ (both_true _ _ (true_le interval_lowest lo p) (true_le lo hi q)) (true_le hi interval_highest r)
 
 -- the interval between two ends in range and in order has these ends
-pub between_ends : (lo hi : ℤ) → first ≤ℤ lo → lo ≤ℤ hi → hi ≤ℤ last → ((between (Some lo) (Some hi)).lo ≡ lo) × ((between (Some lo) (Some hi)).hi ≡ hi)
+pub between_ends : (lo hi : ℤ) → interval_lowest ≤ℤ lo → lo ≤ℤ hi → hi ≤ℤ interval_highest → ((between (Some lo) (Some hi)).lo ≡ lo) × ((between (Some lo) (Some hi)).hi ≡ hi)
 between_ends lo hi p q r = checked_ends lo hi _ refl (in_order lo hi p q r)
 
--- an interval that leaves nothing in range possible is the empty one
-pub empty_is : (i : Interval) → ((v : ℤ) → first ≤ℤ v → v ≤ℤ last → allows i v ≡ false) → i ≡ empty
+-- the ends of an interval, by their order and their range
+pub ends : (lo hi : ℤ) → interval_lowest ≤ℤ lo → lo ≤ℤ hi → hi ≤ℤ interval_highest → AreEnds lo hi
+ends lo hi p q r = (q, (p, omega (arith, ints)), (omega (arith, ints), r))
+
+-- the interval from one end to another leaves possible just the numbers between them
+pub from_to_values : (lo hi : ℤ) → AreEnds lo hi → IsFromTo (from_to lo hi) lo hi
+from_to_values lo hi (order, low, high) v =
+    let at : ((from_to lo hi).lo ≡ lo) × ((from_to lo hi).hi ≡ hi) = between_ends lo hi low.0 order high.1 in
+    ap (λ (x : ℤ). le_z x v && le_z v (from_to lo hi).hi) at.0 ∙ ap (λ (x : ℤ). le_z lo v && le_z v x) at.1
+
+-- and no other interval does
+pub from_to_only : (lo hi : ℤ) (i : Interval) → AreEnds lo hi → IsFromTo i lo hi → i ≡ from_to lo hi
+from_to_only lo hi i are f = same_values i (from_to lo hi) (λ v. f v ∙ sym (from_to_values lo hi are v))
+
+-- an interval that leaves no number in range possible is the empty one
+pub empty_is : (i : Interval) → ((v : ℤ) → interval_lowest ≤ℤ v → v ≤ℤ interval_highest → allows i v ≡ false) → i ≡ empty
 empty_is i none = by_lt_z i.hi i.lo (crossed_is i) (λ h.
     let span : IsSpan i.lo i.hi = i.span in
-    let low : first ≤ℤ i.lo = span.low in
-    let high : i.hi ≤ℤ last = span.high in
+    let low : interval_lowest ≤ℤ i.lo = span.low in
+    let high : i.hi ≤ℤ interval_highest = span.high in
     absurd (not_both _ (true_allows i i.lo (omega (arith, ints)) h) (none i.lo low (omega (arith, ints)))))
 
-between_is : (p : ℤ → Bool) (i : Interval) (a b : Option ℤ) → ((v : ℤ) → first ≤ℤ v → v ≤ℤ last → allows i v ≡ p v)
-    → IsLeast p values first a → IsGreatest p values last b → i ≡ between a b
+between_is : (p : ℤ → Bool) (i : Interval) (a b : Option ℤ) → ((v : ℤ) → interval_lowest ≤ℤ v → v ≤ℤ interval_highest → allows i v ≡ p v)
+    → IsLeast p interval_numbers interval_lowest a → IsGreatest p interval_numbers interval_highest b → i ≡ between a b
 between_is p i None b same low high = empty_is i (λ v l h. same v l h ∙ low v l (omega (arith, ints)))
 between_is p i (Some lo) None same low high = empty_is i (λ v l h. same v l h ∙ high v (omega (arith, ints)) h)
 between_is p i (Some lo) (Some hi) same low high =
@@ -86,8 +101,8 @@ between_is p i (Some lo) (Some hi) same low high =
     let at_low : (i.lo ≤ℤ lo) × (lo ≤ℤ i.hi) = allows_true i lo (same lo low_from (omega (arith, ints)) ∙ low_passes) in
     let at_high : (i.lo ≤ℤ hi) × (hi ≤ℤ i.hi) = allows_true i hi (same hi (omega (arith, ints)) high_to ∙ high_passes) in
     let span : IsSpan i.lo i.hi = i.span in
-    let first_low : first ≤ℤ i.lo = span.low in
-    let last_high : i.hi ≤ℤ last = span.high in
+    let first_low : interval_lowest ≤ℤ i.lo = span.low in
+    let last_high : i.hi ≤ℤ interval_highest = span.high in
     let passes_low : p i.lo ≡ true = sym (same i.lo first_low (omega (arith, ints))) ∙ true_allows i i.lo (omega (arith, ints)) (omega (arith, ints)) in
     let passes_high : p i.hi ≡ true = sym (same i.hi (omega (arith, ints)) last_high) ∙ true_allows i i.hi (omega (arith, ints)) (omega (arith, ints)) in
     let not_below : lo ≤ℤ i.lo = by_lt_z i.lo lo (λ l. absurd (not_both _ passes_low (low_least i.lo first_low l))) (λ l. l) in
@@ -98,17 +113,17 @@ between_is p i (Some lo) (Some hi) same low high =
     same_ends i (between (Some lo) (Some hi)) (same_lo ∙ sym ends.0) (same_hi ∙ sym ends.1)
 
 -- the interval that leaves possible just what passes, of the numbers in range, is the closest
-pub closest_is : (p : ℤ → Bool) (i : Interval) → ((v : ℤ) → first ≤ℤ v → v ≤ℤ last → allows i v ≡ p v) → i ≡ closest p
+pub closest_is : (p : ℤ → Bool) (i : Interval) → ((v : ℤ) → interval_lowest ≤ℤ v → v ≤ℤ interval_highest → allows i v ≡ p v) → i ≡ closest p
 unfolding closest
-closest_is p i same = between_is p i _ _ same (least_is p values first) (greatest_is p values last)
+closest_is p i same = between_is p i _ _ same (least_is p interval_numbers interval_lowest) (greatest_is p interval_numbers interval_highest)
 
-allows_between : (p : ℤ → Bool) (a b : Option ℤ) → IsLeast p values first a → IsGreatest p values last b → IsClosest p (between a b)
+allows_between : (p : ℤ → Bool) (a b : Option ℤ) → IsLeast p interval_numbers interval_lowest a → IsGreatest p interval_numbers interval_highest b → IsClosest p (between a b)
 allows_between p None b low high = record {
-  holds = λ v r e. let range : (first ≤ℤ v) × (v ≤ℤ last) = between_true first v last r in absurd (not_both _ e (low v range.0 (omega (arith, ints))));
+  holds = λ v r e. let range : (interval_lowest ≤ℤ v) × (v ≤ℤ interval_highest) = between_true interval_lowest v interval_highest r in absurd (not_both _ e (low v range.0 (omega (arith, ints))));
   smallest = λ j each v e. absurd (not_both _ e (empty_none v));
 }
 allows_between p (Some lo) None low high = record {
-  holds = λ v r e. let range : (first ≤ℤ v) × (v ≤ℤ last) = between_true first v last r in absurd (not_both _ e (high v (omega (arith, ints)) range.1));
+  holds = λ v r e. let range : (interval_lowest ≤ℤ v) × (v ≤ℤ interval_highest) = between_true interval_lowest v interval_highest r in absurd (not_both _ e (high v (omega (arith, ints)) range.1));
   smallest = λ j each v e. absurd (not_both _ e (empty_none v));
 }
 allows_between p (Some lo) (Some hi) low high =
@@ -120,7 +135,7 @@ allows_between p (Some lo) (Some hi) low high =
     let hi_is : (between (Some lo) (Some hi)).hi ≡ hi = ends.1 in
     record {
       holds = λ v r e.
-          let range : (first ≤ℤ v) × (v ≤ℤ last) = between_true first v last r in
+          let range : (interval_lowest ≤ℤ v) × (v ≤ℤ interval_highest) = between_true interval_lowest v interval_highest r in
           let from : lo ≤ℤ v = by_lt_z v lo (λ l. absurd (not_both _ e (low_least v range.0 l))) (λ l. l) in
           let to : v ≤ℤ hi = by_lt_z hi v (λ l. absurd (not_both _ e (high_most v l range.1))) (λ l. l) in
           true_allows (between (Some lo) (Some hi)) v (subst (λ (x : ℤ). x ≤ℤ v) (sym lo_is) from) (subst (λ (x : ℤ). v ≤ℤ x) (sym hi_is) to);
@@ -128,26 +143,26 @@ allows_between p (Some lo) (Some hi) low high =
           let at : ((between (Some lo) (Some hi)).lo ≤ℤ v) × (v ≤ℤ (between (Some lo) (Some hi)).hi) = allows_true (between (Some lo) (Some hi)) v e in
           let from : lo ≤ℤ v = subst (λ (x : ℤ). x ≤ℤ v) lo_is at.0 in
           let to : v ≤ℤ hi = subst (λ (x : ℤ). v ≤ℤ x) hi_is at.1 in
-          let j_low : (j.lo ≤ℤ lo) × (lo ≤ℤ j.hi) = allows_true j lo (each lo (true_between first lo last low_from (omega (arith, ints))) low_passes) in
-          let j_high : (j.lo ≤ℤ hi) × (hi ≤ℤ j.hi) = allows_true j hi (each hi (true_between first hi last (omega (arith, ints)) high_to) high_passes) in
+          let j_low : (j.lo ≤ℤ lo) × (lo ≤ℤ j.hi) = allows_true j lo (each lo (true_between interval_lowest lo interval_highest low_from (omega (arith, ints))) low_passes) in
+          let j_high : (j.lo ≤ℤ hi) × (hi ≤ℤ j.hi) = allows_true j hi (each hi (true_between interval_lowest hi interval_highest (omega (arith, ints)) high_to) high_passes) in
           true_allows j v (omega (arith, ints)) (omega (arith, ints));
     }
 
 -- the closest interval is what its name says
 pub closest_closest : (p : ℤ → Bool) → IsClosest p (closest p)
 unfolding closest
-closest_closest p = allows_between p _ _ (least_is p values first) (greatest_is p values last)
+closest_closest p = allows_between p _ _ (least_is p interval_numbers interval_lowest) (greatest_is p interval_numbers interval_highest)
 
 -- the interval of the whole range is the closest to every number
-pub whole_is : (lo hi : ℤ) (s : IsSpan lo hi) → lo ≡ first → hi ≡ last → record { lo = lo; hi = hi; span = s } ≡ whole
+pub whole_is : (lo hi : ℤ) (s : IsSpan lo hi) → lo ≡ interval_lowest → hi ≡ interval_highest → record { lo = lo; hi = hi; span = s } ≡ whole
 whole_is lo hi s p q =
     let i : Interval = record { lo = lo; hi = hi; span = s } in
     closest_is (λ v. true) i (λ v l h. true_allows i v (omega (arith, ints)) (omega (arith, ints)))
 
 -- what is possible in the whole interval, and in a merge
-pub allows-whole : (v : ℤ) → allows whole v ≡ is_in_range v
+pub allows-whole : (v : ℤ) → allows whole v ≡ is_in_interval_range v
 allows-whole v = same_test _ _
-    (λ e. let range : (first ≤ℤ v) × (v ≤ℤ last) = allows_in_range whole v e in true_between first v last range.0 range.1)
+    (λ e. let range : (interval_lowest ≤ℤ v) × (v ≤ℤ interval_highest) = allows_in_range whole v e in true_between interval_lowest v interval_highest range.0 range.1)
     (λ e. (closest_closest (λ w. true)).holds v e refl)
 
 -- both parts of a merge hold it: its numbers lie between two that both leave possible
@@ -159,25 +174,25 @@ allows-meet i j v =
     (closest'.smallest i (λ w r h. (true_both _ _ h).0) v e)
     (closest'.smallest j (λ w r h. (true_both _ _ h).1) v e))
     (λ e.
-    let range : (first ≤ℤ v) × (v ≤ℤ last) = allows_in_range i v (true_both _ _ e).0 in
-    closest'.holds v (true_between first v last range.0 range.1) e)
+    let range : (interval_lowest ≤ℤ v) × (v ≤ℤ interval_highest) = allows_in_range i v (true_both _ _ e).0 in
+    closest'.holds v (true_between interval_lowest v interval_highest range.0 range.1) e)
 
 -- an interval from a merge: what both leave possible
 pub meet_is : (i j r : Interval) → ((v : ℤ) → allows r v ≡ (allows i v && allows j v)) → r ≡ meet_of i j
 meet_is i j r same = same_values r (meet_of i j) (λ v. same v ∙ sym (allows-meet i j v))
 
-least_from : (i : Interval) (n : ℤ) (o : Option ℤ) → IsLeastOf i n → IsLeast (allows i) values first o → o ≡ Some n
-least_from i n None (here, bound) low = let range : (first ≤ℤ n) × (n ≤ℤ last) = allows_in_range i n here in absurd (not_both _ here (low n range.0 (omega (arith, ints))))
+least_from : (i : Interval) (n : ℤ) (o : Option ℤ) → IsLeastOf i n → IsLeast (allows i) interval_numbers interval_lowest o → o ≡ Some n
+least_from i n None (here, bound) low = let range : (interval_lowest ≤ℤ n) × (n ≤ℤ interval_highest) = allows_in_range i n here in absurd (not_both _ here (low n range.0 (omega (arith, ints))))
 least_from i n (Some x) (here, bound) (from, to, passes, least') =
-    let range : (first ≤ℤ n) × (n ≤ℤ last) = allows_in_range i n here in
+    let range : (interval_lowest ≤ℤ n) × (n ≤ℤ interval_highest) = allows_in_range i n here in
     let up : n ≤ℤ x = bound x passes in
     let down : x ≤ℤ n = by_lt_z n x (λ l. absurd (not_both _ here (least' n range.0 l))) (λ l. l) in
     let e : x ≡ n = omega (arith, ints) in ap Some e
 
-greatest_from : (i : Interval) (n : ℤ) (o : Option ℤ) → IsGreatestOf i n → IsGreatest (allows i) values last o → o ≡ Some n
-greatest_from i n None (here, bound) high = let range : (first ≤ℤ n) × (n ≤ℤ last) = allows_in_range i n here in absurd (not_both _ here (high n (omega (arith, ints)) range.1))
+greatest_from : (i : Interval) (n : ℤ) (o : Option ℤ) → IsGreatestOf i n → IsGreatest (allows i) interval_numbers interval_highest o → o ≡ Some n
+greatest_from i n None (here, bound) high = let range : (interval_lowest ≤ℤ n) × (n ≤ℤ interval_highest) = allows_in_range i n here in absurd (not_both _ here (high n (omega (arith, ints)) range.1))
 greatest_from i n (Some x) (here, bound) (from, to, passes, most) =
-    let range : (first ≤ℤ n) × (n ≤ℤ last) = allows_in_range i n here in
+    let range : (interval_lowest ≤ℤ n) × (n ≤ℤ interval_highest) = allows_in_range i n here in
     let down : x ≤ℤ n = bound x passes in
     let up : n ≤ℤ x = by_lt_z x n (λ l. absurd (not_both _ here (most n l range.1))) (λ l. l) in
     let e : x ≡ n = omega (arith, ints) in ap Some e
@@ -185,11 +200,11 @@ greatest_from i n (Some x) (here, bound) (from, to, passes, most) =
 -- the least number possible, by what it is
 pub least_of_is : (i : Interval) (n : ℤ) → IsLeastOf i n → least_of i ≡ Some n
 unfolding least_of
-least_of_is i n h = least_from i n _ h (least_is (allows i) values first)
+least_of_is i n h = least_from i n _ h (least_is (allows i) interval_numbers interval_lowest)
 
 pub greatest_of_is : (i : Interval) (n : ℤ) → IsGreatestOf i n → greatest_of i ≡ Some n
 unfolding greatest_of
-greatest_of_is i n h = greatest_from i n _ h (greatest_is (allows i) values last)
+greatest_of_is i n h = greatest_from i n _ h (greatest_is (allows i) interval_numbers interval_highest)
 
 -- ---- what the code's ends stand for
 
@@ -238,26 +253,15 @@ within_ends i j ordered w =
 pub ends_within : (i j : Interval) → j.lo ≤ℤ i.lo → i.hi ≤ℤ j.hi → IsWithin i j
 ends_within i j p q v e = let at : (i.lo ≤ℤ v) × (v ≤ℤ i.hi) = allows_true i v e in true_allows j v (omega (arith, ints)) (omega (arith, ints))
 
-pub empty_crossed : empty.hi <ℤ empty.lo
-empty_crossed = omega (arith, ints)
-
 -- ---- the least and the greatest number possible, of an interval that leaves none possible
 
-none_least : (i : Interval) (o : Option ℤ) → IsEmpty i → IsLeast (allows i) values first o → o ≡ None
+none_least : (i : Interval) (o : Option ℤ) → IsEmpty i → IsLeast (allows i) interval_numbers interval_lowest o → o ≡ None
 none_least i None none low = refl
 none_least i (Some x) none (from, to, passes, least') = absurd (not_both _ passes (none x))
 
-none_greatest : (i : Interval) (o : Option ℤ) → IsEmpty i → IsGreatest (allows i) values last o → o ≡ None
-none_greatest i None none high = refl
-none_greatest i (Some x) none (from, to, passes, most) = absurd (not_both _ passes (none x))
-
 pub least_of_empty : (i : Interval) → IsEmpty i → least_of i ≡ None
 unfolding least_of
-least_of_empty i none = none_least i _ none (least_is (allows i) values first)
-
-pub greatest_of_empty : (i : Interval) → IsEmpty i → greatest_of i ≡ None
-unfolding greatest_of
-greatest_of_empty i none = none_greatest i _ none (greatest_is (allows i) values last)
+least_of_empty i none = none_least i _ none (least_is (allows i) interval_numbers interval_lowest)
 
 -- a number between two that are possible is possible
 pub allows_between_allowed : (i : Interval) (lo v hi : ℤ) → allows i lo ≡ true → allows i hi ≡ true → lo ≤ℤ v → v ≤ℤ hi → allows i v ≡ true

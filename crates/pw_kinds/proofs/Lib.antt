@@ -6,3 +6,4 @@ pub mod Masks
 pub mod MemberSets
 pub mod MemberExamples
 pub mod Exacts
+pub mod Counts

@@ -2,15 +2,15 @@
 use Rattle.std.specs.Prelude.{◌≡◌, ℤ, Bool, true, false, ◌&&◌, Option, Some, refl, if◌then◌else◌}
 use Rattle.std.specs.Ordering.{int_eq}
 use Rattle.pw_kinds.specs.declared.exact.Exact.{Exact}
-use Rattle.pw_kinds.specs.declared.exact.Exact.TheVariants.{Any, One, Nothing}
+use Rattle.pw_kinds.specs.declared.exact.Exact.TheVariants.{Any, One, Empty}
 use Rattle.pw_kinds.specs.Search.{least, greatest}
-use Rattle.pw_kinds.specs.Number.{lowest, highest, numbers, is_number, number_low, number_high}
+use Rattle.pw_kinds.specs.Ranges.{exact_lowest, exact_highest, exact_numbers, is_in_exact_range, exact_range_low, exact_range_high}
 
 -- whether a number is still possible
 abbrev pub allows : Exact → ℤ → Bool
-allows Any v = is_number v
+allows Any v = is_in_exact_range v
 allows (One n) v = int_eq v n.value
-allows Nothing v = false
+allows Empty v = false
 
 -- no number is possible
 abbrev pub IsEmpty : Exact → Type 0
@@ -18,45 +18,57 @@ IsEmpty e = (v : ℤ) → allows e v ≡ false
 
 -- every number in range is possible
 abbrev pub IsAny : Exact → Type 0
-IsAny e = (v : ℤ) → is_number v ≡ true → allows e v ≡ true
+IsAny e = (v : ℤ) → is_in_exact_range v ≡ true → allows e v ≡ true
 
 -- just one number is possible, this one
 abbrev pub IsOne : Exact → ℤ → Type 0
 IsOne e n = (v : ℤ) → allows e v ≡ int_eq v n
 
+-- they leave the same numbers possible
+abbrev pub SameValues : Exact → Exact → Type 0
+SameValues e f = (v : ℤ) → allows e v ≡ allows f v
+
 -- each number that is possible in the first is possible in the second
 abbrev pub IsWithin : Exact → Exact → Type 0
 IsWithin e f = (v : ℤ) → allows e v ≡ true → allows f v ≡ true
 
--- a number where it is in range, else nothing
-unfoldable pub checked : (n : ℤ) (b : Bool) → is_number n ≡ b → Exact
-checked n true e = One (record { value = n; at_least = number_low n e; at_most = number_high n e })
-checked n false e = Nothing
+-- a number where the test of its range passes, else no number
+unfoldable pub checked : (n : ℤ) (b : Bool) → is_in_exact_range n ≡ b → Exact
+checked n true e = One (record { value = n; at_least = exact_range_low n e; at_most = exact_range_high n e })
+checked n false e = Empty
+
+-- just this number, where it is in range, else no number
+abbrev pub one : ℤ → Exact
+one n = checked n _ refl
 
 -- what is known where the least and the greatest number that pass are these: the number where they are one
 abbrev pub between : Option ℤ → Option ℤ → Exact
-between (Some a) (Some b) = if int_eq a b then checked a _ refl else Any
-between _ _ = Nothing
+between (Some a) (Some b) = if int_eq a b then one a else Any
+between _ _ = Empty
 
 -- the most informed in which every number in range that passes is possible: none where no number passes, the number
 -- where one alone passes, else any
 unfoldable pub closest : (ℤ → Bool) → Exact
-closest p = between (least p numbers lowest) (greatest p numbers highest)
+closest p = between (least p exact_numbers exact_lowest) (greatest p exact_numbers exact_highest)
 
 -- every number in range is possible
 abbrev pub any : Exact
 any = closest (λ v. true)
 
 -- no number is possible
-abbrev pub none : Exact
-none = closest (λ v. false)
+abbrev pub empty : Exact
+empty = closest (λ v. false)
 
 -- the merge of two: what both leave possible
 abbrev pub meet_of : Exact → Exact → Exact
 meet_of e f = closest (λ v. allows e v && allows f v)
 
+-- of the numbers in range it leaves possible just those that pass
+abbrev pub AllowsJust : (ℤ → Bool) → Exact → Type 0
+AllowsJust p e = (v : ℤ) → is_in_exact_range v ≡ true → allows e v ≡ p v
+
 -- the most informed in which every number in range that passes is possible, in words: it allows each of them, and is
 -- within any other that does
 pub record IsClosest (p : ℤ → Bool) (e : Exact) : Type 0 where
-  pub holds : (v : ℤ) → is_number v ≡ true → p v ≡ true → allows e v ≡ true
-  pub smallest : (f : Exact) → ((v : ℤ) → is_number v ≡ true → p v ≡ true → allows f v ≡ true) → IsWithin e f
+  pub holds : (v : ℤ) → is_in_exact_range v ≡ true → p v ≡ true → allows e v ≡ true
+  pub smallest : (f : Exact) → ((v : ℤ) → is_in_exact_range v ≡ true → p v ≡ true → allows f v ≡ true) → IsWithin e f

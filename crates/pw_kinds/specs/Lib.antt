@@ -1,7 +1,8 @@
+pub mod Limits
+pub mod Ranges
 pub mod Search
 pub mod Span
 pub mod Interval
 pub mod Places
 pub mod Members
-pub mod Number
 pub mod Exact

@@ -1,5 +1,7 @@
 -- What the members of a set that are still possible say of a place: a set of whole numbers, given by its test.
-use Rattle.std.specs.Prelude.{◌≡◌, ℕ, ℤ, pos, ◌<◌, Bool, true, false, ◌&&◌, refl}
+use Rattle.std.specs.Prelude.{◌≡◌, ℕ, ℤ, pos, ◌<◌, Bool, true, false, ◌&&◌, List, refl}
+use Rattle.std.specs.List.{list_any}
+use Rattle.std.specs.Ordering.{int_eq}
 use Rattle.pw_kinds.specs.declared.members.Members.{Members}
 use Rattle.pw_kinds.specs.Places.{is_size, mask_allows, mask_of, checked_mask, empty_mask}
 
@@ -19,17 +21,26 @@ IsEmpty m = (v : ℤ) → allows m v ≡ false
 abbrev pub IsFull : Members → Type 0
 IsFull m = (k : ℕ) → k < size_of m → allows m (pos k) ≡ true
 
+-- they leave the same places possible
+abbrev pub SameValues : Members → Members → Type 0
+SameValues m n = (v : ℤ) → allows m v ≡ allows n v
+
 -- each place that is possible in the first is possible in the second
 abbrev pub IsWithin : Members → Members → Type 0
 IsWithin m n = (v : ℤ) → allows m v ≡ true → allows n v ≡ true
 
--- the members of a set of so many whose place passes; of a size that no set has, an empty set of two
+-- the members whose place passes where the test of the size passes, else no member of a set of two
 unfoldable pub checked : (size : ℕ) (p : ℤ → Bool) (b : Bool) → is_size size ≡ b → Members
 checked size p true e = record { size = size; mask = mask_of p size; places = checked_mask p size e }
 checked size p false e = record { size = 2; mask = 0; places = empty_mask }
 
+-- the members of a set of so many whose place passes; of a size that no set has, no member of a set of two
 unfoldable pub closest : ℕ → (ℤ → Bool) → Members
 closest size p = checked size p _ refl
+
+-- the members of a set of so many at these places
+abbrev pub at_places : ℕ → List ℕ → Members
+at_places size places = closest size (λ v. list_any (λ place. int_eq (pos place) v) places)
 
 -- every member of a set of so many
 abbrev pub full : ℕ → Members

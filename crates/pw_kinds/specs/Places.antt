@@ -1,17 +1,15 @@
 -- The places of the members of a set, counted from 0, and the masks that tell which of them are possible.
--- How wide a mask is stands here, in `most_members`, and in the code; nothing else depends on it.
+-- How wide a mask is stands in `Limits` and in the code; nothing else depends on it.
 use Rattle.std.specs.Prelude.{◌≡◌, ℕ, zero, suc, ℤ, pos, negsuc, ◌+◌, ◌*◌, ◌^◌, ◌<◌, ◌≤◌, ◌==◌, Bool, true, false, ◌&&◌, nat_le, if◌then◌else◌}
 use Rattle.std.specs.Int.Signed.{le_z, lt_z}
 use Rattle.std.specs.Int.{bit_at}
 use Rattle.std.proofs.Common.{arith}
 use Rattle.std.proofs.Math.Nat.{pow-suc}
+use Rattle.pw_kinds.specs.Limits.{most_members}
 
--- the fewest and the most members that a set may have
+-- the fewest members that a set may have
 abbrev pub fewest_members : ℕ
 fewest_members = 2
-
-abbrev pub most_members : ℕ
-most_members = 64
 
 -- a set may have so many members
 abbrev pub IsSize : ℕ → Type 0

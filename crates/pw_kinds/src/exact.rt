@@ -1,12 +1,13 @@
+// Exact values: a whole number that is known exactly or not at all.
 ghost use Rattle.std.specs.Prelude.{◌≤ℤ◌};
-ghost use Rattle.pw_kinds.specs.Number.{lowest, highest};
+ghost use Rattle.pw_kinds.specs.Ranges.{exact_lowest, exact_highest};
 
 /// A whole number from -1,000,000,000 to 1,000,000,000.
 #[derive(Clone, Copy, Debug, PartialEq, Eq)]
 pub struct Number {
     value: i64,
-    ghost at_least: { lowest ≤ℤ value },
-    ghost at_most: { value ≤ℤ highest },
+    ghost at_least: { exact_lowest ≤ℤ value },
+    ghost at_most: { value ≤ℤ exact_highest },
 }
 
 /// What is known of a whole number between -1,000,000,000 and 1,000,000,000 that is known exactly or not at all. Two
@@ -18,17 +19,17 @@ pub enum Exact {
     /// Just this number is possible.
     One(Number),
     /// No number is possible.
-    Nothing,
+    Empty,
 }
 
 impl Exact {
     ghost use Rattle.std.specs.Prelude.{◌≡◌, ℤ, ◌↔◌, ◌&&◌, Bool, true, false, Some, IsTrue, IsSome, IfSome};
-    ghost use Rattle.pw_kinds.specs.Number.{IsNumber, is_number};
-    ghost use Rattle.pw_kinds.specs.Exact.{allows, IsEmpty, IsAny, IsOne, IsWithin, any, none, meet_of};
+    ghost use Rattle.pw_kinds.specs.Ranges.{IsInExactRange, is_in_exact_range};
+    ghost use Rattle.pw_kinds.specs.Exact.{allows, IsEmpty, IsAny, IsOne, IsWithin, any, empty, meet_of};
 
     /// Every number in range.
     pub fn any() -> Exact
-        ensures values { (v : ℤ) → allows result v ≡ is_number v }
+        ensures values { (v : ℤ) → allows result v ≡ is_in_exact_range v }
         ensures exact { result ≡ any }
     {
         Exact::Any
@@ -36,7 +37,7 @@ impl Exact {
 
     /// Just this number. None outside -1,000,000,000 to 1,000,000,000.
     pub fn one(n: i64) -> Option<Exact>
-        ensures some { IsSome result ↔ IsNumber n }
+        ensures some { IsSome result ↔ IsInExactRange n }
         ensures values { IfSome result (λ e. IsOne e n) }
     {
         if n < -1_000_000_000 || n > 1_000_000_000 {
@@ -48,9 +49,9 @@ impl Exact {
     /// No number.
     pub fn none() -> Exact
         ensures values { IsEmpty result }
-        ensures exact { result ≡ none }
+        ensures exact { result ≡ empty }
     {
-        Exact::Nothing
+        Exact::Empty
     }
 
     /// Whether every number in range is possible.
@@ -61,10 +62,10 @@ impl Exact {
     }
 
     /// Whether no number is possible.
-    pub fn is_none(self) -> bool
+    pub fn is_empty(self) -> bool
         ensures { IsTrue result ↔ IsEmpty self }
     {
-        matches!(self, Exact::Nothing)
+        matches!(self, Exact::Empty)
     }
 
     /// The number where exactly one is possible.
@@ -85,7 +86,7 @@ impl Exact {
         match (self, other) {
             (Exact::Any, known) | (known, Exact::Any) => known,
             (Exact::One(one), Exact::One(another)) if one.value == another.value => self,
-            _ => Exact::Nothing,
+            _ => Exact::Empty,
         }
     }
 
@@ -94,7 +95,7 @@ impl Exact {
         ensures { IsTrue result ↔ IsWithin self other }
     {
         match (self, other) {
-            (Exact::Nothing, _) | (_, Exact::Any) => true,
+            (Exact::Empty, _) | (_, Exact::Any) => true,
             (Exact::One(one), Exact::One(another)) => one.value == another.value,
             _ => false,
         }
@@ -118,7 +119,7 @@ mod tests {
         for n in [-1_000_000_000, -1, 0, 7, 1_000_000_000] {
             let exact = one(n)?;
             assert_eq!(rt; exact.number(), Some(n), "{n}");
-            assert!(rt; !exact.is_any() && !exact.is_none(), "{n}");
+            assert!(rt; !exact.is_any() && !exact.is_empty(), "{n}");
         }
         Ok(())
     }
@@ -126,11 +127,11 @@ mod tests {
     #[test]
     fn any_and_none(rt: HostRuntime) -> Result<(), Fail> {
         let (any, none) = (Exact::any(), Exact::none());
-        assert!(rt; any.is_any() && !any.is_none());
-        assert!(rt; none.is_none() && !none.is_any());
+        assert!(rt; any.is_any() && !any.is_empty());
+        assert!(rt; none.is_empty() && !none.is_any());
         assert_eq!(rt; (any.number(), none.number()), (None, None));
         let text = format!(in rt.alloc(); "{:?} {any:?} {none:?}", one(-3)?)?;
-        assert_eq!(rt; text.as_str(), "One(Number { value: -3 }) Any Nothing");
+        assert_eq!(rt; text.as_str(), "One(Number { value: -3 }) Any Empty");
         Ok(())
     }
 

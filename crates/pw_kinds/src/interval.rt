@@ -1,3 +1,4 @@
+// Intervals: a whole number that is known by the least and the greatest that it may be.
 ghost use Rattle.pw_kinds.specs.Span.{IsSpan};
 
 /// What is known of a whole number between -1,000,000 and 1,000,000: which numbers are still possible, from a least
@@ -11,12 +12,13 @@ pub struct Interval {
 
 impl Interval {
     ghost use Rattle.std.specs.Prelude.{◌≡◌, ℤ, ◌≤ℤ◌, ◌↔◌, ◌&&◌, Bool, true, false, Some, IsTrue, IsSome, IfSome};
-    ghost use Rattle.pw_kinds.specs.Span.{IsInRange, is_in_range};
-    ghost use Rattle.pw_kinds.specs.Interval.{allows, IsEmpty, IsWithin, IsFromTo, IsLeastOf, IsGreatestOf, empty, whole, meet_of, least_of, greatest_of};
+    ghost use Rattle.pw_kinds.specs.Ranges.{is_in_interval_range};
+    ghost use Rattle.pw_kinds.specs.Interval.{allows, IsEmpty, IsWithin, IsFromTo, AreEnds, IsLeastOf, IsGreatestOf};
+    ghost use Rattle.pw_kinds.specs.Interval.{empty, whole, meet_of, least_of, greatest_of};
 
     /// The numbers from `lo` to `hi`. None where `lo` is above `hi` or an end is outside -1,000,000 to 1,000,000.
     pub fn new(lo: i64, hi: i64) -> Option<Interval>
-        ensures some { IsSome result ↔ ((lo ≤ℤ hi) × IsInRange lo × IsInRange hi) }
+        ensures some { IsSome result ↔ AreEnds lo hi }
         ensures values { IfSome result (λ i. IsFromTo i lo hi) }
     {
         if lo > hi || lo < -1_000_000 || hi > 1_000_000 {
@@ -27,7 +29,7 @@ impl Interval {
 
     /// Every number in range.
     pub fn whole() -> Interval
-        ensures values { (v : ℤ) → allows result v ≡ is_in_range v }
+        ensures values { (v : ℤ) → allows result v ≡ is_in_interval_range v }
         ensures exact { result ≡ whole }
     {
         Interval {

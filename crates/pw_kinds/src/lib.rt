@@ -2,11 +2,11 @@
 //! a set, and exact numbers.
 #![tactic(auto)]
 
-pub mod exact;
-pub mod interval;
+mod exact;
+mod interval;
 pub mod laws;
-pub mod members;
+mod members;
 
-pub use exact::Exact;
+pub use exact::{Exact, Number};
 pub use interval::Interval;
 pub use members::Members;

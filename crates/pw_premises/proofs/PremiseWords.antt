@@ -19,30 +19,30 @@ use mir.Val.{bits}
 max_one : (a b : ℕ) → a < 2 → b < 2 → nat_eq (max a b) 1 ≡ (nat_eq a 1 || nat_eq b 1)
 max_one a b h k = grind (arith, nat_tests)
 
-pub has_bit-or : (a b q : ℕ) → has_bit (bit_or a b) q ≡ (has_bit a q || has_bit b q)
+has_bit-or : (a b q : ℕ) → has_bit (bit_or a b) q ≡ (has_bit a q || has_bit b q)
 unfolding has_bit
 has_bit-or a b q = ap (λ n. nat_eq n 1) (bit_at_or a b q) ∙ max_one (bit_at a q) (bit_at b q) (bit_at-lt a q) (bit_at-lt b q)
 
 min_one : (a b : ℕ) → a < 2 → b < 2 → nat_eq (min a (1 - b)) 1 ≡ (nat_eq a 1 && not (nat_eq b 1))
 min_one a b h k = grind (arith, nat_tests)
 
-pub has_bit-and_not : (w : Width) (a b q : ℕ) → b < 2 ^ bits w → q < bits w → has_bit (bit_and a (bit_not w b)) q ≡ (has_bit a q && not (has_bit b q))
+has_bit-and_not : (w : Width) (a b q : ℕ) → b < 2 ^ bits w → q < bits w → has_bit (bit_and a (bit_not w b)) q ≡ (has_bit a q && not (has_bit b q))
 unfolding has_bit
 has_bit-and_not w a b q h k = ap (λ n. nat_eq n 1) (bit_at_and a _ q ∙ ap (λ n. min (bit_at a q) n) (bit_at_not w b q h k))
     ∙ min_one (bit_at a q) (bit_at b q) (bit_at-lt a q) (bit_at-lt b q)
 
-pub has_bit-zero : (q : ℕ) → has_bit 0 q ≡ false
+has_bit-zero : (q : ℕ) → has_bit 0 q ≡ false
 unfolding has_bit
 has_bit-zero q = ap (λ n. nat_eq n 1) (bit_at-zero q)
 
-pub has_bit-pow : (k q : ℕ) → has_bit (2 ^ k) q ≡ nat_eq q k
+has_bit-pow : (k q : ℕ) → has_bit (2 ^ k) q ≡ nat_eq q k
 unfolding has_bit
 has_bit-pow k q = elim (nat_eq q k) as (λ b. nat_eq q k ≡ b → has_bit (2 ^ k) q ≡ b) [
   | true ↦ λ e. ap (λ i. has_bit (2 ^ k) i) (eqb-true q k e) ∙ ap (λ n. nat_eq n 1) (bit_at-pow_same k)
   | false ↦ λ e. ap (λ n. nat_eq n 1) (bit_at-pow_other k q (grind (arith, nat_tests)))
 ] refl
 
-pub has_bit-ones : (n q : ℕ) → has_bit (2 ^ n - 1) q ≡ nat_lt q n
+has_bit-ones : (n q : ℕ) → has_bit (2 ^ n - 1) q ≡ nat_lt q n
 unfolding has_bit
 has_bit-ones n q = elim (nat_lt q n) as (λ b. nat_lt q n ≡ b → has_bit (2 ^ n - 1) q ≡ b) [
   | true ↦ λ e. ap (λ n. nat_eq n 1) (bit_at_ones n q (grind (arith, nat_tests)))
@@ -53,24 +53,24 @@ no_bit : (a : ℕ) → a < 2 → nat_eq a 1 ≡ false → a ≡ 0
 no_bit a h e = grind (arith, nat_tests)
 
 -- a word with no bit is 0
-pub zero_from_bits : (k n : ℕ) → n < 2 ^ k → 0 < 2 ^ k → ((q : ℕ) → q < k → has_bit n q ≡ false) → n ≡ 0
+zero_from_bits : (k n : ℕ) → n < 2 ^ k → 0 < 2 ^ k → ((q : ℕ) → q < k → has_bit n q ≡ false) → n ≡ 0
 unfolding has_bit
 zero_from_bits k n h pos none = same_from_bits_below k n 0 h pos (λ q below. no_bit (bit_at n q) (bit_at-lt n q) (none q below) ∙ sym (bit_at-zero q))
 
 -- ---- the sets of words
-pub set_of_zero : (w : ℕ) → set_where w (has_bit 0) ≡ empty
+set_of_zero : (w : ℕ) → set_where w (has_bit 0) ≡ empty
 set_of_zero w = set_where-alike w _ _ (λ q _. has_bit-zero q) ∙ set_where-none w
 
-pub set_of_pow : (w n b : ℕ) → n < w → b ≡ 2 ^ n → set_where w (has_bit b) ≡ insert empty n
+set_of_pow : (w n b : ℕ) → n < w → b ≡ 2 ^ n → set_where w (has_bit b) ≡ insert empty n
 set_of_pow w n b h e = ap (λ k. set_where w (has_bit k)) e ∙ set_where-alike w _ _ (λ q _. has_bit-pow n q) ∙ set_where-one w n h
 
-pub set_of_ones : (w n b : ℕ) → n ≤ w → b ≡ 2 ^ n - 1 → set_where w (has_bit b) ≡ from_list (range_with_len 0 n)
+set_of_ones : (w n b : ℕ) → n ≤ w → b ≡ 2 ^ n - 1 → set_where w (has_bit b) ≡ from_list (range_with_len 0 n)
 set_of_ones w n b h e = ap (λ k. set_where w (has_bit k)) e ∙ set_where-alike w _ _ (λ q _. has_bit-ones n q) ∙ set_where-below w n h
 
-pub set_of_or : (w a b : ℕ) → set_where w (has_bit (bit_or a b)) ≡ union (set_where w (has_bit a)) (set_where w (has_bit b))
+set_of_or : (w a b : ℕ) → set_where w (has_bit (bit_or a b)) ≡ union (set_where w (has_bit a)) (set_where w (has_bit b))
 set_of_or w a b = set_where-alike w _ _ (λ q _. has_bit-or a b q) ∙ set_where-or w (has_bit a) (has_bit b)
 
-pub set_of_and_not : (w : Width) (a b : ℕ) → b < 2 ^ bits w
+set_of_and_not : (w : Width) (a b : ℕ) → b < 2 ^ bits w
     → set_where (bits w) (has_bit (bit_and a (bit_not w b))) ≡ difference (set_where (bits w) (has_bit a)) (set_where (bits w) (has_bit b))
 set_of_and_not w a b h = set_where-alike (bits w) _ _ (λ q k. has_bit-and_not w a b q h k) ∙ set_where-and_not (bits w) (has_bit a) (has_bit b)
 
@@ -83,7 +83,7 @@ no_rest true b h = ap not (h refl)
 no_rest false b h = refl
 
 -- no bit of a is left once those of b are taken away where the set of a is a subset of that of b
-pub is_subset_of_words : (w : Width) (a b : ℕ) → a < 2 ^ bits w → b < 2 ^ bits w
+is_subset_of_words : (w : Width) (a b : ℕ) → a < 2 ^ bits w → b < 2 ^ bits w
     → nat_eq (bit_and a (bit_not w b)) 0 ≡ is_subset (set_where (bits w) (has_bit a)) (set_where (bits w) (has_bit b))
 is_subset_of_words w a b h k = is_subset-set_where (bits w) (has_bit a) (has_bit b) _
     (λ e q below one. true_of_no_rest _ _ (sym (has_bit-and_not w a b q k below) ∙ ap (λ n. has_bit n q) (eqb-true _ _ e) ∙ has_bit-zero q) one)

@@ -1,3 +1,4 @@
+pub mod Premises
 pub mod PremiseBits
 pub mod PremiseSets
 pub mod PremiseSubsets

@@ -1,9 +1,9 @@
 -- The numbers of a set, in order.
 use Rattle.std.specs.Prelude.{ℕ, List, filter}
 use Rattle.std.specs.List.{range_with_len}
-use Rattle.std.specs.Ordering.{nat_cmp}
-use Rattle.std.specs.FinSet.{FinSet, contains}
+use Rattle.std.specs.FinSet.{contains}
+use Rattle.pw_premises.specs.Premises.{Premises, most_premises}
 
--- the numbers below 64 that the set contains, rising
-unfoldable pub numbers_of : FinSet nat_cmp → List ℕ
-numbers_of s = filter (contains s) (range_with_len 0 64)
+-- the numbers of the premises that the set contains, rising
+unfoldable pub numbers_of : Premises → List ℕ
+numbers_of premises = filter (contains premises) (range_with_len 0 most_premises)

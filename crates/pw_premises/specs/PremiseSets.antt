@@ -44,7 +44,7 @@ pub contains-set_where_past : (w : ℕ) (p : ℕ → Bool) (q : ℕ) → w ≤ q
 contains-set_where_past w p q h = contains-set_where w p q ∙ past_none w q (p q) h
 
 -- a set is known by what it contains
-pub set_where-is : (w : ℕ) (p : ℕ → Bool) (s : FinSet nat_cmp) → ((q : ℕ) → (nat_lt q w && p q) ≡ contains s q) → set_where w p ≡ s
+set_where-is : (w : ℕ) (p : ℕ → Bool) (s : FinSet nat_cmp) → ((q : ℕ) → (nat_lt q w && p q) ≡ contains s q) → set_where w p ≡ s
 set_where-is w p s same = same_set nat_cmp_total nat_cmp-IsAntisymmetric _ _ (λ q. contains-set_where w p q ∙ same q)
 
 and_alike : (w q : ℕ) (a b : Bool) → (q < w → a ≡ b) → (nat_lt q w && a) ≡ (nat_lt q w && b)
@@ -93,7 +93,7 @@ one_of_range a zero q = grind (arith, nat_tests)
 one_of_range a (suc n) q = ap (λ b. nat_eq a q || b) (one_of_range (a + 1) n q) ∙ grind (arith, nat_tests)
 
 -- the list of the numbers below n gives the set of these
-pub contains_numbers_below : (n q : ℕ) → contains (from_list {R = nat_cmp} (range_with_len 0 n)) q ≡ nat_lt q n
+contains_numbers_below : (n q : ℕ) → contains (from_list {R = nat_cmp} (range_with_len 0 n)) q ≡ nat_lt q n
 contains_numbers_below n q = contains-from_list_nat (range_with_len 0 n) q ∙ one_of_range 0 n q ∙ grind (arith, nat_tests)
 
 -- where what is below n passes it holds the numbers below n
@@ -128,7 +128,7 @@ same_cond : (a b : Bool) (x m n : ℕ) → a ≡ b → m ≡ n → cond a (x + m
 same_cond a b x m n p q = λ i. cond (p i) (x + q i) (q i)
 
 -- the word of a set that has the numbers of the bits of n is n, up to w bits
-pub number_of-bits : (w n : ℕ) (s : FinSet nat_cmp) → ((k : ℕ) → k < w → contains s k ≡ has_bit n k) → number_of w s ≡ n % 2 ^ w
+number_of-bits : (w n : ℕ) (s : FinSet nat_cmp) → ((k : ℕ) → k < w → contains s k ≡ has_bit n k) → number_of w s ≡ n % 2 ^ w
 unfolding number_of has_bit
 number_of-bits zero n s same = omega arith
 number_of-bits (suc w) n s same = same_cond _ _ _ _ _ (same w (omega arith)) (number_of-bits w n s (λ k h. same k (omega arith)))

@@ -1,11 +1,11 @@
 -- Laws of the subset test of finite sets of numbers.
-use Rattle.std.specs.Prelude.{◌≡◌, ℕ, Bool, true, false, not, ◌&&◌, ◌||◌, nat_eq}
+use Rattle.std.specs.Prelude.{◌≡◌, ℕ, Bool, true, false, not, ◌&&◌, ◌||◌}
 use Rattle.std.specs.Bool.{Decides}
 use Rattle.std.specs.Ordering.{nat_cmp, eq_by_cmp}
-use Rattle.std.specs.Cmp.{nat_cmp_total, unsigned_tied, both_ways, IsEquivalence}
-use Rattle.std.specs.FinSet.{FinSet, empty, insert, remove, contains, union, is_subset, same_set, contains-empty, contains-insert, contains-remove, contains-union, contains-is_subset, is_subset-contains, nat_cmp-IsAntisymmetric}
+use Rattle.std.specs.Cmp.{nat_cmp_total, both_ways, IsEquivalence}
+use Rattle.std.specs.FinSet.{FinSet, empty, remove, contains, union, is_subset, same_set, contains-empty, contains-remove, contains-union, contains-is_subset, is_subset-contains, nat_cmp-IsAntisymmetric}
 use Rattle.std.proofs.Common.{refl, sym, ap, ◌∙◌, inl, inr}
-use Rattle.std.proofs.lemmas.Bool.{eqb-true, eq-eqb, or_cases}
+use Rattle.std.proofs.lemmas.Bool.{or_cases}
 
 -- a set is a subset of itself
 pub is_subset_refl : (s : FinSet nat_cmp) → is_subset s s ≡ true
@@ -59,25 +59,6 @@ pub union_is_subset_both : (s t u : FinSet nat_cmp) → is_subset (union s t) u 
 union_is_subset_both s t u = both_ways _ _
     (λ all. true_and _ _ (is_subset_trans s _ u (is_subset_union_left s t) all) (is_subset_trans t _ u (is_subset_union_right s t) all))
     (λ both. let parts : (is_subset s u ≡ true) × (is_subset t u ≡ true) = and_true _ _ both in union_is_subset s t u parts.0 parts.1)
-
-contains-one_more : (s : FinSet nat_cmp) (n q : ℕ) → contains (insert s n) q ≡ (nat_eq q n || contains s q)
-contains-one_more s n q = contains-insert nat_cmp_total s n q ∙ ap (λ b. b || contains s q) (unsigned_tied q n)
-
--- a set is a subset of itself with one more number
-pub is_subset_insert : (s : FinSet nat_cmp) (n : ℕ) → is_subset s (insert s n) ≡ true
-is_subset_insert s n = contains-is_subset nat_cmp_total s _ (λ q one. contains-one_more s n q ∙ or_right _ _ one)
-
--- a set with one more number is a subset where the set is, and the number is there
-pub insert_is_subset : (s : FinSet nat_cmp) (n : ℕ) (t : FinSet nat_cmp) → is_subset (insert s n) t ≡ (contains t n && is_subset s t)
-insert_is_subset s n t = both_ways _ _
-    (λ all. true_and _ _ (is_subset-contains nat_cmp_total _ t all n (contains-one_more s n n ∙ or_left _ _ (nat_eq_refl n))) (is_subset_trans s _ t (is_subset_insert s n) all))
-    (λ both. let parts : (contains t n ≡ true) × (is_subset s t ≡ true) = and_true _ _ both in
-    contains-is_subset nat_cmp_total _ t (λ q one. elim (or_cases (nat_eq q n) (contains s q) (sym (contains-one_more s n q) ∙ one)) [
-      | inl e ↦ ap (contains t) (eqb-true q n e) ∙ parts.0
-      | inr e ↦ is_subset-contains nat_cmp_total s t parts.1 q e
-    ])) where
-      nat_eq_refl : (n : ℕ) → nat_eq n n ≡ true
-      nat_eq_refl n = eq-eqb n n refl
 
 -- a set without a number is a subset of the set
 pub remove_is_subset : (s : FinSet nat_cmp) (n : ℕ) → is_subset (remove s n) s ≡ true

@@ -1,33 +1,33 @@
-//! Laws of sets of numbers, each the contract of a function that does nothing: they hold of every set.
+//! Laws of sets of premises, each the contract of a function that does nothing: they hold of every set.
 
 ghost use Rattle.std.specs.Prelude.{◌≡◌, ◌<◌, ◌↔◌, ◌&&◌, ℕ, true, Contains};
 ghost use Rattle.std.specs.List.Sorted.{IsStrictlyIncreasing};
-ghost use Rattle.std.specs.Ordering.{nat_cmp};
-ghost use Rattle.std.specs.FinSet.{FinSet, empty, contains, remove, union, is_subset};
+ghost use Rattle.std.specs.FinSet.{empty, contains, remove, union, is_subset};
 ghost use Rattle.pw_premises.specs.Numbers.{numbers_of};
+ghost use Rattle.pw_premises.specs.Premises.{Premises, most_premises};
 
 /// To be a subset is a partial order, and the empty set is the least.
 pub fn subset_is_an_order()
-    ensures reflexive { (s : FinSet nat_cmp) → is_subset s s ≡ true }
-    ensures transitive { (s t u : FinSet nat_cmp) → is_subset s t ≡ true → is_subset t u ≡ true → is_subset s u ≡ true }
-    ensures antisymmetric { (s t : FinSet nat_cmp) → is_subset s t ≡ true → is_subset t s ≡ true → s ≡ t }
-    ensures least { (s : FinSet nat_cmp) → is_subset empty s ≡ true }
+    ensures reflexive { (s : Premises) → is_subset s s ≡ true }
+    ensures transitive { (s t u : Premises) → is_subset s t ≡ true → is_subset t u ≡ true → is_subset s u ≡ true }
+    ensures antisymmetric { (s t : Premises) → is_subset s t ≡ true → is_subset t s ≡ true → s ≡ t }
+    ensures least { (s : Premises) → is_subset empty s ≡ true }
 {}
 
 /// What two sets are joined to is the least set of which both are subsets.
 pub fn join_is_least_upper_bound()
-    ensures own { (s t : FinSet nat_cmp) → is_subset s (union s t) ≡ true }
-    ensures other { (s t : FinSet nat_cmp) → is_subset t (union s t) ≡ true }
-    ensures least { (s t u : FinSet nat_cmp) → is_subset (union s t) u ≡ (is_subset s u && is_subset t u) }
+    ensures own { (s t : Premises) → is_subset s (union s t) ≡ true }
+    ensures other { (s t : Premises) → is_subset t (union s t) ≡ true }
+    ensures least { (s t u : Premises) → is_subset (union s t) u ≡ (is_subset s u && is_subset t u) }
 {}
 
 /// A set without a number is a subset of the set.
 pub fn without_is_a_subset()
-    ensures { (s : FinSet nat_cmp) (n : ℕ) → is_subset (remove s n) s ≡ true }
+    ensures { (s : Premises) (n : ℕ) → is_subset (remove s n) s ≡ true }
 {}
 
-/// The list of the numbers of a set rises, and has just those numbers below 64 that are in the set.
+/// The list of the numbers of a set rises, and has just those numbers of premises that are in the set.
 pub fn numbers_are_the_members()
-    ensures rising { (s : FinSet nat_cmp) → IsStrictlyIncreasing (numbers_of s) }
-    ensures members { (s : FinSet nat_cmp) (q : ℕ) → Contains (numbers_of s) q ↔ ((q < 64) × (contains s q ≡ true)) }
+    ensures rising { (s : Premises) → IsStrictlyIncreasing (numbers_of s) }
+    ensures members { (s : Premises) (q : ℕ) → Contains (numbers_of s) q ↔ ((q < most_premises) × (contains s q ≡ true)) }
 {}

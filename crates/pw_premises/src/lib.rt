@@ -2,8 +2,8 @@
 #![tactic(auto)]
 
 pub mod laws;
-pub mod numbers;
-pub mod premise_set;
+mod numbers;
+mod premise_set;
 
 pub use numbers::Numbers;
 pub use premise_set::PremiseSet;

@@ -1,3 +1,5 @@
+// The numbers of a set of premises, one after another.
+
 ghost use Rattle.std.specs.Iterator.{YieldsFirst, YieldsLast, item_count};
 
 use std::marker::Model;

@@ -1,8 +1,10 @@
+// Sets of premises, each a word with a bit for each premise.
+
 ghost use Rattle.std.specs.Prelude.{◌≡◌, ◌<◌, ◌≤◌, ◌↔◌, ℕ, true, IsTrue, Contains, length};
 ghost use Rattle.std.specs.List.{range_with_len};
-ghost use Rattle.std.specs.Ordering.{nat_cmp};
 ghost use Rattle.std.specs.FinSet as set;
 ghost use Rattle.pw_premises.specs.Numbers.{numbers_of};
+ghost use Rattle.pw_premises.specs.Premises.{most_premises};
 
 use crate::numbers::Numbers;
 use std::marker::Model;
@@ -15,14 +17,14 @@ pub struct PremiseSet {
 
 impl Model for PremiseSet {
     ghost use Rattle.std.specs.Prelude.{◌<◌, ◌^◌};
-    ghost use Rattle.std.specs.Ordering.{nat_cmp};
     ghost use Rattle.std.specs.FinSet as set;
     ghost use Rattle.std.specs.Coded.{coded_ℕ};
+    ghost use Rattle.pw_premises.specs.Premises.{Premises};
     ghost use Rattle.pw_premises.specs.PremiseBits.{set_where, has_bit, number_of};
     ghost use Rattle.pw_premises.specs.PremiseSets.{number_of-set_where};
     ghost use Rattle.std.proofs.Common.{ap};
 
-    ghost Value = { set.FinSet nat_cmp };
+    ghost Value = { Premises };
 
     ghost coded = { set.code coded_ℕ };
 
@@ -47,7 +49,7 @@ impl PremiseSet {
     /// The set of the premise `n` alone; `n` is below 64.
     #[tactic(auto, using(crate::proofs::PremiseWords::one_in_word))]
     pub fn one(n: u8) -> PremiseSet
-        requires in_range { n < 64 }
+        requires in_range { n < most_premises }
         ensures single { result ≡ set.insert set.empty n }
     {
         PremiseSet { bits: 1 << n }
@@ -56,7 +58,7 @@ impl PremiseSet {
     /// The set of the premises below `n`; `n` is at most 64.
     #[tactic(auto, using(crate::proofs::PremiseWords::all_in_word, crate::proofs::PremiseWords::first_in_word))]
     pub fn first(n: u8) -> PremiseSet
-        requires in_range { n ≤ 64 }
+        requires in_range { n ≤ most_premises }
         ensures below { result ≡ set.from_list (range_with_len 0 n) }
     {
         if n == 64 {
@@ -112,7 +114,7 @@ impl PremiseSet {
     #[tactic(auto, using(crate::proofs::NumberWords::numbers_are_members, crate::proofs::NumberLists::at_most_64_numbers))]
     pub fn numbers(&self) -> Numbers
         ensures list { result ≡ numbers_of self.now }
-        ensures at_most_64 { length result ≤ 64 }
+        ensures few { length result ≤ most_premises }
         ensures members { (q : ℕ) → Contains result q ↔ (set.contains self.now q ≡ true) }
     {
         Numbers { bits: self.bits }

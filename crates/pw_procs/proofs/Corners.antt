@@ -6,20 +6,21 @@ use Rattle.std.proofs.lemmas.Int.{ints, clamps, by_lt_z, to_z-of_z, fits_signed_
 use Rattle.std.proofs.Math.Nat.{mul-le-mul_right, mul-le-mul}
 use borrow.Author.Differences.{le_out}
 use Rattle.pw_kinds.specs.declared.interval.Interval.{Interval}
-use Rattle.pw_kinds.specs.Span.{is_in_range, IsInRange}
+use Rattle.pw_kinds.specs.Ranges.{is_in_interval_range, IsInIntervalRange}
 use Rattle.pw_kinds.specs.Interval as interval
 use Rattle.pw_kinds.specs.Interval.{IsLeastOf, IsGreatestOf}
 use Rattle.pw_kinds.proofs.Intervals.{allows_between_allowed}
 use Rattle.pw_info.specs.declared.info.Info.TheVariants as info
+use Rattle.pw_procs.specs.Values.{IsImageOfOne, IsImageOfTwo}
 use Rattle.pw_procs.specs.Meaning.{product_of, square_of}
-use Rattle.pw_procs.proofs.Hulls.{answers_one, answers_two, hull_is, IsAnswerOfOne, IsAnswerOfTwo}
+use Rattle.pw_procs.proofs.Hulls.{image_one, image_two, is_hull_of}
 
 -- a number from lo to hi
 abbrev pub IsBetween : ℤ → ℤ → ℤ → Type 0
 IsBetween lo hi z = (lo ≤ℤ z) × (z ≤ℤ hi)
 
 -- the product of two numbers in range is the same after each is written to 64 bits and read again
-pub product_read : (a b p : ℤ) → IsInRange a → IsInRange b → p ≡ to_z w64 (of_z w64 a) *ℤ to_z w64 (of_z w64 b) → to_z w64 (of_z w64 p) ≡ a *ℤ b
+pub product_read : (a b p : ℤ) → IsInIntervalRange a → IsInIntervalRange b → p ≡ to_z w64 (of_z w64 a) *ℤ to_z w64 (of_z w64 b) → to_z w64 (of_z w64 p) ≡ a *ℤ b
 product_read a b p at_a at_b e =
     let same_a : to_z w64 (of_z w64 a) ≡ a = omega (arith, ints) in
     let same_b : to_z w64 (of_z w64 b) ≡ b = omega (arith, ints) in
@@ -70,26 +71,26 @@ of_greatest P a b p q = by_lt_z a b
     (λ l. let e : a ≡ int_max a b = omega (arith, ints, clamps) in subst P e p)
 
 -- a number is a product of possible numbers
-abbrev IsAnswer : Interval → Interval → ℤ → Type 0
-IsAnswer x y = IsAnswerOfTwo (λ v w. v *ℤ w) (info.Interval x) (info.Interval y)
+abbrev IsProduct : Interval → Interval → ℤ → Type 0
+IsProduct x y = IsImageOfTwo (λ v w. v *ℤ w) (info.Interval x) (info.Interval y)
 
 -- the least and the greatest of the products of the ends span the hull of the products
 pub product_is : (x y r : Interval) (a b c d p q s t : ℤ) → IsLeastOf x a → IsGreatestOf x b → IsLeastOf y c → IsGreatestOf y d
     → p ≡ a *ℤ c → q ≡ a *ℤ d → s ≡ b *ℤ c → t ≡ b *ℤ d
-    → ((v : ℤ) → interval.allows r v ≡ (is_in_range v && le_z (int_min (int_min p q) (int_min s t)) v && le_z v (int_max (int_max p q) (int_max s t))))
+    → ((v : ℤ) → interval.allows r v ≡ (is_in_interval_range v && le_z (int_min (int_min p q) (int_min s t)) v && le_z v (int_max (int_max p q) (int_max s t))))
     → info.Interval r ≡ product_of (info.Interval x) (info.Interval y)
 product_is x y r a b c d p q s t (a_in, from_a) (b_in, to_b) (c_in, from_c) (d_in, to_d) ac ad bc bd =
     let lo : ℤ = int_min (int_min p q) (int_min s t) in
     let hi : ℤ = int_max (int_max p q) (int_max s t) in
-    let at_p : IsAnswer x y p = (a, c, a_in, c_in, ac) in
-    let at_q : IsAnswer x y q = (a, d, a_in, d_in, ad) in
-    let at_s : IsAnswer x y s = (b, c, b_in, c_in, bc) in
-    let at_t : IsAnswer x y t = (b, d, b_in, d_in, bd) in
-    hull_is _ _ lo hi r (answers_two (λ v w. v *ℤ w) (info.Interval x) (info.Interval y))
-    (of_least (IsAnswer x y) _ _ (of_least (IsAnswer x y) p q at_p at_q) (of_least (IsAnswer x y) s t at_s at_t))
-    (of_greatest (IsAnswer x y) _ _ (of_greatest (IsAnswer x y) p q at_p at_q) (of_greatest (IsAnswer x y) s t at_s at_t))
-    (λ z answer.
-    let (v, w, here, there, same) = answer in
+    let at_p : IsProduct x y p = (a, c, a_in, c_in, ac) in
+    let at_q : IsProduct x y q = (a, d, a_in, d_in, ad) in
+    let at_s : IsProduct x y s = (b, c, b_in, c_in, bc) in
+    let at_t : IsProduct x y t = (b, d, b_in, d_in, bd) in
+    is_hull_of _ _ lo hi r (image_two (λ v w. v *ℤ w) (info.Interval x) (info.Interval y))
+    (of_least (IsProduct x y) _ _ (of_least (IsProduct x y) p q at_p at_q) (of_least (IsProduct x y) s t at_s at_t))
+    (of_greatest (IsProduct x y) _ _ (of_greatest (IsProduct x y) p q at_p at_q) (of_greatest (IsProduct x y) s t at_s at_t))
+    (λ z member.
+    let (v, w, here, there, same) = member in
     let at : IsBetween lo hi (v *ℤ w) = product_within lo hi a b c d v w (from_a v here, to_b v here) (from_c w there, to_d w there)
     (omega (arith, ints, clamps), omega (arith, ints, clamps)) (omega (arith, ints, clamps), omega (arith, ints, clamps))
     (omega (arith, ints, clamps), omega (arith, ints, clamps)) (omega (arith, ints, clamps), omega (arith, ints, clamps)) in
@@ -97,7 +98,7 @@ product_is x y r a b c d p q s t (a_in, from_a) (b_in, to_b) (c_in, from_c) (d_i
 
 -- a number is the square of a possible number
 abbrev IsSquare : Interval → ℤ → Type 0
-IsSquare x = IsAnswerOfOne (λ v. v *ℤ v) (info.Interval x)
+IsSquare x = IsImageOfOne (λ v. v *ℤ v) (info.Interval x)
 
 -- no square is below 0
 square_least : (v : ℤ) → pos 0 ≤ℤ (v *ℤ v)
@@ -124,10 +125,10 @@ square_most a b v (from, to) = by_lt_z v (pos 0)
 
 -- above 0 the squares of the ends span the hull of the squares
 pub square_above : (x r : Interval) (a b p q : ℤ) → IsLeastOf x a → IsGreatestOf x b → p ≡ a *ℤ a → q ≡ b *ℤ b → pos 0 ≤ℤ a
-    → ((v : ℤ) → interval.allows r v ≡ (is_in_range v && le_z p v && le_z v q)) → info.Interval r ≡ square_of (info.Interval x)
-square_above x r a b p q (a_in, from) (b_in, to) low high above = hull_is _ _ p q r (answers_one (λ v. v *ℤ v) (info.Interval x))
-    (a, a_in, low) (b, b_in, high) (λ z answer.
-    let (v, here, same) = answer in
+    → ((v : ℤ) → interval.allows r v ≡ (is_in_interval_range v && le_z p v && le_z v q)) → info.Interval r ≡ square_of (info.Interval x)
+square_above x r a b p q (a_in, from) (b_in, to) low high above = is_hull_of _ _ p q r (image_one (λ v. v *ℤ v) (info.Interval x))
+    (a, a_in, low) (b, b_in, high) (λ z member.
+    let (v, here, same) = member in
     let from_v : (a *ℤ a) ≤ℤ (v *ℤ v) = square_up a v above (from v here) in
     let root_from : a ≤ℤ v = from v here in
     let to_v : (v *ℤ v) ≤ℤ (b *ℤ b) = square_up v b (omega (arith, ints)) (to v here) in
@@ -135,10 +136,10 @@ square_above x r a b p q (a_in, from) (b_in, to) low high above = hull_is _ _ p 
 
 -- below 0 they do so turned round
 pub square_below : (x r : Interval) (a b p q : ℤ) → IsLeastOf x a → IsGreatestOf x b → p ≡ a *ℤ a → q ≡ b *ℤ b → b ≤ℤ pos 0
-    → ((v : ℤ) → interval.allows r v ≡ (is_in_range v && le_z q v && le_z v p)) → info.Interval r ≡ square_of (info.Interval x)
-square_below x r a b p q (a_in, from) (b_in, to) low high below = hull_is _ _ q p r (answers_one (λ v. v *ℤ v) (info.Interval x))
-    (b, b_in, high) (a, a_in, low) (λ z answer.
-    let (v, here, same) = answer in
+    → ((v : ℤ) → interval.allows r v ≡ (is_in_interval_range v && le_z q v && le_z v p)) → info.Interval r ≡ square_of (info.Interval x)
+square_below x r a b p q (a_in, from) (b_in, to) low high below = is_hull_of _ _ q p r (image_one (λ v. v *ℤ v) (info.Interval x))
+    (b, b_in, high) (a, a_in, low) (λ z member.
+    let (v, here, same) = member in
     let from_v : (b *ℤ b) ≤ℤ (v *ℤ v) = square_down v b (to v here) below in
     let root_to : v ≤ℤ b = to v here in
     let to_v : (v *ℤ v) ≤ℤ (a *ℤ a) = square_down a v (from v here) (omega (arith, ints)) in
@@ -147,12 +148,12 @@ square_below x r a b p q (a_in, from) (b_in, to) low high below = hull_is _ _ q 
 -- across 0 the hull goes from 0 to the greater of the squares of the ends
 pub square_across : (x r : Interval) (a b p q hi : ℤ) → IsLeastOf x a → IsGreatestOf x b → p ≡ a *ℤ a → q ≡ b *ℤ b
     → a ≤ℤ pos 0 → pos 0 ≤ℤ b → hi ≡ int_max p q
-    → ((v : ℤ) → interval.allows r v ≡ (is_in_range v && le_z (pos 0) v && le_z v hi)) → info.Interval r ≡ square_of (info.Interval x)
-square_across x r a b p q hi (a_in, from) (b_in, to) low high below above most_is = hull_is _ _ (pos 0) hi r
-    (answers_one (λ v. v *ℤ v) (info.Interval x))
+    → ((v : ℤ) → interval.allows r v ≡ (is_in_interval_range v && le_z (pos 0) v && le_z v hi)) → info.Interval r ≡ square_of (info.Interval x)
+square_across x r a b p q hi (a_in, from) (b_in, to) low high below above most_is = is_hull_of _ _ (pos 0) hi r
+    (image_one (λ v. v *ℤ v) (info.Interval x))
     (pos 0, allows_between_allowed x a (pos 0) b a_in b_in below above, refl)
-    (subst (IsSquare x) (sym most_is) (of_greatest (IsSquare x) p q (a, a_in, low) (b, b_in, high))) (λ z answer.
-    let (v, here, same) = answer in
+    (subst (IsSquare x) (sym most_is) (of_greatest (IsSquare x) p q (a, a_in, low) (b, b_in, high))) (λ z member.
+    let (v, here, same) = member in
     let from_v : pos 0 ≤ℤ (v *ℤ v) = square_least v in
     let to_v : (v *ℤ v) ≤ℤ int_max (a *ℤ a) (b *ℤ b) = square_most a b v (from v here, to v here) in
     (omega (arith, ints), omega (arith, ints, clamps)))

@@ -7,7 +7,7 @@ use Rattle.std.proofs.Math.IntN.{zero-*ℤ, *ℤ_comm}
 use Rattle.std.proofs.lemmas.Int.{ints, clamps, by_lt_z}
 use borrow.Author.Differences.{le_out}
 use Rattle.pw_kinds.specs.declared.interval.Interval.{Interval}
-use Rattle.pw_kinds.specs.Span.{first, last, is_in_range}
+use Rattle.pw_kinds.specs.Ranges.{interval_lowest, interval_highest, is_in_interval_range}
 use Rattle.pw_kinds.specs.Interval as interval
 use Rattle.pw_kinds.specs.Interval.{IsEmpty, IsLeastOf, IsGreatestOf}
 use Rattle.pw_kinds.proofs.Order.{le_true, true_le, both_true, true_both, same_test, is_false, true_between}
@@ -135,11 +135,11 @@ pub rounded_between : (t_lo t_hi x_lo x_hi up up' down down' lo hi q : ℤ)
     → le_z up q ≡ le_z t_lo (q *ℤ x_lo) → le_z up' q ≡ le_z t_lo (q *ℤ x_hi)
     → le_z q down ≡ le_z (q *ℤ x_lo) t_hi → le_z q down' ≡ le_z (q *ℤ x_hi) t_hi
     → lo ≡ int_min up up' → hi ≡ int_max down down'
-    → (is_in_range q && le_z lo q && le_z q hi) ≡ (is_in_range q && is_above_corner t_lo x_lo x_hi q && is_below_corner t_hi x_lo x_hi q)
+    → (is_in_interval_range q && le_z lo q && le_z q hi) ≡ (is_in_interval_range q && is_above_corner t_lo x_lo x_hi q && is_below_corner t_hi x_lo x_hi q)
 rounded_between t_lo t_hi x_lo x_hi up up' down down' lo hi q one other one' other' low high =
     let from : le_z lo q ≡ is_above_corner t_lo x_lo x_hi q = ap (λ z. le_z z q) low ∙ min_below up up' q ∙ ap (λ b. b || le_z up' q) one ∙ ap (λ b. le_z t_lo (q *ℤ x_lo) || b) other in
     let to : le_z q hi ≡ is_below_corner t_hi x_lo x_hi q = ap (λ z. le_z q z) high ∙ max_above down down' q ∙ ap (λ b. b || le_z q down') one' ∙ ap (λ b. le_z (q *ℤ x_lo) t_hi || b) other' in
-    ap (λ b. is_in_range q && b && le_z q hi) from ∙ ap (λ b. is_in_range q && is_above_corner t_lo x_lo x_hi q && b) to
+    ap (λ b. is_in_interval_range q && b && le_z q hi) from ∙ ap (λ b. is_in_interval_range q && is_above_corner t_lo x_lo x_hi q && b) to
 
 -- ---- corners
 
@@ -215,7 +215,7 @@ some_at_least t x q = some (info.Interval t) (λ a. some (info.Interval x) (λ b
 
 -- where the divisor cannot be 0, the interval of the quotients is the quotient
 quotient_is : (t x r : Interval) → ((a : ℤ) → interval.allows t a ≡ true → interval.allows x (pos 0) ≡ true → ⊥)
-    → ((q : ℤ) → first ≤ℤ q → q ≤ℤ last → interval.allows r q ≡ (some_at_most t x q && some_at_least t x q))
+    → ((q : ℤ) → interval_lowest ≤ℤ q → q ≤ℤ interval_highest → interval.allows r q ≡ (some_at_most t x q && some_at_least t x q))
     → info.Interval r ≡ quotient_of (info.Interval t) (info.Interval x)
 quotient_is t x r not_zero same =
     let unlike : (is_possible (info.Interval t) && interval.allows x (pos 0)) ≡ false = is_false _ (λ e.
@@ -253,7 +253,7 @@ negative_sign x x_hi b (here, most) p e = let l : b ≤ℤ x_hi = most b e in lt
 
 -- of positive divisors, the interval between the corners is the quotient
 pub positive_quotient : (t x r : Interval) (t_lo t_hi x_lo x_hi : ℤ) → IsLeastOf t t_lo → IsGreatestOf t t_hi → IsLeastOf x x_lo → IsGreatestOf x x_hi → pos 0 <ℤ x_lo
-    → ((q : ℤ) → interval.allows r q ≡ (is_in_range q && is_above_corner t_lo x_lo x_hi q && is_below_corner t_hi x_lo x_hi q))
+    → ((q : ℤ) → interval.allows r q ≡ (is_in_interval_range q && is_above_corner t_lo x_lo x_hi q && is_below_corner t_hi x_lo x_hi q))
     → info.Interval r ≡ quotient_of (info.Interval t) (info.Interval x)
 positive_quotient t x r t_lo t_hi x_lo x_hi t_least t_most x_least x_most p corners = quotient_is t x r
     (λ a here e. let l : x_lo ≤ℤ pos 0 = x_least.1 (pos 0) e in omega (arith, ints))
@@ -261,7 +261,7 @@ positive_quotient t x r t_lo t_hi x_lo x_hi t_least t_most x_least x_most p corn
     let from = one_sign (info.Interval t) (info.Interval x) true (λ a b. le_z a (q *ℤ b)) (λ a b. le_z (q *ℤ b) a) (λ b e. positive_sign x x_lo b x_least p e) ∙ below_corners t x t_lo x_lo x_hi t_least x_least x_most q in
     let to = one_sign (info.Interval t) (info.Interval x) true (λ a b. le_z (q *ℤ b) a) (λ a b. le_z a (q *ℤ b)) (λ b e. positive_sign x x_lo b x_least p e) ∙ above_corners t x t_hi x_lo x_hi t_most x_least x_most q in
     corners q
-    ∙ ap (λ (b : Bool). b && is_above_corner t_lo x_lo x_hi q && is_below_corner t_hi x_lo x_hi q) (true_between first q last low high)
+    ∙ ap (λ (b : Bool). b && is_above_corner t_lo x_lo x_hi q && is_below_corner t_hi x_lo x_hi q) (true_between interval_lowest q interval_highest low high)
     ∙ both_same from to)
 
 -- a product with a negated number passes a bound just where the product with the number passes the negated bound
@@ -281,7 +281,7 @@ negated_below t x s y q d e =
 
 -- of negative divisors, the interval between the corners of the negated ends is the quotient
 pub negative_quotient : (t x r : Interval) (t_lo t_hi x_lo x_hi s_lo s_hi y_lo y_hi : ℤ) → IsLeastOf t t_lo → IsGreatestOf t t_hi → IsLeastOf x x_lo → IsGreatestOf x x_hi → x_hi <ℤ pos 0
-    → ((q : ℤ) → interval.allows r q ≡ (is_in_range q && is_above_corner s_lo y_lo y_hi q && is_below_corner s_hi y_lo y_hi q))
+    → ((q : ℤ) → interval.allows r q ≡ (is_in_interval_range q && is_above_corner s_lo y_lo y_hi q && is_below_corner s_hi y_lo y_hi q))
     → s_lo ≡ neg_ℤ t_hi → s_hi ≡ neg_ℤ t_lo → y_lo ≡ neg_ℤ x_lo → y_hi ≡ neg_ℤ x_hi
     → info.Interval r ≡ quotient_of (info.Interval t) (info.Interval x)
 negative_quotient t x r t_lo t_hi x_lo x_hi s_lo s_hi y_lo y_hi t_least t_most x_least x_most n corners low high one other = quotient_is t x r
@@ -290,7 +290,7 @@ negative_quotient t x r t_lo t_hi x_lo x_hi s_lo s_hi y_lo y_hi t_least t_most x
     let from = one_sign (info.Interval t) (info.Interval x) false (λ a b. le_z a (q *ℤ b)) (λ a b. le_z (q *ℤ b) a) (λ b e. negative_sign x x_hi b x_most n e) ∙ above_corners t x t_hi x_lo x_hi t_most x_least x_most q in
     let to = one_sign (info.Interval t) (info.Interval x) false (λ a b. le_z (q *ℤ b) a) (λ a b. le_z a (q *ℤ b)) (λ b e. negative_sign x x_hi b x_most n e) ∙ below_corners t x t_lo x_lo x_hi t_least x_least x_most q in
     corners q
-    ∙ ap (λ (b : Bool). b && is_above_corner s_lo y_lo y_hi q && is_below_corner s_hi y_lo y_hi q) (true_between first q last from_first to_last)
+    ∙ ap (λ (b : Bool). b && is_above_corner s_lo y_lo y_hi q && is_below_corner s_hi y_lo y_hi q) (true_between interval_lowest q interval_highest from_first to_last)
     ∙ both_same
     (from ∙ either_same (negated_above t_hi x_lo s_lo y_lo q low one) (negated_above t_hi x_hi s_lo y_hi q low other))
     (to ∙ either_same (negated_below t_lo x_lo s_hi y_lo q high one) (negated_below t_lo x_hi s_hi y_hi q high other)))

@@ -4,92 +4,84 @@ use Rattle.std.specs.Int.Signed.{le_z}
 use Rattle.std.specs.Int.{int_max, int_min}
 use Rattle.std.proofs.lemmas.Int.{ints, clamps}
 use Rattle.pw_kinds.specs.declared.interval.Interval.{Interval}
-use Rattle.pw_kinds.specs.Span.{first, last, is_in_range, IsInRange}
+use Rattle.pw_kinds.specs.Ranges.{interval_lowest, interval_highest, is_in_interval_range, IsInIntervalRange}
 use Rattle.pw_kinds.specs.Interval as interval
 use Rattle.pw_kinds.specs.Interval.{IsEmpty, IsLeastOf, IsGreatestOf}
 use Rattle.pw_kinds.proofs.Order.{le_true, true_le, both_true, true_both, same_test, is_false, not_both, true_between, between_true}
 use Rattle.pw_kinds.proofs.Intervals as intervals
 use Rattle.pw_info.specs.declared.info.Info.{Info}
 use Rattle.pw_info.specs.declared.info.Info.TheVariants as info
-use Rattle.pw_info.specs.Information.{allows}
-use Rattle.pw_procs.specs.Values.{Answers, AreAnswers, answers_of_one, answers_of_two, hull_of}
+use Rattle.pw_procs.specs.Values.{NumberSet, IsSetOf, IsImageOfOne, IsImageOfTwo, image_of_one, image_of_two, hull_of}
 use Rattle.pw_procs.specs.Meaning.{sum_of, difference_of}
 use Rattle.pw_procs.proofs.Possible.{some_true, true_some}
 
--- a number is what an operation answers on a possible value, or on two
-abbrev pub IsAnswerOfOne : (ℤ → ℤ) → Info → ℤ → Type 0
-IsAnswerOfOne operation x z = (a : ℤ) × (allows x a ≡ true) × (z ≡ operation a)
-
-abbrev pub IsAnswerOfTwo : (ℤ → ℤ → ℤ) → Info → Info → ℤ → Type 0
-IsAnswerOfTwo operation x y z = (a : ℤ) × (b : ℤ) × (allows x a ≡ true) × (allows y b ≡ true) × (z ≡ operation a b)
-
--- the answers of an operation are just these numbers
-pub answers_one : (operation : ℤ → ℤ) (x : Info) → AreAnswers (IsAnswerOfOne operation x) (answers_of_one operation x)
-answers_one operation x = record {
-  found = λ passes z answer e. let (a, here, same) = answer in true_some x (λ a. passes (operation a)) a here (ap passes (sym same) ∙ e);
+-- all that an operation gives is just these numbers
+pub image_one : (operation : ℤ → ℤ) (x : Info) → IsSetOf (IsImageOfOne operation x) (image_of_one operation x)
+image_one operation x = record {
+  found = λ passes z member e. let (a, here, same) = member in true_some x (λ a. passes (operation a)) a here (ap passes (sym same) ∙ e);
   known = λ passes e. let (a, here, passed) = some_true x (λ a. passes (operation a)) e in (operation a, (a, here, refl), passed);
 }
 
-pub answers_two : (operation : ℤ → ℤ → ℤ) (x y : Info) → AreAnswers (IsAnswerOfTwo operation x y) (answers_of_two operation x y)
-answers_two operation x y = record {
-  found = λ passes z answer e. let (a, b, here, there, same) = answer in
-      true_some x (λ a. answers_of_one (operation a) y passes) a here (true_some y (λ b. passes (operation a b)) b there (ap passes (sym same) ∙ e));
+pub image_two : (operation : ℤ → ℤ → ℤ) (x y : Info) → IsSetOf (IsImageOfTwo operation x y) (image_of_two operation x y)
+image_two operation x y = record {
+  found = λ passes z member e. let (a, b, here, there, same) = member in
+      true_some x (λ a. image_of_one (operation a) y passes) a here (true_some y (λ b. passes (operation a b)) b there (ap passes (sym same) ∙ e));
   known = λ passes e.
-      let (a, here, second) = some_true x (λ a. answers_of_one (operation a) y passes) e in
+      let (a, here, second) = some_true x (λ a. image_of_one (operation a) y passes) e in
       let (b, there, passed) = some_true y (λ b. passes (operation a b)) second in
       (operation a b, (a, b, here, there, refl), passed);
 }
 
 -- an interval of the numbers in range from the least to the greatest of a set is the hull of the set
-pub hull_is : (numbers : ℤ → Type 0) (answers : Answers) (lo hi : ℤ) (r : Interval) → AreAnswers numbers answers
+pub is_hull_of : (numbers : ℤ → Type 0) (set : NumberSet) (lo hi : ℤ) (r : Interval) → IsSetOf numbers set
     → numbers lo → numbers hi → ((z : ℤ) → numbers z → (lo ≤ℤ z) × (z ≤ℤ hi))
-    → ((v : ℤ) → interval.allows r v ≡ (is_in_range v && le_z lo v && le_z v hi)) → info.Interval r ≡ hull_of answers
-hull_is numbers answers lo hi r are low high between same = ap info.Interval (intervals.closest_is _ r (λ v from to. same v ∙ same_test _ _
+    → ((v : ℤ) → interval.allows r v ≡ (is_in_interval_range v && le_z lo v && le_z v hi)) → info.Interval r ≡ hull_of set
+is_hull_of numbers set lo hi r are low high between same = ap info.Interval (intervals.closest_is _ r (λ v from to. same v ∙ same_test _ _
     (λ e.
-    let outer : ((is_in_range v && le_z lo v) ≡ true) × (le_z v hi ≡ true) = true_both _ _ e in
-    let inner : (is_in_range v ≡ true) × (le_z lo v ≡ true) = true_both _ _ outer.0 in
+    let outer : ((is_in_interval_range v && le_z lo v) ≡ true) × (le_z v hi ≡ true) = true_both _ _ e in
+    let inner : (is_in_interval_range v ≡ true) × (le_z lo v ≡ true) = true_both _ _ outer.0 in
     both_true _ _ (are.found (λ z. le_z z v) lo low inner.1) (are.found (λ z. le_z v z) hi high outer.1))
     (λ e.
-    let both : (answers (λ z. le_z z v) ≡ true) × (answers (λ z. le_z v z) ≡ true) = true_both _ _ e in
+    let both : (set (λ z. le_z z v) ≡ true) × (set (λ z. le_z v z) ≡ true) = true_both _ _ e in
     let (below, below_in, below_v) = are.known (λ z. le_z z v) both.0 in
     let (above, above_in, above_v) = are.known (λ z. le_z v z) both.1 in
     let at_below : (lo ≤ℤ below) × (below ≤ℤ hi) = between below below_in in
     let at_above : (lo ≤ℤ above) × (above ≤ℤ hi) = between above above_in in
     let from_below : below ≤ℤ v = le_true below v below_v in
     let to_above : v ≤ℤ above = le_true v above above_v in
-    both_true _ _ (both_true _ _ (true_between first v last from to) (true_le lo v (omega (arith, ints)))) (true_le v hi (omega (arith, ints))))))
+    both_true _ _ (both_true _ _ (true_between interval_lowest v interval_highest from to) (true_le lo v (omega (arith, ints)))) (true_le v hi (omega (arith, ints))))))
 
 -- the hull of no number is the empty interval
-pub no_hull : (numbers : ℤ → Type 0) (answers : Answers) (r : Interval) → AreAnswers numbers answers
-    → ((z : ℤ) → numbers z → ⊥) → IsEmpty r → info.Interval r ≡ hull_of answers
-no_hull numbers answers r are none empty = ap info.Interval (intervals.closest_is _ r (λ v from to. empty v ∙ sym (is_false _ (λ e.
-    let both : (answers (λ z. le_z z v) ≡ true) × (answers (λ z. le_z v z) ≡ true) = true_both _ _ e in
+pub no_hull : (numbers : ℤ → Type 0) (set : NumberSet) (r : Interval) → IsSetOf numbers set
+    → ((z : ℤ) → numbers z → ⊥) → IsEmpty r → info.Interval r ≡ hull_of set
+no_hull numbers set r are none empty = ap info.Interval (intervals.closest_is _ r (λ v from to. empty v ∙ sym (is_false _ (λ e.
+    let both : (set (λ z. le_z z v) ≡ true) × (set (λ z. le_z v z) ≡ true) = true_both _ _ e in
     let (below, below_in, below_v) = are.known (λ z. le_z z v) both.0 in
     none below below_in))))
 
--- an operation answers nothing where an input leaves nothing possible
+-- an operation gives nothing where an input leaves nothing possible
 pub hull_of_none : (operation : ℤ → ℤ) (x r : Interval) → IsEmpty x → IsEmpty r
-    → info.Interval r ≡ hull_of (answers_of_one operation (info.Interval x))
-hull_of_none operation x r none = no_hull _ _ r (answers_one operation (info.Interval x))
-    (λ z answer. let (a, here, same) = answer in not_both _ here (none a))
+    → info.Interval r ≡ hull_of (image_of_one operation (info.Interval x))
+hull_of_none operation x r none = no_hull _ _ r (image_one operation (info.Interval x))
+    (λ z member. let (a, here, same) = member in not_both _ here (none a))
 
 pub hull_of_none_first : (operation : ℤ → ℤ → ℤ) (x y r : Interval) → IsEmpty x → IsEmpty r
-    → info.Interval r ≡ hull_of (answers_of_two operation (info.Interval x) (info.Interval y))
-hull_of_none_first operation x y r none = no_hull _ _ r (answers_two operation (info.Interval x) (info.Interval y))
-    (λ z answer. let (a, b, here, there, same) = answer in not_both _ here (none a))
+    → info.Interval r ≡ hull_of (image_of_two operation (info.Interval x) (info.Interval y))
+hull_of_none_first operation x y r none = no_hull _ _ r (image_two operation (info.Interval x) (info.Interval y))
+    (λ z member. let (a, b, here, there, same) = member in not_both _ here (none a))
 
 pub hull_of_none_second : (operation : ℤ → ℤ → ℤ) (x y r : Interval) → IsEmpty y → IsEmpty r
-    → info.Interval r ≡ hull_of (answers_of_two operation (info.Interval x) (info.Interval y))
-hull_of_none_second operation x y r none = no_hull _ _ r (answers_two operation (info.Interval x) (info.Interval y))
-    (λ z answer. let (a, b, here, there, same) = answer in not_both _ there (none b))
+    → info.Interval r ≡ hull_of (image_of_two operation (info.Interval x) (info.Interval y))
+hull_of_none_second operation x y r none = no_hull _ _ r (image_two operation (info.Interval x) (info.Interval y))
+    (λ z member. let (a, b, here, there, same) = member in not_both _ there (none b))
 
 -- the interval between the sums of the ends is the hull of the sums
 pub sum_is : (x y r : Interval) (a b c d lo hi : ℤ) → IsLeastOf x a → IsGreatestOf x b → IsLeastOf y c → IsGreatestOf y d
-    → lo ≡ a +ℤ c → hi ≡ b +ℤ d → ((v : ℤ) → interval.allows r v ≡ (is_in_range v && le_z lo v && le_z v hi))
+    → lo ≡ a +ℤ c → hi ≡ b +ℤ d → ((v : ℤ) → interval.allows r v ≡ (is_in_interval_range v && le_z lo v && le_z v hi))
     → info.Interval r ≡ sum_of (info.Interval x) (info.Interval y)
-sum_is x y r a b c d lo hi (a_in, from_a) (b_in, to_b) (c_in, from_c) (d_in, to_d) low high = hull_is _ _ lo hi r
-    (answers_two (λ v w. v +ℤ w) (info.Interval x) (info.Interval y)) (a, c, a_in, c_in, low) (b, d, b_in, d_in, high) (λ z answer.
-    let (v, w, here, there, same) = answer in
+sum_is x y r a b c d lo hi (a_in, from_a) (b_in, to_b) (c_in, from_c) (d_in, to_d) low high = is_hull_of _ _ lo hi r
+    (image_two (λ v w. v +ℤ w) (info.Interval x) (info.Interval y)) (a, c, a_in, c_in, low) (b, d, b_in, d_in, high) (λ z member.
+    let (v, w, here, there, same) = member in
     let from_v : a ≤ℤ v = from_a v here in
     let to_v : v ≤ℤ b = to_b v here in
     let from_w : c ≤ℤ w = from_c w there in
@@ -98,11 +90,11 @@ sum_is x y r a b c d lo hi (a_in, from_a) (b_in, to_b) (c_in, from_c) (d_in, to_
 
 -- the interval between the crossed differences of the ends is the hull of the differences
 pub difference_is : (x y r : Interval) (a b c d lo hi : ℤ) → IsLeastOf x a → IsGreatestOf x b → IsLeastOf y c → IsGreatestOf y d
-    → lo ≡ a -ℤ d → hi ≡ b -ℤ c → ((v : ℤ) → interval.allows r v ≡ (is_in_range v && le_z lo v && le_z v hi))
+    → lo ≡ a -ℤ d → hi ≡ b -ℤ c → ((v : ℤ) → interval.allows r v ≡ (is_in_interval_range v && le_z lo v && le_z v hi))
     → info.Interval r ≡ difference_of (info.Interval x) (info.Interval y)
-difference_is x y r a b c d lo hi (a_in, from_a) (b_in, to_b) (c_in, from_c) (d_in, to_d) low high = hull_is _ _ lo hi r
-    (answers_two (λ v w. v -ℤ w) (info.Interval x) (info.Interval y)) (a, d, a_in, d_in, low) (b, c, b_in, c_in, high) (λ z answer.
-    let (v, w, here, there, same) = answer in
+difference_is x y r a b c d lo hi (a_in, from_a) (b_in, to_b) (c_in, from_c) (d_in, to_d) low high = is_hull_of _ _ lo hi r
+    (image_two (λ v w. v -ℤ w) (info.Interval x) (info.Interval y)) (a, d, a_in, d_in, low) (b, c, b_in, c_in, high) (λ z member.
+    let (v, w, here, there, same) = member in
     let from_v : a ≤ℤ v = from_a v here in
     let to_v : v ≤ℤ b = to_b v here in
     let from_w : c ≤ℤ w = from_c w there in
@@ -110,34 +102,34 @@ difference_is x y r a b c d lo hi (a_in, from_a) (b_in, to_b) (c_in, from_c) (d_
     (omega (arith, ints), omega (arith, ints)))
 
 -- a number lies between the ends cut to the range just where it is in range and lies between the ends
-pub between_cut : (lo hi a b v : ℤ) → a ≡ int_max lo first → b ≡ int_min hi last
-    → (le_z a v && le_z v b) ≡ (is_in_range v && le_z lo v && le_z v hi)
+pub between_cut : (lo hi a b v : ℤ) → a ≡ int_max lo interval_lowest → b ≡ int_min hi interval_highest
+    → (le_z a v && le_z v b) ≡ (is_in_interval_range v && le_z lo v && le_z v hi)
 between_cut lo hi a b v low high = same_test _ _
     (λ e.
     let at : (a ≤ℤ v) × (v ≤ℤ b) = between_true a v b e in
     both_true _ _
     (both_true _ _
-    (true_between first v last (omega (arith, ints, clamps)) (omega (arith, ints, clamps)))
+    (true_between interval_lowest v interval_highest (omega (arith, ints, clamps)) (omega (arith, ints, clamps)))
     (true_le lo v (omega (arith, ints, clamps))))
     (true_le v hi (omega (arith, ints, clamps))))
     (λ e.
-    let outer : ((is_in_range v && le_z lo v) ≡ true) × (le_z v hi ≡ true) = true_both _ _ e in
-    let inner : (is_in_range v ≡ true) × (le_z lo v ≡ true) = true_both _ _ outer.0 in
-    let range : (first ≤ℤ v) × (v ≤ℤ last) = between_true first v last inner.0 in
+    let outer : ((is_in_interval_range v && le_z lo v) ≡ true) × (le_z v hi ≡ true) = true_both _ _ e in
+    let inner : (is_in_interval_range v ≡ true) × (le_z lo v ≡ true) = true_both _ _ outer.0 in
+    let range : (interval_lowest ≤ℤ v) × (v ≤ℤ interval_highest) = between_true interval_lowest v interval_highest inner.0 in
     let from : lo ≤ℤ v = le_true lo v inner.1 in
     let to : v ≤ℤ hi = le_true v hi outer.1 in
     true_between a v b (omega (arith, ints, clamps)) (omega (arith, ints, clamps)))
 
 -- where the ends cut to the range are not in order and in range, no number in range lies between the ends
-pub none_cut : (lo hi a b v : ℤ) → a ≡ int_max lo first → b ≡ int_min hi last
-    → ((a ≤ℤ b) × IsInRange a × IsInRange b → ⊥) → (is_in_range v && le_z lo v && le_z v hi) ≡ false
+pub none_cut : (lo hi a b v : ℤ) → a ≡ int_max lo interval_lowest → b ≡ int_min hi interval_highest
+    → ((a ≤ℤ b) × IsInIntervalRange a × IsInIntervalRange b → ⊥) → (is_in_interval_range v && le_z lo v && le_z v hi) ≡ false
 none_cut lo hi a b v low high none = is_false _ (λ e.
     let at : (a ≤ℤ v) × (v ≤ℤ b) = between_true a v b (between_cut lo hi a b v low high ∙ e) in
-    let range : (first ≤ℤ v) × (v ≤ℤ last) = between_true first v last (true_both _ _ (true_both _ _ e).0).0 in
+    let range : (interval_lowest ≤ℤ v) × (v ≤ℤ interval_highest) = between_true interval_lowest v interval_highest (true_both _ _ (true_both _ _ e).0).0 in
     none (omega (arith, ints), (omega (arith, ints, clamps), omega (arith, ints)), (omega (arith, ints), omega (arith, ints, clamps))))
 
 -- an interval cut from two ends is cut from their equals
 pub from_equal_ends : (r : Interval) (a b lo hi : ℤ) → a ≡ lo → b ≡ hi
-    → ((v : ℤ) → interval.allows r v ≡ (is_in_range v && le_z a v && le_z v b))
-    → (v : ℤ) → interval.allows r v ≡ (is_in_range v && le_z lo v && le_z v hi)
+    → ((v : ℤ) → interval.allows r v ≡ (is_in_interval_range v && le_z a v && le_z v b))
+    → (v : ℤ) → interval.allows r v ≡ (is_in_interval_range v && le_z lo v && le_z v hi)
 from_equal_ends r a b lo hi p q same v = same v ∙ cc

@@ -16,3 +16,4 @@ pub mod PlaceLemmas
 pub mod SlotKinds
 pub mod RegistryNames
 pub mod CopiedRules
+pub mod AddedProcedures

@@ -1,5 +1,5 @@
 -- The definitions of meanings on small inputs, each given by what it leaves possible.
-use Rattle.std.proofs.Common.{◌≡◌, zero, suc, ℤ, pos, negsuc, ◌≤ℤ◌, ◌*ℤ◌, Bool, true, false, not, ◌&&◌, ◌||◌, [], ◌∷◌, if◌then◌else◌, arith, refl, sym, ◌∙◌, ap, subst}
+use Rattle.std.proofs.Common.{◌≡◌, ◌<◌, zero, suc, ℤ, pos, negsuc, ◌≤ℤ◌, ◌*ℤ◌, Bool, true, false, not, ◌&&◌, ◌||◌, [], ◌∷◌, if◌then◌else◌, arith, refl, sym, ◌∙◌, ap, subst, inl}
 use mathlib.Core.Path.{fun_ext}
 use Rattle.std.specs.Int.Signed.{le_z}
 use Rattle.std.specs.Int.{int_max, int_min}
@@ -7,10 +7,12 @@ use Rattle.std.specs.Ordering.{int_eq}
 use Rattle.std.proofs.lemmas.Int.{ints, clamps}
 use Rattle.pw_kinds.specs.declared.interval.Interval.{Interval}
 use Rattle.pw_kinds.specs.declared.exact.Exact.{Exact}
-use Rattle.pw_kinds.specs.Span.{first, last}
+use Rattle.pw_kinds.specs.Ranges.{interval_lowest, interval_highest, is_in_exact_range}
 use Rattle.pw_kinds.specs.Interval.{IsFromTo}
 use Rattle.pw_kinds.specs.Interval as interval
 use Rattle.pw_kinds.specs.Exact.{IsOne}
+use Rattle.pw_kinds.specs.Exact as exact
+use Rattle.pw_kinds.specs.Members as members
 use Rattle.pw_kinds.proofs.Order.{le_true, true_le, both_true, true_both, same_test, is_false, not_both, between_true, true_between}
 use Rattle.pw_kinds.proofs.Intervals as intervals
 use Rattle.pw_kinds.proofs.MemberSets as sets
@@ -20,15 +22,18 @@ use Rattle.pw_info.specs.declared.kind.Kind.TheVariants as kinds
 use Rattle.pw_info.specs.declared.info.Info.{Info}
 use Rattle.pw_info.specs.declared.info.Info.TheVariants as info
 use Rattle.pw_info.specs.Information.{allows, kind_of, closest, nothing, contradiction, Implies}
-use Rattle.pw_info.proofs.Informations.{closest_is}
+use Rattle.pw_info.proofs.Informations.{closest_is, same_values, allows-nothing, allows-contradiction}
 use Rattle.pw_procs.specs.declared.rule.Rule.{Rule}
-use Rattle.pw_procs.specs.Values.{Answers, AreAnswers, some, is_possible, answers_of_one, answers_of_two, hull_of, truths_of, truth, two_is_size}
+use Rattle.pw_procs.specs.Values.{NumberSet, IsSetOf, some, is_possible, image_of_one, image_of_two, hull_of, truths_of, truth, bool, just, from_to, two_is_size}
 use Rattle.pw_procs.specs.Quotient.{is_quotient_at_most, is_quotient_at_least, between_quotients, quotient_of}
 use Rattle.pw_procs.specs.Rules.{includes, all_include, rules_allow, value_of_rules}
-use Rattle.pw_procs.specs.Meaning.{at_most_of, switched, point_of, fixed_of}
+use Rattle.pw_procs.specs.Meaning.{negation_of, switched, point_of, fixed_of}
 use Rattle.pw_procs.proofs.Possible.{some_true, true_some, none_some}
-use Rattle.pw_procs.proofs.HullLaws.{one_answers, two_answers, at_most}
-use Rattle.pw_procs.proofs.MeaningLaws.{passed}
+use Rattle.pw_procs.proofs.Hulls.{image_one, image_two}
+use Rattle.pw_procs.proofs.HullLaws.{negation, closest_between}
+use Rattle.pw_procs.proofs.TruthSets.{truths_are}
+use Rattle.pw_procs.proofs.MeaningLaws.{passed, quotient_none}
+use Rattle.pw_procs.proofs.KindLaws.{kind-quotient}
 
 -- ---- hulls
 
@@ -37,17 +42,17 @@ abbrev LieBetween : (ℤ → Type 0) → ℤ → ℤ → Type 0
 LieBetween numbers lo hi = (z : ℤ) → numbers z → (lo ≤ℤ z) × (z ≤ℤ hi)
 
 -- the hull of a set with a least and a greatest number goes from one to the other, cut to the range
-hull_from_to : (numbers : ℤ → Type 0) (answers : Answers) → AreAnswers numbers answers → (lo hi low high : ℤ) → numbers lo → numbers hi → LieBetween numbers lo hi
-    → low ≡ int_max lo first → high ≡ int_min hi last → (k : Interval) → IsFromTo k low high → hull_of answers ≡ info.Interval k
-hull_from_to numbers answers are lo hi low high at_lo at_hi inside is_low is_high k f =
-    sym (ap info.Interval (intervals.closest_is (λ v. answers (λ y. le_z y v) && answers (λ y. le_z v y)) k (λ v from to. same_test _ _
+hull_from_to : (numbers : ℤ → Type 0) (set : NumberSet) → IsSetOf numbers set → (lo hi low high : ℤ) → numbers lo → numbers hi → LieBetween numbers lo hi
+    → low ≡ int_max lo interval_lowest → high ≡ int_min hi interval_highest → (k : Interval) → IsFromTo k low high → hull_of set ≡ info.Interval k
+hull_from_to numbers set are lo hi low high at_lo at_hi inside is_low is_high k f =
+    sym (ap info.Interval (intervals.closest_is (λ v. set (λ y. le_z y v) && set (λ y. le_z v y)) k (λ v from to. same_test _ _
     (λ e.
     let at : (low ≤ℤ v) × (v ≤ℤ high) = true_from_to k low high v f e in
     both_true _ _
     (are.found (λ y. le_z y v) lo at_lo (true_le lo v (omega (arith, ints, clamps))))
     (are.found (λ y. le_z v y) hi at_hi (true_le v hi (omega (arith, ints, clamps)))))
     (λ e.
-    let both : (answers (λ y. le_z y v) ≡ true) × (answers (λ y. le_z v y) ≡ true) = true_both _ _ e in
+    let both : (set (λ y. le_z y v) ≡ true) × (set (λ y. le_z v y) ≡ true) = true_both _ _ e in
     let (below, below_is, under) = are.known (λ y. le_z y v) both.0 in
     let (above, above_is, over) = are.known (λ y. le_z v y) both.1 in
     let from_low : (lo ≤ℤ below) × (below ≤ℤ hi) = inside below below_is in
@@ -56,14 +61,14 @@ hull_from_to numbers answers are lo hi low high at_lo at_hi inside is_low is_hig
     let down : v ≤ℤ above = le_true v above over in
     from_to_true k low high v f (omega (arith, ints, clamps)) (omega (arith, ints, clamps))))))
 
--- what an operation answers on numbers between ends
+-- what an operation gives on numbers between ends
 pub two_from_to : (op : ℤ → ℤ → ℤ) (i j k : Interval) (a b c d at_lo with_lo at_hi with_hi low high : ℤ) → IsFromTo i a b → IsFromTo j c d → IsFromTo k low high
     → (a ≤ℤ at_lo) × (at_lo ≤ℤ b) → (c ≤ℤ with_lo) × (with_lo ≤ℤ d) → (a ≤ℤ at_hi) × (at_hi ≤ℤ b) → (c ≤ℤ with_hi) × (with_hi ≤ℤ d)
     → ((x y : ℤ) → a ≤ℤ x → x ≤ℤ b → c ≤ℤ y → y ≤ℤ d → (op at_lo with_lo ≤ℤ op x y) × (op x y ≤ℤ op at_hi with_hi))
-    → low ≡ int_max (op at_lo with_lo) first → high ≡ int_min (op at_hi with_hi) last
-    → hull_of (answers_of_two op (info.Interval i) (info.Interval j)) ≡ info.Interval k
+    → low ≡ int_max (op at_lo with_lo) interval_lowest → high ≡ int_min (op at_hi with_hi) interval_highest
+    → hull_of (image_of_two op (info.Interval i) (info.Interval j)) ≡ info.Interval k
 two_from_to op i j k a b c d at_lo with_lo at_hi with_hi low high f g h (p, q) (r, s) (t, u) (v, w) inside is_low is_high =
-    hull_from_to _ _ (two_answers op (info.Interval i) (info.Interval j)) (op at_lo with_lo) (op at_hi with_hi) low high
+    hull_from_to _ _ (image_two op (info.Interval i) (info.Interval j)) (op at_lo with_lo) (op at_hi with_hi) low high
     (at_lo, with_lo, from_to_true i a b at_lo f p q, from_to_true j c d with_lo g r s, refl)
     (at_hi, with_hi, from_to_true i a b at_hi f t u, from_to_true j c d with_hi g v w, refl)
     (λ z here.
@@ -83,9 +88,9 @@ square_between (negsuc zero) p q = (omega (arith, ints), omega (arith, ints))
 square_between (negsuc (suc n)) p q = absurd (omega (arith, ints))
 
 pub squares_from_to : (i k : Interval) → IsFromTo i (negsuc 0) (pos 2) → IsFromTo k (pos 0) (pos 4)
-    → hull_of (answers_of_one (λ a. a *ℤ a) (info.Interval i)) ≡ info.Interval k
+    → hull_of (image_of_one (λ a. a *ℤ a) (info.Interval i)) ≡ info.Interval k
 squares_from_to i k f h =
-    hull_from_to _ _ (one_answers (λ a. a *ℤ a) (info.Interval i)) (pos 0) (pos 4) (pos 0) (pos 4)
+    hull_from_to _ _ (image_one (λ a. a *ℤ a) (info.Interval i)) (pos 0) (pos 4) (pos 0) (pos 4)
     (pos 0, from_to_true i (negsuc 0) (pos 2) (pos 0) f (omega (arith, ints)) (omega (arith, ints)), refl)
     (pos 2, from_to_true i (negsuc 0) (pos 2) (pos 2) f (omega (arith, ints)) (omega (arith, ints)), refl)
     (λ z here.
@@ -147,12 +152,12 @@ quotient_open i j a b c d f g ordered low high =
     let may_be_zero : (is_possible (info.Interval i) && interval.allows j (pos 0)) ≡ true = both_true _ _ some_number (from_to_true j c d (pos 0) g low high) in
     subst (λ (test : Bool). (if test then nothing kinds.Interval else between_quotients (info.Interval i) (info.Interval j)) ≡ nothing kinds.Interval) (sym may_be_zero) refl
 
--- ---- truths
+-- of nothing possible there is no quotient
+pub quotient_of_none : (x : Info) → quotient_of (contradiction kinds.Interval) x ≡ contradiction kinds.Interval
+quotient_of_none x = same_values _ _ (kind-quotient (contradiction kinds.Interval) x)
+    (λ v. quotient_none (contradiction kinds.Interval) x (inl (allows-contradiction kinds.Interval)) v ∙ sym (allows-contradiction kinds.Interval v))
 
--- a truth is possible where it is an answer
-allows-truths : (answers : Answers) (b : Bool) → allows (truths_of answers) (truth b) ≡ answers (int_eq (truth b))
-allows-truths answers true = sets.allows-closest 2 (λ v. answers (int_eq v)) two_is_size 1 (omega arith)
-allows-truths answers false = sets.allows-closest 2 (λ v. answers (int_eq v)) two_is_size 0 (omega arith)
+-- ---- truths
 
 -- truths are equal just where what they stand for is
 same_truth : (b c : Bool) → int_eq (truth b) (truth c) ≡ true → b ≡ c
@@ -167,18 +172,76 @@ truth_same true false e = sym e
 truth_same false true e = e
 truth_same false false e = refl
 
--- an order of two possible numbers is possible, and one that no two have is not
-pub at_most_some : (x y : Info) (test : Bool) (a b : ℤ) → allows x a ≡ true → allows y b ≡ true → le_z a b ≡ test → allows (at_most_of x y) (truth test) ≡ true
-at_most_some x y test a b a_possible b_possible is = allows-truths (answers_of_two at_most x y) test
-    ∙ true_some x (λ v. some y (λ w. int_eq (truth test) (at_most v w))) a a_possible
-    (true_some y (λ w. int_eq (truth test) (at_most a w)) b b_possible (truth_same test (le_z a b) (sym is)))
+negation_truth : (b : Bool) → negation (truth b) ≡ truth (not b)
+negation_truth true = refl
+negation_truth false = refl
 
-pub at_most_none : (x y : Info) (test : Bool)
-    → ((a b : ℤ) → allows x a ≡ true → allows y b ≡ true → le_z a b ≡ test → ⊥) → allows (at_most_of x y) (truth test) ≡ false
-at_most_none x y test none = allows-truths (answers_of_two at_most x y) test ∙ is_false _ (λ e.
-    let (a, a_possible, h) = some_true x (λ v. some y (λ w. int_eq (truth test) (at_most v w))) e in
-    let (b, b_possible, is) = some_true y (λ w. int_eq (truth test) (at_most a w)) h in
-    none a b a_possible b_possible (sym (same_truth test (le_z a b) is)))
+-- the truths of a set are those that it has
+pub truths_at : (set : NumberSet) (p : ℤ → Bool) → set (int_eq (pos 0)) ≡ p (pos 0) → set (int_eq (pos 1)) ≡ p (pos 1) → truths_of set ≡ closest bool p
+truths_at set p at_false at_true = sym (truths_are set (members.closest 2 p) (sets.size_of-closest 2 p two_is_size)
+    (sets.allows-closest 2 p two_is_size 0 (omega arith) ∙ sym at_false) (sets.allows-closest 2 p two_is_size 1 (omega arith) ∙ sym at_true))
+
+-- what a test gives on two possible values it gives, and what it gives on no two it does not
+pub gives : (t : ℤ → ℤ → Bool) (x y : Info) (test : Bool) (a b : ℤ) → allows x a ≡ true → allows y b ≡ true → t a b ≡ test
+    → image_of_two (λ a b. truth (t a b)) x y (int_eq (truth test)) ≡ true
+gives t x y test a b a_possible b_possible is =
+    true_some x (λ v. some y (λ w. int_eq (truth test) (truth (t v w)))) a a_possible
+    (true_some y (λ w. int_eq (truth test) (truth (t a w))) b b_possible (truth_same test (t a b) (sym is)))
+
+pub never : (t : ℤ → ℤ → Bool) (x y : Info) (test : Bool) → ((a b : ℤ) → allows x a ≡ true → allows y b ≡ true → t a b ≡ test → ⊥)
+    → image_of_two (λ a b. truth (t a b)) x y (int_eq (truth test)) ≡ false
+never t x y test none = is_false _ (λ e.
+    let (a, a_possible, h) = some_true x (λ v. some y (λ w. int_eq (truth test) (truth (t v w)))) e in
+    let (b, b_possible, is) = some_true y (λ w. int_eq (truth test) (truth (t a w))) h in
+    none a b a_possible b_possible (sym (same_truth test (t a b) is)))
+
+-- one truth alone allows itself, and nothing else
+pub just_itself : (b : Bool) → allows (just b) (truth b) ≡ true
+just_itself true = sets.allows-closest 2 (int_eq (truth true)) two_is_size 1 (omega arith)
+just_itself false = sets.allows-closest 2 (int_eq (truth false)) two_is_size 0 (omega arith)
+
+pub just_only : (b : Bool) (v : ℤ) → allows (just b) v ≡ true → v ≡ truth b
+just_only b (pos k) e =
+    let part = members.closest 2 (int_eq (truth b)) in
+    let l : k < 2 = subst (λ s. k < s) (sets.size_of-closest 2 (int_eq (truth b)) two_is_size) (sets.allows_below part k e) in
+    sym (exacts.eq_true (truth b) (pos k) (sym (sets.allows-closest 2 (int_eq (truth b)) two_is_size k l) ∙ e))
+just_only b (negsuc k) e = absurd (not_both _ e refl)
+
+-- either truth is possible where nothing is known
+pub either : (b : Bool) → allows (nothing bool) (truth b) ≡ true
+either true = allows-nothing bool (pos 1)
+either false = allows-nothing bool (pos 0)
+
+pub or_true : (b : Bool) → (b || true) ≡ true
+or_true true = refl
+or_true false = refl
+
+-- `not` of one truth
+pub negated : (b : Bool) → negation_of (just b) ≡ just (not b)
+negated b = truths_at (image_of_one negation (just b)) (int_eq (truth (not b))) (at (pos 0)) (at (pos 1))
+  where
+    at : (z : ℤ) → image_of_one negation (just b) (int_eq z) ≡ int_eq (truth (not b)) z
+    at z = same_test _ _
+        (λ e. let (a, here, is) = some_true (just b) (λ v. int_eq z (negation v)) e in
+        exacts.true_eq (truth (not b)) z (sym (exacts.eq_true z (negation a) is ∙ ap negation (just_only b a here) ∙ negation_truth b)))
+        (λ e. true_some (just b) (λ v. int_eq z (negation v)) (truth b) (just_itself b)
+        (exacts.true_eq z (negation (truth b)) (sym (exacts.eq_true (truth (not b)) z e) ∙ sym (negation_truth b))))
+
+-- ---- ranges of numbers
+
+-- just the numbers from lo to hi are possible, where both ends are in range
+pub from_to_is : (lo hi : ℤ) → (le_z interval_lowest lo && le_z hi interval_highest) ≡ true → IsFromTo (interval.closest (λ v. le_z lo v && le_z v hi)) lo hi
+from_to_is lo hi e v =
+    let both : (le_z interval_lowest lo ≡ true) × (le_z hi interval_highest ≡ true) = true_both _ _ e in
+    let low : interval_lowest ≤ℤ lo = le_true interval_lowest lo both.0 in
+    let high : hi ≤ℤ interval_highest = le_true hi interval_highest both.1 in
+    same_test _ _
+    (λ here.
+    let at : (lo ≤ℤ v) × (v ≤ℤ hi) = closest_between (λ v. le_z lo v && le_z v hi) lo hi (λ w r h. between_true lo w hi h) v here in
+    true_between lo v hi at.0 at.1)
+    (λ passes.
+    let at : (lo ≤ℤ v) × (v ≤ℤ hi) = between_true lo v hi passes in
+    (intervals.closest_closest (λ v. le_z lo v && le_z v hi)).holds v (true_between interval_lowest v interval_highest (omega (arith, ints)) (omega (arith, ints))) passes)
 
 -- ---- switches
 
@@ -208,14 +271,14 @@ one_rule rule guard x test is applies possible =
     ap (λ b. if b && true then closest (kind_of rule.result) (rules_allow (rule ∷ []) (x ∷ [])) else contradiction (kind_of rule.result)) possible
     ∙ ap (closest (kind_of rule.result)) (fun_ext (λ v. and_true _ ∙ ap (λ b. not b || allows rule.result v) applied))
 
--- a rule whose guard includes the input answers its result
+-- a rule whose guard includes the input gives its result
 pub rule_applies : (rule : Rule) (guard x : Info) → rule.guards.items ≡ guard ∷ [] → is_possible x ≡ true → Implies x guard
     → value_of_rules (kind_of rule.result) (rule ∷ []) (x ∷ []) ≡ rule.result
 rule_applies rule guard x is possible implied =
     let none : some x (λ v. not (allows guard v)) ≡ false = none_some x (λ v. not (allows guard v)) (λ v here e. not_both _ e (ap not (implied v here))) in
     one_rule rule guard x true is (ap not none) possible ∙ sym (closest_is (allows rule.result) rule.result (λ v e. refl))
 
--- one whose guard leaves out a value that the input leaves possible answers nothing
+-- one whose guard leaves out a value that the input leaves possible gives nothing
 pub rule_waits : (rule : Rule) (guard x : Info) (v : ℤ) → rule.guards.items ≡ guard ∷ [] → allows x v ≡ true → allows guard v ≡ false
     → value_of_rules (kind_of rule.result) (rule ∷ []) (x ∷ []) ≡ nothing (kind_of rule.result)
 rule_waits rule guard x v is here outside =
@@ -224,14 +287,14 @@ rule_waits rule guard x v is here outside =
 
 -- ---- exact numbers
 
--- the values that are possible, as a set of answers
-some_answers : (x : Info) → AreAnswers (λ z. allows x z ≡ true) (some x)
-some_answers x = record { found = λ passes z here e. true_some x passes z here e; known = λ passes e. some_true x passes e }
+-- the values that are possible, as a set
+some_set : (x : Info) → IsSetOf (λ z. allows x z ≡ true) (some x)
+some_set x = record { found = λ passes z here e. true_some x passes z here e; known = λ passes e. some_true x passes e }
 
 -- the interval of an exact number, and the exact number of an interval
-pub point_one : (e : Exact) (k : Interval) (n : ℤ) → first ≤ℤ n → n ≤ℤ last → IsOne e n → IsFromTo k n n → point_of (info.Exact e) ≡ info.Interval k
+pub point_one : (e : Exact) (k : Interval) (n : ℤ) → interval_lowest ≤ℤ n → n ≤ℤ interval_highest → IsOne e n → IsFromTo k n n → point_of (info.Exact e) ≡ info.Interval k
 point_one e k n low high one h =
-    hull_from_to _ _ (some_answers (info.Exact e)) n n n n (one n ∙ exacts.self_eq n) (one n ∙ exacts.self_eq n)
+    hull_from_to _ _ (some_set (info.Exact e)) n n n n (one n ∙ exacts.self_eq n) (one n ∙ exacts.self_eq n)
     (λ z here. let same : z ≡ n = exacts.eq_true z n (sym (one z) ∙ here) in (omega (arith, ints), omega (arith, ints)))
     (omega (arith, ints, clamps)) (omega (arith, ints, clamps)) k h
 
@@ -239,3 +302,20 @@ pub fixed_one : (i : Interval) (e : Exact) (n : ℤ) → IsFromTo i n n → IsOn
 fixed_one i e n f one = sym (ap info.Exact (exacts.closest_is (interval.allows i) e (λ v r. one v ∙ sym (f v ∙ same_test _ _
     (λ h. let at : (n ≤ℤ v) × (v ≤ℤ n) = between_true n v n h in let same : v ≡ n = omega (arith, ints) in exacts.true_eq v n same)
     (λ h. let same : v ≡ n = exacts.eq_true v n h in true_between n v n (omega (arith, ints)) (omega (arith, ints)))))))
+
+-- just a number is possible, where it is in range
+pub exactly_is : (n : ℤ) → is_in_exact_range n ≡ true → IsOne (exact.closest (λ v. int_eq v n)) n
+exactly_is n range = subst (λ (e : Exact). IsOne e n)
+    (exacts.closest_is (λ v. int_eq v n) (exact.checked n _ refl) (λ v r. exacts.one_is n range v)) (exacts.one_is n range)
+
+-- nothing is possible from 4 to 3
+pub empty_from_to : IsFromTo (interval.closest (λ v. false)) (pos 4) (pos 3)
+empty_from_to v = allows-contradiction kinds.Interval v ∙ sym (is_false _ (λ e.
+    let at : (pos 4 ≤ℤ v) × (v ≤ℤ pos 3) = between_true (pos 4) v (pos 3) e in absurd (omega (arith, ints))))
+
+-- what is possible of a range of numbers
+pub in_range : (lo hi v : ℤ) → (le_z interval_lowest lo && le_z hi interval_highest) ≡ true → allows (from_to lo hi) v ≡ true → (lo ≤ℤ v) × (v ≤ℤ hi)
+in_range lo hi v e here = true_from_to (interval.closest (λ v. le_z lo v && le_z v hi)) lo hi v (from_to_is lo hi e) here
+
+pub range_in : (lo hi v : ℤ) → (le_z interval_lowest lo && le_z hi interval_highest) ≡ true → lo ≤ℤ v → v ≤ℤ hi → allows (from_to lo hi) v ≡ true
+range_in lo hi v e from to = from_to_true (interval.closest (λ v. le_z lo v && le_z v hi)) lo hi v (from_to_is lo hi e) from to

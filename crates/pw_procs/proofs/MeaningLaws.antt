@@ -1,10 +1,10 @@
--- Meanings grow with their inputs, answer contradictions to contradictions, and lose no solution.
+-- Meanings grow with their inputs, give contradictions of contradictions, and lose no solution.
 use Rattle.std.proofs.Common.{◌≡◌, ◌≢◌, ℕ, zero, suc, ◌<◌, ℤ, pos, ◌+ℤ◌, ◌-ℤ◌, ◌*ℤ◌, List, [], ◌∷◌, length, map, Bool, true, false, not, ◌&&◌, ◌||◌, if◌then◌else◌, ◌⊎◌, inl, inr, arith, refl, sym, ◌∙◌, ap, subst}
 use Rattle.std.specs.List.{AllZip, list_all}
 use Rattle.std.specs.Int.Signed.{le_z, lt_z}
 use Rattle.std.proofs.lemmas.Int.{ints}
 use Rattle.std.proofs.lemmas.List.Folds.{list_all_at}
-use Rattle.pw_kinds.specs.Span.{is_in_range}
+use Rattle.pw_kinds.specs.Ranges.{is_in_interval_range}
 use Rattle.pw_kinds.proofs.Order.{true_le, both_true, true_both, is_false, not_both}
 use Rattle.pw_kinds.proofs.Intervals.{closest_closest}
 use Rattle.pw_info.specs.declared.kind.Kind.{Kind}
@@ -16,8 +16,8 @@ use Rattle.pw_procs.specs.declared.rule.Rule.{Rule}
 use Rattle.pw_procs.specs.declared.slot.Slot.{Slot}
 use Rattle.pw_procs.specs.declared.meaning.Meaning.{Meaning}
 use Rattle.pw_procs.specs.declared.meaning.Meaning.TheVariants as meanings
-use Rattle.pw_procs.specs.Slots.{Fits, kind_in}
-use Rattle.pw_procs.specs.Values.{some, is_possible, input, truth, answers_of_two, hull_of, truths_of}
+use Rattle.pw_procs.specs.Slots.{FitSlots, kind_in}
+use Rattle.pw_procs.specs.Values.{some, is_possible, input, truth, image_of_two, hull_of, truths_of}
 use Rattle.pw_procs.specs.Quotient.{is_quotient_at_most, is_quotient_at_least, between_quotients, quotient_of}
 use Rattle.pw_procs.specs.Rules.{includes, all_include, rules_allow, value_of_rules}
 use Rattle.pw_procs.specs.Meaning.{AreSlotsOf, value_of_meaning, switched}
@@ -146,10 +146,10 @@ value_of_rules_mono k rules ys xs h = closed_mono (list_all is_possible ys) (lis
 
 -- hulls and truths of two inputs
 module _ (ys xs : List Info) (implied : AllZip Implies ys xs) (op : ℤ → ℤ → ℤ) where
-  hull_of_two_mono : Implies (hull_of (answers_of_two op (input ys 0) (input ys 1))) (hull_of (answers_of_two op (input xs 0) (input xs 1)))
+  hull_of_two_mono : Implies (hull_of (image_of_two op (input ys 0) (input ys 1))) (hull_of (image_of_two op (input xs 0) (input xs 1)))
   hull_of_two_mono = hull_mono _ _ (two_mono op _ _ _ _ (input_implied ys xs implied 0) (input_implied ys xs implied 1))
 
-  truths_of_two_mono : Implies (truths_of (answers_of_two op (input ys 0) (input ys 1))) (truths_of (answers_of_two op (input xs 0) (input xs 1)))
+  truths_of_two_mono : Implies (truths_of (image_of_two op (input ys 0) (input ys 1))) (truths_of (image_of_two op (input xs 0) (input xs 1)))
   truths_of_two_mono = truths_mono _ _ (two_mono op _ _ _ _ (input_implied ys xs implied 0) (input_implied ys xs implied 1))
 
 -- the value is more informed where the inputs are
@@ -175,14 +175,14 @@ module _ (output : Slot) (ys xs : List Info) (same : map kind_of ys ≡ map kind
 -- ---- contradictory inputs
 
 -- of one or two inputs the one that is contradictory
-contradictory_one : (s : Slot) (slots : List Slot) (xs : List Info) → slots ≡ s ∷ [] → Fits slots xs → (k : ℕ) → k < length xs
+contradictory_one : (s : Slot) (slots : List Slot) (xs : List Info) → slots ≡ s ∷ [] → FitSlots slots xs → (k : ℕ) → k < length xs
     → IsContradiction (input xs k) → IsContradiction (input xs 0)
 contradictory_one s slots xs is f zero l none = none
 contradictory_one s slots xs is f (suc k) l none =
     let one : length xs ≡ 1 = (one_fits s xs (f.0, fit_same slots (s ∷ []) xs is f)).0 in
     absurd (omega arith)
 
-contradictory_two : (s t : Slot) (slots : List Slot) (xs : List Info) → slots ≡ s ∷ t ∷ [] → Fits slots xs → (k : ℕ) → k < length xs
+contradictory_two : (s t : Slot) (slots : List Slot) (xs : List Info) → slots ≡ s ∷ t ∷ [] → FitSlots slots xs → (k : ℕ) → k < length xs
     → IsContradiction (input xs k) → IsContradiction (input xs 0) ⊎ IsContradiction (input xs 1)
 contradictory_two s t slots xs is f zero l none = inl none
 contradictory_two s t slots xs is f (suc zero) l none = inr none
@@ -190,7 +190,7 @@ contradictory_two s t slots xs is f (suc (suc k)) l none =
     let two : length xs ≡ 2 = (two_fit s t xs (f.0, fit_same slots (s ∷ t ∷ []) xs is f)).0 in
     absurd (omega arith)
 
--- a switch whose truth is contradictory answers the contradiction
+-- a switch whose truth is contradictory gives the contradiction
 pub switched_none : (p x : Info) → IsContradiction p → IsContradiction (switched p x)
 switched_none p x none = subst (λ (b : Bool). IsContradiction (passed b (allows p (truth false)) x)) (sym (contradiction_none p none (λ v. true)))
     (allows-contradiction (kind_of x))
@@ -200,18 +200,18 @@ not_open : (t x : Info) → IsContradiction t ⊎ IsContradiction x → (is_poss
 not_open t x (inl none) = is_false _ (λ e. not_both _ (true_both _ _ e).0 (contradiction_none t none (λ v. true)))
 not_open t x (inr none) = is_false _ (λ e. not_both _ (true_both _ _ e).1 (none (pos 0)))
 
-quotient_none : (t x : Info) → IsContradiction t ⊎ IsContradiction x → IsContradiction (quotient_of t x)
+pub quotient_none : (t x : Info) → IsContradiction t ⊎ IsContradiction x → IsContradiction (quotient_of t x)
 quotient_none t x either = subst (λ (b : Bool). IsContradiction (if b then nothing kinds.Interval else between_quotients t x)) (sym (not_open t x either))
     (closest_none kinds.Interval _ (λ q. is_false _ (λ e. not_both _ (true_both _ _ e).0 (pair_none t x (is_quotient_at_most q) either))))
 
--- rules with an impossible input answer the contradiction
+-- rules with an impossible input give the contradiction
 value_of_rules_none : (k : Kind) (rules : List Rule) (xs : List Info) → list_all is_possible xs ≡ false → IsContradiction (value_of_rules k rules xs)
 value_of_rules_none k rules xs none = subst (λ (b : Bool). IsContradiction (if b then closest k (rules_allow rules xs) else contradiction k)) (sym none)
     (allows-contradiction k)
 
 -- the value of any other meaning is contradictory where some input is
 pub value_none : (output : Slot) (meaning : Meaning) (slots : List Slot) (xs : List Info) → (meaning ≢ meanings.Switch) → AreSlotsOf meaning slots output
-    → Fits slots xs → (k : ℕ) → k < length xs → IsContradiction (input xs k) → IsContradiction (value_of_meaning output meaning xs)
+    → FitSlots slots xs → (k : ℕ) → k < length xs → IsContradiction (input xs k) → IsContradiction (value_of_meaning output meaning xs)
 value_none output meanings.Adder slots xs other are f k l none = hull_none _ (two_none (λ a b. a +ℤ b) _ _ (contradictory_two _ _ slots xs are.0 f k l none))
 value_none output meanings.Subtractor slots xs other are f k l none = hull_none _ (two_none (λ a b. a -ℤ b) _ _ (contradictory_two _ _ slots xs are.0 f k l none))
 value_none output meanings.Multiplier slots xs other are f k l none = hull_none _ (two_none (λ a b. a *ℤ b) _ _ (contradictory_two _ _ slots xs are.0 f k l none))
@@ -253,7 +253,7 @@ is_quotient q a b e =
     (if_true (lt_z (pos 0) b) _ _ up down, if_true (lt_z (pos 0) b) _ _ down up)
 
 -- a whole quotient in range of possible values is possible
-pub quotient_holds : (t x : Info) (q a b : ℤ) → q *ℤ b ≡ a → is_in_range q ≡ true → allows t a ≡ true → allows x b ≡ true → allows (quotient_of t x) q ≡ true
+pub quotient_holds : (t x : Info) (q a b : ℤ) → q *ℤ b ≡ a → is_in_interval_range q ≡ true → allows t a ≡ true → allows x b ≡ true → allows (quotient_of t x) q ≡ true
 quotient_holds t x q a b e range a_possible b_possible =
     let is : (is_quotient_at_most q a b ≡ true) × (is_quotient_at_least q a b ≡ true) = is_quotient q a b e in
     allows_if (is_possible t && allows x (pos 0)) (nothing kinds.Interval) (between_quotients t x) q (allows-nothing kinds.Interval q ∙ range)

@@ -11,14 +11,14 @@ use Rattle.std.specs.String.{string_bytes}
 use Rattle.std.proofs.lemmas.Str.{IsUtf8-string_bytes}
 use Rattle.std.proofs.lemmas.Slice.Eq.{bytes_eq-Decides}
 use Rattle.std.specs.Prelude.{if◌then◌else◌}
-use Rattle.pw_procs.specs.Place.{place_of}
+use Rattle.pw_procs.specs.Place.{place_of_name}
 
 -- a place in a mapped list is the place of what is mapped to it
 position_from-map : {K X : Type 0} (f : K → X) (t : X → Bool) (i : ℕ) (ks : List K) → position_from (λ k. t (f k)) i ks ≡ position_from t i (map f ks)
 position_from-map f t i [] = refl
 position_from-map f t i (k ∷ ks) = ap (cond (t (f k)) (Some i)) (position_from-map f t (i + 1) ks)
 
-pub place : {K : Type 0} (f : K → List ℕ) (word : List ℕ) (ks : List K) → position (λ k. bytes_eq word (f k)) ks ≡ place_of (map f ks) word
+pub place : {K : Type 0} (f : K → List ℕ) (word : List ℕ) (ks : List K) → position (λ k. bytes_eq word (f k)) ks ≡ place_of_name (map f ks) word
 place f word ks = position_from-zero (λ k. bytes_eq word (f k)) ks ∙ position_from-map f (bytes_eq word) 0 ks
 
 -- a word with no place is equal to no name
@@ -35,7 +35,7 @@ list_any-map f t [] = refl
 list_any-map f t (k ∷ ks) = ap (λ b. t (f k) || b) (list_any-map f t ks)
 
 -- a new name goes last
-pub added : {K : Type 0} (f : K → List ℕ) (key : K) (ks : List K) → place_of (map f ks) (f key) ≡ None → map f (if list_any (λ k. bytes_eq (f key) (f k)) ks then ks else ks ++ key ∷ []) ≡ map f ks ++ f key ∷ []
+pub added : {K : Type 0} (f : K → List ℕ) (key : K) (ks : List K) → place_of_name (map f ks) (f key) ≡ None → map f (if list_any (λ k. bytes_eq (f key) (f k)) ks then ks else ks ++ key ∷ []) ≡ map f ks ++ f key ∷ []
 added f key ks none =
     let new : list_any (λ k. bytes_eq (f key) (f k)) ks ≡ false = list_any-map f (bytes_eq (f key)) ks ∙ none-list_any (bytes_eq (f key)) 0 (map f ks) none in
     rw new (map_push f ks key)
@@ -53,7 +53,7 @@ no_text_from word i [] broken = refl
 no_text_from word i (key ∷ keys) broken = rw (other word key broken) (no_text_from word (i + 1) keys broken)
 
 -- a word that is no text has no place among texts
-pub no_text : {Z : Type 0} (word : List ℕ) (keys : List (String Z)) → (IsUtf8 word → ⊥) → place_of (map string_bytes keys) word ≡ None
+pub no_text : {Z : Type 0} (word : List ℕ) (keys : List (String Z)) → (IsUtf8 word → ⊥) → place_of_name (map string_bytes keys) word ≡ None
 no_text word keys broken = no_text_from word 0 keys broken
 
 -- ---- the name at a place, where no two names are equal
@@ -81,11 +81,11 @@ own_place_from f (x ∷ ks) (suc i) j k distinct at =
     rw (differs f x k apart) (own_place_from f ks i (j + 1) k (IsDistinct-tail (λ a b. bytes_eq (f a) (f b)) x ks distinct) at ∙ ap Some (omega arith))
 
 -- the name at a place has that place
-pub own_place : {K : Type 0} (f : K → List ℕ) (ks : List K) (i : ℕ) (k : K) → IsDistinct (λ a b. bytes_eq (f a) (f b)) ks → slice_get ks i ≡ Some k → place_of (map f ks) (f k) ≡ Some i
+pub own_place : {K : Type 0} (f : K → List ℕ) (ks : List K) (i : ℕ) (k : K) → IsDistinct (λ a b. bytes_eq (f a) (f b)) ks → slice_get ks i ≡ Some k → place_of_name (map f ks) (f k) ≡ Some i
 own_place f ks i k distinct at = own_place_from f ks i 0 k distinct at ∙ ap Some (omega arith)
 
 pub own_name : {K : Type 0} (f : K → List ℕ) (ks : List K) (names : List (List ℕ)) (i : ℕ) (k : K) →
-    map f ks ≡ names → i < length names → k ≡ get_or ks i k → IsDistinct (λ a b. bytes_eq (f a) (f b)) ks → place_of names (f k) ≡ Some i
+    map f ks ≡ names → i < length names → k ≡ get_or ks i k → IsDistinct (λ a b. bytes_eq (f a) (f b)) ks → place_of_name names (f k) ≡ Some i
 own_name f ks names i k view within at distinct =
     let few : i < length ks = omega (arith, ap length view, length-map ks f) in
     rw (← view) (own_place f ks i k distinct (slice_get_read ks (length ks) i k refl few at))

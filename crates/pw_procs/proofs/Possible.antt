@@ -2,8 +2,7 @@
 use Rattle.std.proofs.Common.{◌≡◌, ℤ, pos, negsuc, ◌≤ℤ◌, ◌≤◌, ◌<◌, Bool, true, false, ◌&&◌, Option, Some, None, arith, refl, sym, ◌∙◌}
 use Rattle.std.specs.Option.{is_some}
 use Rattle.std.proofs.lemmas.Int.{ints}
-use Rattle.pw_kinds.specs.Span.{first, last}
-use Rattle.pw_kinds.specs.Number.{lowest, highest, numbers}
+use Rattle.pw_kinds.specs.Ranges.{interval_lowest, interval_highest, exact_lowest, exact_highest, exact_numbers}
 use Rattle.pw_kinds.specs.declared.members.Members.{Members}
 use Rattle.pw_kinds.specs.Members.{size_of}
 use Rattle.pw_kinds.proofs.Order.{both_true, true_both, same_test, is_false, not_both}
@@ -17,7 +16,7 @@ use Rattle.pw_info.specs.Information.{allows, Implies, IsContradiction}
 use Rattle.pw_procs.specs.Values.{some, is_possible}
 
 -- a place of a set is a number in the widest range
-place_in_range : (m : Members) (v : ℤ) → allows (info.Members 0 m) v ≡ true → (lowest ≤ℤ v) × (v ≤ℤ highest)
+place_in_range : (m : Members) (v : ℤ) → allows (info.Members 0 m) v ≡ true → (exact_lowest ≤ℤ v) × (v ≤ℤ exact_highest)
 place_in_range m (pos k) e =
     let below : k < size_of m = sets.allows_below m k e in
     let most : size_of m ≤ 64 = (sets.size_is m).1 in
@@ -25,16 +24,16 @@ place_in_range m (pos k) e =
 place_in_range m (negsuc k) e = absurd (cc)
 
 -- what is possible lies in the widest range of the kinds
-pub allows_in_range : (a : Info) (v : ℤ) → allows a v ≡ true → (lowest ≤ℤ v) × (v ≤ℤ highest)
-allows_in_range (info.Interval i) v e = let range : (first ≤ℤ v) × (v ≤ℤ last) = intervals.allows_in_range i v e in (omega (arith, ints), omega (arith, ints))
+pub allows_in_range : (a : Info) (v : ℤ) → allows a v ≡ true → (exact_lowest ≤ℤ v) × (v ≤ℤ exact_highest)
+allows_in_range (info.Interval i) v e = let range : (interval_lowest ≤ℤ v) × (v ≤ℤ interval_highest) = intervals.allows_in_range i v e in (omega (arith, ints), omega (arith, ints))
 allows_in_range (info.Members n m) v e = place_in_range m v e
 allows_in_range (info.Exact f) v e = exacts.number_true v (exacts.allows_in_range f v e)
 
-found_some : (p : ℤ → Bool) (r : Option ℤ) → IsLeast p numbers lowest r → is_some r ≡ true → (v : ℤ) × (p v ≡ true)
+found_some : (p : ℤ → Bool) (r : Option ℤ) → IsLeast p exact_numbers exact_lowest r → is_some r ≡ true → (v : ℤ) × (p v ≡ true)
 found_some p None found e = absurd (cc)
 found_some p (Some v) found e = (v, found.2)
 
-some_found : (p : ℤ → Bool) (r : Option ℤ) → IsLeast p numbers lowest r → (v : ℤ) → lowest ≤ℤ v → v ≤ℤ highest → p v ≡ true → is_some r ≡ true
+some_found : (p : ℤ → Bool) (r : Option ℤ) → IsLeast p exact_numbers exact_lowest r → (v : ℤ) → exact_lowest ≤ℤ v → v ≤ℤ exact_highest → p v ≡ true → is_some r ≡ true
 some_found p None found v low high e = absurd (not_both _ e (found v low (omega (arith, ints))))
 some_found p (Some x) found v low high e = refl
 
@@ -42,15 +41,15 @@ some_found p (Some x) found v low high e = refl
 pub some_true : (a : Info) (p : ℤ → Bool) → some a p ≡ true → (v : ℤ) × (allows a v ≡ true) × (p v ≡ true)
 unfolding some
 some_true a p e =
-    let (v, both) = found_some (λ v. allows a v && p v) _ (least_is (λ v. allows a v && p v) numbers lowest) e in
+    let (v, both) = found_some (λ v. allows a v && p v) _ (least_is (λ v. allows a v && p v) exact_numbers exact_lowest) e in
     let parts : (allows a v ≡ true) × (p v ≡ true) = true_both _ _ both in
     (v, parts.0, parts.1)
 
 pub true_some : (a : Info) (p : ℤ → Bool) (v : ℤ) → allows a v ≡ true → p v ≡ true → some a p ≡ true
 unfolding some
 true_some a p v here passes =
-    let range : (lowest ≤ℤ v) × (v ≤ℤ highest) = allows_in_range a v here in
-    some_found (λ v. allows a v && p v) _ (least_is (λ v. allows a v && p v) numbers lowest) v range.0 range.1 (both_true _ _ here passes)
+    let range : (exact_lowest ≤ℤ v) × (v ≤ℤ exact_highest) = allows_in_range a v here in
+    some_found (λ v. allows a v && p v) _ (least_is (λ v. allows a v && p v) exact_numbers exact_lowest) v range.0 range.1 (both_true _ _ here passes)
 
 -- some value of the more informed passes only where some of the less informed does
 pub some_mono : (a b : Info) (p q : ℤ → Bool) → Implies a b → ((v : ℤ) → p v ≡ true → q v ≡ true) → some a p ≡ true → some b q ≡ true

@@ -1,22 +1,28 @@
 -- The names of a list, one after another. The list is one of any items, each under a name.
-use Rattle.std.proofs.Common.{◌≡◌, ℕ, zero, suc, ◌+◌, ◌<◌, ◌≤◌, List, [], ◌∷◌, ◌++◌, Some, None, length, take, get_or, map, arith, refl, sym, ◌∙◌, ap, subst, inl, inr}
+use Rattle.std.proofs.Common.{◌≡◌, Bool, true, false, not, ◌&&◌, ◌||◌, ℕ, zero, suc, ◌+◌, ◌<◌, ◌≤◌, List, [], ◌∷◌, ◌++◌, Some, None, length, take, get_or, map, arith, refl, sym, ◌∙◌, ap, subst, inl, inr}
 use Rattle.std.specs.Prelude.{◌⊎◌, nat_lt, slice_get, Contains, option_map}
-use Rattle.std.specs.List.{position_from}
+use Rattle.std.specs.List.{position_from, list_any}
 use Rattle.std.specs.Str.{bytes_eq}
 use Rattle.std.proofs.lemmas.Bool.{cases_Bool}
 use Rattle.std.proofs.lemmas.Bool.Decides.{nat_tests}
-use Rattle.std.proofs.lemmas.List.{map_more, take-map, length-map, get_or-map}
+use Rattle.std.proofs.lemmas.List.{map_more, take-map, length-map, get_or-map, append-nil, append_assoc}
 use Rattle.std.proofs.lemmas.List.Elements.{Contains-push_cases}
 use Rattle.std.proofs.lemmas.Option.{slice_get_read, slice_get-map}
 use Rattle.std.proofs.lemmas.Slice.Eq.{bytes_eq-Decides}
-use Rattle.pw_procs.specs.Place.{place_of}
-use Rattle.pw_procs.specs.Registering.{IsFaultAfter, AreFreeBelow, AreRegistered, IsRegistryFault}
-use Rattle.pw_procs.specs.declared.registry_fault.RegistryFault.{RegistryFault}
-use Rattle.pw_procs.specs.declared.registry_fault.RegistryFault.TheVariants.{DuplicateName, BadName, TooMany, Memory}
+use Rattle.pw_kinds.proofs.Order.{true_both, not_both}
+use Rattle.pw_info.specs.Name.{is_name}
+use Rattle.pw_procs.specs.Place.{place_of_name}
+use Rattle.pw_procs.specs.Registering.{taken_names, IsFaultAfter, AreFreeBelow, AreRegistered, IsRegistryFault}
+use Rattle.pw_procs.specs.declared.registry.fault.RegistryFault.{RegistryFault}
+use Rattle.pw_procs.specs.declared.registry.fault.RegistryFault.TheVariants.{DuplicateName, BadName, TooMany, Memory}
 
 -- the name of the item at a place
 name_at : {K : Type 0} (f : K → List ℕ) (xs : List K) (i : ℕ) (x : K) → i < length xs → x ≡ get_or xs i x → slice_get (map f xs) i ≡ Some (f x)
 name_at f xs i x within here = slice_get-map f xs i ∙ ap (option_map f) (slice_get_read xs (length xs) i x refl within here)
+
+-- what is made of the item at a place stands at that place of the list that is made of the items
+pub made_at : {K P : Type 0} (g : K → P) (xs : List K) (i : ℕ) (x : K) → i < length xs → x ≡ get_or xs i x → (i < length (map g xs)) × (g x ≡ get_or (map g xs) i (g x))
+made_at g xs i x within here = (omega (arith, length-map xs g), sym (get_or-map g xs i x (g x) within ∙ ap g (sym here)))
 
 -- ---- the place of a name
 
@@ -43,7 +49,7 @@ absent_from i (first ∷ names) name none (suc k, within, e) =
     ]
 
 -- a name with no place is not there
-pub absent : (names : List (List ℕ)) (name : List ℕ) → place_of names name ≡ None → Contains names name → ⊥
+pub absent : (names : List (List ℕ)) (name : List ℕ) → place_of_name names name ≡ None → Contains names name → ⊥
 absent names name none there = absent_from 0 names name none there
 
 place_from : (i : ℕ) (names : List (List ℕ)) (name : List ℕ) (place : ℕ) → position_from (bytes_eq name) i names ≡ Some place → (k : ℕ) × (place ≡ i + k) × (slice_get names k ≡ Some name)
@@ -55,7 +61,7 @@ place_from i (first ∷ names) name place e =
     ]
 
 -- the name that has a place stands there
-pub at_place : (names : List (List ℕ)) (name : List ℕ) (place : ℕ) → place_of names name ≡ Some place → slice_get names place ≡ Some name
+pub at_place : (names : List (List ℕ)) (name : List ℕ) (place : ℕ) → place_of_name names name ≡ Some place → slice_get names place ≡ Some name
 at_place names name place e = let (k, p, at) = place_from 0 names name place e in (let same : place ≡ k = omega arith in rw same at)
 
 -- ---- one item after another
@@ -64,12 +70,15 @@ at_place names name place e = let (k, p, at) = place_from 0 names name place e i
 pub named_here : {K : Type 0} (f : K → List ℕ) (xs : List K) (i : ℕ) (x : K) (name : List ℕ) → i < length xs → x ≡ get_or xs i x → f x ≡ name → Contains (map f xs) name
 named_here f xs i x name within here same = (i, omega (arith, length-map xs f), get_or-map f xs i x name within ∙ ap f (sym here) ∙ same)
 
+-- the names with the next item's are those so far and its own
+pub one_more : {K : Type 0} (f : K → List ℕ) (xs : List K) (i : ℕ) (x : K) → i < length xs → x ≡ get_or xs i x → map f (take (i + 1) xs) ≡ map f (take i xs) ++ f x ∷ []
+one_more f xs i x within here = map_more f xs i x within ∙ ap (λ y. map f (take i xs) ++ f y ∷ []) (sym here)
+
 -- a name that no item so far has, and the next has not, no item up to there has
 pub absent_more : {K : Type 0} (f : K → List ℕ) (xs : List K) (i : ℕ) (x : K) (name : List ℕ) → i < length xs → x ≡ get_or xs i x → (f x ≡ name → ⊥) →
     (Contains (map f (take i xs)) name → ⊥) → Contains (map f (take (i + 1) xs)) name → ⊥
 absent_more f xs i x name within here other before there =
-    let more : map f (take (i + 1) xs) ≡ map f (take i xs) ++ f x ∷ [] = map_more f xs i x within ∙ ap (λ y. map f (take i xs) ++ f y ∷ []) (sym here) in
-    elim (Contains-push_cases (map f (take i xs)) (f x) name (subst (λ l. Contains l name) more there)) [
+    elim (Contains-push_cases (map f (take i xs)) (f x) name (subst (λ l. Contains l name) (one_more f xs i x within here) there)) [
       | inl earlier ↦ before earlier
       | inr same ↦ other same
     ]
@@ -117,9 +126,71 @@ first_is f xs i x TooMany few within here wrong before = absurd wrong
 first_is f xs i x Memory few within here wrong before = absurd wrong
 
 -- in a registry's list the next name has no place among those before it
-pub is_new : {K : Type 0} (f : K → List ℕ) (xs : List K) (i : ℕ) (x : K) → i < length xs → x ≡ get_or xs i x → AreRegistered (map f xs) → place_of (map f (take i xs)) (f x) ≡ None
+pub is_new : {K : Type 0} (f : K → List ℕ) (xs : List K) (i : ℕ) (x : K) → i < length xs → x ≡ get_or xs i x → AreRegistered (map f xs) → place_of_name (map f (take i xs)) (f x) ≡ None
 is_new f xs i x within here names =
     let free : (fault : RegistryFault) → IsFaultAfter (map f (take i xs)) (f x) fault → ⊥ =
     λ fault wrong. names.free i (f x) fault (omega (arith, length-map xs f)) (name_at f xs i x within here)
     (subst (λ l. IsFaultAfter l (f x) fault) (sym (take-map f i xs)) wrong) in
     none_from 0 (map f (take i xs)) (f x) (λ there. free DuplicateName (free BadName, there))
+
+-- ---- names that are known
+
+-- a place at which a name stands is one of the list
+place_below : (names : List (List ℕ)) (k : ℕ) (name : List ℕ) → slice_get names k ≡ Some name → k < length names
+place_below [] k name at = absurd (cc)
+place_below (first ∷ names) zero name at = omega arith
+place_below (first ∷ names) (suc k) name at = let below : k < length names = place_below names k name at in omega arith
+
+not_true : (b : Bool) → not b ≡ true → b ≡ false
+not_true true e = sym e
+not_true false e = refl
+
+or_second : (a b : Bool) → b ≡ true → (a || b) ≡ true
+or_second true b e = refl
+or_second false b e = e
+
+-- whether names may stand in a registry after others, but for their number
+abbrev pub are_free : List (List ℕ) → List (List ℕ) → Bool
+are_free before [] = true
+are_free before (name ∷ names) =
+    is_name name && not (list_any (bytes_eq name) taken_names) && not (list_any (bytes_eq name) before) && are_free (before ++ name ∷ []) names
+
+-- a name that is there passes the test for it
+any_there : (names : List (List ℕ)) (name : List ℕ) → Contains names name → list_any (bytes_eq name) names ≡ true
+any_there [] name (k, within, e) = absurd (omega arith)
+any_there (first ∷ names) name (zero, within, e) = ap (λ b. b || list_any (bytes_eq name) names) ((bytes_eq-Decides name first).1 (sym e))
+any_there (first ∷ names) name (suc k, within, e) = or_second (bytes_eq name first) _ (any_there names name (k, omega arith, e))
+
+-- a name that passes is no bad one, and none of those before it
+no_fault : (before : List (List ℕ)) (name : List ℕ) (fault : RegistryFault) → is_name name ≡ true → not (list_any (bytes_eq name) taken_names) ≡ true
+    → not (list_any (bytes_eq name) before) ≡ true → IsFaultAfter before name fault → ⊥
+no_fault before name BadName named free new (inl bad) = not_both _ named bad
+no_fault before name BadName named free new (inr taken) = not_both _ (any_there taken_names name taken) (not_true _ free)
+no_fault before name DuplicateName named free new (good, there) = not_both _ (any_there before name there) (not_true _ new)
+no_fault before name TooMany named free new wrong = wrong
+no_fault before name Memory named free new wrong = wrong
+
+-- nothing is wrong with names that pass
+free_after : (before names : List (List ℕ)) → are_free before names ≡ true → (k : ℕ) (name : List ℕ) (fault : RegistryFault)
+    → slice_get names k ≡ Some name → IsFaultAfter (before ++ take k names) name fault → ⊥
+free_after before [] e k name fault at wrong = absurd (cc)
+free_after before (first ∷ names) e zero name fault at wrong =
+    let same : first ≡ name = cc in
+    let rest = true_both _ _ (true_both _ _ e).0 in
+    let good = true_both _ _ rest.0 in
+    no_fault before first fault good.0 good.1 rest.1
+    (subst (λ l. IsFaultAfter l first fault) (append-nil before) (subst (λ n. IsFaultAfter (before ++ []) n fault) (sym same) wrong))
+free_after before (first ∷ names) e (suc k) name fault at wrong =
+    free_after (before ++ first ∷ []) names (true_both _ _ e).1 k name fault at
+    (subst (λ l. IsFaultAfter l name fault) (sym (append_assoc before (first ∷ []) (take k names))) wrong)
+
+-- names that pass, few enough, are those of a registry
+pub registered_by_test : (names : List (List ℕ)) → are_free [] names ≡ true → length names ≤ 64 → AreRegistered names
+registered_by_test names e few = record { most = few; free = λ k name fault below at wrong. free_after [] names e k name fault at wrong }
+
+-- names of a registry are refused for want of memory alone
+pub only_memory : (names : List (List ℕ)) (fault : RegistryFault) → AreRegistered names → IsRegistryFault names fault → fault ≡ Memory
+only_memory names Memory are is = refl
+only_memory names TooMany are is = absurd (omega (arith, are.most))
+only_memory names BadName are is = absurd (are.free is.place is.name BadName (place_below names is.place is.name is.stands) is.stands is.wrong)
+only_memory names DuplicateName are is = absurd (are.free is.place is.name DuplicateName (place_below names is.place is.name is.stands) is.stands is.wrong)

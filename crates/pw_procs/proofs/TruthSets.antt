@@ -4,7 +4,7 @@ use Rattle.std.specs.Ordering.{int_eq}
 use Rattle.std.specs.Int.Signed.{le_z, lt_z}
 use Rattle.std.proofs.lemmas.Int.{ints}
 use Rattle.std.proofs.lemmas.Bool.{cases_Bool, eqb-true, eq-eqb}
-use Rattle.pw_kinds.specs.Number.{lowest, highest}
+use Rattle.pw_kinds.specs.Ranges.{exact_lowest, exact_highest}
 use Rattle.pw_kinds.specs.declared.interval.Interval.{Interval}
 use Rattle.pw_kinds.specs.Interval as interval
 use Rattle.pw_kinds.specs.declared.members.Members.{Members}
@@ -17,7 +17,7 @@ use Rattle.pw_kinds.proofs.Order.{le_true, true_le, le_false, false_le, both_tru
 use Rattle.pw_info.specs.declared.info.Info.{Info}
 use Rattle.pw_info.specs.declared.info.Info.TheVariants as info
 use Rattle.pw_info.specs.Information.{allows, IsContradiction}
-use Rattle.pw_procs.specs.Values.{some, is_possible, is_true, Answers, truth, truths_of, answers_of_one, answers_of_two}
+use Rattle.pw_procs.specs.Values.{some, is_possible, is_true, NumberSet, truth, truths_of, image_of_one, image_of_two}
 use Rattle.pw_procs.proofs.Possible.{allows_in_range, some_true, true_some, some_same, none_some, contradiction_none, impossible_contradiction}
 use Rattle.pw_procs.proofs.OnlyValues.{IsOnly}
 
@@ -73,18 +73,18 @@ both_second false b e = absurd (cc)
 
 -- ---- sets of truths
 
--- truths that agree with a set of answers at `false` and at `true` do at each place
-each_truth : (answers : Answers) (part : Members) → members.allows part (pos 0) ≡ answers (int_eq (pos 0)) → members.allows part (pos 1) ≡ answers (int_eq (pos 1))
-    → (k : ℕ) → k < 2 → members.allows part (pos k) ≡ answers (int_eq (pos k))
-each_truth answers part at_false at_true zero h = at_false
-each_truth answers part at_false at_true (suc zero) h = at_true
-each_truth answers part at_false at_true (suc (suc k)) h = absurd (omega arith)
+-- truths that agree with a set at `false` and at `true` do at each place
+each_truth : (set : NumberSet) (part : Members) → members.allows part (pos 0) ≡ set (int_eq (pos 0)) → members.allows part (pos 1) ≡ set (int_eq (pos 1))
+    → (k : ℕ) → k < 2 → members.allows part (pos k) ≡ set (int_eq (pos k))
+each_truth set part at_false at_true zero h = at_false
+each_truth set part at_false at_true (suc zero) h = at_true
+each_truth set part at_false at_true (suc (suc k)) h = absurd (omega arith)
 
--- truths that allow `false` and `true` just where these are answers are those of the answers
-truths_are : (answers : Answers) (part : Members) → members.size_of part ≡ 2
-    → members.allows part (pos 0) ≡ answers (int_eq (pos 0)) → members.allows part (pos 1) ≡ answers (int_eq (pos 1)) → info.Members 0 part ≡ truths_of answers
-truths_are answers part size at_false at_true =
-    ap (info.Members 0) (sets.closest_is 2 (λ v. answers (int_eq v)) part size (each_truth answers part at_false at_true))
+-- truths that allow `false` and `true` just where a set has these are those of the set
+pub truths_are : (set : NumberSet) (part : Members) → members.size_of part ≡ 2
+    → members.allows part (pos 0) ≡ set (int_eq (pos 0)) → members.allows part (pos 1) ≡ set (int_eq (pos 1)) → info.Members 0 part ≡ truths_of set
+truths_are set part size at_false at_true =
+    ap (info.Members 0) (sets.closest_is 2 (λ v. set (int_eq v)) part size (each_truth set part at_false at_true))
 
 -- what adding each truth, or not, leaves at its own place
 only_first : (f t : Bool) → ((false || (f && int_eq (pos 0) (pos 0))) || (t && int_eq (pos 1) (pos 0))) ≡ f
@@ -103,11 +103,11 @@ only_second false false = refl
 pub truths_from : (f t : Bool) (none one part : Members) → members.IsEmpty none
     → ((v : ℤ) → members.allows one v ≡ (members.allows none v || (f && int_eq (pos 0) v)))
     → ((v : ℤ) → members.allows part v ≡ (members.allows one v || (t && int_eq (pos 1) v)))
-    → members.size_of part ≡ 2 → (answers : Answers) → answers (int_eq (pos 0)) ≡ f → answers (int_eq (pos 1)) ≡ t → info.Members 0 part ≡ truths_of answers
-truths_from f t none one part empty first second size answers at_false at_true =
+    → members.size_of part ≡ 2 → (set : NumberSet) → set (int_eq (pos 0)) ≡ f → set (int_eq (pos 1)) ≡ t → info.Members 0 part ≡ truths_of set
+truths_from f t none one part empty first second size set at_false at_true =
     let possible : (v : ℤ) → members.allows part v ≡ ((false || (f && int_eq (pos 0) v)) || (t && int_eq (pos 1) v)) =
     λ v. second v ∙ ap (λ b. b || (t && int_eq (pos 1) v)) (first v ∙ ap (λ b. b || (f && int_eq (pos 0) v)) (empty v)) in
-    truths_are answers part size (possible (pos 0) ∙ only_first f t ∙ sym at_false) (possible (pos 1) ∙ only_second f t ∙ sym at_true)
+    truths_are set part size (possible (pos 0) ∙ only_first f t ∙ sym at_false) (possible (pos 1) ∙ only_second f t ∙ sym at_true)
 
 -- ---- what passes among pairs of possible values
 
@@ -125,7 +125,7 @@ some_pair_true x y passes e =
 true_some_pair : (x y : Info) (passes : ℤ → ℤ → Bool) (a b : ℤ) → allows x a ≡ true → allows y b ≡ true → passes a b ≡ true → some_pair x y passes ≡ true
 true_some_pair x y passes a b at_a at_b passed = true_some x (λ a. some y (passes a)) a at_a (true_some y (passes a) b at_b passed)
 
--- ---- the answers of an operation that tells a truth
+-- ---- what an operation gives that tells a truth
 
 -- a truth is the place of `false` where its test fails, and that of `true` where it passes
 false_is : (b : Bool) → int_eq (pos 0) (truth b) ≡ not b
@@ -136,17 +136,17 @@ true_is : (b : Bool) → int_eq (pos 1) (truth b) ≡ b
 true_is true = refl
 true_is false = refl
 
--- `false` is an answer where some pair fails, `true` where some pair passes
-pub answers_false : (test : ℤ → ℤ → Bool) (x y : Info) → answers_of_two (λ a b. truth (test a b)) x y (int_eq (pos 0)) ≡ some_pair x y (λ a b. not (test a b))
-answers_false test x y = some_same x _ _ (λ a at_a. some_same y _ _ (λ b at_b. false_is (test a b)))
+-- `false` is given where some pair fails, `true` where some pair passes
+pub image_false : (test : ℤ → ℤ → Bool) (x y : Info) → image_of_two (λ a b. truth (test a b)) x y (int_eq (pos 0)) ≡ some_pair x y (λ a b. not (test a b))
+image_false test x y = some_same x _ _ (λ a at_a. some_same y _ _ (λ b at_b. false_is (test a b)))
 
-pub answers_true : (test : ℤ → ℤ → Bool) (x y : Info) → answers_of_two (λ a b. truth (test a b)) x y (int_eq (pos 1)) ≡ some_pair x y test
-answers_true test x y = some_same x _ _ (λ a at_a. some_same y _ _ (λ b at_b. true_is (test a b)))
+pub image_true : (test : ℤ → ℤ → Bool) (x y : Info) → image_of_two (λ a b. truth (test a b)) x y (int_eq (pos 1)) ≡ some_pair x y test
+image_true test x y = some_same x _ _ (λ a at_a. some_same y _ _ (λ b at_b. true_is (test a b)))
 
--- where one of two informations is contradictory there is no answer
-pub no_answers : (operation : ℤ → ℤ → ℤ) (x y : Info) → IsContradiction x ⊎ IsContradiction y → (passes : ℤ → Bool) → answers_of_two operation x y passes ≡ false
-no_answers operation x y (inl none) passes = contradiction_none x none (λ a. some y (λ b. passes (operation a b)))
-no_answers operation x y (inr none) passes =
+-- where one of two informations is contradictory nothing is given
+pub no_image : (operation : ℤ → ℤ → ℤ) (x y : Info) → IsContradiction x ⊎ IsContradiction y → (passes : ℤ → Bool) → image_of_two operation x y passes ≡ false
+no_image operation x y (inl none) passes = contradiction_none x none (λ a. some y (λ b. passes (operation a b)))
+no_image operation x y (inr none) passes =
     none_some x (λ a. some y (λ b. passes (operation a b))) (λ a at_a e. not_both _ e (contradiction_none y none (λ b. passes (operation a b))))
 
 -- what is no contradiction leaves some value possible
@@ -167,8 +167,8 @@ true_lt a b h = grind (arith, ints)
 
 -- a number of one interval is above one of the other just where the greatest is above the least
 pub some_above : (x y : Interval) (greatest least hi lo : ℤ) → interval.IsGreatestOf x greatest → interval.IsLeastOf y least → hi ≡ greatest → lo ≡ least
-    → answers_of_two (λ a b. truth (le_z a b)) (info.Interval x) (info.Interval y) (int_eq (pos 0)) ≡ lt_z lo hi
-some_above x y greatest least hi lo (high, most) (low, fewest) same_hi same_lo = answers_false le_z (info.Interval x) (info.Interval y) ∙ same_test _ _
+    → image_of_two (λ a b. truth (le_z a b)) (info.Interval x) (info.Interval y) (int_eq (pos 0)) ≡ lt_z lo hi
+some_above x y greatest least hi lo (high, most) (low, fewest) same_hi same_lo = image_false le_z (info.Interval x) (info.Interval y) ∙ same_test _ _
     (λ e.
     let (a, b, at_a, at_b, passed) = some_pair_true (info.Interval x) (info.Interval y) (λ a b. not (le_z a b)) e in
     let apart : b <ℤ a = le_false a b (from_not _ passed) in
@@ -181,8 +181,8 @@ some_above x y greatest least hi lo (high, most) (low, fewest) same_hi same_lo =
 
 -- a number of one interval is at most one of the other just where the least is at most the greatest
 pub some_at_most : (x y : Interval) (least greatest lo hi : ℤ) → interval.IsLeastOf x least → interval.IsGreatestOf y greatest → lo ≡ least → hi ≡ greatest
-    → answers_of_two (λ a b. truth (le_z a b)) (info.Interval x) (info.Interval y) (int_eq (pos 1)) ≡ le_z lo hi
-some_at_most x y least greatest lo hi (low, fewest) (high, most) same_lo same_hi = answers_true le_z (info.Interval x) (info.Interval y) ∙ same_test _ _
+    → image_of_two (λ a b. truth (le_z a b)) (info.Interval x) (info.Interval y) (int_eq (pos 1)) ≡ le_z lo hi
+some_at_most x y least greatest lo hi (low, fewest) (high, most) same_lo same_hi = image_true le_z (info.Interval x) (info.Interval y) ∙ same_test _ _
     (λ e.
     let (a, b, at_a, at_b, passed) = some_pair_true (info.Interval x) (info.Interval y) le_z e in
     let up : a ≤ℤ b = le_true a b passed in
@@ -206,20 +206,20 @@ pair_of_only x y test a b (at_a, only_a) (at_b, only_b) = same_test _ _
 -- possible values are compared as the words that the code holds
 same_words : (x y : Info) (a b : ℤ) → allows x a ≡ true → allows y b ≡ true → eqb (of_z w64 a) (of_z w64 b) ≡ int_eq a b
 same_words x y a b at_a at_b =
-    let range_a : (lowest ≤ℤ a) × (a ≤ℤ highest) = allows_in_range x a at_a in
-    let range_b : (lowest ≤ℤ b) × (b ≤ℤ highest) = allows_in_range y b at_b in
+    let range_a : (exact_lowest ≤ℤ a) × (a ≤ℤ exact_highest) = allows_in_range x a at_a in
+    let range_b : (exact_lowest ≤ℤ b) × (b ≤ℤ exact_highest) = allows_in_range y b at_b in
     same_test _ _
     (λ e. let same = eqb-true (of_z w64 a) (of_z w64 b) e in true_eq a b (omega (arith, ints, same)))
     (λ e. eq-eqb (of_z w64 a) (of_z w64 b) (ap (of_z w64) (eq_true a b e)))
 
--- of two with one value each, `false` is an answer where these differ, and `true` where they are equal
-pub only_differ : (x y : Info) (a b : ℤ) → IsOnly (allows x) a → IsOnly (allows y) b → answers_of_two (λ a b. truth (int_eq a b)) x y (int_eq (pos 0)) ≡ not (eqb (of_z w64 a) (of_z w64 b))
+-- of two with one value each, `false` is given where these differ, and `true` where they are equal
+pub only_differ : (x y : Info) (a b : ℤ) → IsOnly (allows x) a → IsOnly (allows y) b → image_of_two (λ a b. truth (int_eq a b)) x y (int_eq (pos 0)) ≡ not (eqb (of_z w64 a) (of_z w64 b))
 only_differ x y a b only_a only_b =
-    answers_false int_eq x y ∙ pair_of_only x y (λ a b. not (int_eq a b)) a b only_a only_b ∙ ap not (sym (same_words x y a b only_a.0 only_b.0))
+    image_false int_eq x y ∙ pair_of_only x y (λ a b. not (int_eq a b)) a b only_a only_b ∙ ap not (sym (same_words x y a b only_a.0 only_b.0))
 
-pub only_equal : (x y : Info) (a b : ℤ) → IsOnly (allows x) a → IsOnly (allows y) b → answers_of_two (λ a b. truth (int_eq a b)) x y (int_eq (pos 1)) ≡ eqb (of_z w64 a) (of_z w64 b)
+pub only_equal : (x y : Info) (a b : ℤ) → IsOnly (allows x) a → IsOnly (allows y) b → image_of_two (λ a b. truth (int_eq a b)) x y (int_eq (pos 1)) ≡ eqb (of_z w64 a) (of_z w64 b)
 only_equal x y a b only_a only_b =
-    answers_true int_eq x y ∙ pair_of_only x y int_eq a b only_a only_b ∙ sym (same_words x y a b only_a.0 only_b.0)
+    image_true int_eq x y ∙ pair_of_only x y int_eq a b only_a only_b ∙ sym (same_words x y a b only_a.0 only_b.0)
 
 -- where not both have just one value some pair differs
 pub some_differ : (x y : Info) (r s : Option ℤ) → is_possible x ≡ true → is_possible y ≡ true
@@ -273,11 +273,11 @@ has_other part two = same_test _ _
     (λ e. true_some (info.Members 0 part) (λ a. not (is_true a)) (pos 0) e refl)
     (λ e. let (v, here, other) = some_true (info.Members 0 part) (λ a. not (is_true a)) e in place_of_false part v two here other)
 
--- the answers to `not`
-pub negation_false : (x : Info) → answers_of_one (λ a. truth (not (is_true a))) x (int_eq (pos 0)) ≡ some x is_true
+-- what `not` gives
+pub negation_false : (x : Info) → image_of_one (λ a. truth (not (is_true a))) x (int_eq (pos 0)) ≡ some x is_true
 negation_false x = some_same x _ is_true (λ a here. false_is (not (is_true a)) ∙ not_not (is_true a))
 
-pub negation_true : (x : Info) → answers_of_one (λ a. truth (not (is_true a))) x (int_eq (pos 1)) ≡ some x (λ a. not (is_true a))
+pub negation_true : (x : Info) → image_of_one (λ a. truth (not (is_true a))) x (int_eq (pos 1)) ≡ some x (λ a. not (is_true a))
 negation_true x = some_same x _ (λ a. not (is_true a)) (λ a here. true_is (not (is_true a)))
 
 -- some pair passes two tests just where a value of each passes its own
@@ -319,23 +319,23 @@ some_either x y p q possible_x possible_y = same_test _ _
 pair_same : (x y : Info) (p q : ℤ → ℤ → Bool) → ((a b : ℤ) → p a b ≡ q a b) → some_pair x y p ≡ some_pair x y q
 pair_same x y p q same = some_same x _ _ (λ a at_a. some_same y _ _ (λ b at_b. same a b))
 
--- the answers to `and`, of which `false` wants two that are no contradictions
+-- what `and` gives, of which `false` wants two that are no contradictions
 pub conjunction_false : (x y : Info) → is_possible x ≡ true → is_possible y ≡ true
-    → answers_of_two (λ a b. truth (is_true a && is_true b)) x y (int_eq (pos 0)) ≡ (some x (λ a. not (is_true a)) || some y (λ b. not (is_true b)))
+    → image_of_two (λ a b. truth (is_true a && is_true b)) x y (int_eq (pos 0)) ≡ (some x (λ a. not (is_true a)) || some y (λ b. not (is_true b)))
 conjunction_false x y possible_x possible_y =
-    answers_false (λ a b. is_true a && is_true b) x y
+    image_false (λ a b. is_true a && is_true b) x y
     ∙ pair_same x y (λ a b. not (is_true a && is_true b)) (λ a b. not (is_true a) || not (is_true b)) (λ a b. not_both_tests (is_true a) (is_true b))
     ∙ some_either x y (λ a. not (is_true a)) (λ b. not (is_true b)) possible_x possible_y
 
-pub conjunction_true : (x y : Info) → answers_of_two (λ a b. truth (is_true a && is_true b)) x y (int_eq (pos 1)) ≡ (some x is_true && some y is_true)
-conjunction_true x y = answers_true (λ a b. is_true a && is_true b) x y ∙ some_both x y is_true is_true
+pub conjunction_true : (x y : Info) → image_of_two (λ a b. truth (is_true a && is_true b)) x y (int_eq (pos 1)) ≡ (some x is_true && some y is_true)
+conjunction_true x y = image_true (λ a b. is_true a && is_true b) x y ∙ some_both x y is_true is_true
 
--- the answers to `or`, of which `true` wants two that are no contradictions
-pub disjunction_false : (x y : Info) → answers_of_two (λ a b. truth (is_true a || is_true b)) x y (int_eq (pos 0)) ≡ (some x (λ a. not (is_true a)) && some y (λ b. not (is_true b)))
+-- what `or` gives, of which `true` wants two that are no contradictions
+pub disjunction_false : (x y : Info) → image_of_two (λ a b. truth (is_true a || is_true b)) x y (int_eq (pos 0)) ≡ (some x (λ a. not (is_true a)) && some y (λ b. not (is_true b)))
 disjunction_false x y =
-    answers_false (λ a b. is_true a || is_true b) x y
+    image_false (λ a b. is_true a || is_true b) x y
     ∙ pair_same x y (λ a b. not (is_true a || is_true b)) (λ a b. not (is_true a) && not (is_true b)) (λ a b. not_either_test (is_true a) (is_true b))
     ∙ some_both x y (λ a. not (is_true a)) (λ b. not (is_true b))
 
-pub disjunction_true : (x y : Info) → is_possible x ≡ true → is_possible y ≡ true → answers_of_two (λ a b. truth (is_true a || is_true b)) x y (int_eq (pos 1)) ≡ (some x is_true || some y is_true)
-disjunction_true x y possible_x possible_y = answers_true (λ a b. is_true a || is_true b) x y ∙ some_either x y is_true is_true possible_x possible_y
+pub disjunction_true : (x y : Info) → is_possible x ≡ true → is_possible y ≡ true → image_of_two (λ a b. truth (is_true a || is_true b)) x y (int_eq (pos 1)) ≡ (some x is_true || some y is_true)
+disjunction_true x y possible_x possible_y = image_true (λ a b. is_true a || is_true b) x y ∙ some_either x y is_true is_true possible_x possible_y

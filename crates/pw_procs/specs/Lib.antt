@@ -6,5 +6,8 @@ pub mod Meaning
 pub mod Shapes
 pub mod Arguments
 pub mod Signature
+pub mod Procedure
 pub mod Registering
 pub mod Place
+pub mod Registry
+pub mod MeaningLaws

@@ -10,46 +10,46 @@ use Rattle.pw_procs.specs.declared.slot.Slot.{Slot}
 use Rattle.pw_procs.specs.declared.slot.Slot.TheVariants as slots
 use Rattle.pw_procs.specs.declared.meaning.Meaning.{Meaning}
 use Rattle.pw_procs.specs.declared.meaning.Meaning.TheVariants as meanings
-use Rattle.pw_procs.specs.Slots.{kind_in}
-use Rattle.pw_procs.specs.Values.{some, is_possible, input, answers_of_one, answers_of_two, hull_of, truths_of, truth, is_true, bool}
+use Rattle.pw_procs.specs.Slots.{kind_in, FitSlots}
+use Rattle.pw_procs.specs.Values.{some, is_possible, input, image_of_one, image_of_two, hull_of, truths_of, truth, is_true, bool}
 use Rattle.pw_procs.specs.Quotient.{quotient_of}
 use Rattle.pw_procs.specs.Rules.{value_of_rules, AreRules}
 
 -- the hull of all sums
 abbrev pub sum_of : Info → Info → Info
-sum_of x y = hull_of (answers_of_two (λ a b. a +ℤ b) x y)
+sum_of x y = hull_of (image_of_two (λ a b. a +ℤ b) x y)
 
 -- the hull of all differences
 abbrev pub difference_of : Info → Info → Info
-difference_of t x = hull_of (answers_of_two (λ a b. a -ℤ b) t x)
+difference_of t x = hull_of (image_of_two (λ a b. a -ℤ b) t x)
 
 -- the hull of all products
 abbrev pub product_of : Info → Info → Info
-product_of x y = hull_of (answers_of_two (λ a b. a *ℤ b) x y)
+product_of x y = hull_of (image_of_two (λ a b. a *ℤ b) x y)
 
 -- the hull of all squares
 abbrev pub square_of : Info → Info
-square_of x = hull_of (answers_of_one (λ a. a *ℤ a) x)
+square_of x = hull_of (image_of_one (λ a. a *ℤ a) x)
 
--- all answers to: is the first at most the second?
+-- all that `is the first at most the second?` gives
 abbrev pub at_most_of : Info → Info → Info
-at_most_of x y = truths_of (answers_of_two (λ a b. truth (le_z a b)) x y)
+at_most_of x y = truths_of (image_of_two (λ a b. truth (le_z a b)) x y)
 
--- all answers to: are the two equal?
+-- all that `are the two equal?` gives
 abbrev pub equality_of : Info → Info → Info
-equality_of x y = truths_of (answers_of_two (λ a b. truth (int_eq a b)) x y)
+equality_of x y = truths_of (image_of_two (λ a b. truth (int_eq a b)) x y)
 
--- all that `not` answers
+-- all that `not` gives
 abbrev pub negation_of : Info → Info
-negation_of p = truths_of (answers_of_one (λ a. truth (not (is_true a))) p)
+negation_of p = truths_of (image_of_one (λ a. truth (not (is_true a))) p)
 
--- all that `and` answers
+-- all that `and` gives
 abbrev pub conjunction_of : Info → Info → Info
-conjunction_of p q = truths_of (answers_of_two (λ a b. truth (is_true a && is_true b)) p q)
+conjunction_of p q = truths_of (image_of_two (λ a b. truth (is_true a && is_true b)) p q)
 
--- all that `or` answers
+-- all that `or` gives
 abbrev pub disjunction_of : Info → Info → Info
-disjunction_of p q = truths_of (answers_of_two (λ a b. truth (is_true a || is_true b)) p q)
+disjunction_of p q = truths_of (image_of_two (λ a b. truth (is_true a || is_true b)) p q)
 
 -- what passes where the truth p is exactly true; nothing where p may be false, whatever the other input is
 abbrev pub switched : Info → Info → Info
@@ -125,3 +125,8 @@ value_of_meaning output meanings.Copy inputs = input inputs 0
 value_of_meaning output meanings.Point inputs = point_of (input inputs 0)
 value_of_meaning output meanings.Fixed inputs = fixed_of (input inputs 0)
 value_of_meaning output (meanings.Rules rules) inputs = value_of_rules (kind_in kinds.Interval output) rules.items inputs
+
+-- the value of a meaning of the table, on inputs that fit it
+abbrev pub IsValueOfTable : Meaning → List Info → Info → Type 0
+IsValueOfTable meaning inputs value =
+    FitSlots (inputs_of_meaning meaning) inputs → value ≡ value_of_meaning (output_of_meaning meaning) meaning inputs

@@ -1,8 +1,12 @@
 -- Which lists of procedures make a registry, and what is wrong with the others.
 use Rattle.std.specs.Prelude.{◌≡◌, ◌<◌, ◌≤◌, ◌⊎◌, ℕ, List, [], ◌∷◌, codes, length, take, slice_get, Some, false, Contains}
 use Rattle.pw_info.specs.Name.{is_name}
-use Rattle.pw_procs.specs.declared.registry_fault.RegistryFault.{RegistryFault}
-use Rattle.pw_procs.specs.declared.registry_fault.RegistryFault.TheVariants.{DuplicateName, BadName, TooMany, Memory}
+use Rattle.pw_procs.specs.declared.registry.fault.RegistryFault.{RegistryFault}
+use Rattle.pw_procs.specs.declared.registry.fault.RegistryFault.TheVariants.{DuplicateName, BadName, TooMany, Memory}
+
+-- the most procedures that a registry may have
+abbrev pub most_procedures : ℕ
+most_procedures = 64
 
 -- the names that every declaration gives to compounds of its own
 abbrev pub taken_names : List (List ℕ)
@@ -24,12 +28,12 @@ AreFreeBelow names n = (k : ℕ) (name : List ℕ) (fault : RegistryFault) → k
 
 -- these are the names of a registry's procedures
 pub record AreRegistered (names : List (List ℕ)) : Type 0 where
-  pub most : length names ≤ 64
+  pub most : length names ≤ most_procedures
   pub free : AreFreeBelow names (length names)
 
 -- there are not too many names, and this is the first thing that is wrong with one
 pub record IsFirstFault (names : List (List ℕ)) (fault : RegistryFault) : Type 0 where
-  pub most : length names ≤ 64
+  pub most : length names ≤ most_procedures
   pub place : ℕ
   pub name : List ℕ
   pub stands : slice_get names place ≡ Some name
@@ -38,6 +42,6 @@ pub record IsFirstFault (names : List (List ℕ)) (fault : RegistryFault) : Type
 
 -- why the procedures of these names make no registry; want of memory comes last
 abbrev pub IsRegistryFault : List (List ℕ) → RegistryFault → Type 0
-IsRegistryFault names TooMany = 64 < length names
+IsRegistryFault names TooMany = most_procedures < length names
 IsRegistryFault names Memory = AreRegistered names
 IsRegistryFault names fault = IsFirstFault names fault

@@ -30,3 +30,14 @@ value_of_rules kind rules inputs = if list_all is_possible inputs then closest k
 pub record AreRules (inputs : List Kind) (output : Kind) (rules : List Rule) : Type 0 where
   pub guards : All (λ rule. map kind_of rule.guards.items ≡ inputs) rules
   pub results : All (λ rule. kind_of rule.result ≡ output) rules
+
+-- rules of one input, of the kinds of this guard and this result
+abbrev pub AreRulesLike : Info → Info → List Rule → Type 0
+AreRulesLike guard result rules = AreRules (kind_of guard ∷ []) (kind_of result) rules
+
+-- others are rules of each kinds that these are rules of, and have the same values
+abbrev pub AreRulesAsWell : List Rule → List Rule → Type 0
+AreRulesAsWell rules others = (inputs : List Kind) (output : Kind) → AreRules inputs output rules → AreRules inputs output others
+
+abbrev pub HaveTheSameValues : List Rule → List Rule → Type 0
+HaveTheSameValues rules others = (output : Kind) (inputs : List Info) → value_of_rules output others inputs ≡ value_of_rules output rules inputs

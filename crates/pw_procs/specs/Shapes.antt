@@ -1,15 +1,19 @@
 -- How lists of at most a few things are held: in an array, those past the end in one form.
 use Rattle.std.specs.Prelude.{◌≡◌, ℕ, ◌≤◌, ◌-◌, List, take, drop, replicate}
 use Rattle.pw_procs.specs.declared.slot.Slot.{Slot}
-use Rattle.pw_procs.specs.Slots.{AreSlots}
+use Rattle.pw_procs.specs.Slots.{AreSlots, most_inputs}
+
+-- the most cells that a procedure may be put between
+abbrev pub most_cells : ℕ
+most_cells = 9
 
 -- the first so many of these are the inputs of a procedure with this output
 pub record IsSignature (slots : List Slot) (count : ℕ) (output : Slot) : Type 0 where
-  pub most : count ≤ 8
+  pub most : count ≤ most_inputs
   pub inputs : AreSlots (take count slots) output
 
 -- the first so many of these nine numbers are one to nine cells, and the others are 0
 pub record AreArguments (cells : List ℕ) (count : ℕ) : Type 0 where
   pub some : 1 ≤ count
-  pub most : count ≤ 9
-  pub rest : drop count cells ≡ replicate (9 - count) 0
+  pub most : count ≤ most_cells
+  pub rest : drop count cells ≡ replicate (most_cells - count) 0

@@ -1,34 +1,48 @@
--- What a procedure takes and answers.
-use Rattle.std.specs.Prelude.{List, [], ◌∷◌, ◌++◌, take}
+-- What a procedure takes and gives.
+use Rattle.std.specs.Prelude.{◌≡◌, List, [], ◌∷◌, ◌++◌, take, map}
 use Rattle.pw_info.specs.declared.kind.Kind.{Kind}
 use Rattle.pw_info.specs.declared.info.Info.{Info}
+use Rattle.pw_info.specs.Information.{kind_of}
 use Rattle.pw_procs.specs.declared.slot.Slot.{Slot}
 use Rattle.pw_procs.specs.declared.signature.Signature.{Signature}
 use Rattle.pw_procs.specs.declared.meaning.Meaning.{Meaning}
-use Rattle.pw_procs.specs.Slots.{KindsFit}
-use Rattle.pw_procs.specs.Slots as slots
+use Rattle.pw_procs.specs.Slots.{kind_in, KindsFit, FitSlots}
 use Rattle.pw_procs.specs.Meaning as meanings
 
 -- the slots of the inputs, in order
-abbrev pub inputs_of : Signature → List Slot
-inputs_of signature = take signature.count signature.slots
+abbrev pub input_slots_of : Signature → List Slot
+input_slots_of signature = take signature.count signature.slots
 
 -- the slot of the output
-abbrev pub output_of : Signature → Slot
-output_of signature = signature.output
+abbrev pub output_slot_of : Signature → Slot
+output_slot_of signature = signature.output
 
 -- informations fit the inputs
-abbrev pub Fits : Signature → List Info → Type 0
-Fits signature inputs = slots.Fits (inputs_of signature) inputs
+abbrev pub FitSignature : Signature → List Info → Type 0
+FitSignature signature inputs = FitSlots (input_slots_of signature) inputs
 
 -- kinds fit the inputs and the output, which is last
 abbrev pub Accepts : Signature → List Kind → Type 0
-Accepts signature kinds = KindsFit (inputs_of signature ++ output_of signature ∷ []) kinds
+Accepts signature kinds = KindsFit (input_slots_of signature ++ output_slot_of signature ∷ []) kinds
+
+-- the same of the inputs and of the output apart
+abbrev pub AcceptsApart : Signature → List Kind → Kind → Type 0
+AcceptsApart signature inputs output =
+    (same : Kind) × (inputs ≡ map (kind_in same) (input_slots_of signature)) × (output ≡ kind_in same (output_slot_of signature))
 
 -- the signature is one of the meaning
 abbrev pub IsSignatureOf : Meaning → Signature → Type 0
-IsSignatureOf meaning signature = meanings.AreSlotsOf meaning (inputs_of signature) (output_of signature)
+IsSignatureOf meaning signature = meanings.AreSlotsOf meaning (input_slots_of signature) (output_slot_of signature)
 
 -- the value of a meaning under a signature of it
 abbrev pub value_under : Signature → Meaning → List Info → Info
-value_under signature meaning inputs = meanings.value_of_meaning (output_of signature) meaning inputs
+value_under signature meaning inputs = meanings.value_of_meaning (output_slot_of signature) meaning inputs
+
+-- the values of a meaning under a signature are of the kind of its output
+abbrev pub IsOfOutputKind : Signature → Meaning → Type 0
+IsOfOutputKind signature meaning = (inputs : List Info) (fit : FitSignature signature inputs)
+    → kind_of (value_under signature meaning inputs) ≡ kind_in fit.0 (output_slot_of signature)
+
+-- the value of a meaning under a signature of it, on inputs that fit
+abbrev pub IsValueUnder : Signature → Meaning → List Info → Info → Type 0
+IsValueUnder signature meaning inputs value = FitSignature signature inputs → value ≡ value_under signature meaning inputs

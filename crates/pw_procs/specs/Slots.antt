@@ -1,5 +1,5 @@
--- What a procedure takes and answers: the kinds of its inputs and of its output, one by one.
-use Rattle.std.specs.Prelude.{◌≡◌, ◌≤◌, List, map, length, Bool, true, false}
+-- What a procedure takes and gives: the kinds of its inputs and of its output, one by one.
+use Rattle.std.specs.Prelude.{◌≡◌, ◌≤◌, ℕ, List, map, length, Bool, true, false}
 use Rattle.std.specs.List.{list_any}
 use Rattle.pw_info.specs.declared.kind.Kind.{Kind}
 use Rattle.pw_info.specs.declared.info.Info.{Info}
@@ -17,16 +17,20 @@ abbrev pub KindsFit : List Slot → List Kind → Type 0
 KindsFit slots kinds = (same : Kind) × (kinds ≡ map (kind_in same) slots)
 
 -- informations fit slots: their kinds do
-abbrev pub Fits : List Slot → List Info → Type 0
-Fits slots inputs = KindsFit slots (map kind_of inputs)
+abbrev pub FitSlots : List Slot → List Info → Type 0
+FitSlots slots inputs = KindsFit slots (map kind_of inputs)
 
 -- the slot takes information of any kind
 abbrev pub is_same : Slot → Bool
 is_same (Fixed kind) = false
 is_same Same = true
 
+-- the most inputs that a procedure may have
+abbrev pub most_inputs : ℕ
+most_inputs = 8
+
 -- the slots that a procedure may have: one to eight inputs; an output of any kind where an input is of any kind
 pub record AreSlots (inputs : List Slot) (output : Slot) : Type 0 where
   pub some : 1 ≤ length inputs
-  pub most : length inputs ≤ 8
+  pub most : length inputs ≤ most_inputs
   pub known : output ≡ Same → list_any is_same inputs ≡ true

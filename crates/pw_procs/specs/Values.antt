@@ -1,11 +1,11 @@
--- The values that informations leave possible, what an operation answers on all of them, and the information that is
--- nearest to a set of answers. A set of whole numbers is given by its test: does some number of the set pass?
-use Rattle.std.specs.Prelude.{◌≡◌, ℕ, ℤ, pos, Bool, true, false, ◌&&◌, List, ◌≤ℤ◌, is_some, slice_index_or}
+-- The values that informations leave possible, what an operation gives on all of them, and the information that is
+-- nearest to a set of numbers. A set of whole numbers is given by its test: does some number of the set pass?
+use Rattle.std.specs.Prelude.{◌≡◌, ◌<◌, ℕ, ℤ, pos, Bool, true, false, ◌&&◌, List, ◌≤ℤ◌, is_some, slice_index_or}
+use Rattle.std.specs.Int.{IsBitSet}
 use Rattle.std.specs.Int.Signed.{le_z}
 use Rattle.std.specs.Ordering.{int_eq}
-use Rattle.pw_kinds.specs.Span.{is_in_range}
+use Rattle.pw_kinds.specs.Ranges.{is_in_interval_range, exact_lowest, exact_numbers}
 use Rattle.pw_kinds.specs.Search.{least}
-use Rattle.pw_kinds.specs.Number.{lowest, numbers}
 use Rattle.pw_kinds.specs.Places.{IsSize}
 use Rattle.std.proofs.Common.{arith}
 use Rattle.pw_info.specs.declared.kind.Kind.{Kind}
@@ -15,27 +15,34 @@ use Rattle.pw_info.specs.Information.{allows, closest, nothing}
 
 -- whether some possible value passes
 unfoldable pub some : Info → (ℤ → Bool) → Bool
-some info passes = is_some (least (λ v. allows info v && passes v) numbers lowest)
+some info passes = is_some (least (λ v. allows info v && passes v) exact_numbers exact_lowest)
 
 -- whether a value is possible at all
 abbrev pub is_possible : Info → Bool
 is_possible info = some info (λ v. true)
 
 -- a set of whole numbers: whether some number of it passes a test
-abbrev pub Answers : Type 0
-Answers = (ℤ → Bool) → Bool
+abbrev pub NumberSet : Type 0
+NumberSet = (ℤ → Bool) → Bool
 
--- all that an operation answers on possible values
-abbrev pub answers_of_one : (ℤ → ℤ) → Info → Answers
-answers_of_one operation x passes = some x (λ a. passes (operation a))
+-- all that an operation gives on possible values
+abbrev pub image_of_one : (ℤ → ℤ) → Info → NumberSet
+image_of_one operation x passes = some x (λ a. passes (operation a))
 
-abbrev pub answers_of_two : (ℤ → ℤ → ℤ) → Info → Info → Answers
-answers_of_two operation x y passes = some x (λ a. some y (λ b. passes (operation a b)))
+abbrev pub image_of_two : (ℤ → ℤ → ℤ) → Info → Info → NumberSet
+image_of_two operation x y passes = some x (λ a. some y (λ b. passes (operation a b)))
+
+-- a number is what an operation gives on a possible value, or on two
+abbrev pub IsImageOfOne : (ℤ → ℤ) → Info → ℤ → Type 0
+IsImageOfOne operation x z = (a : ℤ) × (allows x a ≡ true) × (z ≡ operation a)
+
+abbrev pub IsImageOfTwo : (ℤ → ℤ → ℤ) → Info → Info → ℤ → Type 0
+IsImageOfTwo operation x y z = (a b : ℤ) × (allows x a ≡ true) × (allows y b ≡ true) × (z ≡ operation a b)
 
 -- the hull of a set of numbers, cut to the range of intervals: a number is in it where some number of the set is at or
 -- below it, and some is at or above it
-abbrev pub hull_of : Answers → Info
-hull_of answers = closest kinds.Interval (λ v. answers (λ z. le_z z v) && answers (λ z. le_z v z))
+abbrev pub hull_of : NumberSet → Info
+hull_of set = closest kinds.Interval (λ v. set (λ z. le_z z v) && set (λ z. le_z v z))
 
 pub two_is_size : IsSize 2
 two_is_size = (omega arith, omega arith)
@@ -51,21 +58,43 @@ truth false = pos 0
 abbrev pub is_true : ℤ → Bool
 is_true v = int_eq v (pos 1)
 
--- the truths of a set of truths
-abbrev pub truths_of : Answers → Info
-truths_of answers = closest bool (λ v. answers (int_eq v))
+-- which truths there are in a set of truths
+abbrev pub truths_of : NumberSet → Info
+truths_of set = closest bool (λ v. set (int_eq v))
+
+-- the numbers in range from lo to hi
+abbrev pub from_to : ℤ → ℤ → Info
+from_to lo hi = closest kinds.Interval (λ v. le_z lo v && le_z v hi)
+
+-- one truth alone, and one number alone, known exactly
+abbrev pub just : Bool → Info
+just b = closest bool (int_eq (truth b))
+
+abbrev pub exactly : ℤ → Info
+exactly n = closest kinds.Exact (λ v. int_eq v n)
+
+-- no bit at or past the size of a set is set
+abbrev pub IsMaskOf : ℕ → ℕ → Type 0
+IsMaskOf size mask = (k : ℕ) → IsBitSet mask k → k < size
 
 -- the input at a place, from 0
 abbrev pub input : List Info → ℕ → Info
 input inputs place = slice_index_or inputs place (nothing kinds.Interval)
 
--- a test of a set tells of just the numbers of the set
-pub record AreAnswers (numbers : ℤ → Type 0) (answers : Answers) : Type 0 where
-  pub found : (passes : ℤ → Bool) (z : ℤ) → numbers z → passes z ≡ true → answers passes ≡ true
-  pub known : (passes : ℤ → Bool) → answers passes ≡ true → (z : ℤ) × numbers z × (passes z ≡ true)
+-- a set has just these numbers
+pub record IsSetOf (numbers : ℤ → Type 0) (set : NumberSet) : Type 0 where
+  pub found : (passes : ℤ → Bool) (z : ℤ) → numbers z → passes z ≡ true → set passes ≡ true
+  pub known : (passes : ℤ → Bool) → set passes ≡ true → (z : ℤ) × numbers z × (passes z ≡ true)
 
--- the hull of a set, in words: each number of the set that is in range is possible, and whatever is possible lies
--- between any two ends between which all numbers of the set lie
+-- a number lies between two numbers of a set, or on one
+abbrev pub LiesWithin : (ℤ → Type 0) → ℤ → Type 0
+LiesWithin numbers v = (lo hi : ℤ) × numbers lo × numbers hi × (lo ≤ℤ v) × (v ≤ℤ hi)
+
+-- the hull of a set, in words: just the numbers in range that lie between two numbers of the set, or on one, are
+-- possible. So whatever is possible lies between any two ends between which all numbers of the set lie. (Of 999,999 and
+-- 1,002,000 it is 999999..1000000: the hull is taken first, and then cut.)
 pub record IsHull (numbers : ℤ → Type 0) (hull : Info) : Type 0 where
-  pub holds : (z : ℤ) → numbers z → is_in_range z ≡ true → allows hull z ≡ true
-  pub smallest : (lo hi : ℤ) → ((z : ℤ) → numbers z → (lo ≤ℤ z) × (z ≤ℤ hi)) → (v : ℤ) → allows hull v ≡ true → (lo ≤ℤ v) × (v ≤ℤ hi)
+  pub holds : (v : ℤ) → is_in_interval_range v ≡ true → LiesWithin numbers v → allows hull v ≡ true
+  pub known : (v : ℤ) → allows hull v ≡ true → (is_in_interval_range v ≡ true) × LiesWithin numbers v
+  pub smallest : (lo hi : ℤ) → ((z : ℤ) → numbers z → (lo ≤ℤ z) × (z ≤ℤ hi))
+      → (v : ℤ) → allows hull v ≡ true → (lo ≤ℤ v) × (v ≤ℤ hi)

@@ -13,10 +13,11 @@ pub struct Arguments {
 impl Arguments {
     ghost use Rattle.std.specs.Prelude.{◌≡◌, ◌↔◌, ◌≤◌, length, IsSome, IfSome};
     ghost use Rattle.pw_procs.specs.Arguments.{cells_of};
+    ghost use Rattle.pw_procs.specs.Shapes.{most_cells};
 
     /// These cells, in order. None unless there are one to nine.
     pub fn of(cells: &[u32]) -> Option<Arguments>
-        ensures some { IsSome result ↔ ((1 ≤ length cells.now) × (length cells.now ≤ 9)) }
+        ensures some { IsSome result ↔ ((1 ≤ length cells.now) × (length cells.now ≤ most_cells)) }
         ensures cells { IfSome result (λ arguments. cells_of arguments ≡ cells.now) }
     {
         if cells.is_empty() || cells.len() > MOST_CELLS {

@@ -2,11 +2,8 @@
 //! with the bodies, which work on end points, corners and masks.
 use crate::meaning::Meaning;
 use crate::rule::Rule;
-use pw_info::info::Info;
-use pw_info::kind::Kind;
-use pw_kinds::exact::Exact;
-use pw_kinds::interval::Interval;
-use pw_kinds::members::Members;
+use pw_info::{Info, Kind};
+use pw_kinds::{Exact, Interval, Members};
 use std::alloc::{AllocError, Global};
 
 // What is tried of an exact number that may be any: the ends of its range and of the range of intervals, with their
@@ -77,9 +74,9 @@ fn values_at(alloc: Global, inputs: &[Info], place: usize) -> Result<Vec<i64>, A
     }
 }
 
-/// What a meaning answers on two values; one that has a single input leaves the second aside. A sum or product past
+/// What a meaning gives on two values; one that has a single input leaves the second aside. A sum or product past
 /// the range of the type stops at its end, which is cut to the range of intervals all the same.
-fn answer(meaning: &Meaning, a: i64, b: i64) -> i64 {
+fn given(meaning: &Meaning, a: i64, b: i64) -> i64 {
     match meaning {
         Meaning::Adder => a.saturating_add(b),
         Meaning::Subtractor => a.saturating_sub(b),
@@ -94,15 +91,20 @@ fn answer(meaning: &Meaning, a: i64, b: i64) -> i64 {
     }
 }
 
-/// The answers of a meaning on all values.
-fn answers(alloc: Global, meaning: &Meaning, x: &[i64], y: &[i64]) -> Result<Vec<i64>, AllocError> {
-    let mut answers = Vec::new(alloc);
+/// All that a meaning gives on all values.
+fn all_given(
+    alloc: Global,
+    meaning: &Meaning,
+    x: &[i64],
+    y: &[i64],
+) -> Result<Vec<i64>, AllocError> {
+    let mut all = Vec::new(alloc);
     for a in x {
         for b in y {
-            answers.push(answer(meaning, *a, *b))?;
+            all.push(given(meaning, *a, *b))?;
         }
     }
-    Ok(answers)
+    Ok(all)
 }
 
 /// Whether the true quotient of `t` by `x`, which is not 0, is at most `q`.
@@ -240,7 +242,7 @@ pub(crate) fn value_of(
         Meaning::Switch => y,
         Meaning::Rules(_) if x.is_empty() || y.is_empty() => return Ok(Info::contradiction(output)),
         Meaning::Rules(rules) => left_by_rules(alloc, rules, output, inputs)?,
-        _ => answers(alloc, meaning, &x, &y)?,
+        _ => all_given(alloc, meaning, &x, &y)?,
     };
     Ok(nearest(output, &numbers))
 }

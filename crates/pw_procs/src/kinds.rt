@@ -1,12 +1,11 @@
 //! The kind of truths, and members of set kinds by their masks.
-ghost use Rattle.std.specs.Prelude.{◌≡◌, ◌↔◌, ℕ, pos, ◌<◌, true};
+ghost use Rattle.std.specs.Prelude.{◌≡◌, ◌↔◌, ℕ, pos, true};
 ghost use Rattle.std.specs.Int.{IsBitSet};
-ghost use Rattle.pw_info.specs.Information.{kind_of, allows};
-ghost use Rattle.pw_procs.specs.Values.{bool};
+ghost use Rattle.pw_info.specs.Information.{kind_of, allows, IsContradiction};
+ghost use Rattle.pw_procs.specs.Values.{bool, IsMaskOf};
 
-use pw_info::info::Info;
-use pw_info::kind::{Kind, SetKind};
-use pw_kinds::members::Members;
+use pw_info::{Info, Kind, SetKind};
+use pw_kinds::Members;
 
 /// The kind of truths: set 0, in which `false` is place 0 and `true` is place 1.
 pub fn truth_kind() -> Kind
@@ -15,10 +14,12 @@ pub fn truth_kind() -> Kind
     Kind::Members(SetKind { number: 0, size: 2 })
 }
 
-/// The members of a set whose bits are set; the contradiction where a bit at or past its size is.
-pub fn members_of(set: SetKind, mask: u64) -> Info
+/// The members of a set by a mask: those whose bits are set. Where a bit at or past the size of the set is set, the mask
+/// is none of the set's, and the result is the contradiction.
+pub fn members_of_mask(set: SetKind, mask: u64) -> Info
     ensures kind { kind_of result ≡ Kind.Members set }
-    ensures values { ((k : ℕ) → IsBitSet mask k → k < set.size) → (k : ℕ) → (allows result (pos k) ≡ true) ↔ IsBitSet mask k }
+    ensures values { IsMaskOf set.size mask → (k : ℕ) → (allows result (pos k) ≡ true) ↔ IsBitSet mask k }
+    ensures bad { (IsMaskOf set.size mask → ⊥) → IsContradiction result }
 {
     match Members::of(set.size, mask) {
         Some(part) => Info::of_members(set.number, part),

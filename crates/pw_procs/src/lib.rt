@@ -1,38 +1,34 @@
-//! What propagators mean, and procedures that answer it.
+//! What propagators mean, and procedures that give it: meanings with their laws, a body for each, signatures, stored
+//! procedures and registries of them, and tables of names.
 #![tactic(auto)]
 
-pub mod arguments;
+mod arguments;
 pub mod bodies;
-mod exact_numbers;
-mod inputs;
-pub mod kinds;
+mod kinds;
 pub mod laws;
-pub mod meaning;
-pub mod name_table;
-mod only;
-pub mod procedures;
-mod products;
-mod quotients;
-pub mod registry;
-pub mod registry_fault;
-pub mod rule;
-pub mod rule_tables;
-pub mod rules;
-pub mod signature;
-pub mod slot;
-pub mod stored;
-mod sums;
-pub mod table;
-mod truths;
+mod meaning;
+mod name_table;
+mod procedures;
+mod registry;
+mod rule;
+mod rule_tables;
+mod signature;
+mod slot;
+mod stored;
+mod table;
 
 pub use arguments::Arguments;
+pub use kinds::{members_of_mask, truth_kind};
 pub use meaning::Meaning;
-pub use registry::Registry;
-pub use registry_fault::RegistryFault;
+pub use name_table::NameTable;
+pub use procedures::{add_by_rules, add_of_table};
+pub use registry::{Registry, RegistryFault};
 pub use rule::Rule;
+pub use rule_tables::{add_rule, copied};
 pub use signature::Signature;
 pub use slot::Slot;
 pub use stored::{Body, Stored};
+pub use table::signature_of;
 
 #[cfg(test)]
 mod evaluator;

@@ -1,6 +1,6 @@
 use crate::rule::Rule;
 
-/// What a propagator answers: the value of a meaning is taken over all values that its inputs leave possible. Where an
+/// What a propagator tells of its output: the value of a meaning is taken over all values that its inputs leave possible. Where an
 /// input is contradictory the value is the contradiction, but for `Switch`. (Radul and Sussman, *The Art of the
 /// Propagator*, on primitive propagators.)
 #[derive(Debug, Drop)]
@@ -16,9 +16,9 @@ pub enum Meaning {
     /// Of intervals t and x: nothing where x may be 0, else the whole numbers from the least true quotient, rounded up,
     /// to the greatest, rounded down.
     Divider,
-    /// Of intervals x and y: all answers to `x <= y`.
+    /// Of intervals x and y: whether `x <= y`, as far as it is known.
     AtMost,
-    /// Of two informations of one kind: all answers to `x = y`.
+    /// Of two informations of one kind: whether `x = y`, as far as it is known.
     Equal,
     /// Of a truth: all `not p`.
     Inverter,

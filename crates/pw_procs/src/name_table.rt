@@ -1,6 +1,6 @@
 //! Names in the order in which they were added.
 ghost use Rattle.std.specs.Prelude.{◌≡◌, None, Some, [], ◌∷◌, ◌++◌, ◌<◌, length, slice_get, IfSome, OnOk, OnErr};
-ghost use Rattle.pw_procs.specs.Place.{place_of};
+ghost use Rattle.pw_procs.specs.Place.{place_of_name};
 
 use indexmap::IndexSet;
 use std::alloc::{AllocError, Allocator, Global};
@@ -41,7 +41,7 @@ impl<A: Allocator + Copy> NameTable<A> {
 
     /// The number of the name that is equal to this word, if there is one.
     pub fn find(&self, word: &[u8]) -> Option<usize>
-        ensures number { result ≡ place_of self.now word.now }
+        ensures number { result ≡ place_of_name self.now word.now }
         ensures within { IfSome result (λ number. number < length self.now) }
     {
         let set = &self.set;
@@ -56,14 +56,14 @@ impl<A: Allocator + Copy> NameTable<A> {
         requires { number < length self.now }
         ensures name { slice_get self.now number ≡ Some result.now }
         // No two names are equal.
-        ensures own { place_of self.now result.now ≡ Some number }
+        ensures own { place_of_name self.now result.now ≡ Some number }
     {
         self.set.as_slice()[number].as_str()
     }
 
     /// Adds a name, which gets the next number. It fails only for want of memory, and then the table stays as it was.
     pub fn add(&mut self, name: &str) -> Result<(), AllocError>
-        requires { place_of self.old name.now ≡ None }
+        requires { place_of_name self.old name.now ≡ None }
         ensures ok { OnOk result (self.new ≡ self.old ++ name.now ∷ []) }
         ensures err { OnErr result (self.new ≡ self.old) }
     {

@@ -1,10 +1,10 @@
 //! Lists of procedures, as a registry takes them.
-ghost use Rattle.std.specs.Prelude.{◌≡◌, ◌++◌, ◌∷◌, [], map, false, OnOk, OnErr};
-ghost use Rattle.std.specs.String.{string_bytes};
+ghost use Rattle.std.specs.Prelude.{◌≡◌, ◌∷◌, [], map, false, OnOk, OnErr};
 ghost use Rattle.pw_info.specs.Information.{kind_of};
-ghost use Rattle.pw_procs.specs.Slots.{Fits};
-ghost use Rattle.pw_procs.specs.Meaning.{is_given_by_rules, inputs_of_meaning, output_of_meaning, value_of_meaning};
+ghost use Rattle.pw_procs.specs.Slots.{FitSlots};
+ghost use Rattle.pw_procs.specs.Meaning.{is_given_by_rules, inputs_of_meaning, IsValueOfTable};
 ghost use Rattle.pw_procs.specs.Rules.{AreRules, value_of_rules};
+ghost use Rattle.pw_procs.specs.Procedure.{IsAdded, IsTableAdded};
 
 use crate::meaning::Meaning;
 use crate::rule::Rule;
@@ -12,10 +12,10 @@ use crate::signature::Signature;
 use crate::slot::Slot;
 use crate::stored::{Body, Stored};
 use crate::table::signature_of;
-use pw_info::kind::Kind;
+use pw_info::Kind;
 use std::alloc::{AllocError, Global};
 
-/// Puts a procedure with a meaning of the table at the end of a list. Its body answers the meaning on every list that
+/// Puts a procedure with a meaning of the table at the end of a list. Its body gives the meaning's value on every list that
 /// fits. It fails only for want of memory, and then the list stays as it was.
 pub fn add_of_table(
     alloc: Global,
@@ -25,9 +25,9 @@ pub fn add_of_table(
     body: Body,
 ) -> Result<(), AllocError>
     requires table { is_given_by_rules meaning ≡ false }
-    requires callable { (p : _) → Fits (inputs_of_meaning meaning) p.now → Body.pre body p }
-    requires answers { (p : _) (r : _) → Fits (inputs_of_meaning meaning) p.now → Body.post body p r → r ≡ value_of_meaning (output_of_meaning meaning) meaning p.now }
-    ensures ok { OnOk result (map (λ s. string_bytes s.name) list.new.items ≡ map (λ s. string_bytes s.name) list.old.items ++ name.now ∷ []) }
+    requires callable { (p : _) → FitSlots (inputs_of_meaning meaning) p.now → Body.pre body p }
+    requires gives { (p : _) (r : _) → Body.post body p r → IsValueOfTable meaning p.now r }
+    ensures ok { OnOk result (IsTableAdded list.old.items list.new.items name.now meaning) }
     ensures err { OnErr result (list.new.items ≡ list.old.items) }
 {
     let Some(signature) = signature_of(&meaning) else {
@@ -38,7 +38,7 @@ pub fn add_of_table(
     Ok(())
 }
 
-/// Puts a procedure of one input that is given by rules at the end of a list. Its body answers the value of the rules on
+/// Puts a procedure of one input that is given by rules at the end of a list. Its body gives the value of the rules on
 /// every input of the kind. It fails only for want of memory, and then the list stays as it was.
 pub fn add_by_rules(
     alloc: Global,
@@ -50,8 +50,8 @@ pub fn add_by_rules(
 ) -> Result<(), AllocError>
     requires rules { AreRules (kinds.0 ∷ []) kinds.1 rules.items }
     requires callable { (p : _) → map kind_of p.now ≡ kinds.0 ∷ [] → Body.pre body p }
-    requires answers { (p : _) (r : _) → map kind_of p.now ≡ kinds.0 ∷ [] → Body.post body p r → r ≡ value_of_rules kinds.1 rules.items p.now }
-    ensures ok { OnOk result (map (λ s. string_bytes s.name) list.new.items ≡ map (λ s. string_bytes s.name) list.old.items ++ name.now ∷ []) }
+    requires gives { (p : _) (r : _) → map kind_of p.now ≡ kinds.0 ∷ [] → Body.post body p r → r ≡ value_of_rules kinds.1 rules.items p.now }
+    ensures ok { OnOk result (IsAdded list.old.items list.new.items name.now (Slot.Fixed kinds.0 ∷ []) (Slot.Fixed kinds.1) (Meaning.Rules rules)) }
     ensures err { OnErr result (list.new.items ≡ list.old.items) }
 {
     let Some(signature) = Signature::new(&[Slot::Fixed(kinds.0)], Slot::Fixed(kinds.1)) else {

@@ -1,18 +1,23 @@
 //! The procedures that there are, by name and by number.
-ghost use Rattle.std.specs.Prelude.{◌≡◌, ◌↔◌, ◌<◌, map, length, slice_get, Some, IsTrue, IfOk, IfErr, IfSome, IfNone, Contains};
-ghost use Rattle.std.specs.String.{string_bytes};
+ghost use Rattle.std.specs.Prelude.{◌≡◌, ◌↔◌, ◌<◌, length, slice_get, Some, IsTrue, IfOk, IfErr, IfSome, IfNone, Contains};
+ghost use Rattle.pw_procs.specs.Procedure.{procedure_of, procedures_of, names_of};
+ghost use Rattle.pw_procs.specs.Registry.{procedures_in};
 ghost use Rattle.pw_procs.specs.Registering.{IsBadName, IsFaultAfter, AreRegistered, IsRegistryFault};
 
 use crate::name_table::NameTable;
-use crate::registry_fault::RegistryFault;
 use crate::stored::Stored;
-use pw_info::name::is_name;
+use pw_info::is_name;
 use std::alloc::{AllocError, Allocator, Global};
 
+mod fault;
+mod holding;
 #[cfg(test)]
 mod tests;
 
-const MOST_ENTRIES: usize = 64;
+pub use fault::RegistryFault;
+pub use holding::Registry;
+
+const MOST_PROCEDURES: usize = 64;
 
 // Whether no procedure may have this name.
 fn is_bad_name(name: &[u8]) -> bool
@@ -26,7 +31,7 @@ fn is_bad_name(name: &[u8]) -> bool
 
 // Whether a procedure has this name.
 fn is_named(entries: &[Stored], name: &[u8]) -> bool
-    ensures { IsTrue result ↔ Contains (map (λ s. string_bytes s.name) entries.now) name.now }
+    ensures { IsTrue result ↔ Contains (names_of (procedures_of entries.now)) name.now }
 {
     for entry in entries {
         if entry.name().as_bytes() == name {
@@ -38,8 +43,8 @@ fn is_named(entries: &[Stored], name: &[u8]) -> bool
 
 // What is wrong with a name after the procedures before it.
 fn fault_after(before: &[Stored], name: &[u8]) -> Option<RegistryFault>
-    ensures none { IfNone result ((fault : _) → IsFaultAfter (map (λ s. string_bytes s.name) before.now) name.now fault → ⊥) }
-    ensures fault { IfSome result (λ fault. IsFaultAfter (map (λ s. string_bytes s.name) before.now) name.now fault) }
+    ensures none { IfNone result ((fault : _) → IsFaultAfter (names_of (procedures_of before.now)) name.now fault → ⊥) }
+    ensures fault { IfSome result (λ fault. IsFaultAfter (names_of (procedures_of before.now)) name.now fault) }
 {
     if is_bad_name(name) {
         return Some(RegistryFault::BadName);
@@ -52,10 +57,10 @@ fn fault_after(before: &[Stored], name: &[u8]) -> Option<RegistryFault>
 
 // What is wrong with the list, memory apart.
 fn first_fault(entries: &[Stored]) -> Option<RegistryFault>
-    ensures none { IfNone result (AreRegistered (map (λ s. string_bytes s.name) entries.now)) }
-    ensures fault { IfSome result (λ fault. IsRegistryFault (map (λ s. string_bytes s.name) entries.now) fault) }
+    ensures none { IfNone result (AreRegistered (names_of (procedures_of entries.now))) }
+    ensures fault { IfSome result (λ fault. IsRegistryFault (names_of (procedures_of entries.now)) fault) }
 {
-    if entries.len() > MOST_ENTRIES {
+    if entries.len() > MOST_PROCEDURES {
         return Some(RegistryFault::TooMany);
     }
     for place in 0..entries.len() {
@@ -68,8 +73,8 @@ fn first_fault(entries: &[Stored]) -> Option<RegistryFault>
 
 // The names of the procedures, in order.
 fn names_of<A: Allocator + Copy>(alloc: A, entries: &[Stored]) -> Result<NameTable<A>, AllocError>
-    requires { AreRegistered (map (λ s. string_bytes s.name) entries.now) }
-    ensures { IfOk result (λ names. names ≡ map (λ s. string_bytes s.name) entries.now) }
+    requires { AreRegistered (names_of (procedures_of entries.now)) }
+    ensures { IfOk result (λ names. names ≡ names_of (procedures_of entries.now)) }
 {
     let mut names = NameTable::new(alloc);
     for entry in entries {
@@ -78,23 +83,14 @@ fn names_of<A: Allocator + Copy>(alloc: A, entries: &[Stored]) -> Result<NameTab
     Ok(names)
 }
 
-/// Procedures under names of their own, each with a number, from 0 in the order of the list.
-#[derive(Drop)]
-pub struct Registry<A: Allocator = Global> {
-    entries: Vec<Stored>,
-    names: NameTable<A>,
-    ghost named: { names ≡ map (λ s. string_bytes s.name) entries.items },
-    ghost registered: { AreRegistered (map (λ s. string_bytes s.name) entries.items) },
-}
-
 impl<A: Allocator + Copy> Registry<A> {
     /// The registry of these procedures: at most 64, each under a name that is free for a procedure, no two under one.
     /// Otherwise the list is handed back with the first thing that is wrong: too many, then, from the first on, a bad
     /// name or one that an earlier procedure has, and want of memory last.
     pub fn new(alloc: A, entries: Vec<Stored>) -> Result<Registry<A>, (RegistryFault, Vec<Stored>)>
-        ensures holds { IfOk result (λ registry. registry.entries ≡ entries) }
-        ensures names { IfOk result (λ registry. AreRegistered (map (λ s. string_bytes s.name) entries.items)) }
-        ensures fault { IfErr result (λ refusal. IsRegistryFault (map (λ s. string_bytes s.name) entries.items) refusal.0) }
+        ensures holds { IfOk result (λ registry. procedures_in registry ≡ procedures_of entries.items) }
+        ensures names { IfOk result (λ registry. AreRegistered (names_of (procedures_of entries.items))) }
+        ensures fault { IfErr result (λ refusal. IsRegistryFault (names_of (procedures_of entries.items)) refusal.0) }
         ensures back { IfErr result (λ refusal. refusal.1 ≡ entries) }
     {
         if let Some(fault) = first_fault(&entries) {
@@ -108,16 +104,16 @@ impl<A: Allocator + Copy> Registry<A> {
 
     /// How many procedures there are.
     pub fn len(&self) -> usize
-        ensures { result ≡ length self.now.entries.items }
+        ensures { result ≡ length (procedures_in self.now) }
     {
         self.entries.len()
     }
 
     /// The number of the procedure of this name, if there is one.
     pub fn find(&self, name: &[u8]) -> Option<u8>
-        ensures found { IfSome result (λ number. slice_get (map (λ s. string_bytes s.name) self.now.entries.items) number ≡ Some name.now) }
-        ensures within { IfSome result (λ number. number < length self.now.entries.items) }
-        ensures none { IfNone result (Contains (map (λ s. string_bytes s.name) self.now.entries.items) name.now → ⊥) }
+        ensures found { IfSome result (λ number. slice_get (names_of (procedures_in self.now)) number ≡ Some name.now) }
+        ensures within { IfSome result (λ number. number < length (procedures_in self.now)) }
+        ensures none { IfNone result (Contains (names_of (procedures_in self.now)) name.now → ⊥) }
     {
         let number = self.names.find(name)?;
         Some(number as u8)
@@ -125,8 +121,8 @@ impl<A: Allocator + Copy> Registry<A> {
 
     /// The procedure of this number.
     pub fn get(&self, number: u8) -> &Stored
-        requires { number < length self.now.entries.items }
-        ensures { slice_get self.now.entries.items number ≡ Some result.now }
+        requires { number < length (procedures_in self.now) }
+        ensures { slice_get (procedures_in self.now) number ≡ Some (procedure_of result.now) }
     {
         &self.entries[number as usize]
     }

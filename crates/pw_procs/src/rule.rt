@@ -1,6 +1,6 @@
 ghost use Rattle.std.specs.Prelude.{◌≡◌};
 
-use pw_info::info::Info;
+use pw_info::Info;
 use std::alloc::AllocError;
 
 /// A rule: what is known of the output where each guard includes its input.

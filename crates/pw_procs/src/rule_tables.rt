@@ -1,18 +1,15 @@
 //! Lists of rules: how they are made, and copied for a body that owns the table that its meaning tells.
-ghost use Rattle.std.specs.Prelude.{◌≡◌, ◌++◌, ◌∷◌, [], List, map, IfOk, OnOk};
-ghost use Rattle.pw_info.specs.declared.info.Info.{Info as Information};
-ghost use Rattle.pw_info.specs.declared.kind.Kind.{Kind as KindOf};
-ghost use Rattle.pw_info.specs.Information.{kind_of};
-ghost use Rattle.pw_procs.specs.Rules.{AreRules, value_of_rules};
+ghost use Rattle.std.specs.Prelude.{◌≡◌, ◌++◌, ◌∷◌, [], map, IfOk, OnOk};
+ghost use Rattle.pw_procs.specs.Rules.{AreRulesLike, AreRulesAsWell, HaveTheSameValues};
 
 use crate::rule::Rule;
-use pw_info::info::Info;
+use pw_info::Info;
 use std::alloc::{AllocError, Global};
 
 /// Rules that mean the same as these.
 pub fn copied(alloc: Global, rules: &[Rule]) -> Result<Vec<Rule>, AllocError>
-    ensures rules { IfOk result (λ copy. (inputs : List KindOf) (output : KindOf) → AreRules inputs output rules.now → AreRules inputs output copy.items) }
-    ensures value { IfOk result (λ copy. (output : KindOf) (inputs : List Information) → value_of_rules output copy.items inputs ≡ value_of_rules output rules.now inputs) }
+    ensures rules { IfOk result (λ copy. AreRulesAsWell rules.now copy.items) }
+    ensures value { IfOk result (λ copy. HaveTheSameValues rules.now copy.items) }
 {
     let copy = rules.to_vec(alloc)?;
     Ok(copy)
@@ -26,7 +23,7 @@ pub fn add_rule(
     guard: Info,
     known: Info,
 ) -> Result<(), AllocError>
-    ensures rules { OnOk result (AreRules (kind_of guard ∷ []) (kind_of known) rules.old.items → AreRules (kind_of guard ∷ []) (kind_of known) rules.new.items) }
+    ensures rules { OnOk result (AreRulesLike guard known rules.old.items → AreRulesLike guard known rules.new.items) }
     ensures guards { OnOk result (map (λ r. r.guards.items) rules.new.items ≡ map (λ r. r.guards.items) rules.old.items ++ (guard ∷ []) ∷ []) }
     ensures results { OnOk result (map (λ r. r.result) rules.new.items ≡ map (λ r. r.result) rules.old.items ++ known ∷ []) }
 {

@@ -3,8 +3,7 @@ ghost use Rattle.pw_procs.specs.Shapes.{IsSignature};
 ghost use Rattle.pw_procs.specs.Slots as spec;
 
 use crate::slot::Slot;
-use pw_info::info::Info;
-use pw_info::kind::Kind;
+use pw_info::{Info, Kind};
 
 const MOST_INPUTS: usize = 8;
 
@@ -76,13 +75,13 @@ pub struct Signature {
 impl Signature {
     ghost use Rattle.std.specs.Prelude.{IsSome, IfSome};
     ghost use Rattle.pw_procs.specs.Slots.{AreSlots};
-    ghost use Rattle.pw_procs.specs.Signature.{inputs_of, output_of, Fits, Accepts};
+    ghost use Rattle.pw_procs.specs.Signature.{input_slots_of, output_slot_of, FitSignature, Accepts};
 
     /// The signature with these slots. None unless there are one to eight inputs, and None where the output is `Same`
     /// and no input is.
     pub fn new(inputs: &[Slot], output: Slot) -> Option<Signature>
         ensures some { IsSome result ↔ AreSlots inputs.now output }
-        ensures slots { IfSome result (λ signature. (inputs_of signature ≡ inputs.now) × (output_of signature ≡ output)) }
+        ensures slots { IfSome result (λ signature. (input_slots_of signature ≡ inputs.now) × (output_slot_of signature ≡ output)) }
     {
         if inputs.is_empty() || inputs.len() > MOST_INPUTS {
             return None;
@@ -100,14 +99,14 @@ impl Signature {
     }
 
     fn inputs(&self) -> &[Slot]
-        ensures { result.now ≡ inputs_of self.now }
+        ensures { result.now ≡ input_slots_of self.now }
     {
         &self.slots[..self.count]
     }
 
     /// Whether informations fit the inputs: one for each, of its kind, those of all `Same` slots of one kind.
     pub fn fits(&self, inputs: &[Info]) -> bool
-        ensures { IsTrue result ↔ Fits self.now inputs.now }
+        ensures { IsTrue result ↔ FitSignature self.now inputs.now }
     {
         if inputs.len() != self.count {
             return false;
@@ -132,10 +131,8 @@ impl Signature {
 #[cfg(test)]
 mod tests {
     use super::*;
-    use pw_info::kind::SetKind;
-    use pw_kinds::exact::Exact;
-    use pw_kinds::interval::Interval;
-    use pw_kinds::members::Members;
+    use pw_info::SetKind;
+    use pw_kinds::{Exact, Interval, Members};
     use std::test::Fail;
 
     const TRUTH: Kind = Kind::Members(SetKind { number: 0, size: 2 });
@@ -150,7 +147,7 @@ mod tests {
         assert!(rt; Signature::new(&[number, Slot::Same], Slot::Same).is_some());
     }
 
-    // A switch: a truth, an information of any kind, and one of that kind for an answer.
+    // A switch: a truth, an information of any kind, and one of that kind out.
     fn switch() -> Result<Signature, Fail> {
         let inputs = [Slot::Fixed(TRUTH), Slot::Same];
         Ok(Signature::new(&inputs, Slot::Same).ok_or("no signature")?)

@@ -1,6 +1,6 @@
-use pw_info::kind::Kind;
+use pw_info::Kind;
 
-/// What a procedure takes in one place, or answers.
+/// What a procedure takes in one place, or gives.
 #[derive(Clone, Copy, Debug, PartialEq, Eq)]
 pub enum Slot {
     /// Information of this kind.

@@ -1,15 +1,15 @@
 ghost use Rattle.std.specs.Prelude.{◌≡◌};
 ghost use Rattle.std.specs.String.{string_bytes};
-ghost use Rattle.pw_procs.specs.Signature.{Fits, IsSignatureOf, value_under};
+ghost use Rattle.pw_procs.specs.Signature.{FitSignature, IsSignatureOf, IsOfOutputKind, IsValueUnder, value_under};
 
 use crate::meaning::Meaning;
 use crate::signature::Signature;
-use pw_info::info::Info;
+use pw_info::Info;
 
 /// What a procedure runs: from the informations of its inputs to that of its output.
 pub type Body = Box<dyn Fn(&[Info]) -> Info>;
 
-/// A procedure: a name, what it takes and answers, what it means, and a body that answers its meaning on every list
+/// A procedure: a name, what it takes and gives, what it means, and a body that gives its meaning's value on every list
 /// that fits. Whoever makes one proves that; whoever calls it needs no more than the meaning.
 #[derive(Drop)]
 pub struct Stored {
@@ -18,17 +18,17 @@ pub struct Stored {
     meaning: Meaning,
     body: Body,
     ghost slots: { ∥ IsSignatureOf meaning signature ∥₁ },
-    ghost callable: { (p : _) → Fits signature p.now → Body.pre body p },
-    ghost answers: { (p : _) (r : _) → Fits signature p.now → Body.post body p r → r ≡ value_under signature meaning p.now },
+    ghost callable: { (p : _) → FitSignature signature p.now → Body.pre body p },
+    ghost gives: { (p : _) (r : _) → Body.post body p r → IsValueUnder signature meaning p.now r },
 }
 
 impl Stored {
     /// The procedure of this name, signature, meaning and body. The signature is one of the meaning; the body may be
-    /// called on every list that fits, and answers the meaning's value there. It takes no memory.
+    /// called on every list that fits, and gives the meaning's value there. It takes no memory.
     pub fn new(name: String, signature: Signature, meaning: Meaning, body: Body) -> Stored
         requires slots { IsSignatureOf meaning signature }
-        requires callable { (p : _) → Fits signature p.now → Body.pre body p }
-        requires answers { (p : _) (r : _) → Fits signature p.now → Body.post body p r → r ≡ value_under signature meaning p.now }
+        requires callable { (p : _) → FitSignature signature p.now → Body.pre body p }
+        requires gives { (p : _) (r : _) → Body.post body p r → IsValueUnder signature meaning p.now r }
         ensures name { string_bytes result.name ≡ string_bytes name }
         ensures signature { result.signature ≡ signature }
         ensures meaning { result.meaning ≡ meaning }
@@ -43,7 +43,7 @@ impl Stored {
 
     /// The value of its meaning on inputs that fit.
     pub fn call(&self, inputs: &[Info]) -> Info
-        requires { Fits self.now.signature inputs.now }
+        requires { FitSignature self.now.signature inputs.now }
         ensures { result ≡ value_under self.now.signature self.now.meaning inputs.now }
     {
         (self.body)(inputs)
@@ -55,8 +55,10 @@ impl Stored {
         self.name.as_str()
     }
 
+    /// What it takes and gives: its values on inputs that fit are of the kind of the output.
     pub fn signature(&self) -> &Signature
-        ensures { result.now ≡ self.now.signature }
+        ensures signature { result.now ≡ self.now.signature }
+        ensures kind { IsOfOutputKind self.now.signature self.now.meaning }
     {
         &self.signature
     }

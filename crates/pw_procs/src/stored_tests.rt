@@ -1,21 +1,20 @@
-// Each procedure by its stored closure, at the calls whose answers were found by hand.
+// Each procedure by its stored closure, at the calls whose values were found by hand.
 ghost use Rattle.std.specs.Prelude.{◌≡◌, ◌∷◌, [], List, map, IfOk};
 ghost use Rattle.pw_info.specs.declared.info.Info.{Info as Information};
 ghost use Rattle.pw_info.specs.Information.{kind_of};
 ghost use Rattle.pw_procs.specs.Rules.{AreRules, value_of_rules};
 
 use crate::bodies;
+use crate::bodies::by_rules;
 use crate::evaluator::value_of;
-use crate::kinds::members_of;
+use crate::kinds::members_of_mask;
 use crate::meaning::Meaning;
 use crate::procedures::{add_by_rules, add_of_table};
 use crate::rule::Rule;
 use crate::rule_tables::{add_rule, copied};
-use crate::rules::by_rules;
 use crate::stored::{Body, Stored};
 use crate::tests::{Call, from_to, number_calls, other_calls, truth_calls};
-use pw_info::info::Info;
-use pw_info::kind::{Kind, SetKind};
+use pw_info::{Info, Kind, SetKind};
 use std::alloc::{AllocError, Global};
 use std::process::Abort;
 use std::test::Fail;
@@ -41,30 +40,30 @@ fn name_of(meaning: &Meaning) -> &'static str {
     }
 }
 
-// What a procedure answers to inputs that fit.
-fn answer(stored: &Stored, inputs: &[Info]) -> Option<Info> {
+// What a procedure gives on inputs that fit.
+fn given(stored: &Stored, inputs: &[Info]) -> Option<Info> {
     if !stored.signature().fits(inputs) {
         return None;
     }
     Some(stored.call(inputs))
 }
 
-// That a procedure answers the calls of its name among these, and that there are some.
-fn answer_calls<R: Abort>(rt: &R, stored: &Stored, calls: &[Call]) {
+// That a procedure gives the values of the calls of its name among these, and that there are some.
+fn tell_calls<R: Abort>(rt: &R, stored: &Stored, calls: &[Call]) {
     let mut called = false;
     for call in calls {
         if name_of(&call.meaning) == stored.name() {
             called = true;
-            assert_eq!(rt; answer(stored, call.inputs()), Some(call.want), "{call:?}");
+            assert_eq!(rt; given(stored, call.inputs()), Some(call.want), "{call:?}");
         }
     }
     assert!(rt; called, "no call of {}", stored.name());
 }
 
 // That each procedure does.
-fn answer_all<R: Abort>(rt: &R, list: &[Stored], calls: &[Call]) {
+fn tell_all<R: Abort>(rt: &R, list: &[Stored], calls: &[Call]) {
     for stored in list {
-        answer_calls(rt, stored, calls);
+        tell_calls(rt, stored, calls);
     }
 }
 
@@ -84,7 +83,7 @@ fn numbers(rt: HostRuntime) -> Result<(), Fail> {
     add_of_table(alloc, &mut list, "divider", Meaning::Divider, body)?;
     let body: Body = Box::new(alloc, bodies::copy)?;
     add_of_table(alloc, &mut list, "copy", Meaning::Copy, body)?;
-    answer_all(&rt, &list, &number_calls());
+    tell_all(&rt, &list, &number_calls());
     Ok(())
 }
 
@@ -102,7 +101,7 @@ fn truths(rt: HostRuntime) -> Result<(), Fail> {
     add_of_table(alloc, &mut list, "conjoiner", Meaning::Conjoiner, body)?;
     let body: Body = Box::new(alloc, bodies::disjoiner)?;
     add_of_table(alloc, &mut list, "disjoiner", Meaning::Disjoiner, body)?;
-    answer_all(&rt, &list, &truth_calls());
+    tell_all(&rt, &list, &truth_calls());
     Ok(())
 }
 
@@ -118,7 +117,7 @@ fn others(rt: HostRuntime) -> Result<(), Fail> {
     add_of_table(alloc, &mut list, "point", Meaning::Point, body)?;
     let body: Body = Box::new(alloc, bodies::fixed)?;
     add_of_table(alloc, &mut list, "fixed", Meaning::Fixed, body)?;
-    answer_all(&rt, &list, &other_calls());
+    tell_all(&rt, &list, &other_calls());
     Ok(())
 }
 
@@ -131,26 +130,31 @@ fn sign_rules(alloc: Global, sign: SetKind) -> Result<Vec<Rule>, AllocError>
         alloc,
         &mut rules,
         from_to((-1_000_000, -1)),
-        members_of(sign, 0b001),
+        members_of_mask(sign, 0b001),
     )?;
-    add_rule(alloc, &mut rules, from_to((0, 0)), members_of(sign, 0b010))?;
+    add_rule(
+        alloc,
+        &mut rules,
+        from_to((0, 0)),
+        members_of_mask(sign, 0b010),
+    )?;
     add_rule(
         alloc,
         &mut rules,
         from_to((1, 1_000_000)),
-        members_of(sign, 0b100),
+        members_of_mask(sign, 0b100),
     )?;
     add_rule(
         alloc,
         &mut rules,
         from_to((-1_000_000, 0)),
-        members_of(sign, 0b011),
+        members_of_mask(sign, 0b011),
     )?;
     add_rule(
         alloc,
         &mut rules,
         from_to((0, 1_000_000)),
-        members_of(sign, 0b110),
+        members_of_mask(sign, 0b110),
     )?;
     Ok(rules)
 }
@@ -160,12 +164,17 @@ fn light_rules(alloc: Global, light: SetKind) -> Result<Vec<Rule>, AllocError>
     ensures { IfOk result (λ rules. AreRules (Kind.Interval ∷ []) (Kind.Members light) rules.items) }
 {
     let mut rules = Vec::new(alloc);
-    add_rule(alloc, &mut rules, from_to((0, 9)), members_of(light, 0b001))?;
+    add_rule(
+        alloc,
+        &mut rules,
+        from_to((0, 9)),
+        members_of_mask(light, 0b001),
+    )?;
     add_rule(
         alloc,
         &mut rules,
         from_to((5, 20)),
-        members_of(light, 0b011),
+        members_of_mask(light, 0b011),
     )?;
     Ok(rules)
 }
@@ -180,20 +189,20 @@ fn table_of(alloc: Global, rules: &[Rule], output: Kind) -> Result<Vec<Rule>, Al
     Ok(table)
 }
 
-// That a procedure answers the members of these masks to these intervals.
+// That a procedure gives the members of these masks to these intervals.
 fn tells<R: Abort>(rt: &R, stored: &Stored, set: SetKind, calls: &[((i64, i64), u64)]) {
     for (ends, mask) in calls {
-        let got = answer(stored, &[from_to(*ends)]);
+        let got = given(stored, &[from_to(*ends)]);
         assert_eq!(rt;
             got,
-            Some(members_of(set, *mask)),
+            Some(members_of_mask(set, *mask)),
             "{} of {ends:?}",
             stored.name()
         );
     }
 }
 
-// That the rules mean these answers.
+// That the rules mean these values.
 fn evaluate<R: Abort>(
     rt: &R,
     alloc: Global,
@@ -204,7 +213,7 @@ fn evaluate<R: Abort>(
     for (ends, mask) in calls {
         let meaning = Meaning::Rules(copied(alloc, rules)?);
         let want = value_of(alloc, &meaning, Kind::Members(set), &[from_to(*ends)])?;
-        assert_eq!(rt; members_of(set, *mask), want, "{ends:?}");
+        assert_eq!(rt; members_of_mask(set, *mask), want, "{ends:?}");
     }
     Ok(())
 }

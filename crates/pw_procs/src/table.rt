@@ -1,13 +1,13 @@
 //! The signatures of the meanings of the table.
 ghost use Rattle.std.specs.Prelude.{◌≡◌, true, false, IfSome, IfNone};
 ghost use Rattle.pw_procs.specs.Meaning.{is_given_by_rules, inputs_of_meaning, output_of_meaning};
-ghost use Rattle.pw_procs.specs.Signature.{inputs_of, output_of};
+ghost use Rattle.pw_procs.specs.Signature.{input_slots_of, output_slot_of};
 
 use crate::kinds::truth_kind;
 use crate::meaning::Meaning;
 use crate::signature::Signature;
 use crate::slot::Slot;
-use pw_info::kind::Kind;
+use pw_info::Kind;
 
 const NUMBER: Slot = Slot::Fixed(Kind::Interval);
 
@@ -15,8 +15,8 @@ const EXACT: Slot = Slot::Fixed(Kind::Exact);
 
 /// The signature of a meaning. None for one that is given by rules: its kinds are those of the rules.
 pub fn signature_of(meaning: &Meaning) -> Option<Signature>
-    ensures inputs { IfSome result (λ signature. inputs_of signature ≡ inputs_of_meaning meaning.now) }
-    ensures output { IfSome result (λ signature. output_of signature ≡ output_of_meaning meaning.now) }
+    ensures inputs { IfSome result (λ signature. input_slots_of signature ≡ inputs_of_meaning meaning.now) }
+    ensures output { IfSome result (λ signature. output_slot_of signature ≡ output_of_meaning meaning.now) }
     ensures some { IfSome result (λ signature. is_given_by_rules meaning.now ≡ false) }
     ensures none { IfNone result (is_given_by_rules meaning.now ≡ true) }
 {

@@ -1,8 +1,8 @@
 // Each body against the definition of its meaning, at small inputs and at the ends of the ranges, and the calls whose
-// answers were found by hand.
+// values were found by hand.
 ghost use Rattle.std.specs.Prelude.{◌≡◌, IsTrue};
 ghost use Rattle.pw_info.specs.Information.{kind_of};
-ghost use Rattle.pw_procs.specs.Slots.{Fits};
+ghost use Rattle.pw_procs.specs.Slots.{FitSlots};
 
 use crate::bodies;
 use crate::evaluator::value_of;
@@ -10,11 +10,8 @@ use crate::kinds::truth_kind;
 use crate::meaning::Meaning;
 use crate::signature::Signature;
 use crate::slot::Slot;
-use pw_info::info::Info;
-use pw_info::kind::Kind;
-use pw_kinds::exact::Exact;
-use pw_kinds::interval::Interval;
-use pw_kinds::members::Members;
+use pw_info::{Info, Kind};
+use pw_kinds::{Exact, Interval, Members};
 use std::alloc::{AllocError, Global};
 use std::process::Abort;
 use std::test::Fail;
@@ -55,7 +52,7 @@ fn exact(n: i64) -> Info {
     Info::of_exact(Exact::one(n).unwrap_or(Exact::none()))
 }
 
-/// A call whose answer is known; a procedure of one input takes the first.
+/// A call whose value is known; a procedure of one input takes the first.
 #[derive(Debug, Drop)]
 pub(crate) struct Call {
     pub(crate) meaning: Meaning,
@@ -189,7 +186,7 @@ pub(crate) fn other_calls() -> [Call; 9] {
 }
 
 fn fits(slots: &[Slot], inputs: &[Info]) -> bool
-    ensures { IsTrue result → Fits slots.now inputs.now }
+    ensures { IsTrue result → FitSlots slots.now inputs.now }
 {
     match Signature::new(slots, Slot::Fixed(Kind::Interval)) {
         Some(signature) => signature.fits(inputs),
@@ -197,8 +194,8 @@ fn fits(slots: &[Slot], inputs: &[Info]) -> bool
     }
 }
 
-/// What the body of a meaning answers on inputs that fit.
-fn answer(meaning: &Meaning, inputs: &[Info]) -> Option<Info> {
+/// What the body of a meaning gives on inputs that fit.
+fn given(meaning: &Meaning, inputs: &[Info]) -> Option<Info> {
     let number = Slot::Fixed(Kind::Interval);
     let truth = Slot::Fixed(truth_kind());
     match meaning {
@@ -273,9 +270,9 @@ fn exacts() -> [Info; 15] {
     ]
 }
 
-// That a body answers what the definition of its meaning says.
+// That a body gives what the definition of its meaning says.
 fn agree<R: Abort + AllocGlobal>(rt: &R, meaning: &Meaning, inputs: &[Info]) -> Result<(), Fail> {
-    let got = answer(meaning, inputs);
+    let got = given(meaning, inputs);
     let want = wanted(rt.alloc(), meaning, inputs)?;
     assert!(rt; got.is_some(), "{meaning:?} of {inputs:?}");
     assert_eq!(rt; got, want, "{meaning:?} of {inputs:?}");
@@ -408,11 +405,11 @@ fn exact_numbers(rt: HostRuntime) -> Result<(), Fail> {
     agree_on_pairs(&rt, &Meaning::Equal, &exacts(), &exacts())
 }
 
-// That each of these calls has the answer that it is known to have, of the body and by the definition.
+// That each of these calls has the value that it is known to have, of the body and by the definition.
 fn known<R: Abort + AllocGlobal>(rt: &R, calls: &[Call]) -> Result<(), Fail> {
     for call in calls {
         assert_eq!(rt;
-            answer(&call.meaning, call.inputs()),
+            given(&call.meaning, call.inputs()),
             Some(call.want),
             "{call:?}"
         );

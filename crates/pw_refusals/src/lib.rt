@@ -1,4 +1,5 @@
-//! For tests alone: an allocator that refuses the growths that a test chooses, and tests of declarations and runs.
+//! For tests alone: an allocator that refuses the growths that a test chooses, and the tests that need it or cross crates:
+//! helpers first (`texts`, `sessions`, `ends`, `facts`), then a folder for each thing tested.
 #![tactic(auto)]
 
 ghost use Rattle.std.specs.Prelude.{◌≡◌, ℕ, ◌<◌, ◌≤◌, ◌^◌, ◌↔◌, IsTrue};
@@ -99,16 +100,20 @@ unsafe impl<B: Allocator> Allocator for Refusing<B> {
 }
 
 #[cfg(test)]
-mod cell_tests;
+mod declarations;
 #[cfg(test)]
-mod declaration_tests;
+mod ends;
 #[cfg(test)]
-mod input_tests;
+mod facts;
 #[cfg(test)]
-mod registry_tests;
+mod refusals;
 #[cfg(test)]
-mod run_tests;
+mod registry;
 #[cfg(test)]
-mod tests;
+mod run;
 #[cfg(test)]
-mod transcript_tests;
+mod sessions;
+#[cfg(test)]
+mod store;
+#[cfg(test)]
+mod texts;

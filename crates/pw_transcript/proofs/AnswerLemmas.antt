@@ -1,18 +1,34 @@
 -- What a line that is held, or too long to be held, comes to.
-use Rattle.std.proofs.Common.{◌≡◌, ℕ, ◌<◌, nat_le, List, length, Some, None, refl, subst, inl, inr}
+use Rattle.std.proofs.Common.{◌≡◌, ℕ, ◌<◌, nat_le, true, false, List, [], ◌∷◌, ◌++◌, length, Option, Some, None, refl, sym, ap, ◌∙◌, subst, inl, inr, arith}
+use Rattle.std.specs.Prelude.{is_some}
 use Rattle.std.proofs.lemmas.Bool.{cases_Bool, leb-false}
-use Rattle.pw_transcript.specs.declared.command.Command.{Command}
-use Rattle.pw_transcript.specs.declared.reply.Reply.{Reply}
-use Rattle.pw_transcript.specs.declared.reply.Reply.TheVariants as reply
-use Rattle.pw_transcript.specs.declared.reply.Refusal.{Refusal}
-use Rattle.pw_transcript.specs.declared.reply.Refusal.TheVariants as refusal
-use Rattle.pw_transcript.specs.Declaration.{Declared}
-use Rattle.pw_transcript.specs.Reading.{Reading, Refused, Says, Reads}
-use Rattle.pw_transcript.specs.Past.{Past, Leaves, reply_in}
-use Rattle.pw_transcript.specs.Carrying.{IsCarriedOut}
+use Rattle.pw_info.specs.declared.kind.Kind.TheVariants as kinds
+use Rattle.pw_info.specs.SetNames.{IsNamed}
+use Rattle.pw_decl.specs.Declaration.{Declared, kind_at, members_of}
+use Rattle.pw_decl.specs.WellDeclared.{IsWellDeclared}
+use Rattle.pw_sessions.specs.declared.command.Command.{Command}
+use Rattle.pw_sessions.specs.declared.command.Command.TheVariants as commands
+use Rattle.pw_sessions.specs.declared.reply.Reply.{Reply}
+use Rattle.pw_sessions.specs.declared.reply.Reply.TheVariants as reply
+use Rattle.pw_sessions.specs.declared.reply.Refusal.{Refusal}
+use Rattle.pw_sessions.specs.declared.reply.Refusal.TheVariants as refusal
+use Rattle.pw_sessions.specs.Answer.{answer_to, reply_to, user_of, visible_in}
+use Rattle.pw_sessions.specs.Beliefs.{beliefs_at}
+use Rattle.pw_sessions.specs.Carrying.{CanBeCarriedOut, CarriesOut}
+use Rattle.pw_premises.specs.Premises.{Premises}
+use Rattle.pw_sessions.specs.Entries.{Entry, entries_before}
+use Rattle.pw_sessions.specs.LineReading.{LineReading, Blank, Refused, Says}
+use Rattle.pw_sessions.specs.NamesDeclared.{IsDeclared}
+use Rattle.pw_sessions.specs.TakesMemory.{MayBecome}
+use Rattle.pw_sessions.specs.Workbench.{Workbench, IsLeftBy, IsCarriedOut}
+use Rattle.pw_sessions.proofs.EntryLemmas.{kind-value_in}
+use Rattle.pw_sessions.proofs.WorkbenchLemmas.{can_carry_out, left_same}
 use Rattle.pw_transcript.specs.FromScratch.{ComesTo}
-use Rattle.pw_transcript.specs.Answering.{held_line, RepliesToLine}
-use Rattle.pw_transcript.proofs.PastLemmas.{comes_to-carried_out}
+use Rattle.pw_transcript.specs.Reading.{Reads}
+use Rattle.pw_info.specs.Passing.{PassesPart}
+use Rattle.pw_transcript.specs.ReplyText.{IsReplyNamed, text_of_reply, text_if_any}
+use Rattle.pw_transcript.specs.Steps.Answering.{held_line, IsLeft, RepliesToLine, PassesReply, FailsInReply}
+use Rattle.pw_transcript.proofs.ReplyLemmas.{IsDeclared-from_Reads}
 
 pub held_none : (line : List ℕ) → None ≡ held_line line → 1024 < length line
 held_none line e = elim (cases_Bool (nat_le (length line) 1024)) [
@@ -26,17 +42,115 @@ held_some held line e = elim (cases_Bool (nat_le (length line) 1024)) [
   | inr long ↦ let some : Some held ≡ None = rw long at e in absurd (cc)
 ]
 
-module _ (d : Declared) (line : List ℕ) where
-  pub refused_long : (old : Past) → None ≡ held_line line → RepliesToLine d line old old (Some (reply.Refused refusal.LineTooLong))
-  refused_long old e = record { reading = Refused refusal.LineTooLong; comes = inl (inl (refl, held_none line e)); left = refl; answer_is = refl }
+-- a reading that is blank or refused leaves what was there
+module _ (d : Declared) where
+  left_blank : (before : List LineReading) (old : Workbench) → IsLeftBy d before old → IsLeftBy d (before ++ Blank ∷ []) old
+  left_blank before old left = left_same d before Blank old left (λ n. refl) (λ user beliefs. refl)
 
-  pub refused : (old : Past) (held : List ℕ) (r : Refusal) → Reads d held (Refused r) → Some held ≡ held_line line → RepliesToLine d line old old (Some (reply.Refused r))
-  refused old held r reads e = record { reading = Refused r; comes = inl (subst (λ (x : List ℕ). Reads d x (Refused r)) (held_some held line e) reads); left = refl; answer_is = refl }
+  left_refused : (before : List LineReading) (old : Workbench) (r : Refusal) → IsLeftBy d before old → IsLeftBy d (before ++ Refused r ∷ []) old
+  left_refused before old r left = left_same d before (Refused r) old left (λ n. refl) (λ user beliefs. refl)
 
-  pub carried : (held : List ℕ) (old new : Past) (command : Command) (answer : Reply) →
-      Reads d held (Says command) → IsCarriedOut old command new answer → Some held ≡ held_line line →
-      RepliesToLine d line old new (Some answer)
-  carried held old new command answer reads done e =
-      let here : Reads d line (Says command) = subst (λ (x : List ℕ). Reads d x (Says command)) (held_some held line e) reads in
-      let step : (reading : Reading) × ComesTo d line reading × Leaves old reading new × (reply_in old reading ≡ Some answer) = comes_to-carried_out d line old new command answer here done in
-      record { reading = step.0; comes = step.1; left = step.2; answer_is = step.3 }
+  module _ (line : List ℕ) (before : List LineReading) (old : Workbench) (left : IsLeftBy d before old) where
+    pub refused_long : None ≡ held_line line → RepliesToLine d before line old (Some (reply.Refused refusal.LineTooLong))
+    refused_long e = record {
+      reading = Refused refusal.LineTooLong;
+      comes = inl (inl (refl, held_none line e));
+      left = left_refused before old refusal.LineTooLong left;
+      answer_is = refl;
+    }
+
+    pub refused : (held : List ℕ) (r : Refusal) → Reads d held (Refused r) → Some held ≡ held_line line → RepliesToLine d before line old (Some (reply.Refused r))
+    refused held r reads e = record {
+      reading = Refused r;
+      comes = inl (subst (λ (x : List ℕ). Reads d x (Refused r)) (held_some held line e) reads);
+      left = left_refused before old r left;
+      answer_is = refl;
+    }
+
+    pub blank : (held : List ℕ) → Reads d held Blank → Some held ≡ held_line line → RepliesToLine d before line old None
+    blank held reads e = record {
+      reading = Blank;
+      comes = inl (subst (λ (x : List ℕ). Reads d x Blank) (held_some held line e) reads);
+      left = left_blank before old left;
+      answer_is = refl;
+    }
+
+    came_to : (command : Command) (reading : LineReading) → Reads d line (Says command) → MayBecome d before command reading → ComesTo d before line reading
+    came_to command reading reads (inl same) = inl (subst (Reads d line) (sym same) reads)
+    came_to command reading reads (inr (refused, takes)) = inr (refused, command, takes, reads)
+
+    pub carried : (held : List ℕ) (new : Workbench) (command : Command) (answer : Reply) →
+        Reads d held (Says command) → CarriesOut old command new answer → Some held ≡ held_line line → RepliesToLine d before line new (Some answer)
+    carried held new command answer reads done e =
+        let here : Reads d line (Says command) = subst (λ (x : List ℕ). Reads d x (Says command)) (held_some held line e) reads in
+        let out : IsCarriedOut d before command new answer = done d before left (IsDeclared-from_Reads d line command here) in
+        record { reading = out.reading; comes = came_to command out.reading here out.became; left = out.left; answer_is = out.replied }
+
+  -- ---- a command that a line says, after some lines
+
+  module _ (line : List ℕ) (old : Workbench) (left : IsLeft d old) where
+    pub can_be_carried_out : (command : Command) → IsWellDeclared d → Reads d line (Says command) → CanBeCarriedOut old command
+    can_be_carried_out command well reads = can_carry_out d old command well left.1.set_up (IsDeclared-from_Reads d line command reads)
+
+    -- what the command is answered with has its names
+    named_answer : (entries : List Entry) (beliefs : Premises) (command : Command) → IsWellDeclared d → IsDeclared d (Says command) →
+        IsReplyNamed d (answer_to d entries beliefs command)
+    named_answer entries beliefs (commands.Ask user cell) well named =
+        subst (IsNamed (members_of d)) (sym (kind-value_in (kind_at d cell) (visible_in entries beliefs) cell))
+        (well.known cell kinds.Interval (omega (arith, named.1, well.kinds)))
+    named_answer entries beliefs (commands.Tell user cell fact) well named = tt
+    named_answer entries beliefs (commands.Believe user premises) well named = tt
+    named_answer entries beliefs (commands.Doubt user premises) well named = tt
+
+    named_outcome : (before : List LineReading) (command : Command) (reading : LineReading) (answer : Reply) → IsWellDeclared d → IsDeclared d (Says command) →
+        MayBecome d before command reading → reply_to d before reading ≡ Some answer → IsReplyNamed d answer
+    named_outcome before command reading answer well named (inl same) replied =
+        let e : Some (answer_to d (entries_before before) (beliefs_at d (user_of command) before) command) ≡ Some answer = ap (reply_to d before) (sym same) ∙ replied in
+        let is : answer_to d (entries_before before) (beliefs_at d (user_of command) before) command ≡ answer = cc in
+        subst (IsReplyNamed d) is (named_answer (entries_before before) (beliefs_at d (user_of command) before) command well named)
+    named_outcome before command reading answer well named (inr (refused, takes)) replied =
+        let e : Some (reply.Refused refusal.Memory) ≡ Some answer = ap (reply_to d before) (sym refused) ∙ replied in
+        let is : reply.Refused refusal.Memory ≡ answer = cc in
+        subst (IsReplyNamed d) is tt
+
+    pub named_reply : (new : Workbench) (command : Command) (answer : Reply) → IsWellDeclared d → Reads d line (Says command) → CarriesOut old command new answer → IsReplyNamed d answer
+    named_reply new command answer well reads done =
+        let named = IsDeclared-from_Reads d line command reads in
+        let out : IsCarriedOut d left.0 command new answer = done d left.0 left.1 named in
+        named_outcome left.0 command out.reading answer well named out.became out.replied
+
+    -- and some lines left what is there after it
+    pub carried_left : (new : Workbench) (command : Command) (answer : Reply) → Reads d line (Says command) → CarriesOut old command new answer → IsLeft d new
+    carried_left new command answer reads done =
+        let out : IsCarriedOut d left.0 command new answer = done d left.0 left.1 (IsDeclared-from_Reads d line command reads) in
+        (left.0 ++ out.reading ∷ [], out.left)
+
+-- ---- the reply is passed
+
+module _ {O : Type 0} (passes : O → List ℕ → O → Type 0) (d : Declared) (number : ℕ) (before : List LineReading) (line : List ℕ) where
+  pub passes_none : (new : Workbench) (o : O) → passes o [] o → RepliesToLine d before line new None → PassesReply passes d number before line new o o false
+  passes_none new o none a = record {
+    reading = a.reading;
+    comes = a.comes;
+    left = a.left;
+    passed = subst (λ (r : Option Reply). passes o (text_if_any d number r) o) (sym a.answer_is) none;
+    replied_is = ap is_some (sym a.answer_is);
+  }
+
+  pub passes_some : (new : Workbench) (o o' : O) (answer : Reply) → RepliesToLine d before line new (Some answer) →
+      passes o (text_of_reply d number answer) o' → PassesReply passes d number before line new o o' true
+  passes_some new o o' answer a passed = record {
+    reading = a.reading;
+    comes = a.comes;
+    left = a.left;
+    passed = subst (λ (r : Option Reply). passes o (text_if_any d number r) o') (sym a.answer_is) passed;
+    replied_is = ap is_some (sym a.answer_is);
+  }
+
+  pub fails_some : (new : Workbench) (o o' : O) (answer : Reply) → RepliesToLine d before line new (Some answer) →
+      PassesPart passes o o' (text_of_reply d number answer) → FailsInReply passes d number before line o o'
+  fails_some new o o' answer a part = record {
+    reading = a.reading;
+    comes = a.comes;
+    part = subst (λ (r : Option Reply). PassesPart passes o o' (text_if_any d number r)) (sym a.answer_is) part;
+  }

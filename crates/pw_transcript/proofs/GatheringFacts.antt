@@ -1,13 +1,13 @@
 -- What a gathering output was passed from one moment to the next.
-use Rattle.std.proofs.Common.{◌≡◌, ℕ, List, [], ◌++◌, length, take, drop, sym, ap, ◌∙◌, subst, Result, Ok, Err, OnErr, append-nil, arith, length-append}
+use Rattle.std.proofs.Common.{◌≡◌, ℕ, List, [], ◌++◌, length, take, drop, sym, ap, ◌∙◌, subst, append-nil, arith, length-append}
 use Rattle.std.proofs.lemmas.List.{take-append-drop}
 use Rattle.std.proofs.Math.Seq.{take-append_seam}
 use Rattle.std.specs.Borrow.{GName}
 use Rattle.pw_info.specs.Passing.{PassesPart}
-use Rattle.pw_info.proofs.PassingFacts.{PassesPart-all, PassesPart-append}
+use Rattle.pw_info.proofs.PassingFacts.{PassesPart-append}
 use Rattle.pw_transcript.specs.declared.gathered.Gathered.{Gathered}
-use Rattle.pw_transcript.specs.Gathering.{Gathers}
-use Rattle.pw_transcript.specs.Gatherers.{output_of, held_of, GatheredPasses, GatheredPasses-joins}
+use Rattle.pw_transcript.specs.Steps.Gathering.{Gathers}
+use Rattle.pw_transcript.specs.Steps.Gatherers.{output_of, held_of, GatheredPasses}
 
 module _ {S : Type 0} (passes : S → List ℕ → S → Type 0) where
   -- the first of the held bytes are passed on
@@ -48,11 +48,6 @@ module _ {O : Type 0} (passes : O → List ℕ → O → Type 0) where
       (subst (λ l. Gathers passes (output_of s).now (output_of t).now (held_of s) l text) left p.1)) in
       subst (λ o. passes first text o) (sym e) (Gathers-whole passes first (output_of t).now text q)
 
-  -- a flush passes nothing to it
-  pub gathered_flush : ((o p q : O) (xs ys : List ℕ) → passes o xs p → passes p ys q → passes o (xs ++ ys) q)
-      → (s t u : Gathered O) (text : List ℕ) → GatheredPasses passes s text t → GatheredPasses passes t [] u → GatheredPasses passes s text u
-  gathered_flush joins s t u text p q = subst (λ l. GatheredPasses passes s l u) (append-nil text) (GatheredPasses-joins passes joins s t u text [] p q)
-
   -- where nothing was held at first, of a front that was passed to a gathering output a front was passed to its output
   pub gathered_part : (name : GName) (first last : O) (s t : Gathered O) (text : List ℕ)
       → (output_of s).ghost_name ≡ name → (output_of s).now ≡ first → held_of s ≡ []
@@ -65,13 +60,3 @@ module _ {O : Type 0} (passes : O → List ℕ → O → Type 0) where
       subst (λ o. PassesPart passes first o text) (sym e)
       (subst (PassesPart passes first (output_of t).now) (take-append-drop p.count text)
       (PassesPart-append passes first (output_of t).now (take p.count text) (drop p.count text) (Gathers-part passes first (output_of t).now (held_of t) (take p.count text) q)))
-
-  -- the same of a whole text, where a flush came last and may have failed
-  pub gathered_flush_err : {T E : Type 0} → ((o p q : O) (xs ys : List ℕ) → passes o xs p → passes p ys q → passes o (xs ++ ys) q)
-      → (name : GName) (first last : O) (s t u : Gathered O) (text : List ℕ) (r : Result T E)
-      → (output_of s).ghost_name ≡ name → (output_of s).now ≡ first → held_of s ≡ []
-      → GatheredPasses passes s text t → GatheredPasses passes t [] u → (name ≡ (output_of u).ghost_name → last ≡ (output_of u).now) → OnErr r (PassesPart passes first last text)
-  gathered_flush_err joins name first last s t u text (Ok x) named at none p q ends = tt
-  gathered_flush_err joins name first last s t u text (Err e) named at none p q ends =
-      gathered_part name first last s u text named at none
-      (PassesPart-all (GatheredPasses passes) s u text (gathered_flush joins s t u text p q)) ends

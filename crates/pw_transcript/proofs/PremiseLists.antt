@@ -1,12 +1,12 @@
 -- The set of the premises that words name, one word after another.
 use Rattle.std.proofs.Common.{◌≡◌, ℕ, Bool, true, false, ◌||◌, List, ◌∷◌, Some, refl, sym, ap, ◌∙◌}
-use Rattle.std.specs.Ordering.{nat_cmp}
+use Rattle.std.specs.Ordering.{nat_cmp, eq_by_cmp}
 use Rattle.std.specs.Cmp.{nat_cmp_total}
-use Rattle.std.specs.Ordering.{eq_by_cmp}
 use Rattle.std.specs.FinSet.{empty, insert, contains, union, same_set, contains-empty, contains-insert, contains-union, nat_cmp-IsAntisymmetric}
-use Rattle.pw_procs.specs.Place.{place_of}
-use Rattle.pw_transcript.specs.Declaration.{Declared}
-use Rattle.pw_transcript.specs.Reading.{Premises, premises_of}
+use Rattle.pw_procs.specs.Place.{place_of_name}
+use Rattle.pw_decl.specs.Declaration.{Declared}
+use Rattle.pw_premises.specs.Premises.{Premises}
+use Rattle.pw_transcript.specs.Reading.{premises_of}
 
 by_members : (s t : Premises) → ((q : ℕ) → contains s q ≡ contains t q) → s ≡ t
 by_members s t same = same_set nat_cmp_total nat_cmp-IsAntisymmetric s t same
@@ -36,11 +36,11 @@ union_insert s t n = by_members _ _ (λ q.
     ∙ ap (λ b. b || contains t q) (sym (contains-union nat_cmp_total s (insert empty n) q))
     ∙ sym (contains-union nat_cmp_total (union s (insert empty n)) t q))
 
-pub premises_of-more : (d : Declared) (word : List ℕ) (words : List (List ℕ)) (n : ℕ) → place_of d.premises word ≡ Some n → premises_of d (word ∷ words) ≡ insert (premises_of d words) n
+pub premises_of-more : (d : Declared) (word : List ℕ) (words : List (List ℕ)) (n : ℕ) → place_of_name d.premises word ≡ Some n → premises_of d (word ∷ words) ≡ insert (premises_of d words) n
 premises_of-more d word words n e = rw e refl
 
 -- the set so far, joined with what a further word names
-pub premises_step : (d : Declared) (word : List ℕ) (words all : List (List ℕ)) (n : ℕ) (s t one : Premises) → place_of d.premises word ≡ Some n
+pub premises_step : (d : Declared) (word : List ℕ) (words all : List (List ℕ)) (n : ℕ) (s t one : Premises) → place_of_name d.premises word ≡ Some n
     → premises_of d all ≡ union s (premises_of d (word ∷ words)) → one ≡ insert empty n → t ≡ union s one → premises_of d all ≡ union t (premises_of d words)
 premises_step d word words all n s t one e so_far is_one joined =
     so_far ∙ ap (λ (x : Premises). union s x) (premises_of-more d word words n e) ∙ union_insert s (premises_of d words) n

@@ -6,20 +6,22 @@ use Rattle.pw_info.specs.declared.kind.Kind.TheVariants as kinds
 use Rattle.pw_info.specs.SetNames.{IsNamed}
 use Rattle.pw_info.specs.Spelling.{SpellsInfo}
 use Rattle.pw_info.proofs.Spellings.{one_info}
-use Rattle.pw_procs.specs.Place.{place_of}
-use Rattle.pw_transcript.specs.declared.command.Command.{Command}
-use Rattle.pw_transcript.specs.declared.command.Command.TheVariants as commands
+use Rattle.pw_procs.specs.Place.{place_of_name}
+use Rattle.pw_sessions.specs.declared.command.Command.{Command}
+use Rattle.pw_sessions.specs.declared.command.Command.TheVariants as commands
 use Rattle.pw_facts.specs.declared.fact.Fact.{Fact}
-use Rattle.pw_transcript.specs.declared.reply.Refusal.{Refusal}
-use Rattle.pw_transcript.specs.declared.reply.Refusal.TheVariants as refusal
-use Rattle.pw_transcript.specs.First.{IsFirstIn, HoldsOfNone}
-use Rattle.pw_transcript.specs.Declaration.{Declared, kind_at, members_of}
-use Rattle.pw_transcript.specs.DeclarationLimits.{IsWithinLimits}
-use Rattle.pw_transcript.specs.Sentence.{Sentence, Tell, Believe, Doubt, Ask, Other, sentence_of}
-use Rattle.pw_transcript.specs.Words.{words_of, is_idle, is_allowed}
-use Rattle.pw_transcript.specs.Reading.{premises_of, Means, AppliesTo, sentence_refusals, SaysSentence, AppliesToLine, Applies, line_refusals, Reading, Blank, Refused, Says, Reads}
-use Rattle.pw_transcript.proofs.FirstLemmas.{one_first, none_is_first, IsFirstIn-from, HoldsOfNone-from}
-use Rattle.pw_transcript.proofs.HistoryLemmas.{place_of-lt}
+use Rattle.pw_sessions.specs.declared.reply.Refusal.{Refusal}
+use Rattle.pw_sessions.specs.declared.reply.Refusal.TheVariants as refusal
+use Rattle.pw_info.specs.First.{IsFirstIn, HoldsOfNone}
+use Rattle.pw_decl.specs.Declaration.{Declared, kind_at, members_of}
+use Rattle.pw_decl.specs.WellDeclared.{IsWellDeclared}
+use Rattle.pw_transcript.specs.Sentence.{Said, Tell, Believe, Doubt, Ask, Other, Sentence}
+use Rattle.pw_transcript.specs.Steps.Forms.{sentence_form}
+use Rattle.pw_info.specs.Words.{words_of, is_idle, is_allowed}
+use Rattle.pw_transcript.specs.Reading.{premises_of, MeansFor, Means, RefusalAppliesTo, sentence_refusals, SaysSentence, RefusalAppliesToLine, RefusalApplies, line_refusals, Reads}
+use Rattle.pw_sessions.specs.LineReading.{LineReading, Blank, Refused, Says}
+use Rattle.pw_info.proofs.FirstLemmas.{one_first, none_is_first, IsFirstIn-from, HoldsOfNone-from}
+use Rattle.pw_decl.proofs.Places.{place_of_name-lt}
 use Rattle.pw_transcript.proofs.SentenceLemmas.{one_sentence, given, found}
 
 -- a place is one number
@@ -27,27 +29,28 @@ one_place : (o : Option ℕ) (m n : ℕ) → o ≡ Some m → o ≡ Some n → m
 one_place o m n p q = cc
 
 -- the kind of a cell that a word names has its names
-pub named_cell : (d : Declared) (word : List ℕ) (cell : ℕ) → IsWithinLimits d → place_of d.cells word ≡ Some cell → IsNamed (members_of d) (kind_at d cell)
+pub named_cell : (d : Declared) (word : List ℕ) (cell : ℕ) → IsWellDeclared d → place_of_name d.cells word ≡ Some cell → IsNamed (members_of d) (kind_at d cell)
 named_cell d word cell limits at =
-    let below : cell < length d.cells = place_of-lt d.cells word cell at in
+    let below : cell < length d.cells = place_of_name-lt d.cells word cell at in
     limits.known cell kinds.Interval (omega (arith, limits.kinds))
 
--- a sentence means one command
-pub one_meaning : (d : Declared) (s : Sentence) (a b : Command) → IsWithinLimits d → Means d s a → Means d s b → a ≡ b
-one_meaning d (Tell user cell info premises) a b limits (u, c, i, at_u, at_c, spelled, e) (u', c', i', at_u', at_c', spelled', e') =
-    let same_user : u ≡ u' = one_place _ u u' at_u at_u' in
+-- what a user says means one command
+one_meaning_for : (d : Declared) (user : ℕ) (said : Said) (a b : Command) → IsWellDeclared d → MeansFor d user said a → MeansFor d user said b → a ≡ b
+one_meaning_for d user (Tell cell info premises) a b limits (c, i, at_c, spelled, e) (c', i', at_c', spelled', e') =
     let same_cell : c ≡ c' = one_place _ c c' at_c at_c' in
     let same_info : i ≡ i' = one_info (members_of d) info (kind_at d c) i i' limits.named (named_cell d cell c limits at_c) spelled (subst (λ (x : ℕ). SpellsInfo (members_of d) info (kind_at d x) i') (sym same_cell) spelled') in
     let fact : Info → Fact = λ x. record { info = x; support = premises_of d premises } in
-    let same_fact : fact i ≡ fact i' = ap fact same_info in
-    e ∙ ap (λ x. commands.Tell x c (fact i)) same_user ∙ ap (λ x. commands.Tell u' x (fact i)) same_cell ∙ ap (λ x. commands.Tell u' c' x) same_fact ∙ sym e'
-one_meaning d (Believe user premises) a b limits (u, at_u, e) (u', at_u', e') =
-    e ∙ ap (λ x. commands.Believe x (premises_of d premises)) (one_place _ u u' at_u at_u') ∙ sym e'
-one_meaning d (Doubt user premises) a b limits (u, at_u, e) (u', at_u', e') =
-    e ∙ ap (λ x. commands.Doubt x (premises_of d premises)) (one_place _ u u' at_u at_u') ∙ sym e'
-one_meaning d (Ask user cell) a b limits (u, c, at_u, at_c, e) (u', c', at_u', at_c', e') =
-    e ∙ ap (λ x. commands.Ask x c) (one_place _ u u' at_u at_u') ∙ ap (λ x. commands.Ask u' x) (one_place _ c c' at_c at_c') ∙ sym e'
-one_meaning d (Other user) a b limits p q = absurd p
+    e ∙ ap (λ x. commands.Tell user x (fact i)) same_cell ∙ ap (λ x. commands.Tell user c' (fact x)) same_info ∙ sym e'
+one_meaning_for d user (Believe premises) a b limits e e' = e ∙ sym e'
+one_meaning_for d user (Doubt premises) a b limits e e' = e ∙ sym e'
+one_meaning_for d user (Ask cell) a b limits (c, at_c, e) (c', at_c', e') = e ∙ ap (λ x. commands.Ask user x) (one_place _ c c' at_c at_c') ∙ sym e'
+one_meaning_for d user Other a b limits p q = absurd p
+
+-- a sentence means one command
+pub one_meaning : (d : Declared) (s : Sentence) (a b : Command) → IsWellDeclared d → Means d s a → Means d s b → a ≡ b
+one_meaning d s a b limits (u, at_u, means) (u', at_u', means') =
+    let same : u' ≡ u = one_place _ u' u at_u' at_u in
+    one_meaning_for d u s.said a b limits means (subst (λ (x : ℕ). MeansFor d x s.said b) same means')
 
 one_sentence_said : (line : List ℕ) (s t : Sentence) → SaysSentence line s → SaysSentence line t → s ≡ t
 one_sentence_said line s t p q = one_sentence (words_of line) s t p.2 q.2
@@ -56,31 +59,31 @@ idle_says_none : (line : List ℕ) (s : Sentence) → is_idle line ≡ true → 
 idle_says_none line s idle says = let spoken : is_idle line ≡ false = says.0 in cc
 
 -- no refusal applies to a blank line that is short enough
-pub blank_none : (d : Declared) (line : List ℕ) → length line ≤ 1024 → is_idle line ≡ true → HoldsOfNone (Applies d line) line_refusals
+pub blank_none : (d : Declared) (line : List ℕ) → length line ≤ 1024 → is_idle line ≡ true → HoldsOfNone (RefusalApplies d line) line_refusals
 blank_none d line short idle =
-    let none : HoldsOfNone (AppliesToLine d line) sentence_refusals = (λ h. idle_says_none line h.0 idle h.1, (λ h. idle_says_none line h.0 idle h.1, (λ h. idle_says_none line h.0 idle h.1, (λ h. idle_says_none line h.0 idle h.1, (λ h. idle_says_none line h.0 idle h.1, (λ h. idle_says_none line h.0 idle h.1, tt)))))) in
+    let none : HoldsOfNone (RefusalAppliesToLine d line) sentence_refusals = (λ h. idle_says_none line h.0 idle h.1, (λ h. idle_says_none line h.0 idle h.1, (λ h. idle_says_none line h.0 idle h.1, (λ h. idle_says_none line h.0 idle h.1, (λ h. idle_says_none line h.0 idle h.1, (λ h. idle_says_none line h.0 idle h.1, tt)))))) in
     (λ long. absurd (omega arith), ((λ h. let spoken : is_idle line ≡ false = h.0 in cc), none))
 
-pub one_reading : (d : Declared) (line : List ℕ) (a b : Reading) → IsWithinLimits d → Reads d line a → Reads d line b → a ≡ b
+pub one_reading : (d : Declared) (line : List ℕ) (a b : LineReading) → IsWellDeclared d → Reads d line a → Reads d line b → a ≡ b
 one_reading d line Blank Blank limits p q = refl
-one_reading d line Blank (Refused r) limits p q = absurd (none_is_first (Applies d line) line_refusals r (blank_none d line p.0 p.1) q)
+one_reading d line Blank (Refused r) limits p q = absurd (none_is_first (RefusalApplies d line) line_refusals r (blank_none d line p.0 p.1) q)
 one_reading d line Blank (Says c) limits p (none, (s, says, means)) = absurd (idle_says_none line s p.1 says)
-one_reading d line (Refused r) Blank limits p q = absurd (none_is_first (Applies d line) line_refusals r (blank_none d line q.0 q.1) p)
-one_reading d line (Refused r) (Refused t) limits p q = ap Refused (one_first (Applies d line) line_refusals r t p q)
-one_reading d line (Refused r) (Says c) limits p q = absurd (none_is_first (Applies d line) line_refusals r q.0 p)
+one_reading d line (Refused r) Blank limits p q = absurd (none_is_first (RefusalApplies d line) line_refusals r (blank_none d line q.0 q.1) p)
+one_reading d line (Refused r) (Refused t) limits p q = ap Refused (one_first (RefusalApplies d line) line_refusals r t p q)
+one_reading d line (Refused r) (Says c) limits p q = absurd (none_is_first (RefusalApplies d line) line_refusals r q.0 p)
 one_reading d line (Says c) Blank limits (none, (s, says, means)) q = absurd (idle_says_none line s q.1 says)
-one_reading d line (Says c) (Refused r) limits p q = absurd (none_is_first (Applies d line) line_refusals r p.0 q)
+one_reading d line (Says c) (Refused r) limits p q = absurd (none_is_first (RefusalApplies d line) line_refusals r p.0 q)
 one_reading d line (Says c) (Says e) limits (none, (s, says, means)) (none', (t, says', means')) =
     let same : t ≡ s = one_sentence_said line t s says' says in
     ap Says (one_meaning d s c e limits means (subst (λ (x : Sentence). Means d x e) same means'))
 
 -- ---- from what applies to a sentence to what applies to the line that says it
 module _ (d : Declared) (line : List ℕ) (s : Sentence) (short : length line ≤ 1024) (says : SaysSentence line s) where
-  to_line : (r : Refusal) → AppliesTo d s r → AppliesToLine d line r
+  to_line : (r : Refusal) → RefusalAppliesTo d s r → RefusalAppliesToLine d line r
   to_line r h = (s, says, h)
 
-  from_line : (r : Refusal) → AppliesToLine d line r → AppliesTo d s r
-  from_line r (t, said, h) = let same : t ≡ s = one_sentence_said line t s said says in subst (λ (x : Sentence). AppliesTo d x r) same h
+  from_line : (r : Refusal) → RefusalAppliesToLine d line r → RefusalAppliesTo d s r
+  from_line r (t, said, h) = let same : t ≡ s = one_sentence_said line t s said says in subst (λ (x : Sentence). RefusalAppliesTo d x r) same h
 
   not_long : 1024 < length line → ⊥
   not_long long = omega arith
@@ -88,21 +91,21 @@ module _ (d : Declared) (line : List ℕ) (s : Sentence) (short : length line �
   has_form : (is_idle line ≡ false) × ((sentence : Sentence) → SaysSentence line sentence → ⊥) → ⊥
   has_form h = h.1 s says
 
-  pub none_of_line : HoldsOfNone (AppliesTo d s) sentence_refusals → HoldsOfNone (Applies d line) line_refusals
-  none_of_line none = let rest : HoldsOfNone (AppliesToLine d line) sentence_refusals = HoldsOfNone-from (AppliesTo d s) (AppliesToLine d line) from_line sentence_refusals none in (not_long, (has_form, rest))
+  pub none_of_line : HoldsOfNone (RefusalAppliesTo d s) sentence_refusals → HoldsOfNone (RefusalApplies d line) line_refusals
+  none_of_line none = let rest : HoldsOfNone (RefusalAppliesToLine d line) sentence_refusals = HoldsOfNone-from (RefusalAppliesTo d s) (RefusalAppliesToLine d line) from_line sentence_refusals none in (not_long, (has_form, rest))
 
-  pub first_of_line : (r : Refusal) → IsFirstIn (AppliesTo d s) sentence_refusals r → Reads d line (Refused r)
-  first_of_line r first = let rest : IsFirstIn (AppliesToLine d line) sentence_refusals r = IsFirstIn-from (AppliesTo d s) (AppliesToLine d line) to_line from_line sentence_refusals r first in inr (not_long, inr (has_form, rest))
+  pub first_of_line : (r : Refusal) → IsFirstIn (RefusalAppliesTo d s) sentence_refusals r → Reads d line (Refused r)
+  first_of_line r first = let rest : IsFirstIn (RefusalAppliesToLine d line) sentence_refusals r = IsFirstIn-from (RefusalAppliesTo d s) (RefusalAppliesToLine d line) to_line from_line sentence_refusals r first in inr (not_long, inr (has_form, rest))
 
-  pub says_of_line : (c : Command) → HoldsOfNone (AppliesTo d s) sentence_refusals → Means d s c → Reads d line (Says c)
+  pub says_of_line : (c : Command) → HoldsOfNone (RefusalAppliesTo d s) sentence_refusals → Means d s c → Reads d line (Says c)
   says_of_line c none means = (none_of_line none, (s, says, means))
 
 pub not_none : (o : Option ℕ) (n : ℕ) → Some n ≡ o → o ≡ None → ⊥
 not_none o n p q = let e : Some n ≡ None = p ∙ q in (cc)
 
 -- a line that has no form
-pub no_form : (d : Declared) (line : List ℕ) → length line ≤ 1024 → is_idle line ≡ false → sentence_of (words_of line) ≡ None → Reads d line (Refused refusal.Syntax)
-no_form d line short spoken none = inr (λ long. absurd (omega arith), inl (refl, (spoken, λ s says. let e : sentence_of (words_of line) ≡ Some s = given (words_of line) s says.2 in cc)))
+pub no_form : (d : Declared) (line : List ℕ) → length line ≤ 1024 → is_idle line ≡ false → sentence_form (words_of line) ≡ None → Reads d line (Refused refusal.Syntax)
+no_form d line short spoken none = inr (λ long. absurd (omega arith), inl (refl, (spoken, λ s says. let e : sentence_form (words_of line) ≡ Some s = given (words_of line) s says.2 in cc)))
 
-pub says_found : (line : List ℕ) (s : Sentence) → is_idle line ≡ false → list_all is_allowed line ≡ true → sentence_of (words_of line) ≡ Some s → SaysSentence line s
+pub says_found : (line : List ℕ) (s : Sentence) → is_idle line ≡ false → list_all is_allowed line ≡ true → sentence_form (words_of line) ≡ Some s → SaysSentence line s
 says_found line s spoken allowed e = (spoken, allowed, found (words_of line) s e)

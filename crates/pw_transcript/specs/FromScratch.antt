@@ -1,39 +1,53 @@
 -- The theorem of a run: what is written is, line by line, the reply that each line gets from scratch.
-use Rattle.std.specs.Prelude.{◌≡◌, ℕ, ◌+◌, ◌<◌, List, [], ◌∷◌, ◌++◌, length, Option, Some, None, ◌⊎◌, Contains}
+use Rattle.std.specs.Prelude.{◌≡◌, ℕ, ◌+◌, ◌≤◌, List, [], ◌∷◌, ◌++◌, length, Option, Some, None, ◌⊎◌, Contains}
 use Rattle.std.specs.List.{AllByRecursion}
 use Rattle.pw_info.specs.Passing.{PassesPart}
-use Rattle.pw_transcript.specs.declared.command.Command.{Command}
-use Rattle.pw_transcript.specs.declared.command.Command.TheVariants as commands
-use Rattle.pw_transcript.specs.declared.reply.Reply.{Reply}
-use Rattle.pw_transcript.specs.declared.reply.Refusal.TheVariants as refusal
-use Rattle.pw_transcript.specs.Lines.{lines_of, HasNoEnd, text_of_lines}
-use Rattle.pw_transcript.specs.Declaration.{Declared}
-use Rattle.pw_transcript.specs.Reading.{Reading, Refused, Says, Reads}
-use Rattle.pw_transcript.specs.Answer.{replies_of}
+use Rattle.pw_sessions.specs.declared.command.Command.{Command}
+use Rattle.pw_sessions.specs.declared.reply.Reply.{Reply}
+use Rattle.pw_sessions.specs.declared.reply.Refusal.TheVariants as refusal
+use Rattle.pw_transcript.specs.declared.transcript.Lines.{Lines}
+use Rattle.pw_info.specs.Lines.{lines_of, HasNoEnd, text_of_lines}
+use Rattle.pw_transcript.specs.Limits.{most_lines, most_bytes, IsWithinLimits, GoesPastLimits}
+use Rattle.pw_decl.specs.Declaration.{Declared}
+use Rattle.pw_sessions.specs.LineReading.{LineReading, Refused, Says}
+use Rattle.pw_transcript.specs.Reading.{Reads}
+use Rattle.pw_sessions.specs.Answer.{replies_of}
+use Rattle.pw_sessions.specs.TakesMemory.{TakesMemory}
 use Rattle.pw_transcript.specs.ReplyText.{text_of_replies}
 
+-- ---- which replies lines get
+
 -- each line reads so
-abbrev pub ReadAs : Declared → List (List ℕ) → List Reading → Type 0
+abbrev pub ReadAs : Declared → List (List ℕ) → List LineReading → Type 0
 ReadAs d [] [] = Unit {0}
 ReadAs d (line ∷ lines) (reading ∷ readings) = Reads d line reading × ReadAs d lines readings
 ReadAs d lines readings = ⊥
 
--- the command takes memory: it tells a fact; the others never do
-abbrev pub TakesMemory : Command → Type 0
-TakesMemory (commands.Tell user cell fact) = Unit {0}
-TakesMemory command = ⊥
-
--- what a line comes to: it reads so; or it says a command that takes memory, and is refused for want of it
-abbrev pub ComesTo : Declared → List ℕ → Reading → Type 0
-ComesTo d line reading =
+-- what a line comes to, after lines that came to these readings: it reads so; or it says a command that takes memory there,
+-- and is refused for want of it
+abbrev pub ComesTo : Declared → List LineReading → List ℕ → LineReading → Type 0
+ComesTo d before line reading =
     Reads d line reading
-    ⊎ ((reading ≡ Refused refusal.Memory) × (command : Command) × TakesMemory command × Reads d line (Says command))
+    ⊎ ((reading ≡ Refused refusal.Memory) × (command : Command) × TakesMemory d before command × Reads d line (Says command))
 
--- each line comes to this
-abbrev pub ComeTo : Declared → List (List ℕ) → List Reading → Type 0
-ComeTo d [] [] = Unit {0}
-ComeTo d (line ∷ lines) (reading ∷ readings) = ComesTo d line reading × ComeTo d lines readings
-ComeTo d lines readings = ⊥
+-- what further lines come to, after lines that came to these readings
+abbrev pub FurtherLinesComeTo : Declared → List LineReading → List (List ℕ) → List LineReading → Type 0
+FurtherLinesComeTo d before [] [] = Unit {0}
+FurtherLinesComeTo d before (line ∷ lines) (reading ∷ readings) =
+    ComesTo d before line reading × FurtherLinesComeTo d (before ++ reading ∷ []) lines readings
+FurtherLinesComeTo d before lines readings = ⊥
+
+-- what the lines of a transcript come to, one after another
+abbrev pub LinesComeTo : Declared → List (List ℕ) → List LineReading → Type 0
+LinesComeTo d lines readings = FurtherLinesComeTo d [] lines readings
+
+-- These lines get these replies, from scratch. A line that was refused for want of memory counts as blank for the lines
+-- after it; where there is none, each line comes to what it reads as.
+pub record GetReplies (d : Declared) (lines : List (List ℕ)) (replies : List (Option Reply)) : Type 0 where
+  pub readings : List LineReading
+  pub come : LinesComeTo d lines readings
+  pub plain : (Contains readings (Refused refusal.Memory) → ⊥) → ReadAs d lines readings
+  pub replies_are : replies ≡ replies_of d readings
 
 -- how many replies there are
 abbrev pub count_of_replies : List (Option Reply) → ℕ
@@ -41,61 +55,70 @@ count_of_replies [] = 0
 count_of_replies (None ∷ replies) = count_of_replies replies
 count_of_replies (Some reply ∷ replies) = 1 + count_of_replies replies
 
--- no line feed stands in these bytes, except perhaps as the last of them
-abbrev pub HasNoEndBeforeLast : List ℕ → Type 0
-HasNoEndBeforeLast bytes = (front : List ℕ) × (last : ℕ) × (bytes ≡ front ++ last ∷ []) × HasNoEnd front
+-- these lines end in the bytes, and `rest` came after the last of them
+pub record EndIn (bytes : List ℕ) (ended : List (List ℕ)) (rest : List ℕ) : Type 0 where
+  pub whole : bytes ≡ text_of_lines ended rest
+  pub no_end : AllByRecursion HasNoEnd ended
+  pub unended : HasNoEnd rest
 
--- bytes with these ended lines, and then `rest`, are past a limit: there is a byte after 1,000,000 ended lines,
--- or there is a 67,108,865th byte, and the lines are all that end before it
-abbrev pub IsPastLimit : List (List ℕ) → List ℕ → Type 0
-IsPastLimit ended rest =
-    ((length ended ≡ 1000000) × (0 < length rest))
-    ⊎ ((length (text_of_lines ended rest) ≡ 67108865) × HasNoEndBeforeLast rest)
+-- ---- what is passed for bytes, between two moments of an output
 
-module _ {I O : Type 0} (takes : I → List ℕ → I → Type 0) (passes : O → List ℕ → O → Type 0) (d : Declared) where
-  -- Between two moments of the ends, bytes were taken and the replies to their lines were passed, and nothing else.
-  -- A line that was refused for want of memory counts as blank for the lines after it; where there is none, each line
-  -- comes to what it reads as, and each reply is the one from scratch.
-  pub record AnswersAll (i i' : I) (o o' : O) (lines replies : ℕ) : Type 0 where
-    pub bytes : List ℕ
-    pub readings : List Reading
-    pub taken : takes i bytes i'
-    pub come : ComeTo d (lines_of bytes) readings
-    pub plain : (Contains readings (Refused refusal.Memory) → ⊥) → ReadAs d (lines_of bytes) readings
-    pub passed : passes o (text_of_replies d (replies_of d readings)) o'
-    pub line_count : lines ≡ length (lines_of bytes)
-    pub reply_count : replies ≡ count_of_replies (replies_of d readings)
+module _ {O : Type 0} (passes : O → List ℕ → O → Type 0) (d : Declared) where
+  -- the replies to all lines of the bytes, and nothing else; so many lines and so many replies
+  pub record PassesAll (o o' : O) (counts : Lines) (bytes : List ℕ) : Type 0 where
+    pub replies : List (Option Reply)
+    pub get : GetReplies d (lines_of bytes) replies
+    pub passed : passes o (text_of_replies d replies) o'
+    pub line_count : counts.lines ≡ length (lines_of bytes)
+    pub reply_count : counts.replies ≡ count_of_replies replies
 
-  -- Between two moments of the ends, bytes were taken: these ended lines, and then `rest`. The replies to the ended lines were
-  -- passed, and nothing else.
-  pub record AnswersEnded (i i' : I) (o o' : O) (ended : List (List ℕ)) (rest : List ℕ) : Type 0 where
-    pub readings : List Reading
-    pub taken : takes i (text_of_lines ended rest) i'
-    pub no_end : AllByRecursion HasNoEnd ended
-    pub come : ComeTo d ended readings
-    pub passed : passes o (text_of_replies d (replies_of d readings)) o'
-
-  -- the replies to all lines that end in the bytes taken were passed
-  pub record AnswersAllEnded (i i' : I) (o o' : O) : Type 0 where
+  -- the replies to the lines that end in the bytes, and nothing else
+  pub record PassesEnded (o o' : O) (bytes : List ℕ) : Type 0 where
     pub ended : List (List ℕ)
     pub rest : List ℕ
-    pub answers : AnswersEnded i i' o o' ended rest
-    pub unended : HasNoEnd rest
+    pub replies : List (Option Reply)
+    pub parts : EndIn bytes ended rest
+    pub get : GetReplies d ended replies
+    pub passed : passes o (text_of_replies d replies) o'
 
-  -- the bytes taken are past a limit, and the replies to all lines that end within both limits were passed
-  pub record AnswersToLimit (i i' : I) (o o' : O) : Type 0 where
-    pub ended : List (List ℕ)
-    pub rest : List ℕ
-    pub answers : AnswersEnded i i' o o' ended rest
-    pub past : IsPastLimit ended rest
-
-  -- Between two moments of the ends, bytes were taken, and of the replies to their first lines a front was passed.
-  pub record AnswersPart (i i' : I) (o o' : O) : Type 0 where
-    pub bytes : List ℕ
+  -- a front of the replies to the first lines of the bytes, which are no more than a run answers
+  pub record PassesFront (o o' : O) (bytes : List ℕ) : Type 0 where
     pub lines : List (List ℕ)
     pub others : List (List ℕ)
-    pub readings : List Reading
-    pub taken : takes i bytes i'
+    pub replies : List (Option Reply)
     pub first : lines_of bytes ≡ lines ++ others
-    pub come : ComeTo d lines readings
-    pub part : PassesPart passes o o' (text_of_replies d (replies_of d readings))
+    pub few : length lines ≤ most_lines
+    pub get : GetReplies d lines replies
+    pub front : PassesPart passes o o' (text_of_replies d replies)
+
+-- ---- a run, between two moments of its input and its output
+
+module _ {I O : Type 0} (takes : I → List ℕ → I → Type 0) (passes : O → List ℕ → O → Type 0) (d : Declared) where
+  -- bytes within the limits were taken, and the replies to all their lines were passed, and nothing else
+  pub record RepliesToAll (i i' : I) (o o' : O) (counts : Lines) : Type 0 where
+    pub bytes : List ℕ
+    pub taken : takes i bytes i'
+    pub within : IsWithinLimits bytes
+    pub passed : PassesAll passes d o o' counts bytes
+
+  -- bytes within the limits were taken, and the replies to the lines that end in them were passed, and nothing else
+  pub record RepliesToEnded (i i' : I) (o o' : O) : Type 0 where
+    pub bytes : List ℕ
+    pub taken : takes i bytes i'
+    pub within : IsWithinLimits bytes
+    pub passed : PassesEnded passes d o o' bytes
+
+  -- bytes past the limits were taken, and the replies to the lines that end within them were passed, and nothing else
+  pub record RepliesUpToLimit (i i' : I) (o o' : O) : Type 0 where
+    pub within : List ℕ
+    pub past : List ℕ
+    pub taken : takes i (within ++ past) i'
+    pub goes_past : GoesPastLimits within past
+    pub passed : PassesEnded passes d o o' within
+
+  -- bytes were taken, at most one more than a run answers, and a front of the replies to their first lines was passed
+  pub record RepliesInPart (i i' : I) (o o' : O) : Type 0 where
+    pub bytes : List ℕ
+    pub taken : takes i bytes i'
+    pub most : length bytes ≤ most_bytes + 1
+    pub passed : PassesFront passes d o o' bytes

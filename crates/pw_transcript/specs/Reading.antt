@@ -1,29 +1,27 @@
 -- How a line of a transcript reads: it is blank, it is refused, or it says a command.
 use Rattle.std.specs.Prelude.{◌≡◌, ℕ, ◌<◌, ◌≤◌, ◌==◌, Bool, true, false, List, [], ◌∷◌, length, Option, Some, None, is_some, Result, Ok, Err}
 use Rattle.std.specs.List.{list_all, filter_map}
-use Rattle.std.specs.Ordering.{nat_cmp}
-use Rattle.std.specs.FinSet.{FinSet, from_list}
+use Rattle.std.specs.FinSet.{from_list}
 use Rattle.pw_info.specs.declared.info.Info.{Info}
 use Rattle.pw_info.specs.Spelling.{SpellsInfo}
-use Rattle.pw_procs.specs.Place.{place_of}
-use Rattle.pw_transcript.specs.declared.command.Command.{Command}
-use Rattle.pw_transcript.specs.declared.command.Command.TheVariants as commands
-use Rattle.pw_transcript.specs.declared.reply.Refusal.{Refusal}
-use Rattle.pw_transcript.specs.declared.reply.Refusal.TheVariants as refusal
-use Rattle.pw_transcript.specs.First.{IsFirstIn, HoldsOfNone}
-use Rattle.pw_transcript.specs.Declaration.{Declared, owner_of, kind_at, members_of}
-use Rattle.pw_transcript.specs.Sentence.{Sentence, Tell, Believe, Doubt, Ask, Other, IsSentence}
-use Rattle.pw_transcript.specs.Words.{words_of, is_idle, is_allowed}
+use Rattle.pw_procs.specs.Place.{place_of_name}
+use Rattle.pw_sessions.specs.declared.command.Command.{Command}
+use Rattle.pw_sessions.specs.declared.command.Command.TheVariants as commands
+use Rattle.pw_sessions.specs.declared.reply.Refusal.{Refusal}
+use Rattle.pw_sessions.specs.declared.reply.Refusal.TheVariants as refusal
+use Rattle.pw_sessions.specs.LineReading.{LineReading, Blank, Refused, Says}
+use Rattle.pw_premises.specs.Premises.{Premises}
+use Rattle.pw_info.specs.First.{IsFirstIn, HoldsOfNone}
+use Rattle.pw_decl.specs.Declaration.{Declared, owner_of, kind_at, members_of}
+use Rattle.pw_transcript.specs.Limits.{most_line_bytes}
+use Rattle.pw_transcript.specs.Sentence.{Said, Tell, Believe, Doubt, Ask, Other, Sentence, IsSentence}
+use Rattle.pw_info.specs.Words.{words_of, is_idle, is_allowed}
 
 -- ---- what the declaration says of names
 
--- a set of premises, each by its number
-abbrev pub Premises : Type 0
-Premises = FinSet nat_cmp
-
 -- the word names a premise
 abbrev pub is_known : Declared → List ℕ → Bool
-is_known d word = is_some (place_of d.premises word)
+is_known d word = is_some (place_of_name d.premises word)
 
 abbrev pub is_owner : ℕ → Option ℕ → Bool
 is_owner user None = true
@@ -35,81 +33,85 @@ may_use_at d user (Some premise) = is_owner user (owner_of d premise)
 
 -- the user may tell under the premise that the word names: it belongs to no user, or to this one
 abbrev pub may_use : Declared → ℕ → List ℕ → Bool
-may_use d user word = may_use_at d user (place_of d.premises word)
+may_use d user word = may_use_at d user (place_of_name d.premises word)
 
 -- the premises that the words name
 abbrev pub premises_of : Declared → List (List ℕ) → Premises
-premises_of d words = from_list (filter_map (place_of d.premises) words)
+premises_of d words = from_list (filter_map (place_of_name d.premises) words)
 
 -- ---- sentences
 
--- the sentence means the command: each of its words names what the command has there
-abbrev pub Means : Declared → Sentence → Command → Type 0
-Means d (Tell user_word cell_word info_word words) command =
-    (user : ℕ) × (cell : ℕ) × (info : Info) × (place_of d.users user_word ≡ Some user) × (place_of d.cells cell_word ≡ Some cell)
-    × SpellsInfo (members_of d) info_word (kind_at d cell) info
+-- what is said by this user means the command: each word names what the command has there
+abbrev pub MeansFor : Declared → ℕ → Said → Command → Type 0
+MeansFor d user (Tell cell_word info_word words) command =
+    (cell : ℕ) × (info : Info) × (place_of_name d.cells cell_word ≡ Some cell) × SpellsInfo (members_of d) info_word (kind_at d cell) info
     × (command ≡ commands.Tell user cell (record { info = info; support = premises_of d words }))
-Means d (Believe user_word words) command =
-    (user : ℕ) × (place_of d.users user_word ≡ Some user) × (command ≡ commands.Believe user (premises_of d words))
-Means d (Doubt user_word words) command =
-    (user : ℕ) × (place_of d.users user_word ≡ Some user) × (command ≡ commands.Doubt user (premises_of d words))
-Means d (Ask user_word cell_word) command =
-    (user : ℕ) × (cell : ℕ) × (place_of d.users user_word ≡ Some user) × (place_of d.cells cell_word ≡ Some cell)
-    × (command ≡ commands.Ask user cell)
-Means d (Other user_word) command = ⊥
+MeansFor d user (Believe words) command = command ≡ commands.Believe user (premises_of d words)
+MeansFor d user (Doubt words) command = command ≡ commands.Doubt user (premises_of d words)
+MeansFor d user (Ask cell_word) command =
+    (cell : ℕ) × (place_of_name d.cells cell_word ≡ Some cell) × (command ≡ commands.Ask user cell)
+MeansFor d user Other command = ⊥
 
-abbrev pub user_word_of : Sentence → List ℕ
-user_word_of (Tell user cell info premises) = user
-user_word_of (Believe user premises) = user
-user_word_of (Doubt user premises) = user
-user_word_of (Ask user cell) = user
-user_word_of (Other user) = user
+-- the sentence means the command: its first word names the user, and what is said means the command for this user
+abbrev pub Means : Declared → Sentence → Command → Type 0
+Means d sentence command = (user : ℕ) × (place_of_name d.users sentence.user ≡ Some user) × MeansFor d user sentence.said command
 
-abbrev pub premise_words_of : Sentence → List (List ℕ)
-premise_words_of (Tell user cell info premises) = premises
-premise_words_of (Believe user premises) = premises
-premise_words_of (Doubt user premises) = premises
-premise_words_of sentence = []
+abbrev pub premise_words_of : Said → List (List ℕ)
+premise_words_of (Tell cell info premises) = premises
+premise_words_of (Believe premises) = premises
+premise_words_of (Doubt premises) = premises
+premise_words_of said = []
 
-abbrev pub HasUnknownCommand : Sentence → Type 0
-HasUnknownCommand (Other user) = Unit {0}
-HasUnknownCommand sentence = ⊥
+abbrev pub HasUnknownCommand : Said → Type 0
+HasUnknownCommand Other = Unit {0}
+HasUnknownCommand said = ⊥
 
-abbrev pub HasUnknownCell : Declared → Sentence → Type 0
-HasUnknownCell d (Tell user cell info premises) = place_of d.cells cell ≡ None
-HasUnknownCell d (Ask user cell) = place_of d.cells cell ≡ None
-HasUnknownCell d sentence = ⊥
+abbrev pub HasUnknownCell : Declared → Said → Type 0
+HasUnknownCell d (Tell cell info premises) = place_of_name d.cells cell ≡ None
+HasUnknownCell d (Ask cell) = place_of_name d.cells cell ≡ None
+HasUnknownCell d said = ⊥
 
 -- the word spells no information of the cell's kind
-abbrev pub HasWrongInformation : Declared → Sentence → Type 0
-HasWrongInformation d (Tell user cell_word info_word premises) =
-    (cell : ℕ) × (place_of d.cells cell_word ≡ Some cell)
+abbrev pub HasWrongInformation : Declared → Said → Type 0
+HasWrongInformation d (Tell cell_word info_word premises) =
+    (cell : ℕ) × (place_of_name d.cells cell_word ≡ Some cell)
     × ((info : Info) → SpellsInfo (members_of d) info_word (kind_at d cell) info → ⊥)
-HasWrongInformation d sentence = ⊥
+HasWrongInformation d said = ⊥
 
--- a tell under a premise of another user
-abbrev pub HasAnothersPremise : Declared → Sentence → Type 0
-HasAnothersPremise d (Tell user_word cell info premises) =
-    (user : ℕ) × (place_of d.users user_word ≡ Some user) × (list_all (may_use d user) premises ≡ false)
-HasAnothersPremise d sentence = ⊥
+abbrev pub HasUnknownPremise : Declared → Said → Type 0
+HasUnknownPremise d said = list_all (is_known d) (premise_words_of said) ≡ false
+
+-- a tell by this user under a premise of another user
+abbrev pub HasAnothersPremise : Declared → ℕ → Said → Type 0
+HasAnothersPremise d user (Tell cell info premises) = list_all (may_use d user) premises ≡ false
+HasAnothersPremise d user said = ⊥
 
 -- the condition of each refusal on a sentence
-abbrev pub AppliesTo : Declared → Sentence → Refusal → Type 0
-AppliesTo d sentence refusal.UnknownUser = place_of d.users (user_word_of sentence) ≡ None
-AppliesTo d sentence refusal.UnknownCommand = HasUnknownCommand sentence
-AppliesTo d sentence refusal.UnknownCell = HasUnknownCell d sentence
-AppliesTo d sentence refusal.WrongInformation = HasWrongInformation d sentence
-AppliesTo d sentence refusal.UnknownPremise = list_all (is_known d) (premise_words_of sentence) ≡ false
-AppliesTo d sentence refusal.NotYourPremise = HasAnothersPremise d sentence
-AppliesTo d sentence refusal.Syntax = ⊥
-AppliesTo d sentence refusal.LineTooLong = ⊥
-AppliesTo d sentence refusal.Memory = ⊥
+abbrev pub RefusalAppliesTo : Declared → Sentence → Refusal → Type 0
+RefusalAppliesTo d sentence refusal.UnknownUser = place_of_name d.users sentence.user ≡ None
+RefusalAppliesTo d sentence refusal.UnknownCommand = HasUnknownCommand sentence.said
+RefusalAppliesTo d sentence refusal.UnknownCell = HasUnknownCell d sentence.said
+RefusalAppliesTo d sentence refusal.WrongInformation = HasWrongInformation d sentence.said
+RefusalAppliesTo d sentence refusal.UnknownPremise = HasUnknownPremise d sentence.said
+RefusalAppliesTo d sentence refusal.NotYourPremise =
+    (user : ℕ) × (place_of_name d.users sentence.user ≡ Some user) × HasAnothersPremise d user sentence.said
+RefusalAppliesTo d sentence refusal.Syntax = ⊥
+RefusalAppliesTo d sentence refusal.LineTooLong = ⊥
+RefusalAppliesTo d sentence refusal.Memory = ⊥
 
 -- the refusals of a sentence, in the order in which they are tried
 abbrev pub sentence_refusals : List Refusal
 sentence_refusals =
     refusal.UnknownUser ∷ refusal.UnknownCommand ∷ refusal.UnknownCell ∷ refusal.WrongInformation ∷ refusal.UnknownPremise
     ∷ refusal.NotYourPremise ∷ []
+
+-- no refusal applies to the sentence
+abbrev pub IsUnrefused : Declared → Sentence → Type 0
+IsUnrefused d sentence = HoldsOfNone (RefusalAppliesTo d sentence) sentence_refusals
+
+-- this is the first refusal that applies to the sentence
+abbrev pub IsRefusedWith : Declared → Sentence → Refusal → Type 0
+IsRefusedWith d sentence refusal = IsFirstIn (RefusalAppliesTo d sentence) sentence_refusals refusal
 
 -- ---- lines
 
@@ -118,36 +120,30 @@ abbrev pub SaysSentence : List ℕ → Sentence → Type 0
 SaysSentence line sentence = (is_idle line ≡ false) × (list_all is_allowed line ≡ true) × IsSentence (words_of line) sentence
 
 -- the condition of a refusal on what the line says
-abbrev pub AppliesToLine : Declared → List ℕ → Refusal → Type 0
-AppliesToLine d line refusal = (sentence : Sentence) × SaysSentence line sentence × AppliesTo d sentence refusal
+abbrev pub RefusalAppliesToLine : Declared → List ℕ → Refusal → Type 0
+RefusalAppliesToLine d line refusal = (sentence : Sentence) × SaysSentence line sentence × RefusalAppliesTo d sentence refusal
 
 -- the condition of each refusal on a line
-abbrev pub Applies : Declared → List ℕ → Refusal → Type 0
-Applies d line refusal.LineTooLong = 1024 < length line
-Applies d line refusal.Syntax = (is_idle line ≡ false) × ((sentence : Sentence) → SaysSentence line sentence → ⊥)
-Applies d line refusal = AppliesToLine d line refusal
+abbrev pub RefusalApplies : Declared → List ℕ → Refusal → Type 0
+RefusalApplies d line refusal.LineTooLong = most_line_bytes < length line
+RefusalApplies d line refusal.Syntax = (is_idle line ≡ false) × ((sentence : Sentence) → SaysSentence line sentence → ⊥)
+RefusalApplies d line refusal = RefusalAppliesToLine d line refusal
 
 -- the refusals of a line, in the order in which they are tried; want of memory is none of the line's own
 abbrev pub line_refusals : List Refusal
 line_refusals = refusal.LineTooLong ∷ refusal.Syntax ∷ sentence_refusals
 
--- how a line reads
-pub data Reading : Type 0 where
-  Blank : Reading
-  Refused : Refusal → Reading
-  Says : Command → Reading
-
 -- blank lines and comments of at most 1,024 bytes are blank; a line that some refusal applies to is refused for the first;
 -- any other line says what its sentence means
-abbrev pub Reads : Declared → List ℕ → Reading → Type 0
-Reads d line Blank = (length line ≤ 1024) × (is_idle line ≡ true)
-Reads d line (Refused refusal) = IsFirstIn (Applies d line) line_refusals refusal
+abbrev pub Reads : Declared → List ℕ → LineReading → Type 0
+Reads d line Blank = (length line ≤ most_line_bytes) × (is_idle line ≡ true)
+Reads d line (Refused refusal) = IsFirstIn (RefusalApplies d line) line_refusals refusal
 Reads d line (Says command) =
-    HoldsOfNone (Applies d line) line_refusals
+    HoldsOfNone (RefusalApplies d line) line_refusals
     × ((sentence : Sentence) × SaysSentence line sentence × Means d sentence command)
 
 -- what `read_command` answers, as a reading
-abbrev pub reading_of : Result (Option Command) Refusal → Reading
+abbrev pub reading_of : Result (Option Command) Refusal → LineReading
 reading_of (Ok None) = Blank
 reading_of (Ok (Some command)) = Says command
 reading_of (Err refusal) = Refused refusal

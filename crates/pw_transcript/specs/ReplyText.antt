@@ -4,11 +4,11 @@ use Rattle.std.specs.Fmt.{decimal}
 use Rattle.pw_info.specs.Information.{kind_of}
 use Rattle.pw_info.specs.SetNames.{IsNamed}
 use Rattle.pw_info.specs.Text.{text_of_info}
-use Rattle.pw_transcript.specs.declared.reply.Reply.{Reply}
-use Rattle.pw_transcript.specs.declared.reply.Reply.TheVariants as reply
-use Rattle.pw_transcript.specs.declared.reply.Refusal.{Refusal}
-use Rattle.pw_transcript.specs.declared.reply.Refusal.TheVariants as refusal
-use Rattle.pw_transcript.specs.Declaration.{Declared, members_of}
+use Rattle.pw_sessions.specs.declared.reply.Reply.{Reply}
+use Rattle.pw_sessions.specs.declared.reply.Reply.TheVariants as reply
+use Rattle.pw_sessions.specs.declared.reply.Refusal.{Refusal}
+use Rattle.pw_sessions.specs.declared.reply.Refusal.TheVariants as refusal
+use Rattle.pw_decl.specs.Declaration.{Declared, members_of}
 
 -- the number and the words of a refusal
 abbrev pub text_of_refusal : Refusal → List ℕ

@@ -1,13 +1,8 @@
 -- What is taken from an input between two moments.
 use Rattle.std.specs.Prelude.{ℕ, ◌≤◌, List, [], length, take, Result, MatchResult}
 
--- a take that answers n gives no more than the buffer holds, and what it took stands in front there; one that fails takes nothing
+-- a take that answers n gives no more than the buffer holds, and what it took stands in front there; one that fails
+-- takes nothing
 abbrev pub TakeFills : {S E : Type 0} → (S → List ℕ → S → Type 0) → S → S → Result ℕ E → List ℕ → Type 0
 TakeFills takes old new r buffer =
     MatchResult r (λ n. (n ≤ length buffer) × takes old (take n buffer) new) (λ _. takes old [] new)
-
--- at most so many bytes were taken between two moments
-pub record TakesAtMost {S : Type 0} (takes : S → List ℕ → S → Type 0) (old new : S) (most : ℕ) : Type 0 where
-  pub bytes : List ℕ
-  pub taken : takes old bytes new
-  pub within : length bytes ≤ most

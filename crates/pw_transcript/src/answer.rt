@@ -1,29 +1,27 @@
 // The answer to one line.
 
-ghost use Rattle.std.specs.Prelude.{◌≡◌, ℕ, List, true, false, IfSome, IfOk, OnOk, OnErr};
+ghost use Rattle.std.specs.Prelude.{◌≡◌, true, false, IfSome, IfOk, OnOk, OnErr};
 ghost use Rattle.std.specs.Option.{option_copied};
-ghost use Rattle.pw_transcript.specs.Answering.{held_line, RepliesToLine, AnswersLine, FailsInLine};
-ghost use Rattle.pw_transcript.specs.Past.{Fits};
+ghost use Rattle.pw_transcript.specs.Steps.Answering.{IsLeft, RepliesToHeld, PassesHeldReply, FailsInHeldReply};
 ghost use Rattle.pw_transcript.specs.ReplyText.{IsReplyNamed};
 
 use crate::command_text::read_command;
-use crate::declaration::Declaration;
-use crate::history::History;
-use crate::reply::{Refusal, Reply};
 use crate::reply_text::write_reply;
-use pw_info::output::{Failed, Output};
+use pw_decl::Declaration;
+use pw_info::{Failed, Output};
+use pw_sessions::{Refusal, Reply, Workbench};
 use std::alloc::Allocator;
 
 // The reply to a line, None where it gets none. The line is handed in where it has at most 1,024 bytes.
 fn reply_to_line<A: Allocator + Copy, B: Allocator + Copy>(
     declaration: &Declaration<A>,
     line: Option<&[u8]>,
-    history: &mut History<B>,
+    workbench: &mut Workbench<B>,
 ) -> Option<Reply>
-    requires fits { Fits declaration.now history.old }
+    requires left { IsLeft declaration.now workbench.old }
     ensures named { IfSome result (λ reply. IsReplyNamed declaration.now reply) }
-    ensures reply { (bytes : List ℕ) → option_copied line.entry ≡ held_line bytes → RepliesToLine declaration.now bytes history.old history.new result }
-    ensures fits { Fits declaration.now history.new }
+    ensures reply { RepliesToHeld declaration.now (option_copied line.entry) workbench.old workbench.new result }
+    ensures left { IsLeft declaration.now workbench.new }
 {
     // Cells have kinds whose members are named.
     declaration.limits();
@@ -32,7 +30,7 @@ fn reply_to_line<A: Allocator + Copy, B: Allocator + Copy>(
     };
     match read_command(line, declaration) {
         Ok(None) => None,
-        Ok(Some(command)) => Some(history.carry_out(&command)),
+        Ok(Some(command)) => Some(workbench.carry_out(&command)),
         Err(refusal) => Some(Reply::Refused(refusal)),
     }
 }
@@ -41,23 +39,23 @@ fn reply_to_line<A: Allocator + Copy, B: Allocator + Copy>(
 /// has at most 1,024 bytes. The answer is whether there was a reply; `Failed` where the output failed, and a front of
 /// the reply was passed then.
 pub(crate) fn answer_line<A: Allocator + Copy, B: Allocator + Copy, O: Output>(
-    declaration: &Declaration<A>,
+    d: &Declaration<A>,
     number: u32,
     line: Option<&[u8]>,
-    history: &mut History<B>,
+    workbench: &mut Workbench<B>,
     output: &mut O,
 ) -> Result<bool, Failed>
-    requires fits { Fits declaration.now history.old }
-    ensures ok { IfOk result (λ replied. (bytes : List ℕ) → option_copied line.entry ≡ held_line bytes → AnswersLine O.passes declaration.now number bytes history.old history.new output.old output.new replied) }
-    ensures err { OnErr result ((bytes : List ℕ) → option_copied line.entry ≡ held_line bytes → FailsInLine O.passes declaration.now number bytes history.old output.old output.new) }
+    requires left { IsLeft d.now workbench.old }
+    ensures ok { IfOk result (PassesHeldReply O.passes d.now number (option_copied line.entry) workbench.old workbench.new output.old output.new) }
+    ensures err { OnErr result (FailsInHeldReply O.passes d.now number (option_copied line.entry) workbench.old output.old output.new) }
     ensures failed { OnErr result (O.has_failed output.new ≡ true) }
     ensures works { OnOk result (O.has_failed output.old ≡ false → O.has_failed output.new ≡ false) }
-    ensures fits { Fits declaration.now history.new }
+    ensures left { IsLeft d.now workbench.new }
 {
-    let Some(reply) = reply_to_line(declaration, line, history) else {
+    let Some(reply) = reply_to_line(d, line, workbench) else {
         return Ok(false);
     };
-    match write_reply(number, &reply, declaration, output) {
+    match write_reply(number, &reply, d, output) {
         Ok(()) => Ok(true),
         Err(fault) => Err(fault),
     }

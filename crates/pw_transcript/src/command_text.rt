@@ -1,41 +1,43 @@
-// Reading a line of a transcript: its form first, then its names, in the order in which refusals are tried.
+//! Reading a line of a transcript: its form first, then its names, in the order in which refusals are tried.
 
-ghost use Rattle.std.specs.Prelude.{◌≡◌, ◌<◌, true, false, length, IfSome, IfNone, IfOk, IfErr, OnOk};
+ghost use Rattle.std.specs.Prelude.{◌≡◌, true, false, IfOk, IfErr, OnOk, OnErr};
 ghost use Rattle.std.specs.List.{list_all};
-ghost use Rattle.pw_transcript.specs.First.{IsFirstIn, HoldsOfNone};
-ghost use Rattle.pw_transcript.specs.Sentence as said;
+ghost use Rattle.pw_sessions.specs.LineReading.{LineReading};
+ghost use Rattle.pw_transcript.specs.Sentence.{Tell, Ask};
+ghost use Rattle.pw_transcript.specs.Steps.Forms.{said_in, sentence_in};
+ghost use Rattle.pw_transcript.specs.Steps.Resolving.{IsFree, IsRefusedFor};
+ghost use Rattle.pw_transcript.specs.Reading.{MeansFor};
 ghost use Rattle.pw_transcript.specs.Reading as spec;
 
-use crate::command::Command;
-use crate::declaration::Declaration;
-use crate::reply::Refusal;
-use crate::sentence::{Spoken, read_sentence};
-use crate::words::{Words, allows_all, idles};
+use crate::sentence::{Said, Sentence, read_sentence};
+use pw_decl::Declaration;
 use pw_facts::Fact;
-use pw_info::text::read_info;
+use pw_info::{Words, allows_all, idles, read_info};
 use pw_premises::PremiseSet;
+use pw_sessions::{Command, Refusal};
 use std::alloc::Allocator;
 
 /// How many bytes a line may have.
 pub const MOST_LINE_BYTES: usize = 1024;
 
-// The premises that the words name, None where one of them names none.
+// The premises that the words name, or the refusal of a word that names none.
 fn premise_set<A: Allocator + Copy>(
     declaration: &Declaration<A>,
     mut words: Words<'_>,
-) -> Option<PremiseSet>
-    ensures some { IfSome result (λ set. set ≡ spec.premises_of declaration.now words.entry) }
-    ensures known { IfSome result (λ set. list_all (spec.is_known declaration.now) words.entry ≡ true) }
-    ensures none { IfNone result (list_all (spec.is_known declaration.now) words.entry ≡ false) }
+) -> Result<PremiseSet, Refusal>
+    ensures ok { IfOk result (λ set. set ≡ spec.premises_of declaration.now words.entry) }
+    ensures known { OnOk result (list_all (spec.is_known declaration.now) words.entry ≡ true) }
+    ensures unknown { OnErr result (list_all (spec.is_known declaration.now) words.entry ≡ false) }
+    ensures err { IfErr result (λ refusal. refusal ≡ Refusal.UnknownPremise) }
 {
     let mut set = PremiseSet::empty();
     while let Some(word) = words.next() {
         let Some(premise) = declaration.premise(word) else {
-            return None;
+            return Err(Refusal::UnknownPremise);
         };
         set = set.join(PremiseSet::one(premise));
     }
-    Some(set)
+    Ok(set)
 }
 
 // Whether the user may tell under the premise that the word names.
@@ -67,27 +69,25 @@ fn may_use_all<A: Allocator + Copy>(
     true
 }
 
+// What a user tells.
 fn resolve_tell<A: Allocator + Copy>(
     declaration: &Declaration<A>,
-    user: &[u8],
+    user: u8,
     cell: &[u8],
     info: &[u8],
     premises: Words<'_>,
 ) -> Result<Command, Refusal>
-    ensures ok { IfOk result (λ command. spec.Means declaration.now (said.Tell user.now cell.now info.now premises.entry) command) }
-    ensures none { OnOk result (HoldsOfNone (spec.AppliesTo declaration.now (said.Tell user.now cell.now info.now premises.entry)) spec.sentence_refusals) }
-    ensures err { IfErr result (λ refusal. IsFirstIn (spec.AppliesTo declaration.now (said.Tell user.now cell.now info.now premises.entry)) spec.sentence_refusals refusal) }
+    ensures ok { IfOk result (λ command. MeansFor declaration.now user (Tell cell.now info.now premises.entry) command) }
+    ensures none { OnOk result (IsFree declaration.now user (Tell cell.now info.now premises.entry)) }
+    ensures err { IfErr result (λ refusal. IsRefusedFor declaration.now user (Tell cell.now info.now premises.entry) refusal) }
 {
-    let Some(user) = declaration.user(user) else {
-        return Err(Refusal::UnknownUser);
-    };
     let Some(cell) = declaration.cell(cell) else {
         return Err(Refusal::UnknownCell);
     };
     let Some(info) = read_info(info, declaration.cell_kind(cell), declaration) else {
         return Err(Refusal::WrongInformation);
     };
-    let Some(support) = premise_set(declaration, premises.again()) else {
+    let Ok(support) = premise_set(declaration, premises.again()) else {
         return Err(Refusal::UnknownPremise);
     };
     if !may_use_all(declaration, user, premises) {
@@ -97,90 +97,63 @@ fn resolve_tell<A: Allocator + Copy>(
     Ok(Command::Tell { user, cell, fact })
 }
 
-fn resolve_believe<A: Allocator + Copy>(
-    declaration: &Declaration<A>,
-    user: &[u8],
-    premises: Words<'_>,
-) -> Result<Command, Refusal>
-    ensures ok { IfOk result (λ command. spec.Means declaration.now (said.Believe user.now premises.entry) command) }
-    ensures none { OnOk result (HoldsOfNone (spec.AppliesTo declaration.now (said.Believe user.now premises.entry)) spec.sentence_refusals) }
-    ensures err { IfErr result (λ refusal. IsFirstIn (spec.AppliesTo declaration.now (said.Believe user.now premises.entry)) spec.sentence_refusals refusal) }
-{
-    let Some(user) = declaration.user(user) else {
-        return Err(Refusal::UnknownUser);
-    };
-    let Some(premises) = premise_set(declaration, premises) else {
-        return Err(Refusal::UnknownPremise);
-    };
-    Ok(Command::Believe { user, premises })
-}
-
-fn resolve_doubt<A: Allocator + Copy>(
-    declaration: &Declaration<A>,
-    user: &[u8],
-    premises: Words<'_>,
-) -> Result<Command, Refusal>
-    ensures ok { IfOk result (λ command. spec.Means declaration.now (said.Doubt user.now premises.entry) command) }
-    ensures none { OnOk result (HoldsOfNone (spec.AppliesTo declaration.now (said.Doubt user.now premises.entry)) spec.sentence_refusals) }
-    ensures err { IfErr result (λ refusal. IsFirstIn (spec.AppliesTo declaration.now (said.Doubt user.now premises.entry)) spec.sentence_refusals refusal) }
-{
-    let Some(user) = declaration.user(user) else {
-        return Err(Refusal::UnknownUser);
-    };
-    let Some(premises) = premise_set(declaration, premises) else {
-        return Err(Refusal::UnknownPremise);
-    };
-    Ok(Command::Doubt { user, premises })
-}
-
+// What a user asks for.
 fn resolve_ask<A: Allocator + Copy>(
     declaration: &Declaration<A>,
-    user: &[u8],
+    user: u8,
     cell: &[u8],
 ) -> Result<Command, Refusal>
-    ensures ok { IfOk result (λ command. spec.Means declaration.now (said.Ask user.now cell.now) command) }
-    ensures none { OnOk result (HoldsOfNone (spec.AppliesTo declaration.now (said.Ask user.now cell.now)) spec.sentence_refusals) }
-    ensures err { IfErr result (λ refusal. IsFirstIn (spec.AppliesTo declaration.now (said.Ask user.now cell.now)) spec.sentence_refusals refusal) }
+    ensures ok { IfOk result (λ command. MeansFor declaration.now user (Ask cell.now) command) }
+    ensures none { OnOk result (IsFree declaration.now user (Ask cell.now)) }
+    ensures err { IfErr result (λ refusal. IsRefusedFor declaration.now user (Ask cell.now) refusal) }
 {
-    let Some(user) = declaration.user(user) else {
-        return Err(Refusal::UnknownUser);
-    };
-    let Some(cell) = declaration.cell(cell) else {
-        return Err(Refusal::UnknownCell);
-    };
-    Ok(Command::Ask { user, cell })
+    match declaration.cell(cell) {
+        Some(cell) => Ok(Command::Ask { user, cell }),
+        None => Err(Refusal::UnknownCell),
+    }
 }
 
-// A command that there is not: only its user is looked up.
-fn refuse_other<A: Allocator + Copy>(declaration: &Declaration<A>, user: &[u8]) -> Refusal
-    ensures { IsFirstIn (spec.AppliesTo declaration.now (said.Other user.now)) spec.sentence_refusals result }
+// The command that is meant by what a user says, or its first refusal.
+fn resolve_said<A: Allocator + Copy>(
+    declaration: &Declaration<A>,
+    user: u8,
+    said: Said<'_>,
+) -> Result<Command, Refusal>
+    ensures ok { IfOk result (λ command. MeansFor declaration.now user (said_in said.entry) command) }
+    ensures none { OnOk result (IsFree declaration.now user (said_in said.entry)) }
+    ensures err { IfErr result (λ refusal. IsRefusedFor declaration.now user (said_in said.entry) refusal) }
 {
-    match declaration.user(user) {
-        Some(_) => Refusal::UnknownCommand,
-        None => Refusal::UnknownUser,
+    match said {
+        Said::Tell {
+            cell,
+            info,
+            premises,
+        } => resolve_tell(declaration, user, cell, info, premises),
+        Said::Believe { premises } => match premise_set(declaration, premises) {
+            Ok(premises) => Ok(Command::Believe { user, premises }),
+            Err(refusal) => Err(refusal),
+        },
+        Said::Doubt { premises } => match premise_set(declaration, premises) {
+            Ok(premises) => Ok(Command::Doubt { user, premises }),
+            Err(refusal) => Err(refusal),
+        },
+        Said::Ask { cell } => resolve_ask(declaration, user, cell),
+        Said::Other => Err(Refusal::UnknownCommand),
     }
 }
 
 // The command that a sentence means, or its first refusal.
 fn resolve<A: Allocator + Copy>(
     declaration: &Declaration<A>,
-    sentence: Spoken<'_>,
+    sentence: Sentence<'_>,
 ) -> Result<Command, Refusal>
-    ensures ok { IfOk result (λ command. spec.Means declaration.now (said.view sentence.entry) command) }
-    ensures none { OnOk result (HoldsOfNone (spec.AppliesTo declaration.now (said.view sentence.entry)) spec.sentence_refusals) }
-    ensures err { IfErr result (λ refusal. IsFirstIn (spec.AppliesTo declaration.now (said.view sentence.entry)) spec.sentence_refusals refusal) }
+    ensures ok { IfOk result (λ command. spec.Means declaration.now (sentence_in sentence.entry) command) }
+    ensures none { OnOk result (spec.IsUnrefused declaration.now (sentence_in sentence.entry)) }
+    ensures err { IfErr result (λ refusal. spec.IsRefusedWith declaration.now (sentence_in sentence.entry) refusal) }
 {
-    match sentence {
-        Spoken::Tell {
-            user,
-            cell,
-            info,
-            premises,
-        } => resolve_tell(declaration, user, cell, info, premises),
-        Spoken::Believe { user, premises } => resolve_believe(declaration, user, premises),
-        Spoken::Doubt { user, premises } => resolve_doubt(declaration, user, premises),
-        Spoken::Ask { user, cell } => resolve_ask(declaration, user, cell),
-        Spoken::Other { user } => Err(refuse_other(declaration, user)),
+    match declaration.user(sentence.user) {
+        Some(user) => resolve_said(declaration, user, sentence.said),
+        None => Err(Refusal::UnknownUser),
     }
 }
 
@@ -194,7 +167,7 @@ pub fn read_command<A: Allocator + Copy>(
 ) -> Result<Option<Command>, Refusal>
     ensures reads { spec.Reads declaration.now line.now (spec.reading_of result) }
     // No line has another reading.
-    ensures only { (other : spec.Reading) → spec.Reads declaration.now line.now other → other ≡ spec.reading_of result }
+    ensures only { (other : LineReading) → spec.Reads declaration.now line.now other → other ≡ spec.reading_of result }
 {
     // Members of sets have names, so that no word spells two informations.
     declaration.limits();

@@ -1,7 +1,7 @@
 // An output that gathers what is put into it, and passes it on in large pieces.
 ghost use Rattle.std.specs.Prelude.{◌≡◌, ◌≤◌, ◌<◌, ℕ, List, [], ◌++◌, length, take, drop, true, false, is_err, OnOk, Some};
 
-use pw_info::output::{Failed, Output};
+use pw_info::{Failed, Output};
 use std::marker::Model;
 
 // How many bytes are held at most.
@@ -77,7 +77,7 @@ pub struct Gathered<'a, O> {
 }
 
 impl<'a, O: Output> Gathered<'a, O> {
-    ghost use Rattle.pw_transcript.specs.Gatherers.{output_of, held_of, GatheredPasses};
+    ghost use Rattle.pw_transcript.specs.Steps.Gatherers.{output_of, held_of, GatheredPasses};
 
     /// A gathering output over the output, which holds nothing.
     pub fn new(output: &'a mut O) -> Gathered<'a, O>
@@ -113,7 +113,7 @@ impl<'a, O: Output> Gathered<'a, O> {
 }
 
 impl<O: Output> Output for Gathered<'_, O> {
-    ghost use Rattle.pw_transcript.specs.Gatherers.{output_of, GatheredPasses, GatheredPasses-none, GatheredPasses-joins};
+    ghost use Rattle.pw_transcript.specs.Steps.Gatherers.{output_of, GatheredPasses, GatheredPasses-none, GatheredPasses-joins};
 
     ghost passes = { GatheredPasses O.passes };
 

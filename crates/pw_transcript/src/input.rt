@@ -1,10 +1,10 @@
 // The end that gives bytes: what was taken from it, when it has failed, and when it has ended.
 ghost use Rattle.std.specs.Prelude.{◌≡◌, ◌<◌, ℕ, List, [], ◌++◌, length, Bool, true, false, is_err, IsErr, IfOk, OnErr};
-ghost use Rattle.std.specs.Io.KnownBytes.{Consumes};
 ghost use Rattle.std.proofs.KnownBytes.{Consumes-nil, Consumes-trans};
+ghost use Rattle.pw_transcript.specs.Readers.{ReaderTakes, NothingRemains};
 ghost use Rattle.pw_transcript.specs.Taking.{TakeFills};
 
-use pw_info::output::Failed;
+use pw_info::Failed;
 use std::io::Read;
 
 /// An end that gives bytes.
@@ -18,9 +18,11 @@ pub trait Input {
     ghost has_failed: { Self → Bool };
     // A take has answered the end.
     ghost has_ended: { Self → Bool };
+    // Nothing is left to take, as far as can be known.
+    ghost nothing_left: { Self → Type 0 };
 
     /// Takes bytes into the front of the buffer, and answers how many: never more than it holds.
-    /// For a buffer that is not empty, 0 is the end.
+    /// For a buffer that is not empty, 0 is the end: nothing is left to take then.
     ///
     /// A take that fails answers `Failed` and takes nothing. Each take after it does the same.
     /// After the end a take answers 0 again only if there is still nothing to give.
@@ -29,6 +31,7 @@ pub trait Input {
         ensures failed { has_failed self.new ≡ is_err result }
         ensures stays { has_failed self.old ≡ true → IsErr result }
         ensures ended { IfOk result (λ n. 0 < length buffer.new → n ≡ 0 → has_ended self.new ≡ true) }
+        ensures nothing_left { IfOk result (λ n. 0 < length buffer.new → n ≡ 0 → nothing_left self.new) }
         ensures goes_on { IfOk result (λ n. 0 < n → has_ended self.new ≡ has_ended self.old) }
         ensures no_room { length buffer.new ≡ 0 → has_ended self.new ≡ has_ended self.old }
         ensures no_end { OnErr result (has_ended self.new ≡ has_ended self.old) };
@@ -96,12 +99,13 @@ impl<R> Reading<R> {
 impl<R: Read> Input for Reading<R> {
     ghost use Rattle.pw_transcript.specs.Readers.{reader_of, reader_failed, reader_ended};
 
-    // Where the reader's bytes are known, they begin with those that are taken, and lose them.
-    ghost takes = { λ s bytes t. Consumes (R.remaining (reader_of s)) (R.remaining (reader_of t)) bytes };
+    ghost takes = { ReaderTakes R.remaining };
 
     ghost has_failed = { λ s. reader_failed s };
 
     ghost has_ended = { λ s. reader_ended s };
+
+    ghost nothing_left = { NothingRemains R.remaining };
 
     fn take(&mut self, buffer: &mut [u8]) -> Result<usize, Failed> {
         if self.failed {

@@ -1,7 +1,7 @@
 // What has come of a line that has not ended.
 
 ghost use Rattle.std.specs.Prelude.{◌≡◌, ◌==◌, ℕ, List, [], ◌++◌, length, option_copied};
-ghost use Rattle.pw_transcript.specs.Answering.{held_line};
+ghost use Rattle.pw_transcript.specs.Steps.Answering.{held_line};
 
 use std::marker::Model;
 
@@ -19,12 +19,13 @@ pub struct LineBuffer {
 
 impl Model for LineBuffer {
     ghost use Rattle.std.specs.Prelude.{◌≤◌, ℕ, List, Option, Some, None, take, if◌then◌else◌};
+    ghost use Rattle.pw_transcript.specs.Limits.{most_line_bytes};
 
     ghost Value = { Option (List ℕ) };
 
     ghost view = { λ b. if b.is_long then None else Some (take b.length b.bytes) };
 
-    ghost invariant = { λ b. b.length ≤ 1024 };
+    ghost invariant = { λ b. b.length ≤ most_line_bytes };
 }
 
 impl LineBuffer {

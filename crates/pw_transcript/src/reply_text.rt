@@ -1,15 +1,14 @@
-// Writing replies.
+//! Writing replies.
 
-ghost use Rattle.std.specs.Prelude.{◌≡◌, ◌++◌, true, false, codes, OnOk, OnErr};
+ghost use Rattle.std.specs.Prelude.{◌≡◌, ◌++◌, codes};
 ghost use Rattle.std.specs.Fmt.{decimal};
-ghost use Rattle.pw_info.specs.Passing.{PassesPart};
+ghost use Rattle.pw_info.specs.Passing.{Writes};
 ghost use Rattle.pw_transcript.specs.ReplyText.{IsReplyNamed, text_of_refusal, text_of_answer, text_of_reply};
 
-use crate::declaration::Declaration;
-use crate::reply::{Refusal, Reply};
 use itoa::Buffer;
-use pw_info::output::{Failed, Output, put_all};
-use pw_info::text::write_info;
+use pw_decl::Declaration;
+use pw_info::{Failed, Output, put_all, write_info};
+use pw_sessions::{Refusal, Reply};
 use std::alloc::Allocator;
 
 // The number and the words of a refusal.
@@ -30,12 +29,9 @@ fn refusal_text(refusal: Refusal) -> &'static [u8]
 }
 
 // Writes `refused` and why.
-#[tactic(auto, using(pw_info::proofs::PassingFacts::on_err_after))]
+#[tactic(auto, using(pw_info::proofs::PassingFacts::first_fails, pw_info::proofs::PassingFacts::second_writes))]
 fn write_refusal<O: Output>(refusal: Refusal, output: &mut O) -> Result<(), Failed>
-    ensures ok { OnOk result (O.passes output.old (codes "refused " ++ text_of_refusal refusal) output.new) }
-    ensures err { OnErr result (PassesPart O.passes output.old output.new (codes "refused " ++ text_of_refusal refusal)) }
-    ensures failed { OnErr result (O.has_failed output.new ≡ true) }
-    ensures works { OnOk result (O.has_failed output.old ≡ false → O.has_failed output.new ≡ false) }
+    ensures { Writes O.passes O.has_failed output.old output.new result (codes "refused " ++ text_of_refusal refusal) }
 {
     put_all(output, b"refused ")?;
     put_all(output, refusal_text(refusal))
@@ -48,10 +44,7 @@ fn write_answer<A: Allocator + Copy, O: Output>(
     output: &mut O,
 ) -> Result<(), Failed>
     requires named { IsReplyNamed declaration.now reply.now }
-    ensures ok { OnOk result (O.passes output.old (text_of_answer declaration.now reply.now) output.new) }
-    ensures err { OnErr result (PassesPart O.passes output.old output.new (text_of_answer declaration.now reply.now)) }
-    ensures failed { OnErr result (O.has_failed output.new ≡ true) }
-    ensures works { OnOk result (O.has_failed output.old ≡ false → O.has_failed output.new ≡ false) }
+    ensures { Writes O.passes O.has_failed output.old output.new result (text_of_answer declaration.now reply.now) }
 {
     match *reply {
         Reply::Done => put_all(output, b"ok"),
@@ -61,12 +54,9 @@ fn write_answer<A: Allocator + Copy, O: Output>(
 }
 
 // Writes the number of a line, a colon and a space.
-#[tactic(auto, using(pw_info::proofs::PassingFacts::on_err_after))]
+#[tactic(auto, using(pw_info::proofs::PassingFacts::first_fails, pw_info::proofs::PassingFacts::second_writes))]
 fn write_line_number<O: Output>(line: u32, output: &mut O) -> Result<(), Failed>
-    ensures ok { OnOk result (O.passes output.old (decimal line ++ codes ": ") output.new) }
-    ensures err { OnErr result (PassesPart O.passes output.old output.new (decimal line ++ codes ": ")) }
-    ensures failed { OnErr result (O.has_failed output.new ≡ true) }
-    ensures works { OnOk result (O.has_failed output.old ≡ false → O.has_failed output.new ≡ false) }
+    ensures { Writes O.passes O.has_failed output.old output.new result (decimal line ++ codes ": ") }
 {
     let mut digits = Buffer::new();
     put_all(output, digits.format(line).as_bytes())?;
@@ -74,17 +64,14 @@ fn write_line_number<O: Output>(line: u32, output: &mut O) -> Result<(), Failed>
 }
 
 // Writes what a reply says, and a line feed.
-#[tactic(auto, using(pw_info::proofs::PassingFacts::on_err_after))]
+#[tactic(auto, using(pw_info::proofs::PassingFacts::first_fails, pw_info::proofs::PassingFacts::second_writes))]
 fn write_answer_line<A: Allocator + Copy, O: Output>(
     reply: &Reply,
     declaration: &Declaration<A>,
     output: &mut O,
 ) -> Result<(), Failed>
     requires named { IsReplyNamed declaration.now reply.now }
-    ensures ok { OnOk result (O.passes output.old (text_of_answer declaration.now reply.now ++ codes "\n") output.new) }
-    ensures err { OnErr result (PassesPart O.passes output.old output.new (text_of_answer declaration.now reply.now ++ codes "\n")) }
-    ensures failed { OnErr result (O.has_failed output.new ≡ true) }
-    ensures works { OnOk result (O.has_failed output.old ≡ false → O.has_failed output.new ≡ false) }
+    ensures { Writes O.passes O.has_failed output.old output.new result (text_of_answer declaration.now reply.now ++ codes "\n") }
 {
     write_answer(reply, declaration, output)?;
     put_all(output, b"\n")
@@ -92,7 +79,7 @@ fn write_answer_line<A: Allocator + Copy, O: Output>(
 
 /// Writes the reply to a line: the number of the line, a colon and a space, what the reply says, and a line feed.
 /// It takes no memory. On `Failed` a front of the text was passed. The kind of a value is one of the declaration.
-#[tactic(auto, using(pw_info::proofs::PassingFacts::on_err_after))]
+#[tactic(auto, using(pw_info::proofs::PassingFacts::first_fails, pw_info::proofs::PassingFacts::second_writes))]
 pub fn write_reply<A: Allocator + Copy, O: Output>(
     line: u32,
     reply: &Reply,
@@ -100,10 +87,7 @@ pub fn write_reply<A: Allocator + Copy, O: Output>(
     output: &mut O,
 ) -> Result<(), Failed>
     requires named { IsReplyNamed declaration.now reply.now }
-    ensures ok { OnOk result (O.passes output.old (text_of_reply declaration.now line reply.now) output.new) }
-    ensures err { OnErr result (PassesPart O.passes output.old output.new (text_of_reply declaration.now line reply.now)) }
-    ensures failed { OnErr result (O.has_failed output.new ≡ true) }
-    ensures works { OnOk result (O.has_failed output.old ≡ false → O.has_failed output.new ≡ false) }
+    ensures { Writes O.passes O.has_failed output.old output.new result (text_of_reply declaration.now line reply.now) }
 {
     write_line_number(line, output)?;
     write_answer_line(reply, declaration, output)

@@ -1,14 +1,11 @@
-//! What the program does: it answers the commands of a transcript.
+//! The job itself: the declaration is loaded, and the transcript answered on standard output.
 
-use crate::arguments::{Job, read_arguments};
-use crate::ending::Stop;
+use crate::arguments::Job;
 use crate::fault::Fault;
 use crate::files::load_declaration;
-use crate::procedures::do_job;
-use pw_info::output::Writing;
-use pw_transcript::Declaration;
-use pw_transcript::input::Reading;
-use pw_transcript::transcript::{RunFault, run};
+use pw_decl::Declaration;
+use pw_info::Writing;
+use pw_transcript::{Reading, RunFault, run};
 use std::io::Read;
 use std::rt::Files;
 use std::{fs, io};
@@ -38,15 +35,5 @@ pub fn answer_job<'a, R: Files + Input + Print + AllocGlobal>(
         },
         None => answer(rt, &declaration, rt.reader())?,
     }
-    Ok(())
-}
-
-/// Does what the words of the command line ask for.
-pub fn carry_out<'a, R: Files + Input + Print + AllocGlobal>(
-    rt: &R,
-    words: &'a [String],
-) -> Result<(), Stop<'a>> {
-    let job = read_arguments(rt.alloc(), words)?;
-    do_job(rt, &job)?;
     Ok(())
 }

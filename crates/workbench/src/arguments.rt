@@ -1,4 +1,4 @@
-//! The command line: what the program is asked to do, and its help.
+//! The command line: its arguments, the job that they ask for, and the help.
 
 use clap::error::ErrorKind;
 use clap::{Arg, Command, Error};
@@ -46,12 +46,12 @@ pub struct Job<'a> {
     pub transcript: Option<&'a str>,
 }
 
-/// The words of the command line.
+/// The arguments that the program was given. The first is the program's name.
 ///
-/// An error is want of memory, or a word that is not UTF-8, which is a bad command line.
-pub fn words_of<R: Env + AllocGlobal>(rt: &R) -> Result<Vec<String>, Error> {
+/// An error is want of memory, or an argument that is not UTF-8, which is a bad command line.
+pub fn given_arguments<R: Env + AllocGlobal>(rt: &R) -> Result<Vec<String>, Error> {
     match env::args(rt) {
-        Ok(words) => Ok(words.collect(rt.alloc())?),
+        Ok(arguments) => Ok(arguments.collect(rt.alloc())?),
         Err(error) if error.kind() == io::ErrorKind::OutOfMemory => Err(Error::from(AllocError)),
         Err(_) => Err(bad_command_line(rt.alloc(), "a word is not UTF-8")),
     }
@@ -78,12 +78,12 @@ fn command<'a>(alloc: Global) -> Result<Command<'a>, Error> {
     Ok(workbench)
 }
 
-/// What the words of the command line ask for. The first word is the program's name.
+/// What the arguments ask for. The first is the program's name.
 ///
 /// An error is a bad command line, a call for help or for the version, or want of memory. Its text
 /// is what the user is to be told.
-pub fn read_arguments<'a>(alloc: Global, words: &'a [String]) -> Result<Job<'a>, Error> {
-    let matches = command(alloc)?.try_get_matches_from(words)?;
+pub fn read_arguments<'a>(alloc: Global, arguments: &'a [String]) -> Result<Job<'a>, Error> {
+    let matches = command(alloc)?.try_get_matches_from(arguments)?;
     if let Some(run) = matches.subcommand_matches("run") {
         if let Some(declaration) = run.get_str("DECL") {
             return Ok(Job {
@@ -92,7 +92,7 @@ pub fn read_arguments<'a>(alloc: Global, words: &'a [String]) -> Result<Job<'a>,
             });
         }
     }
-    // The command lets no words through that lack either.
+    // The command lets no arguments through that lack either.
     Err(bad_command_line(alloc, "nothing to run was named"))
 }
 
@@ -112,13 +112,13 @@ mod tests {
     use super::*;
     use std::test::Fail;
 
-    // The words of a command line, split at the blanks.
-    fn words_of(alloc: Global, line: &str) -> Result<Vec<String>, Fail> {
-        let mut words = Vec::new(alloc);
-        for word in line.split(' ') {
-            words.push(String::from_str(alloc, word)?)?;
+    // The arguments of a command line that has just blanks between them.
+    fn split(alloc: Global, line: &str) -> Result<Vec<String>, Fail> {
+        let mut arguments = Vec::new(alloc);
+        for argument in line.split(' ') {
+            arguments.push(String::from_str(alloc, argument)?)?;
         }
-        Ok(words)
+        Ok(arguments)
     }
 
     #[test]
@@ -129,8 +129,8 @@ mod tests {
             ("workbench run -- --d -t", "--d", Some("-t")),
         ];
         for (line, declaration, transcript) in rows {
-            let words = words_of(rt.alloc(), line)?;
-            let job = read_arguments(rt.alloc(), &words)?;
+            let arguments = split(rt.alloc(), line)?;
+            let job = read_arguments(rt.alloc(), &arguments)?;
             assert_eq!(rt;
                 job,
                 Job {
@@ -153,8 +153,8 @@ mod tests {
             ("workbench run --fast d", ErrorKind::UnknownArgument),
         ];
         for (line, kind) in rows {
-            let words = words_of(rt.alloc(), line)?;
-            match read_arguments(rt.alloc(), &words) {
+            let arguments = split(rt.alloc(), line)?;
+            match read_arguments(rt.alloc(), &arguments) {
                 Ok(_) => return Err(Fail::from("it was read")),
                 Err(error) => {
                     assert_eq!(rt; error.kind(), kind, "{line}");
@@ -174,8 +174,8 @@ mod tests {
             ("workbench --version", "workbench 0.1.0\n"),
         ];
         for (line, end) in rows {
-            let words = words_of(rt.alloc(), line)?;
-            match read_arguments(rt.alloc(), &words) {
+            let arguments = split(rt.alloc(), line)?;
+            match read_arguments(rt.alloc(), &arguments) {
                 Ok(_) => return Err(Fail::from("it was read")),
                 Err(error) => {
                     let text = error.to_string(rt.alloc())?;

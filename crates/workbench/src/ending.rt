@@ -1,31 +1,32 @@
 //! How the program ends: what it tells, and its status.
-ghost use Rattle.std.specs.Prelude.{◌≡◌, ◌≢◌, ◌≤◌, IsErrOf, OnOk};
+ghost use Rattle.std.specs.Prelude.{◌≡◌, ◌≤◌, IsErrOf, OnOk};
 ghost use Rattle.std.specs.Process.{exit_status};
-ghost use Rattle.clap.specs.Values.{kind_of};
-ghost use Rattle.clap.specs.declared.error.kind.ErrorKind.TheVariants as kind;
+ghost use Rattle.workbench.specs.Ending.{IsMistake, IsStopAt};
 
 use crate::fault::{Fault, fault_line};
 use clap::error::ErrorKind;
-use pw_transcript::transcript::RunFault;
+use pw_transcript::RunFault;
 use std::alloc::AllocError;
 use std::process::ExitCode;
 
-/// Why the program ends before it has answered a transcript to its end.
+/// DeclFaultKind the program ends before it has answered a transcript to its end.
 #[derive(Debug, Drop)]
 pub enum Stop<'a> {
     /// The command line is bad, or it asks for help or for the version.
-    Words(clap::Error),
+    CommandLine(clap::Error),
     /// There is a fault.
     Fault(Fault<'a>),
 }
 
 impl<'a> From<clap::Error> for Stop<'a> {
     // Want of memory is a fault, and no bad command line.
+    ghost from_gives = { λ error why. IsStopAt error why };
+
     fn from(error: clap::Error) -> Stop<'a> {
         if error.kind() == ErrorKind::OutOfMemory {
             Stop::Fault(Fault::Memory)
         } else {
-            Stop::Words(error)
+            Stop::CommandLine(error)
         }
     }
 }
@@ -54,16 +55,89 @@ fn tell_fault<R: Eprint + AllocGlobal>(rt: &R, fault: &Fault<'_>) -> ExitCode
 pub fn conclude<R: Print + Eprint + AllocGlobal>(rt: &R, ended: Result<(), Stop<'_>>) -> ExitCode
     ensures ok { OnOk ended.entry (exit_status result ≡ 0) }
     ensures fault { (fault : _) → IsErrOf ended.entry (Stop.Fault fault) → exit_status result ≡ 1 }
-    ensures bad { (error : _) → IsErrOf ended.entry (Stop.Words error) → kind_of error ≢ kind.DisplayHelp → kind_of error ≢ kind.DisplayVersion → exit_status result ≡ 2 }
+    ensures bad { (error : _) → IsErrOf ended.entry (Stop.CommandLine error) → IsMistake error → exit_status result ≡ 2 }
     ensures most { exit_status result ≤ 2 }
 {
     let error = match ended {
         Ok(()) => return ExitCode::SUCCESS,
         Err(Stop::Fault(fault)) => return tell_fault(rt, &fault),
-        Err(Stop::Words(error)) => error,
+        Err(Stop::CommandLine(error)) => error,
     };
     match error.print(rt) {
         Err(_) if !error.use_stderr() => tell_fault(rt, &Fault::Run(RunFault::Write)),
         _ => ExitCode::from(error.exit_code() as u8),
+    }
+}
+
+#[cfg(test)]
+mod tests {
+    use super::*;
+    use std::alloc::Global;
+    use std::cell::Cell;
+    use std::fmt::Display;
+    use std::io;
+    use std::test::Fail;
+
+    // Standard output that fails, and a standard error that keeps the line that it was told last.
+    #[derive(Drop)]
+    struct Console<'a> {
+        alloc: Global,
+        told: &'a Cell<Option<String>>,
+    }
+
+    impl Print for Console<'_> {
+        fn print<D: Display + Drop>(&self, _value: D) -> io::Result<()> {
+            Err(io::Error::from(io::ErrorKind::BrokenPipe))
+        }
+
+        fn println<D: Display + Drop>(&self, _value: D) -> io::Result<()> {
+            Err(io::Error::from(io::ErrorKind::BrokenPipe))
+        }
+
+        fn write_all(&self, _bytes: &[u8]) -> io::Result<()> {
+            Err(io::Error::from(io::ErrorKind::BrokenPipe))
+        }
+    }
+
+    impl Eprint for Console<'_> {
+        fn eprint<D: Display + Drop>(&self, value: D) -> io::Result<()> {
+            self.eprintln(value)
+        }
+
+        fn eprintln<D: Display + Drop>(&self, value: D) -> io::Result<()> {
+            let line = format!(in self.alloc; "{value}")?;
+            self.told.set(Some(line));
+            Ok(())
+        }
+    }
+
+    // The line that is told for an end, and whether its status is that of a fault.
+    fn told(alloc: Global, ended: Result<(), Stop<'_>>) -> (Option<String>, bool) {
+        let told = Cell::new(None);
+        let console = Console { alloc, told: &told };
+        let status = conclude(&(console, alloc), ended);
+        (told.take(), status == ExitCode::FAILURE)
+    }
+
+    #[test]
+    fn faults_have_their_line_and_status(rt: HostRuntime) -> Result<(), Fail> {
+        let wanting = clap::Error::from(AllocError);
+        let rows = [
+            (Stop::from(wanting), "memory"),
+            (Stop::from(Fault::CannotRead("d")), "cannot read d"),
+            (Stop::from(Fault::Run(RunFault::Limit)), "transcript: limit"),
+        ];
+        for (stop, line) in rows {
+            let (told, failure) = told(rt.alloc(), Err(stop));
+            assert_eq!(rt; told.as_deref(), Some(line));
+            assert!(rt; failure, "{line}");
+        }
+        Ok(())
+    }
+
+    #[test]
+    fn an_answered_transcript_is_no_failure(rt: HostRuntime) {
+        let (told, failure) = told(rt.alloc(), Ok(()));
+        assert!(rt; told.is_none() && !failure);
     }
 }

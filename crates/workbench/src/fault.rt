@@ -1,7 +1,7 @@
 //! The faults that end the program with status 1, and their lines.
 
-use pw_transcript::DeclFault;
-use pw_transcript::transcript::RunFault;
+use pw_decl::DeclFault;
+use pw_transcript::RunFault;
 use std::alloc::{AllocError, AllocFailed, Allocator};
 use thiserror::Error;
 
@@ -45,11 +45,11 @@ pub fn fault_line<A: Allocator + Copy>(
 #[cfg(test)]
 mod tests {
     use super::*;
-    use pw_transcript::Why;
+    use pw_decl::DeclFaultKind;
     use std::test::Fail;
 
     // A fault of the declaration.
-    fn at_line(line: u32, why: Why) -> Fault<'static> {
+    fn at_line(line: u32, why: DeclFaultKind) -> Fault<'static> {
         Fault::Declaration(DeclFault { line, why })
     }
 
@@ -61,17 +61,26 @@ mod tests {
                 "cannot read worlds/my decl",
             ),
             (Fault::CannotRead(""), "cannot read "),
-            (at_line(1, Why::Syntax), "declaration line 1: syntax"),
             (
-                at_line(4294967295, Why::DuplicateName),
+                at_line(1, DeclFaultKind::Syntax),
+                "declaration line 1: syntax",
+            ),
+            (
+                at_line(4294967295, DeclFaultKind::DuplicateName),
                 "declaration line 4294967295: duplicate name",
             ),
             (
-                at_line(20, Why::UnknownName),
+                at_line(20, DeclFaultKind::UnknownName),
                 "declaration line 20: unknown name",
             ),
-            (at_line(0, Why::Limit), "declaration line 0: limit"),
-            (at_line(7, Why::Memory), "declaration line 7: memory"),
+            (
+                at_line(0, DeclFaultKind::Limit),
+                "declaration line 0: limit",
+            ),
+            (
+                at_line(7, DeclFaultKind::Memory),
+                "declaration line 7: memory",
+            ),
             (Fault::Run(RunFault::Read), "transcript: read fault"),
             (Fault::Run(RunFault::Write), "transcript: write fault"),
             (Fault::Run(RunFault::Memory), "transcript: memory"),

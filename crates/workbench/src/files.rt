@@ -2,7 +2,7 @@
 ghost use Rattle.std.specs.Prelude.{◌≡◌, take, IfOk, IfSome};
 
 use crate::fault::Fault;
-use pw_transcript::{Declaration, read_declaration};
+use pw_decl::{Declaration, read_declaration};
 use std::alloc::Allocator;
 use std::io::{ErrorKind, Read};
 use std::rt::Files;

@@ -1,4 +1,4 @@
-//! The workbench: what several users tell of shared cells under premises, and what they ask.
+//! The program: it reads its command line, does the job that is asked for, tells how that ended, and ends with a status.
 #![tactic(auto)]
 
 mod answering;
@@ -8,14 +8,25 @@ mod fault;
 mod files;
 mod procedures;
 
-use answering::carry_out;
-use arguments::words_of;
+use arguments::{given_arguments, read_arguments};
 use ending::{Stop, conclude};
+use procedures::do_job;
 use std::process::ExitCode;
+use std::rt::Files;
+
+// Does what the arguments ask for.
+fn carry_out<'a, R: Files + Input + Print + AllocGlobal>(
+    rt: &R,
+    arguments: &'a [String],
+) -> Result<(), Stop<'a>> {
+    let job = read_arguments(rt.alloc(), arguments)?;
+    do_job(rt, &job)?;
+    Ok(())
+}
 
 fn main(rt: HostRuntime) -> ExitCode {
-    match words_of(&rt) {
-        Ok(words) => conclude(&rt, carry_out(&rt, words.as_slice())),
+    match given_arguments(&rt) {
+        Ok(arguments) => conclude(&rt, carry_out(&rt, arguments.as_slice())),
         Err(error) => conclude(&rt, Err(Stop::from(error))),
     }
 }

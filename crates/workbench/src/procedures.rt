@@ -3,22 +3,20 @@ ghost use Rattle.std.specs.Prelude.{◌≡◌, ◌∷◌, [], List, map, IfOk};
 ghost use Rattle.pw_info.specs.Information.{kind_of};
 ghost use Rattle.pw_info.specs.declared.info.Info.{Info as Information};
 ghost use Rattle.pw_procs.specs.Rules.{AreRules, value_of_rules};
+ghost use Rattle.pw_procs.specs.Procedure.{procedures_of};
+ghost use Rattle.pw_procs.specs.Registry.{procedures_in};
+ghost use Rattle.workbench.specs.Procedures.{AreOfProgram};
 
 use crate::answering::answer_job;
 use crate::arguments::Job;
 use crate::fault::Fault;
-use pw_info::info::Info;
-use pw_info::kind::{Kind, SetKind};
-use pw_kinds::interval::Interval;
-use pw_procs::bodies;
-use pw_procs::kinds::members_of;
-use pw_procs::meaning::Meaning;
-use pw_procs::procedures::{add_by_rules, add_of_table};
-use pw_procs::registry::Registry;
-use pw_procs::rule::Rule;
-use pw_procs::rule_tables::{add_rule, copied};
-use pw_procs::rules::by_rules;
-use pw_procs::stored::Body;
+use pw_info::{Info, Kind, SetKind};
+use pw_kinds::Interval;
+use pw_procs::bodies::{self, by_rules};
+use pw_procs::{
+    Body, Meaning, Registry, RegistryFault, Rule, Stored, add_by_rules, add_of_table, add_rule,
+    copied, members_of_mask,
+};
 use std::alloc::{AllocError, Global};
 use std::rt::Files;
 
@@ -31,7 +29,8 @@ const POSITIVE: u64 = 4;
 
 // The kind of the set of signs.
 fn sign_set() -> SetKind
-    ensures { result.size ≡ 3 }
+    ensures number { result.number ≡ 1 }
+    ensures size { result.size ≡ 3 }
 {
     SetKind { number: 1, size: 3 }
 }
@@ -52,26 +51,31 @@ fn sign_rules(alloc: Global, sign: SetKind) -> Result<Vec<Rule>, AllocError>
         alloc,
         &mut rules,
         from_to(-1_000_000, -1),
-        members_of(sign, NEGATIVE),
+        members_of_mask(sign, NEGATIVE),
     )?;
-    add_rule(alloc, &mut rules, from_to(0, 0), members_of(sign, ZERO))?;
+    add_rule(
+        alloc,
+        &mut rules,
+        from_to(0, 0),
+        members_of_mask(sign, ZERO),
+    )?;
     add_rule(
         alloc,
         &mut rules,
         from_to(1, 1_000_000),
-        members_of(sign, POSITIVE),
+        members_of_mask(sign, POSITIVE),
     )?;
     add_rule(
         alloc,
         &mut rules,
         from_to(-1_000_000, 0),
-        members_of(sign, NEGATIVE | ZERO),
+        members_of_mask(sign, NEGATIVE | ZERO),
     )?;
     add_rule(
         alloc,
         &mut rules,
         from_to(0, 1_000_000),
-        members_of(sign, ZERO | POSITIVE),
+        members_of_mask(sign, ZERO | POSITIVE),
     )?;
     Ok(rules)
 }
@@ -115,6 +119,25 @@ macro_rules! add_table {
     };
 }
 
+// Memory is all that can be wanting where the names are good.
+fn want_of_memory<'a>(fault: RegistryFault) -> Fault<'a>
+    requires { fault ≡ RegistryFault.Memory }
+{
+    let _ = fault;
+    Fault::Memory
+}
+
+// The registry of the program's procedures. The memory for it may be wanting.
+fn registry_of<'a>(alloc: Global, list: Vec<Stored>) -> Result<Registry, Fault<'a>>
+    requires { AreOfProgram (procedures_of list.items) }
+    ensures { IfOk result (λ registry. AreOfProgram (procedures_in registry)) }
+{
+    match Registry::new(alloc, list) {
+        Ok(registry) => Ok(registry),
+        Err((fault, _)) => Err(want_of_memory(fault)),
+    }
+}
+
 /// Makes the procedures and a registry of them, and then does the job.
 ///
 /// The memory for them may be wanting. What holds a boxed closure stays inside this function.
@@ -145,16 +168,14 @@ pub fn do_job<'a, R: Files + Input + Print + AllocGlobal>(
         body,
     )?;
     add_table!(alloc, &mut list);
-    // Each has a name of its own that a procedure may have, so nothing but memory can be wanting.
-    let Ok(_registry) = Registry::new(alloc, list) else {
-        return Err(Fault::Memory);
-    };
+    let _registry = registry_of(alloc, list)?;
     answer_job(rt, job)
 }
 
 #[cfg(test)]
 mod tests {
     use super::*;
+    use pw_kinds::Exact;
     use std::test::Fail;
 
     #[test]
@@ -172,29 +193,68 @@ mod tests {
             (1, 0, 0),
         ] {
             let got = by_rules(sign, &rules, &[from_to(lo, hi)]);
-            assert_eq!(rt; got, members_of(set, signs), "{lo}..{hi}");
+            assert_eq!(rt; got, members_of_mask(set, signs), "{lo}..{hi}");
         }
         Ok(())
     }
 
-    // The names that a registry of the program has.
-    const NAMES: [&str; 15] = [
-        "adder",
-        "subtractor",
-        "multiplier",
-        "squarer",
-        "divider",
-        "at_most",
-        "equal",
-        "inverter",
-        "conjoiner",
-        "disjoiner",
-        "switch",
-        "copy",
-        "point",
-        "fixed",
-        "sign",
-    ];
+    // Some truths, by their mask: `false` is bit 0.
+    fn truths(mask: u64) -> Info {
+        members_of_mask(SetKind { number: 0, size: 2 }, mask)
+    }
+
+    // A call of each procedure by its name, with its value.
+    fn calls() -> [(&'static str, [Info; 2], usize, Info); 15] {
+        let five = Info::of_exact(Exact::one(5).unwrap_or(Exact::none()));
+        let negative = members_of_mask(sign_set(), NEGATIVE);
+        [
+            (
+                "adder",
+                [from_to(1, 2), from_to(10, 20)],
+                2,
+                from_to(11, 22),
+            ),
+            (
+                "subtractor",
+                [from_to(1, 2), from_to(10, 20)],
+                2,
+                from_to(-19, -8),
+            ),
+            (
+                "multiplier",
+                [from_to(2, 3), from_to(10, 20)],
+                2,
+                from_to(20, 60),
+            ),
+            ("squarer", [from_to(-2, 3), from_to(0, 0)], 1, from_to(0, 9)),
+            (
+                "divider",
+                [from_to(10, 20), from_to(2, 5)],
+                2,
+                from_to(2, 10),
+            ),
+            ("at_most", [from_to(1, 2), from_to(2, 3)], 2, truths(2)),
+            ("equal", [from_to(1, 2), from_to(3, 4)], 2, truths(1)),
+            ("inverter", [truths(2), truths(0)], 1, truths(1)),
+            ("conjoiner", [truths(1), truths(3)], 2, truths(1)),
+            ("disjoiner", [truths(1), truths(3)], 2, truths(3)),
+            ("switch", [truths(2), from_to(5, 6)], 2, from_to(5, 6)),
+            ("copy", [five, five], 1, five),
+            ("point", [five, five], 1, from_to(5, 5)),
+            ("fixed", [from_to(5, 5), five], 1, five),
+            ("sign", [from_to(-9, -1), five], 1, negative),
+        ]
+    }
+
+    // What the procedure of a name gives on inputs that fit.
+    fn call(registry: &Registry, name: &str, inputs: &[Info]) -> Option<Info> {
+        let number = registry.find(name.as_bytes())?;
+        let procedure = registry.get(number);
+        if !procedure.signature().fits(inputs) {
+            return None;
+        }
+        Some(procedure.call(inputs))
+    }
 
     #[test]
     fn procedures_by_name(rt: HostRuntime) -> Result<(), Fail> {
@@ -225,8 +285,12 @@ mod tests {
             return Err("no registry".into());
         };
         assert_eq!(rt; registry.len(), 15);
-        for name in NAMES {
-            assert!(rt; registry.find(name.as_bytes()).is_some(), "{name}");
+        for (name, inputs, count, want) in calls() {
+            assert_eq!(rt;
+                call(&registry, name, &inputs[..count]),
+                Some(want),
+                "{name}"
+            );
         }
         assert_eq!(rt; registry.find(b"sum"), None);
         Ok(())

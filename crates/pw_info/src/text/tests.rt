@@ -7,9 +7,7 @@ use crate::kind::{Kind, SetKind};
 use crate::names::KindNames;
 use crate::output::Writing;
 use crate::output::tests::Trickle;
-use pw_kinds::exact::Exact;
-use pw_kinds::interval::Interval;
-use pw_kinds::members::Members;
+use pw_kinds::{Exact, Interval, Members};
 
 // One set of members: the names of three colours, under each number.
 #[derive(Drop)]

@@ -1,14 +1,12 @@
 // Lists of procedures under several names.
 
-use super::Registry;
+use super::{Registry, RegistryFault};
 use crate::bodies;
 use crate::meaning::Meaning;
-use crate::registry_fault::RegistryFault;
 use crate::signature::Signature;
 use crate::slot::Slot;
 use crate::stored::{Body, Stored};
-use pw_info::info::Info;
-use pw_info::kind::Kind;
+use pw_info::{Info, Kind};
 use std::alloc::Global;
 use std::test::Fail;
 

@@ -1,13 +1,13 @@
-use Rattle.std.proofs.Common.{List, refl, sym, ◌∙◌, ap, subst, inl, inr}
-use Rattle.std.specs.Prelude.{Contains}
-use Rattle.std.proofs.lemmas.List.Elements.{All-contains, Contains-push_cases}
+use Rattle.std.proofs.Common.{List, refl, sym, ◌∙◌, ap, subst}
 use Rattle.pw_kinds.proofs.Order.{not_both}
 use Rattle.pw_info.specs.Information.{kind_of}
 use Rattle.pw_facts.specs.declared.fact.Fact.{Fact}
-use Rattle.pw_cells.specs.Cells.{shown_by}
-use Rattle.pw_cells.specs.OneCell.{AreOfKind, AreApart, SubsumedBy}
+use Rattle.pw_cells.specs.Cells.{shown_by, IsSubsumedBy}
+use Rattle.pw_cells.specs.Changes.{Assimilates}
+use Rattle.pw_cells.specs.OneCell.{AreOfKind, AreApart}
 use Rattle.pw_cells.proofs.Together.{kinds-push, kinds-rest, shown-rest, shown_known}
 use Rattle.pw_cells.proofs.Wholes.{apart_rest}
+use Rattle.pw_cells.proofs.Assimilations.{assimilates_news, assimilates_known}
 use Rattle.pw_cells.proofs.cell_facts.assimilate.Goals as goal
 
 pub returns-then-not-known-clause-kinds : goal.returns-then-not-known-clause-kinds
@@ -21,12 +21,14 @@ returns-then-not-known-clause-shown g c = λ w.
     ap (shown_by (kind_of c.args.fact.now.info) w) c.append.ensures
     ∙ shown-rest (kind_of c.args.fact.now.info) w c.args.fact.now c.args.kept.now.items c.drop_subsumed.new.kept.items c.requires.kinds refl c.drop_subsumed.ensures.rest
 
-pub returns-then-not-known-clause-facts : goal.returns-then-not-known-clause-facts
-returns-then-not-known-clause-facts g c = λ f held.
-    elim (Contains-push_cases c.drop_subsumed.new.kept.items c.args.fact.now f (subst (λ l. Contains l f) c.append.ensures held)) [
-      | inl left ↦ inr (All-contains (Contains c.args.kept.now.items) c.drop_subsumed.new.kept.items f c.drop_subsumed.ensures.rest.within left)
-      | inr same ↦ inl (sym same)
-    ]
+pub returns-then-not-known-clause-assimilates : goal.returns-then-not-known-clause-assimilates
+returns-then-not-known-clause-assimilates g c =
+    subst (Assimilates c.args.fact.now c.args.kept.now.items) (sym {A = List Fact} c.append.ensures)
+    (assimilates_news c.args.fact.now c.args.kept.now.items c.drop_subsumed.new.kept.items c.drop_subsumed.ensures.rest)
+
+pub returns-else-not-known-clause-assimilates : goal.returns-else-not-known-clause-assimilates
+returns-else-not-known-clause-assimilates g c =
+    assimilates_known c.args.fact.now c.args.kept.now.items c.requires.kinds c.requires.apart (c.requires.known.0 c.if-not-known.false)
 
 pub returns-else-not-known-clause-shown : goal.returns-else-not-known-clause-shown
 returns-else-not-known-clause-shown g c = λ w.
@@ -34,5 +36,5 @@ returns-else-not-known-clause-shown g c = λ w.
 
 pub returns-then-not-known-clause-apart : goal.returns-then-not-known-clause-apart
 returns-then-not-known-clause-apart g c =
-    let news : SubsumedBy c.args.kept.now.items c.args.fact.now → ⊥ = λ known. not_both _ (c.requires.known.1 known) c.if-not-known.true in
+    let news : IsSubsumedBy c.args.kept.now.items c.args.fact.now → ⊥ = λ known. not_both _ (c.requires.known.1 known) c.if-not-known.true in
     subst AreApart (sym {A = List Fact} c.append.ensures) (apart_rest c.args.fact.now c.args.kept.now.items c.drop_subsumed.new.kept.items c.requires.apart news c.drop_subsumed.ensures.rest)

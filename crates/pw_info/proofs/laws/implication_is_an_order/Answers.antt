@@ -1,4 +1,4 @@
-use Rattle.pw_info.proofs.Informations.{Implies-antisym, meet_implied, implied_from_meet}
+use Rattle.pw_info.proofs.Informations.{Implies-antisym, meet_implied, implied_from_meet, implies_nothing}
 use Rattle.pw_info.proofs.laws.implication_is_an_order.Goals as goal
 
 pub returns : goal.returns
@@ -7,4 +7,5 @@ returns c = record {
   transitive = λ a b d p q v e. q v (p v e);
   antisymmetric = Implies-antisym;
   merge = λ a b k. (meet_implied a b k, implied_from_meet a b k);
+  nothing = implies_nothing;
 }

@@ -5,14 +5,14 @@ use Rattle.pw_info.specs.declared.info.Info.{Info}
 use Rattle.pw_info.specs.Information.{kind_of, nothing, contradiction}
 use Rattle.pw_info.specs.declared.kind.Kind.TheVariants as kinds
 use Rattle.pw_procs.specs.declared.slot.Slot.TheVariants.{Fixed, Same}
-use Rattle.pw_procs.specs.Slots.{Fits}
+use Rattle.pw_procs.specs.Slots.{FitSlots}
 use Rattle.pw_procs.specs.Values.{input, bool}
 use Rattle.pw_procs.proofs.FittingInputs.{two_fit}
 use Rattle.pw_procs.proofs.SwitchedValues.{empty_switches, false_switches, true_switches}
 use Rattle.pw_procs.proofs.bodies.switch.Goals as goal
 
 -- what was read at place 1 is the second input
-second : (inputs : List Info) (x : Info) → Fits (Fixed bool ∷ Same ∷ []) inputs → x ≡ slice_index_or inputs 1 x → x ≡ input inputs 1
+second : (inputs : List Info) (x : Info) → FitSlots (Fixed bool ∷ Same ∷ []) inputs → x ≡ slice_index_or inputs 1 x → x ≡ input inputs 1
 second inputs x fits e =
     let long : length inputs ≡ 2 = (two_fit (Fixed bool) Same inputs fits).0 in
     e ∙ sym (get_or_default inputs 1 (nothing kinds.Interval) x (omega arith))

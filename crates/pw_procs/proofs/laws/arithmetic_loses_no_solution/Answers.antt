@@ -10,5 +10,5 @@ returns c = record {
   subtractor = λ output xs a b. two_holds (λ a b. a -ℤ b) (input xs 0) (input xs 1) a b;
   multiplier = λ output xs a b. two_holds (λ a b. a *ℤ b) (input xs 0) (input xs 1) a b;
   squarer = λ output xs a. one_holds (λ a. a *ℤ a) (input xs 0) a;
-  divider = λ output xs q a b. quotient_holds (input xs 0) (input xs 1) q a b;
+  divider = λ output xs a b q. quotient_holds (input xs 0) (input xs 1) q a b;
 }

@@ -1,5 +1,5 @@
-use Rattle.std.proofs.Common.{◌≤◌, map, length}
-use Rattle.std.specs.String.{string_bytes}
+use Rattle.std.proofs.Common.{◌≤◌, length}
+use Rattle.pw_procs.specs.Procedure.{procedures_of, names_of}
 use Rattle.pw_procs.specs.Registering.{AreFreeBelow}
 use Rattle.pw_procs.proofs.registry.first_fault.Given as goal
 
@@ -7,5 +7,5 @@ use Rattle.pw_procs.proofs.registry.first_fault.Given as goal
 abbrev pub invariant-loop-place : goal.invariant-loop-place
 invariant-loop-place g l = record {
   within : l.place ≤ length l.entries;
-  free : AreFreeBelow (map (λ s. string_bytes s.name) l.entries) l.place;
+  free : AreFreeBelow (names_of (procedures_of l.entries)) l.place;
 }

@@ -1,6 +1,7 @@
 use Rattle.std.proofs.Common.{ℕ, List, refl, sym, ap, ◌∙◌, rules}
 use Rattle.std.specs.FinSet.{union}
-use Rattle.pw_transcript.specs.Reading.{Premises, premises_of}
+use Rattle.pw_premises.specs.Premises.{Premises}
+use Rattle.pw_transcript.specs.Reading.{premises_of}
 use Rattle.pw_transcript.proofs.PremiseLists.{union_empty_left, union_empty_right, premises_step}
 use Rattle.pw_transcript.proofs.command_text.premise_set.Goals as goal
 
@@ -19,7 +20,7 @@ loop-word-preserved g c = record {
       c.one.ensures.single c.join-set.ensures.union;
 }
 
-pub returns-clause-some : goal.returns-clause-some
-returns-clause-some g c = sym (c.loop-word.invariant.set
+pub returns-clause-ok : goal.returns-clause-ok
+returns-clause-ok g c = sym (c.loop-word.invariant.set
     ∙ ap (λ (words : List (List ℕ)). union c.loop-word.set (premises_of c.args.declaration.now words)) c.in_default.ensures.0
     ∙ union_empty_right c.loop-word.set)

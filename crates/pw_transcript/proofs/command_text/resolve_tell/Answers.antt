@@ -2,9 +2,10 @@ use Rattle.std.proofs.Common.{◌∙◌, ℕ, List, refl, sym, ap, subst, inl, i
 use Rattle.pw_info.specs.declared.kind.Kind.{Kind}
 use Rattle.pw_info.specs.declared.info.Info.{Info}
 use Rattle.pw_info.specs.Spelling.{SpellsInfo}
-use Rattle.pw_transcript.specs.declared.command.Command.TheVariants as commands
-use Rattle.pw_transcript.specs.Declaration.{members_of}
-use Rattle.pw_transcript.specs.Reading.{Premises, premises_of}
+use Rattle.pw_sessions.specs.declared.command.Command.TheVariants as commands
+use Rattle.pw_decl.specs.Declaration.{members_of}
+use Rattle.pw_premises.specs.Premises.{Premises}
+use Rattle.pw_transcript.specs.Reading.{premises_of}
 use Rattle.pw_transcript.proofs.ReadingLemmas.{not_none}
 use Rattle.pw_transcript.proofs.command_text.resolve_tell.Goals as goal
 
@@ -12,18 +13,15 @@ pub returns-in_default-read_info-clause-err : goal.returns-in_default-read_info-
 returns-in_default-read_info-clause-err g c =
     let none : (info : Info) → SpellsInfo (members_of c.args.declaration.now) c.args.info.now c.cell_kind.result info → ⊥ = c.in_default-read_info.ensures.none in
     inr (
-      not_none _ _ c.in-Some.ensures.number,
+      λ h. h,
       inr (
-        λ h. h,
-        inr (
-          not_none _ _ c.in-Some-cell.ensures.number,
-          inl (
-            refl,
-            (
-              c.in-Some-cell.cell,
-              sym c.in-Some-cell.ensures.number,
-              subst (λ (k : Kind). (info : Info) → SpellsInfo (members_of c.args.declaration.now) c.args.info.now k info → ⊥) c.cell_kind.ensures.kind none,
-            ),
+        not_none _ _ c.in-Some.ensures.number,
+        inl (
+          refl,
+          (
+            c.in-Some.cell,
+            sym c.in-Some.ensures.number,
+            subst (λ (k : Kind). (info : Info) → SpellsInfo (members_of c.args.declaration.now) c.args.info.now k info → ⊥) c.cell_kind.ensures.kind none,
           ),
         ),
       ),
@@ -32,11 +30,9 @@ returns-in_default-read_info-clause-err g c =
 pub returns-clause-ok : goal.returns-clause-ok
 returns-clause-ok g c =
     let spelled : SpellsInfo (members_of c.args.declaration.now) c.args.info.now c.cell_kind.result c.in-Some-read_info.info = c.in-Some-read_info.ensures.some in (
-      c.in-Some.user,
-      c.in-Some-cell.cell,
+      c.in-Some.cell,
       c.in-Some-read_info.info,
       sym c.in-Some.ensures.number,
-      sym c.in-Some-cell.ensures.number,
       subst (λ (k : Kind). SpellsInfo (members_of c.args.declaration.now) c.args.info.now k c.in-Some-read_info.info) c.cell_kind.ensures.kind spelled,
-      ap (λ (s : Premises). commands.Tell c.in-Some.user c.in-Some-cell.cell (record { info = c.in-Some-read_info.info; support = s })) (c.in-Some-premise_set.ensures.some ∙ ap (λ (words : List (List ℕ)). premises_of c.args.declaration.now words) c.again.ensures),
+      ap (λ (s : Premises). commands.Tell c.args.user c.in-Some.cell (record { info = c.in-Some-read_info.info; support = s })) (c.in-Ok.ensures.ok ∙ ap (λ (words : List (List ℕ)). premises_of c.args.declaration.now words) c.again.ensures),
     )

@@ -1,7 +1,7 @@
-use Rattle.std.proofs.Common.{◌≡◌, ◌≤◌, ◌-◌, ℕ, List, [], length}
-use Rattle.pw_transcript.specs.Gatherers.{held_of, GatheredPasses}
-use Rattle.pw_transcript.specs.Past.{Fits}
-use Rattle.pw_transcript.specs.Running.{SoFar}
+use Rattle.std.proofs.Common.{◌≡◌, ◌≤◌, ◌+◌, ◌-◌, ℕ, List, [], length}
+use Rattle.pw_transcript.specs.Limits.{most_bytes}
+use Rattle.pw_transcript.specs.Steps.Gatherers.{held_of, GatheredPasses}
+use Rattle.pw_transcript.specs.Steps.Running.{IsRunning, SoFar}
 use Rattle.pw_transcript.proofs.transcript.answer_all.Given as goal
 
 -- the bytes taken so far are answered, and all replies are passed on
@@ -9,14 +9,12 @@ abbrev pub invariant-loop-taken : goal.invariant-loop-taken
 invariant-loop-taken g l = record {
   bytes : List ℕ;
   taken : g.I.Input.takes l.fn.input bytes l.input;
-  so_far : SoFar (GatheredPasses g.O.Output.passes) l.d l.fn.output l.output l.progress.history l.progress.line l.progress.counts.lines l.progress.counts.replies bytes;
+  so_far : SoFar (GatheredPasses g.O.Output.passes) l.d l.fn.output l.output l.progress bytes;
   count : length bytes ≡ l.total;
-  bound : l.total ≤ 67108864;
+  bound : l.total ≤ most_bytes;
   passed_on : held_of l.output ≡ [];
-  fits : Fits l.d l.progress.history;
-  lines : l.progress.counts.lines ≤ 1000000;
-  replies : l.progress.counts.replies ≤ l.progress.counts.lines;
+  running : IsRunning l.d l.progress;
 }
 
 abbrev pub decreases-loop-taken : goal.decreases-loop-taken
-decreases-loop-taken g l = 67108865 - l.total
+decreases-loop-taken g l = most_bytes + 1 - l.total

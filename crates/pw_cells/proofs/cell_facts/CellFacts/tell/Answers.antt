@@ -1,15 +1,16 @@
-use Rattle.std.proofs.Common.{◌≡◌, ◌⊎◌, List, sym, ◌∙◌, ap, subst}
-use Rattle.std.specs.Prelude.{◌↔◌, Contains, IsTrue}
+use Rattle.std.proofs.Common.{◌≡◌, List, sym, ◌∙◌, ap, subst}
+use Rattle.std.specs.Prelude.{◌↔◌, IsTrue}
 use Rattle.pw_info.specs.Information.{kind_of}
 use Rattle.pw_facts.specs.declared.fact.Fact.{Fact}
-use Rattle.pw_cells.specs.Cells.{Cell}
-use Rattle.pw_cells.specs.OneCell.{SubsumedBy, IsWhole}
+use Rattle.pw_cells.specs.Cells.{Cell, IsSubsumedBy}
+use Rattle.pw_cells.specs.Changes.{Assimilates}
+use Rattle.pw_cells.specs.OneCell.{IsWhole}
 use Rattle.pw_cells.proofs.Wholes.{whole_told}
 use Rattle.pw_cells.proofs.cell_facts.CellFacts.tell.Goals as goal
 
 pub assimilate-requires-clause-known : goal.assimilate-requires-clause-known
 assimilate-requires-clause-known g c =
-    subst (λ (l : List Fact). IsTrue c.is_subsumed-known.result ↔ SubsumedBy l c.args.fact.now) (c.as_slice-2.ensures.value ∙ sym c.reserve_unless-2.ensures.items) c.is_subsumed-known.ensures
+    subst (λ (l : List Fact). IsTrue c.is_subsumed-known.result ↔ IsSubsumedBy l c.args.fact.now) (c.as_slice-2.ensures.value ∙ sym c.reserve_unless-2.ensures.items) c.is_subsumed-known.ensures
 
 pub invariant_of-self-2 : goal.invariant_of-self-2
 invariant_of-self-2 g c =
@@ -19,7 +20,7 @@ invariant_of-self-2 g c =
     whole_told c.self.inside.kind c.args.fact.now c.reserve_unless.new.facts.items c.reserve_unless-2.new.facts.items c.add_told.new.told.items c.assimilate.new.kept.items
     is before c.add_told.ensures.kinds c.assimilate.ensures.kinds c.add_told.ensures.one_each c.assimilate.ensures.apart c.add_told.ensures.shown c.assimilate.ensures.shown
 
-pub returns-clause-facts : goal.returns-clause-facts
-returns-clause-facts g c = λ f held.
-    subst (λ (l : List Fact). (f ≡ c.args.fact.now) ⊎ Contains l f) (c.reserve_unless-2.ensures.items ∙ ap (λ (cell : Cell). cell.kept) c.self.view_is)
-    (c.assimilate.ensures.facts f held)
+pub returns-clause-assimilates : goal.returns-clause-assimilates
+returns-clause-assimilates g c =
+    subst (λ (l : List Fact). Assimilates c.args.fact.now l c.assimilate.new.kept.items) (c.reserve_unless-2.ensures.items ∙ ap (λ (cell : Cell). cell.kept) c.self.view_is)
+    c.assimilate.ensures.assimilates

@@ -10,4 +10,4 @@ returns-clause-kind g c =
 
 pub returns-clause-larger : goal.returns-clause-larger
 returns-clause-larger g c = λ w sub. rw (c.shown.ensures, c.as_slice.ensures.value, ← c.self.view_is)
-    (larger_shown c.self.inside.kind c.args.worldview.now w c.self.inside.told.items c.self.invariant.told_kinds sub)
+    (larger_shown c.self.inside.kind c.args.worldview.now w c.self.inside.told.items sub)

@@ -7,4 +7,4 @@ pub returns-in-Members : goal.returns-in-Members
 returns-in-Members c = rw c.in-Members.is c.is_empty-in-Members.ensures
 
 pub returns-in-Exact : goal.returns-in-Exact
-returns-in-Exact c = rw c.in-Exact.is c.is_none.ensures
+returns-in-Exact c = rw c.in-Exact.is c.is_empty-in-Exact.ensures

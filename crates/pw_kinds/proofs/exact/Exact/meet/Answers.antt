@@ -1,6 +1,6 @@
 use Rattle.std.proofs.Common.{◌≡◌, arith}
 use Rattle.std.proofs.lemmas.Int.{ints}
-use Rattle.pw_kinds.proofs.Exacts.{meet_numbers, meet_apart, any_meets, meets_any, meets_nothing, nothing_meets, meet_values}
+use Rattle.pw_kinds.proofs.Exacts.{meet_numbers, meet_apart, any_meets, meets_any, meets_empty, empty_meets, meet_values}
 use Rattle.pw_kinds.proofs.exact.Exact.meet.Goals as goal
 
 pub returns-in-One-One-clause-exact : goal.returns-in-One-One-clause-exact
@@ -21,9 +21,9 @@ pub returns-in_default-clause-exact : goal.returns-in_default-clause-exact
 returns-in_default-clause-exact c = meet_apart c.args.self c.args.other c.in-One-One.one c.in-One-One.another c.in-One-One.is-0 c.in-One-One.is-1 (λ same. omega (arith, ints, same, c.if-one-another.false))
 
 pub returns-in_default-2-clause-exact : goal.returns-in_default-2-clause-exact
-returns-in_default-2-clause-exact c = meets_nothing c.args.self c.args.other c.in_default.is-1
+returns-in_default-2-clause-exact c = meets_empty c.args.self c.args.other c.in_default.is-1
 
 pub returns-in_default-3 : goal.returns-in_default-3
 returns-in_default-3 c =
-    let e = nothing_meets c.args.self c.args.other c.in_default.is-0 in
+    let e = empty_meets c.args.self c.args.other c.in_default.is-0 in
     record { values = meet_values c.args.self c.args.other _ e; exact = e }

@@ -1,5 +1,5 @@
-use Rattle.pw_kinds.proofs.Exacts.{none_is}
+use Rattle.pw_kinds.proofs.Exacts.{empty_is}
 use Rattle.pw_kinds.proofs.exact.Exact.none.Goals as goal
 
 pub returns-clause-exact : goal.returns-clause-exact
-returns-clause-exact c = none_is
+returns-clause-exact c = empty_is

@@ -2,7 +2,7 @@ use Rattle.std.proofs.Common.{◌≡◌, refl, arith}
 use Rattle.std.proofs.lemmas.Int.{ints}
 use Rattle.std.proofs.lemmas.Bool.{eqb-true, eq-eqb}
 use Rattle.pw_kinds.proofs.Order.{not_both}
-use Rattle.pw_kinds.proofs.Exacts.{within_numbers, numbers_within, one_not_within_nothing, any_within_any}
+use Rattle.pw_kinds.proofs.Exacts.{within_numbers, numbers_within, one_not_within_empty, any_within_any}
 use Rattle.pw_kinds.proofs.exact.Exact.within.Goals as goal
 
 pub returns-in-One-One : goal.returns-in-One-One
@@ -14,7 +14,7 @@ returns-in-One-One c = (
 pub returns-in_default : goal.returns-in_default
 returns-in_default c = (
   λ f. absurd (not_both _ f refl),
-  λ w. absurd (one_not_within_nothing c.args.self c.args.other c.in_default.field-0-0 c.in_default.is-0 c.in_default.is-1 w),
+  λ w. absurd (one_not_within_empty c.args.self c.args.other c.in_default.field-0-0 c.in_default.is-0 c.in_default.is-1 w),
 )
 
 pub returns-in_default-2 : goal.returns-in_default-2

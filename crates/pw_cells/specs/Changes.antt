@@ -1,0 +1,27 @@
+-- What a call changes in a store: what a cell gains, what becomes of its kept facts, and that other cells stay.
+use Rattle.std.specs.Prelude.{◌≡◌, ◌≢◌, ◌⊎◌, ℕ, List, Contains}
+use Rattle.pw_info.specs.declared.info.Info.{Info}
+use Rattle.pw_info.specs.Information.{meet}
+use Rattle.pw_premises.specs.Premises.{Premises}
+use Rattle.pw_facts.specs.declared.fact.Fact.{Fact}
+use Rattle.pw_facts.specs.Facts.{shows, Subsumes}
+use Rattle.pw_cells.specs.Cells.{Store, cell_at, IsSubsumedBy}
+
+-- in each worldview there is after what there was before, merged with what the fact shows
+abbrev pub GainsFact : Fact → (Premises → Info) → (Premises → Info) → Type 0
+GainsFact fact old new = (w : Premises) → new w ≡ meet (old w) (shows w fact)
+
+-- kept facts assimilate a fact: it is kept unless one of them subsumes it, and those that it subsumes are gone
+pub record Assimilates (fact : Fact) (old new : List Fact) : Type 0 where
+  -- it is kept, or a fact that subsumes it
+  pub held : IsSubsumedBy new fact
+  -- each fact that is kept was kept before, or is this one
+  pub within : (f : Fact) → Contains new f → (f ≡ fact) ⊎ Contains old f
+  -- each that was kept before stays, unless this one subsumes it
+  pub stays : (f : Fact) → Contains old f → Contains new f ⊎ Subsumes fact f
+  -- none that this one subsumes is kept beside it
+  pub gone : (f : Fact) → Contains new f → Subsumes fact f → f ≡ fact
+
+-- each other cell is as it was
+abbrev pub LeavesOthers : ℕ → Store → Store → Type 0
+LeavesOthers cell old new = (c : ℕ) → c ≢ cell → cell_at new c ≡ cell_at old c

@@ -1,0 +1,157 @@
+-- What a declaration keeps as names are added, and the places of names.
+use Rattle.std.proofs.Common.{◌≡◌, ℕ, zero, suc, ◌+◌, ◌-◌, ◌<◌, ◌≤◌, true, List, [], ◌∷◌, ◌++◌, Option, Some, None, length, get_or, refl, sym, ap, arith, length-append, inl, inr}
+use Rattle.std.specs.Prelude.{IfSome, IfNone, Contains, slice_get, slice_index_or}
+use Rattle.std.specs.List.{position_from}
+use Rattle.std.specs.Str.{bytes_eq}
+use Rattle.std.proofs.lemmas.Bool.{cases_Bool}
+use Rattle.std.proofs.lemmas.List.Elements.{All-nil, All-push, All-weaker}
+use Rattle.std.proofs.lemmas.Slice.Eq.{bytes_eq-Decides}
+use Rattle.pw_kinds.specs.Places.{IsSize}
+use Rattle.pw_info.specs.declared.kind.Kind.{Kind}
+use Rattle.pw_info.specs.SetNames.{AreNames, IsNamed}
+use Rattle.pw_decl.specs.Declaration.{Declared, nothing_declared, built_in_sets, members_of, with_user, with_premise, with_cell, with_set}
+use Rattle.pw_decl.specs.Limits.{most_users, most_premises, most_cells, most_sets}
+use Rattle.pw_decl.specs.WellDeclared.{IsWellDeclared}
+use Rattle.pw_decl.proofs.SetLemmas.{nothing_named, named_push, named_stays}
+
+-- an owner stays a user as users are added
+still_user : (m n : ℕ) → m ≤ n → (owner : Option ℕ) → IfSome owner (λ user. user < m) → IfSome owner (λ user. user < n)
+still_user m n h None p = p
+still_user m n h (Some user) p = omega arith
+
+-- all holds where nothing is declared
+pub well_at_first : IsWellDeclared nothing_declared
+well_at_first =
+    record {
+      users = omega arith;
+      premises = omega arith;
+      owners = refl;
+      cells = omega arith;
+      kinds = refl;
+      owned = All-nil (λ owner. IfSome owner (λ user. user < 0));
+      sets = omega arith;
+      set_names = refl;
+      sizes = All-nil (λ names. IsSize (length names));
+      named = nothing_named;
+      known = All-nil (IsNamed (members_of nothing_declared));
+    }
+
+-- and still with one more user
+pub well_with_user : (d : Declared) (name : List ℕ) → IsWellDeclared d → length d.users < most_users → IsWellDeclared (with_user d name)
+well_with_user d name well room =
+    let longer : length (d.users ++ name ∷ []) ≡ length d.users + 1 = length-append d.users (name ∷ []) in
+    record {
+      users = omega arith;
+      premises = well.premises;
+      owners = well.owners;
+      cells = well.cells;
+      kinds = well.kinds;
+      owned = All-weaker (λ owner. IfSome owner (λ user. user < length d.users)) (λ owner. IfSome owner (λ user. user < length (d.users ++ name ∷ []))) (still_user (length d.users) (length (d.users ++ name ∷ [])) (omega arith)) d.owners well.owned;
+      sets = well.sets;
+      set_names = well.set_names;
+      sizes = well.sizes;
+      named = well.named;
+      known = well.known;
+    }
+
+-- with one more premise, of a user or of none
+pub well_with_premise : (d : Declared) (name : List ℕ) (owner : Option ℕ) → IsWellDeclared d → length d.premises < most_premises → IfSome owner (λ user. user < length d.users)
+    → IsWellDeclared (with_premise d name owner)
+well_with_premise d name owner well room own =
+    let longer : length (d.premises ++ name ∷ []) ≡ length d.premises + 1 = length-append d.premises (name ∷ []) in
+    let more : length (d.owners ++ owner ∷ []) ≡ length d.owners + 1 = length-append d.owners (owner ∷ []) in
+    let alike : length d.owners ≡ length d.premises = well.owners in
+    record {
+      users = well.users;
+      premises = omega arith;
+      owners = omega arith;
+      cells = well.cells;
+      kinds = well.kinds;
+      owned = All-push (λ o. IfSome o (λ user. user < length d.users)) d.owners owner well.owned own;
+      sets = well.sets;
+      set_names = well.set_names;
+      sizes = well.sizes;
+      named = well.named;
+      known = well.known;
+    }
+
+-- with one more cell, of a kind that is there
+pub well_with_cell : (d : Declared) (name : List ℕ) (kind : Kind) → IsWellDeclared d → length d.cells < most_cells → IsNamed (members_of d) kind
+    → IsWellDeclared (with_cell d name kind)
+well_with_cell d name kind well room known =
+    let longer : length (d.cells ++ name ∷ []) ≡ length d.cells + 1 = length-append d.cells (name ∷ []) in
+    let more : length (d.kinds ++ kind ∷ []) ≡ length d.kinds + 1 = length-append d.kinds (kind ∷ []) in
+    let alike : length d.kinds ≡ length d.cells = well.kinds in
+    record {
+      users = well.users;
+      premises = well.premises;
+      owners = well.owners;
+      cells = omega arith;
+      kinds = omega arith;
+      owned = well.owned;
+      sets = well.sets;
+      set_names = well.set_names;
+      sizes = well.sizes;
+      named = well.named;
+      known = All-push (IsNamed (members_of d)) d.kinds kind well.known known;
+    }
+
+-- and with one more set, of members that have names
+pub well_with_set : (d : Declared) (name : List ℕ) (members : List (List ℕ)) → IsWellDeclared d → length d.sets < most_sets → IsSize (length members) → AreNames members
+    → IsWellDeclared (with_set d name members)
+well_with_set d name members well room size names =
+    let longer : length (d.sets ++ members ∷ []) ≡ length d.sets + 1 = length-append d.sets (members ∷ []) in
+    let more : length (d.set_names ++ name ∷ []) ≡ length d.set_names + 1 = length-append d.set_names (name ∷ []) in
+    let alike : length d.set_names ≡ length d.sets = well.set_names in
+    record {
+      users = well.users;
+      premises = well.premises;
+      owners = well.owners;
+      cells = well.cells;
+      kinds = well.kinds;
+      owned = well.owned;
+      sets = omega arith;
+      set_names = omega arith;
+      sizes = All-push (λ names. IsSize (length names)) d.sets members well.sizes size;
+      named = named_push (built_in_sets ++ d.sets) members well.named names;
+      known = All-weaker (IsNamed (members_of d)) (IsNamed (λ set. slice_index_or (built_in_sets ++ d.sets ++ members ∷ []) set [])) (named_stays (built_in_sets ++ d.sets) (members ∷ [])) d.kinds well.known;
+    }
+
+-- ---- the place of a name
+
+found_from : (names : List (List ℕ)) (word : List ℕ) (k n : ℕ) → position_from (bytes_eq word) k names ≡ Some n → (k ≤ n) × (slice_get names (n - k) ≡ Some word)
+found_from [] word k n e = absurd (cc)
+found_from (x ∷ xs) word k n e = elim (cases_Bool (bytes_eq word x)) [
+  | inl here ↦
+      let at : Some k ≡ Some n = rw here at e in
+      let same : k ≡ n = cc in
+      let w : word ≡ x = (bytes_eq-Decides word x).0 here in
+      let zero_off : n - k ≡ 0 = omega arith in
+      (omega arith, rw zero_off (ap Some (sym w)))
+  | inr apart ↦
+      let rest : (k + 1 ≤ n) × (slice_get xs (n - (k + 1)) ≡ Some word) = found_from xs word (k + 1) n (rw apart at e) in
+      let below : k + 1 ≤ n = rest.0 in
+      let off : n - k ≡ suc (n - (k + 1)) = omega arith in
+      (omega arith, rw off rest.1)
+]
+
+pub place_found : (names : List (List ℕ)) (word : List ℕ) (n : ℕ) → position_from (bytes_eq word) 0 names ≡ Some n → slice_get names n ≡ Some word
+place_found names word n e = let off : n - 0 ≡ n = omega arith in rw off at (found_from names word 0 n e).1
+
+none_from : (names : List (List ℕ)) (word : List ℕ) (k i : ℕ) → position_from (bytes_eq word) k names ≡ None → i < length names → get_or names i word ≡ word → ⊥
+none_from [] word k i e h same = absurd (omega arith)
+none_from (x ∷ xs) word k zero e h same =
+    let here : bytes_eq word x ≡ true = (bytes_eq-Decides word x).1 (sym same) in
+    let at : Some k ≡ None = rw here at e in
+    cc
+none_from (x ∷ xs) word k (suc i) e h same = elim (cases_Bool (bytes_eq word x)) [
+  | inl here ↦ let at : Some k ≡ None = rw here at e in absurd (cc)
+  | inr apart ↦ none_from xs word (k + 1) i (rw apart at e) (omega arith) same
+]
+
+pub place_none : (names : List (List ℕ)) (word : List ℕ) → position_from (bytes_eq word) 0 names ≡ None → Contains names word → ⊥
+place_none names word e (k, h, same) = none_from names word 0 k e h same
+
+pub place_none_if : {X : Type 0} (o : Option X) (names : List (List ℕ)) (word : List ℕ) → position_from (bytes_eq word) 0 names ≡ None → IfNone o (Contains names word → ⊥)
+place_none_if None names word e = place_none names word e
+place_none_if (Some x) names word e = tt

@@ -1,0 +1,9 @@
+pub mod Decided
+pub mod DeclarationLines
+pub mod DeclarationSteps
+pub mod DeclaredLemmas
+pub mod LineFaults
+pub mod LineLaw
+pub mod MemberLemmas
+pub mod Places
+pub mod SetLemmas

@@ -1,0 +1,5 @@
+pub mod Declaration
+pub mod Faults
+pub mod Limits
+pub mod Steps
+pub mod WellDeclared

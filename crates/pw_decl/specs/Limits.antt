@@ -1,0 +1,31 @@
+-- The limits of a declaration.
+-- A set has `fewest_members` to `most_members` members, which stand with the masks of sets in Rattle.pw_kinds.specs.Places.
+use Rattle.std.specs.Prelude.{ℕ}
+
+-- ---- limits that stay
+
+-- users
+abbrev pub most_users : ℕ
+most_users = 64
+
+-- cells
+abbrev pub most_cells : ℕ
+most_cells = 1024
+
+-- declared set kinds
+abbrev pub most_sets : ℕ
+most_sets = 32
+
+-- bytes in a line
+abbrev pub most_line_bytes : ℕ
+most_line_bytes = 4096
+
+-- bytes in the whole text
+abbrev pub most_text_bytes : ℕ
+most_text_bytes = 1048576
+
+-- ---- limits that later versions of declarations raise, as they do `most_members`
+
+-- premises
+abbrev pub most_premises : ℕ
+most_premises = 64

@@ -1,0 +1,4 @@
+-- What only the steps of the code and their proofs speak of.
+pub mod Fields
+pub mod Forms
+pub mod SentenceFaults

@@ -1,0 +1,86 @@
+//! The kinds that every declaration has: `interval`, `exact`, and the sets `bool` and `sign`.
+ghost use Rattle.std.specs.Prelude.{◌≡◌, ◌<◌, None, Some, IfSome, IfNone, length, slice_get, Contains};
+ghost use Rattle.pw_info.specs.SetNames.{IsNamed};
+ghost use Rattle.pw_procs.specs.Place.{place_of_name};
+ghost use Rattle.pw_decl.specs.Declaration.{Declared, NamesKind, built_in_kind_names, built_in_members, members_of};
+
+use pw_info::{Kind, SetKind};
+
+/// How many sets every declaration has. Declared ones have the numbers from this one on.
+pub(crate) const BUILT_IN_SETS: u8 = 2;
+
+/// The kind of this name, None where it is none that every declaration has.
+pub(crate) fn built_in_kind(name: &[u8]) -> Option<Kind>
+    ensures some { IfSome result (λ kind. (d : Declared) → NamesKind d name.now kind × IsNamed (members_of d) kind) }
+    ensures none { IfNone result (place_of_name built_in_kind_names name.now ≡ None) }
+{
+    if name == b"interval".as_slice() {
+        Some(Kind::Interval)
+    } else if name == b"exact".as_slice() {
+        Some(Kind::Exact)
+    } else if name == b"bool".as_slice() {
+        Some(Kind::Members(SetKind { number: 0, size: 2 }))
+    } else if name == b"sign".as_slice() {
+        Some(Kind::Members(SetKind { number: 1, size: 3 }))
+    } else {
+        None
+    }
+}
+
+/// The name of the member at this place of `bool`, number 0, or `sign`, number 1.
+pub(crate) fn built_in_member(set: u8, place: u8) -> &'static str
+    requires set { set < 2 }
+    requires place { place < length (built_in_members set) }
+    ensures { slice_get (built_in_members set) place ≡ Some result.now }
+{
+    match (set, place) {
+        (0, 0) => "false",
+        (0, _) => "true",
+        (_, 0) => "neg",
+        (_, 1) => "zero",
+        _ => "pos",
+    }
+}
+
+// The place of the member of this name of `bool`.
+fn place_in_bool(name: &[u8]) -> Option<u8>
+    ensures found { IfSome result (λ place. slice_get (built_in_members 0) place ≡ Some name.now) }
+    ensures none { IfNone result (Contains (built_in_members 0) name.now → ⊥) }
+{
+    if name == b"false".as_slice() {
+        Some(0)
+    } else if name == b"true".as_slice() {
+        Some(1)
+    } else {
+        None
+    }
+}
+
+// The place of the member of this name of `sign`.
+fn place_in_sign(name: &[u8]) -> Option<u8>
+    ensures found { IfSome result (λ place. slice_get (built_in_members 1) place ≡ Some name.now) }
+    ensures none { IfNone result (Contains (built_in_members 1) name.now → ⊥) }
+{
+    if name == b"neg".as_slice() {
+        Some(0)
+    } else if name == b"zero".as_slice() {
+        Some(1)
+    } else if name == b"pos".as_slice() {
+        Some(2)
+    } else {
+        None
+    }
+}
+
+/// The place of the member of this name of `bool`, number 0, or `sign`, number 1, None where it has none.
+pub(crate) fn built_in_place(set: u8, name: &[u8]) -> Option<u8>
+    requires { set < 2 }
+    ensures found { IfSome result (λ place. slice_get (built_in_members set) place ≡ Some name.now) }
+    ensures none { IfNone result (Contains (built_in_members set) name.now → ⊥) }
+{
+    if set == 0 {
+        place_in_bool(name)
+    } else {
+        place_in_sign(name)
+    }
+}

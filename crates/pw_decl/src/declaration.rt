@@ -1,0 +1,297 @@
+//! What a declaration declares: users, premises, cells and set kinds, by name and by number.
+ghost use Rattle.std.specs.Prelude.{◌≡◌, ℕ, None, Some, ◌<◌, ◌≤◌, length, is_some, slice_get, Contains, IfSome, IfNone, OnOk, OnErr};
+ghost use Rattle.pw_kinds.specs.Limits.{most_members};
+ghost use Rattle.pw_kinds.specs.Places.{IsSize};
+ghost use Rattle.pw_info.specs.declared.kind.Kind.{Kind as KindOfCell};
+ghost use Rattle.pw_info.specs.SetNames.{AreNames, IsNamed};
+ghost use Rattle.pw_procs.specs.Place.{place_of_name};
+ghost use Rattle.pw_decl.specs.Declaration.{nothing_declared, owner_of, kind_at, kind_names, members_of, NamesKind, with_user, with_premise, with_cell, with_set};
+ghost use Rattle.pw_decl.specs.Limits.{most_users, most_premises, most_cells, most_sets};
+ghost use Rattle.pw_decl.specs.WellDeclared.{IsWellDeclared};
+
+use crate::built_in_sets::{BUILT_IN_SETS, built_in_kind, built_in_member, built_in_place};
+use pw_info::{Kind, KindNames, SetKind};
+use pw_procs::NameTable;
+use std::alloc::{AllocError, Allocator, Global};
+use std::marker::Model;
+
+/// Users, premises and cells, each numbered from 0 in the order of their lines, for each premise the user that it belongs to,
+/// if any, and for each cell its kind; and set kinds with the names of their members, numbered from 2 in the order of their
+/// lines, after `bool` and `sign`. There are at most 64 users, 64 premises, 1,024 cells and 32 declared set kinds, each of
+/// 2 to 64 members.
+#[derive(Drop)]
+pub struct Declaration<A: Allocator = Global> {
+    users: NameTable<A>,
+    premises: NameTable<A>,
+    owners: Vec<Option<u8>, A>,
+    cells: NameTable<A>,
+    kinds: Vec<Kind, A>,
+    // Of the declared set kinds.
+    set_names: NameTable<A>,
+    // The names of the members of each declared set kind.
+    sets: Vec<NameTable<A>, A>,
+}
+
+impl<A: Allocator> Model for Declaration<A> {
+    ghost use Rattle.pw_decl.specs.Declaration.{Declared};
+
+    ghost Value = { Declared };
+
+    ghost use Rattle.pw_decl.specs.Steps.Fields.{declared_by};
+    ghost use Rattle.pw_decl.specs.WellDeclared.{IsWellDeclared};
+
+    ghost view = { declared_by };
+
+    ghost invariant = { λ d. IsWellDeclared (declared_by d) };
+}
+
+impl<A: Allocator + Copy> Declaration<A> {
+    /// Nothing is declared. It takes no memory.
+    pub(crate) fn new(alloc: A) -> Declaration<A>
+        ensures { result ≡ nothing_declared }
+    {
+        Declaration {
+            users: NameTable::new(alloc),
+            premises: NameTable::new(alloc),
+            owners: Vec::new(alloc),
+            cells: NameTable::new(alloc),
+            kinds: Vec::new(alloc),
+            set_names: NameTable::new(alloc),
+            sets: Vec::new(alloc),
+        }
+    }
+
+    /// What holds of every declaration: its limits are kept, members of sets have names, and the kinds of cells are there.
+    pub fn limits(&self)
+        ensures { IsWellDeclared self.now }
+    {
+        // Looks at it, so that what holds of every declaration is known.
+        let _users = &self.users;
+    }
+
+    /// The number of users, at most 64.
+    pub fn users(&self) -> u8
+        ensures count { result ≡ length self.now.users }
+        ensures most { result ≤ most_users }
+    {
+        self.users.len() as u8
+    }
+
+    /// The number of premises, at most 64.
+    pub fn premises(&self) -> u8
+        ensures count { result ≡ length self.now.premises }
+        ensures most { result ≤ most_premises }
+    {
+        self.premises.len() as u8
+    }
+
+    /// The number of cells, at most 1,024.
+    pub fn cells(&self) -> u32
+        ensures count { result ≡ length self.now.cells }
+        ensures most { result ≤ most_cells }
+    {
+        self.cells.len() as u32
+    }
+
+    /// The number of declared set kinds, at most 32; `bool` and `sign` are not counted.
+    pub fn sets(&self) -> u8
+        ensures count { result ≡ length self.now.sets }
+        ensures most { result ≤ most_sets }
+    {
+        self.sets.len() as u8
+    }
+
+    /// The kind of this name, if there is one: `interval`, `exact`, `bool`, `sign` or a declared set kind.
+    pub(crate) fn kind(&self, name: &[u8]) -> Option<Kind>
+        ensures some { IfSome result (λ kind. NamesKind self.now name.now kind) }
+        ensures known { IfSome result (λ kind. IsNamed (members_of self.now) kind) }
+        ensures none { IfNone result ((kind : KindOfCell) → NamesKind self.now name.now kind → ⊥) }
+    {
+        if let Some(kind) = built_in_kind(name) {
+            return Some(kind);
+        }
+        let place = self.set_names.find(name)?;
+        Some(Kind::Members(SetKind {
+            number: BUILT_IN_SETS + place as u8,
+            size: self.sets[place].len() as u8,
+        }))
+    }
+
+    /// Whether there is a kind of this name.
+    pub(crate) fn has_kind(&self, name: &[u8]) -> bool
+        ensures { result ≡ is_some (place_of_name (kind_names self.now) name.now) }
+    {
+        built_in_kind(name).is_some() || self.set_names.find(name).is_some()
+    }
+
+    /// The number of the user of this name, if there is one.
+    pub fn user(&self, name: &[u8]) -> Option<u8>
+        ensures number { result ≡ place_of_name self.now.users name.now }
+        ensures within { IfSome result (λ number. number < length self.now.users) }
+        ensures limit { IfSome result (λ number. number < most_users) }
+    {
+        let number = self.users.find(name)?;
+        Some(number as u8)
+    }
+
+    /// The number of the premise of this name, if there is one.
+    pub fn premise(&self, name: &[u8]) -> Option<u8>
+        ensures number { result ≡ place_of_name self.now.premises name.now }
+        ensures within { IfSome result (λ number. number < length self.now.premises) }
+        ensures limit { IfSome result (λ number. number < most_premises) }
+    {
+        let number = self.premises.find(name)?;
+        Some(number as u8)
+    }
+
+    /// The number of the cell of this name, if there is one.
+    pub fn cell(&self, name: &[u8]) -> Option<u32>
+        ensures number { result ≡ place_of_name self.now.cells name.now }
+        ensures within { IfSome result (λ number. number < length self.now.cells) }
+        ensures limit { IfSome result (λ number. number < most_cells) }
+    {
+        let number = self.cells.find(name)?;
+        Some(number as u32)
+    }
+
+    /// The name of the user of this number.
+    pub fn user_name(&self, user: u8) -> &str
+        requires { user < length self.now.users }
+        ensures name { slice_get self.now.users user ≡ Some result.now }
+        ensures own { place_of_name self.now.users result.now ≡ Some user }
+    {
+        self.users.name(usize::from(user))
+    }
+
+    /// The name of the premise of this number.
+    pub fn premise_name(&self, premise: u8) -> &str
+        requires { premise < length self.now.premises }
+        ensures name { slice_get self.now.premises premise ≡ Some result.now }
+        ensures own { place_of_name self.now.premises result.now ≡ Some premise }
+    {
+        self.premises.name(usize::from(premise))
+    }
+
+    /// The name of the cell of this number.
+    pub fn cell_name(&self, cell: u32) -> &str
+        requires { cell < length self.now.cells }
+        ensures name { slice_get self.now.cells cell ≡ Some result.now }
+        ensures own { place_of_name self.now.cells result.now ≡ Some cell }
+    {
+        self.cells.name(cell as usize)
+    }
+
+    /// The number of the user that the premise of this number belongs to, if it belongs to one.
+    pub fn owner(&self, premise: u8) -> Option<u8>
+        requires { premise < length self.now.premises }
+        ensures owner { result ≡ owner_of self.now premise }
+        ensures user { IfSome result (λ user. user < length self.now.users) }
+    {
+        self.owners[usize::from(premise)]
+    }
+
+    /// The kinds of the cells, at most 1,024, by the numbers of the cells.
+    pub fn kinds(&self) -> &[Kind]
+        ensures kinds { result.now ≡ self.now.kinds }
+        ensures each { length self.now.kinds ≡ length self.now.cells }
+        ensures most { length result.now ≤ most_cells }
+    {
+        &self.kinds
+    }
+
+    /// The kind of the cell of this number.
+    pub fn cell_kind(&self, cell: u32) -> Kind
+        requires { cell < length self.now.cells }
+        ensures kind { result ≡ kind_at self.now cell }
+        ensures named { IsNamed (members_of self.now) result }
+    {
+        self.kinds[cell as usize]
+    }
+
+    /// Adds a user. It fails only for want of memory, and then nothing changes.
+    pub(crate) fn add_user(&mut self, name: &str) -> Result<(), AllocError>
+        requires fresh { place_of_name self.old.users name.now ≡ None }
+        requires room { length self.old.users < most_users }
+        ensures ok { OnOk result (self.new ≡ with_user self.old name.now) }
+        ensures err { OnErr result (self.new ≡ self.old) }
+    {
+        self.users.add(name)?;
+        Ok(())
+    }
+
+    /// Adds a premise, which belongs to this user, if any. It fails only for want of memory, and then nothing changes.
+    pub(crate) fn add_premise(&mut self, name: &str, owner: Option<u8>) -> Result<(), AllocError>
+        requires fresh { place_of_name self.old.premises name.now ≡ None }
+        requires room { length self.old.premises < most_premises }
+        requires user { IfSome owner (λ user. user < length self.old.users) }
+        ensures ok { OnOk result (self.new ≡ with_premise self.old name.now owner) }
+        ensures err { OnErr result (self.new ≡ self.old) }
+    {
+        self.owners.reserve(1)?;
+        self.premises.add(name)?;
+        self.owners.push(owner).unwrap();
+        Ok(())
+    }
+
+    /// Adds a cell of this kind. It fails only for want of memory, and then nothing changes.
+    pub(crate) fn add_cell(&mut self, name: &str, kind: Kind) -> Result<(), AllocError>
+        requires fresh { place_of_name self.old.cells name.now ≡ None }
+        requires room { length self.old.cells < most_cells }
+        requires known { IsNamed (members_of self.old) kind }
+        ensures ok { OnOk result (self.new ≡ with_cell self.old name.now kind) }
+        ensures err { OnErr result (self.new ≡ self.old) }
+    {
+        self.kinds.reserve(1)?;
+        self.cells.add(name)?;
+        self.kinds.push(kind).unwrap();
+        Ok(())
+    }
+
+    /// Adds a set kind with these members, 2 to 64. It fails only for want of memory, and then nothing changes.
+    pub(crate) fn add_set(&mut self, name: &str, members: NameTable<A>) -> Result<(), AllocError>
+        requires fresh { place_of_name (kind_names self.old) name.now ≡ None }
+        requires room { length self.old.sets < most_sets }
+        requires size { IsSize (length members) }
+        requires names { AreNames members }
+        ensures ok { OnOk result (self.new ≡ with_set self.old name.now members) }
+        ensures err { OnErr result (self.new ≡ self.old) }
+    {
+        self.sets.reserve(1)?;
+        self.set_names.add(name)?;
+        self.sets.push(members).unwrap();
+        Ok(())
+    }
+}
+
+impl<A: Allocator + Copy> KindNames for Declaration<A> {
+    ghost members = { members_of };
+
+    fn member(&self, set: u8, place: u8) -> &str {
+        if set < BUILT_IN_SETS {
+            return built_in_member(set, place);
+        }
+        self.sets[usize::from(set - BUILT_IN_SETS)].name(usize::from(place))
+    }
+
+    fn place(&self, set: u8, name: &[u8]) -> Option<u8> {
+        if set < BUILT_IN_SETS {
+            return built_in_place(set, name);
+        }
+        let sets = self.sets.as_slice();
+        let declared = usize::from(set - BUILT_IN_SETS);
+        if declared >= sets.len() {
+            return None;
+        }
+        place_in(&sets[declared], name)
+    }
+}
+
+// The place of the name in a list of at most 64 names.
+fn place_in<A: Allocator + Copy>(names: &NameTable<A>, name: &[u8]) -> Option<u8>
+    requires { length names.now ≤ most_members }
+    ensures found { IfSome result (λ place. slice_get names.now place ≡ Some name.now) }
+    ensures none { IfNone result (Contains names.now name.now → ⊥) }
+{
+    let place = names.find(name)?;
+    Some(place as u8)
+}

@@ -1,0 +1,15 @@
+//! Declarations: a text in, and out of it what it declares, or its first fault.
+#![tactic(auto)]
+
+mod built_in_sets;
+mod decl_fault;
+mod declaration;
+pub mod laws;
+mod line;
+mod sentence;
+mod set_line;
+mod text;
+
+pub use decl_fault::{DeclFault, DeclFaultKind};
+pub use declaration::Declaration;
+pub use text::read_declaration;

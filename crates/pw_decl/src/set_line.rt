@@ -1,0 +1,106 @@
+//! The line of a declaration that declares a set kind.
+ghost use Rattle.std.specs.Prelude.{◌≡◌, ◌↔◌, ◌+◌, Some, true, length, min, IsTrue, IfOk, IfErr, OnOk, OnErr};
+ghost use Rattle.std.specs.List.{list_all, list_any, IsDistinct};
+ghost use Rattle.std.specs.Str.{bytes_eq};
+ghost use Rattle.pw_info.specs.Name.{is_name};
+ghost use Rattle.pw_kinds.specs.Limits.{most_members};
+ghost use Rattle.pw_decl.specs.Declaration.{Set, Makes};
+ghost use Rattle.pw_decl.specs.Steps.SentenceFaults.{IsFaultless, IsToldOf};
+
+use crate::decl_fault::DeclFaultKind;
+use crate::declaration::Declaration;
+use pw_info::{Words, read_name};
+use pw_procs::NameTable;
+use std::alloc::{AllocError, Allocator};
+
+const MOST_SETS: u8 = 32;
+
+const FEWEST_MEMBERS: usize = 2;
+
+const MOST_MEMBERS: usize = 64;
+
+// Whether the word is among the words.
+fn is_among(word: &[u8], mut words: Words<'_>) -> bool
+    ensures { result ≡ list_any (bytes_eq word.now) words.entry }
+{
+    while let Some(other) = words.next() {
+        if word == other {
+            return true;
+        }
+    }
+    false
+}
+
+// Whether no two words are equal. A line has few words: each is looked for among those after it, with no memory.
+fn are_distinct(mut words: Words<'_>) -> bool
+    ensures { IsTrue result ↔ IsDistinct bytes_eq words.entry }
+{
+    while let Some(word) = words.next() {
+        if is_among(word, words.again()) {
+            return false;
+        }
+    }
+    true
+}
+
+// How many words there are, counted no further than to one member too many.
+fn count(mut words: Words<'_>) -> usize
+    ensures { result ≡ min (length words.entry) (most_members + 1) }
+{
+    let mut count = 0;
+    while count <= MOST_MEMBERS && words.next().is_some() {
+        count += 1;
+    }
+    count
+}
+
+// The names of the members, which differ.
+fn name_members<A: Allocator + Copy>(
+    alloc: A,
+    mut members: Words<'_>,
+) -> Result<NameTable<A>, AllocError>
+    requires names { list_all is_name members ≡ true }
+    requires distinct { IsDistinct bytes_eq members }
+    ensures { IfOk result (λ table. table ≡ members.entry) }
+{
+    let mut table = NameTable::new(alloc);
+    while let Some(word) = members.next() {
+        let Some(name) = read_name(word) else {
+            unreachable!("each member is a name");
+        };
+        table.add(name)?;
+    }
+    Ok(table)
+}
+
+/// Declares a set kind of this name with these members, which are names.
+pub(crate) fn declare_set<A: Allocator + Copy>(
+    alloc: A,
+    declaration: &mut Declaration<A>,
+    name: &str,
+    members: Words<'_>,
+) -> Result<(), DeclFaultKind>
+    requires names { list_all is_name members ≡ true }
+    ensures ok { OnOk result (Makes (Some declaration.old) (Set name.now members.entry) declaration.new) }
+    ensures none { OnOk result (IsFaultless (Some declaration.old) (Set name.now members.entry)) }
+    ensures err { IfErr result (IsToldOf (Some declaration.old) (Set name.now members.entry)) }
+    ensures unchanged { OnErr result (declaration.new ≡ declaration.old) }
+{
+    if declaration.has_kind(name.as_bytes()) || !are_distinct(members.again()) {
+        return Err(DeclFaultKind::DuplicateName);
+    }
+    let size = count(members.again());
+    if size < FEWEST_MEMBERS {
+        return Err(DeclFaultKind::WrongArguments);
+    }
+    if declaration.sets() >= MOST_SETS || size > MOST_MEMBERS {
+        return Err(DeclFaultKind::Limit);
+    }
+    let Ok(table) = name_members(alloc, members) else {
+        return Err(DeclFaultKind::Memory);
+    };
+    match declaration.add_set(name, table) {
+        Ok(()) => Ok(()),
+        Err(_) => Err(DeclFaultKind::Memory),
+    }
+}

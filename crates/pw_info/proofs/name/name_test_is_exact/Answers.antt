@@ -1,5 +1,0 @@
-use Rattle.pw_info.proofs.NameTests.{exact}
-use Rattle.pw_info.proofs.name.name_test_is_exact.Goals as goal
-
-pub returns : goal.returns
-returns c = exact

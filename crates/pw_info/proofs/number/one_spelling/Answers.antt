@@ -1,5 +1,0 @@
-use Rattle.pw_info.proofs.Numbers.{spelled_is_signed_decimal}
-use Rattle.pw_info.proofs.number.one_spelling.Goals as goal
-
-pub returns : goal.returns
-returns c = spelled_is_signed_decimal

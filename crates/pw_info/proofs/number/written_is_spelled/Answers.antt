@@ -1,5 +1,0 @@
-use Rattle.pw_info.proofs.Numbers.{signed_decimal_spells}
-use Rattle.pw_info.proofs.number.written_is_spelled.Goals as goal
-
-pub returns : goal.returns
-returns c = signed_decimal_spells

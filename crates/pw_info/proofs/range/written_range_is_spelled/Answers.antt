@@ -1,5 +1,0 @@
-use Rattle.pw_info.proofs.Dots.{text_spells}
-use Rattle.pw_info.proofs.range.written_range_is_spelled.Goals as goal
-
-pub returns : goal.returns
-returns c = text_spells

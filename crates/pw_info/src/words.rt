@@ -1,0 +1,132 @@
+// The words of a line, and the lines that say nothing.
+
+ghost use Rattle.std.specs.Prelude.{◌≡◌, ℕ, ◌∷◌, ◌↔◌, ◌≤◌, [], List, length, drop, MatchOption};
+ghost use Rattle.std.specs.List.{prefix_len, list_all};
+ghost use Rattle.pw_info.specs.Words as spec;
+
+use std::marker::Model;
+
+// A space, a tab or a carriage return.
+fn is_blank(byte: u8) -> bool
+    ensures { result ≡ spec.is_blank byte }
+{
+    byte == b' ' || byte == b'\t' || byte == b'\r'
+}
+
+// A blank or a visible ASCII character.
+fn is_allowed(byte: u8) -> bool
+    ensures { result ≡ spec.is_allowed byte }
+{
+    is_blank(byte) || byte >= 0x21 && byte <= 0x7E
+}
+
+/// Whether the line says nothing: it is empty, blanks alone, or a comment, whatever bytes follow its `#`.
+pub fn idles(line: &[u8]) -> bool
+    ensures { result ≡ spec.is_idle line.now }
+{
+    for byte in line {
+        if !is_blank(*byte) {
+            return *byte == b'#';
+        }
+    }
+    true
+}
+
+/// Whether each byte of the line is a blank or a visible ASCII character.
+pub fn allows_all(line: &[u8]) -> bool
+    ensures { result ≡ list_all spec.is_allowed line.now }
+{
+    line.iter().all(|byte| is_allowed(*byte))
+}
+
+// How many blanks the bytes begin with.
+fn blank_len(bytes: &[u8]) -> usize
+    ensures value { result ≡ prefix_len spec.is_blank bytes.now }
+    ensures within { result ≤ length bytes.now }
+{
+    for (i, byte) in bytes.iter().enumerate() {
+        if !is_blank(*byte) {
+            return i;
+        }
+    }
+    bytes.len()
+}
+
+// What comes after the blanks.
+fn after_blanks(bytes: &[u8]) -> &[u8]
+    ensures { result.now ≡ drop (prefix_len spec.is_blank bytes.now) bytes.now }
+{
+    &bytes[blank_len(bytes)..]
+}
+
+// How many bytes the first word has, where no blank stands before it.
+fn word_len(bytes: &[u8]) -> usize
+    ensures value { result ≡ prefix_len spec.is_plain bytes.now }
+    ensures within { result ≤ length bytes.now }
+{
+    for (i, byte) in bytes.iter().enumerate() {
+        if is_blank(*byte) {
+            return i;
+        }
+    }
+    bytes.len()
+}
+
+// The first word, and what comes after it.
+fn split_word(bytes: &[u8]) -> Option<(&[u8], &[u8])>
+    ensures { MatchOption result (spec.words_of bytes.now ≡ []) (λ parts. spec.words_of bytes.now ≡ parts.0.now ∷ spec.words_of parts.1.now) }
+{
+    let text = after_blanks(bytes);
+    let end = word_len(text);
+    if end == 0 {
+        return None;
+    }
+    Some(text.split_at(end))
+}
+
+/// The words of a line that are left, as a list of words.
+#[derive(Drop)]
+pub struct Words<'a> {
+    rest: &'a [u8],
+}
+
+impl<'a> Model for Words<'a> {
+    ghost use Rattle.std.specs.Prelude.{List, ℕ};
+    ghost use Rattle.pw_info.specs.Words as spec;
+
+    ghost Value = { List (List ℕ) };
+
+    ghost view = { λ words. spec.words_of words.rest.now };
+}
+
+impl<'a> Words<'a> {
+    /// All words of the line.
+    pub fn new(line: &'a [u8]) -> Words<'a>
+        ensures { result ≡ spec.words_of line.now }
+    {
+        Words { rest: line }
+    }
+
+    /// Takes the next word, or gives `None` where no word is left.
+    pub fn next(&mut self) -> Option<&'a [u8]>
+        ensures { MatchOption result ((self.old ≡ []) × (self.new ≡ [])) (λ word. self.old ≡ word.now ∷ self.new) }
+    {
+        let (word, rest) = split_word(self.rest)?;
+        self.rest = rest;
+        Some(word)
+    }
+
+    /// Whether no word is left.
+    pub fn is_empty(&self) -> bool
+        ensures { result ≡ spec.is_nil self.now }
+    {
+        split_word(self.rest).is_none()
+    }
+
+    /// The same words, to go over them a second time.
+    pub fn again(&self) -> Words<'a>
+        ensures { result ≡ self.now }
+    {
+        Words { rest: self.rest }
+    }
+}

@@ -1,0 +1,19 @@
+//! Facts for tests.
+ghost use Rattle.std.specs.Prelude.{◌≡◌};
+ghost use Rattle.pw_info.specs.Information.{kind_of};
+
+use pw_facts::Fact;
+use pw_info::{Info, Kind};
+use pw_kinds::Interval;
+use pw_premises::PremiseSet;
+
+/// The fact that a number lies from `lo` to `hi`, under these premises.
+pub fn fact(lo: i64, hi: i64, support: PremiseSet) -> Fact
+    ensures { kind_of result.info ≡ Kind.Interval }
+{
+    let info = match Interval::new(lo, hi) {
+        Some(part) => Info::of_interval(part),
+        None => Info::contradiction(Kind::Interval),
+    };
+    Fact { info, support }
+}

@@ -1,0 +1,104 @@
+//! Transcripts with each growth of memory refused in turn.
+
+use super::WORLD;
+use crate::Refusing;
+use crate::sessions::{answered, outcome, said};
+use crate::texts::ended;
+use pw_transcript::{Lines, RunFault};
+use std::alloc::Global;
+use std::test::Fail;
+
+const LINES: [&str; 8] = [
+    "ann tell x 1..2 under a",
+    "bob tell x 3..4 under b",
+    "ann ask x",
+    "ann doubt b",
+    "ann ask x",
+    "bob ask x",
+    "ann believe b",
+    "ann ask x",
+];
+
+// The lines of the transcript, those that were refused made empty.
+fn blanked(alloc: Global, refused: [bool; 8]) -> Result<String, Fail> {
+    let mut lines = LINES;
+    for (line, is_refused) in lines.iter_mut().zip(refused.iter()) {
+        if *is_refused {
+            *line = "";
+        }
+    }
+    Ok(ended(alloc, &lines)?)
+}
+
+// The replies without those that say that memory was refused, and which lines got these.
+fn without_refusals(alloc: Global, written: &str) -> Result<(String, [bool; 8]), Fail> {
+    let mut rest = String::new(alloc);
+    let mut refused = [false; 8];
+    for reply in written.lines() {
+        if reply.ends_with(": refused 11 memory") {
+            let number = reply.bytes().next().unwrap_or(b'0');
+            if number >= b'1' && number <= b'8' {
+                refused[usize::from(number - b'1')] = true;
+            }
+        } else {
+            rest.push_str(reply)?;
+            rest.push('\n')?;
+        }
+    }
+    Ok((rest, refused))
+}
+
+#[test]
+fn a_line_refused_for_memory_counts_as_blank(rt: HostRuntime) -> Result<(), Fail> {
+    let whole = blanked(rt.alloc(), [false; 8])?;
+    let mut lines_refused = 0u32;
+    let mut faults = 0u32;
+    for at in 1..100u64 {
+        let refusing = Refusing::nth(rt.alloc(), at);
+        let (answer, written) = outcome(rt.alloc(), &refusing, WORLD, whole.as_str())?;
+        if answer == Err(RunFault::Memory) {
+            assert_eq!(rt; written.as_str(), "", "at {at}");
+            faults = faults.saturating_add(1);
+            continue;
+        }
+        assert!(rt; answer.is_ok(), "at {at}");
+        let (rest, refused) = without_refusals(rt.alloc(), written.as_str())?;
+        let blank = blanked(rt.alloc(), refused)?;
+        let (_, ample) = outcome(rt.alloc(), rt.alloc(), WORLD, blank.as_str())?;
+        assert_eq!(rt; rest.as_str(), ample.as_str(), "at {at}");
+        if refused == [false; 8] {
+            assert!(rt; refusing.calls() < at, "at {at}");
+            break;
+        }
+        lines_refused = lines_refused.saturating_add(1);
+    }
+    assert!(rt; faults > 0, "{faults} faults");
+    assert!(rt; lines_refused > 0, "{lines_refused} lines were refused");
+    Ok(())
+}
+
+#[test]
+fn believing_doubting_and_asking_take_no_memory(rt: HostRuntime) -> Result<(), Fail> {
+    // The first two growths are those of the cells and of the beliefs, in setting up.
+    let refusing = Refusing::all_from(rt.alloc(), 3);
+    let rows = [
+        ("ann doubt b", "ok"),
+        ("ann ask x", "nothing"),
+        ("ann believe b", "ok"),
+        ("bob ask y", "nothing"),
+        ("ann tell x 1", "refused 11 memory"),
+        ("ann ask x", "nothing"),
+    ];
+    let transcript = said(rt.alloc(), &rows)?;
+    let wanted = answered(rt.alloc(), &rows)?;
+    let (answer, written) = outcome(rt.alloc(), &refusing, WORLD, transcript.as_str())?;
+    assert_eq!(rt;
+        answer,
+        Ok(Lines {
+            lines: 6,
+            replies: 6
+        })
+    );
+    assert_eq!(rt; written.as_str(), wanted.as_str());
+    Ok(())
+}

@@ -1,0 +1,3 @@
+//! Tests of registries of procedures.
+
+mod refused;

@@ -1,0 +1,9 @@
+//! Tests of `run`: what is written for what is read.
+
+mod failing_ends;
+mod limits;
+mod pace;
+mod putting;
+mod refused_lines;
+mod replies;
+mod taking;

@@ -1,0 +1,3 @@
+//! Tests of the store of facts.
+
+mod refused;

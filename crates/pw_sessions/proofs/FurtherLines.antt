@@ -1,0 +1,57 @@
+-- Entries, beliefs and replies of one line more.
+use Rattle.std.proofs.Common.{◌≡◌, ℕ, suc, ◌+◌, List, [], ◌∷◌, ◌++◌, length, Option, refl, sym, ap, ◌∙◌, append-nil, append_assoc, arith}
+use Rattle.std.proofs.lemmas.List.Sums.{fold-append}
+use Rattle.pw_decl.specs.Declaration.{Declared}
+use Rattle.pw_sessions.specs.declared.reply.Reply.{Reply}
+use Rattle.pw_sessions.specs.LineReading.{LineReading}
+use Rattle.pw_sessions.specs.Entries.{entries_of, entries_from, entries_before}
+use Rattle.pw_sessions.specs.Beliefs.{all_premises, believed_after, beliefs_at}
+use Rattle.pw_sessions.specs.Answer.{reply_to, replies_after, replies_of}
+
+-- ---- entries
+
+entries_from-snoc : (number : ℕ) (readings : List LineReading) (reading : LineReading) →
+    entries_from number (readings ++ reading ∷ []) ≡ entries_from number readings ++ entries_of (number + length readings) reading
+entries_from-snoc number [] reading = append-nil (entries_of number reading) ∙ ap (λ n. entries_of n reading) (omega arith)
+entries_from-snoc number (first ∷ readings) reading =
+    ap (λ es. entries_of number first ++ es) (entries_from-snoc (number + 1) readings reading)
+    ∙ sym (append_assoc (entries_of number first) (entries_from (number + 1) readings) (entries_of (number + 1 + length readings) reading))
+    ∙ ap (λ n. (entries_of number first ++ entries_from (number + 1) readings) ++ entries_of n reading) same
+  where
+    same : number + 1 + length readings ≡ number + length (first ∷ readings)
+    same = omega arith
+
+-- one more line leaves the entries that the lines before it left, and its own
+pub entries_before-snoc : (readings : List LineReading) (reading : LineReading) →
+    entries_before (readings ++ reading ∷ []) ≡ entries_before readings ++ entries_of (length readings + 1) reading
+entries_before-snoc readings reading = entries_from-snoc 1 readings reading ∙ ap (λ n. entries_before readings ++ entries_of n reading) (omega arith)
+
+-- ---- beliefs
+
+-- what a user believes after one more line: what the user believed before it, and what the line changes of that
+pub beliefs_at-snoc : (d : Declared) (user : ℕ) (readings : List LineReading) (reading : LineReading) →
+    beliefs_at d user (readings ++ reading ∷ []) ≡ believed_after user (beliefs_at d user readings) reading
+beliefs_at-snoc d user readings reading = fold-append (believed_after user) (all_premises d) readings (reading ∷ [])
+
+-- ---- replies
+
+replies_after-snoc : (d : Declared) (before readings : List LineReading) (reading : LineReading) →
+    replies_after d before (readings ++ reading ∷ []) ≡ replies_after d before readings ++ reply_to d (before ++ readings) reading ∷ []
+replies_after-snoc d before [] reading = ap (λ (rs : List LineReading). reply_to d rs reading ∷ []) (sym (append-nil before))
+replies_after-snoc d before (first ∷ readings) reading =
+    ap (λ (rs : List (Option Reply)). reply_to d before first ∷ rs)
+    (replies_after-snoc d (before ++ first ∷ []) readings reading
+    ∙ ap (λ (rs : List LineReading). replies_after d (before ++ first ∷ []) readings ++ reply_to d rs reading ∷ []) (append_assoc before (first ∷ []) readings))
+
+-- one more line gets its reply after those of the lines before it
+pub replies_of-snoc : (d : Declared) (readings : List LineReading) (reading : LineReading) →
+    replies_of d (readings ++ reading ∷ []) ≡ replies_of d readings ++ reply_to d readings reading ∷ []
+replies_of-snoc d readings reading = replies_after-snoc d [] readings reading
+
+length-replies_after : (d : Declared) (before readings : List LineReading) → length (replies_after d before readings) ≡ length readings
+length-replies_after d before [] = refl
+length-replies_after d before (first ∷ readings) = ap suc (length-replies_after d (before ++ first ∷ []) readings)
+
+-- each line has its place among the replies
+pub length-replies_of : (d : Declared) (readings : List LineReading) → length (replies_of d readings) ≡ length readings
+length-replies_of d readings = length-replies_after d [] readings

@@ -1,0 +1,4 @@
+pub mod BlankLemmas
+pub mod EntryLemmas
+pub mod FurtherLines
+pub mod WorkbenchLemmas

@@ -1,0 +1,9 @@
+pub mod Answer
+pub mod Beliefs
+pub mod Carrying
+pub mod Entries
+pub mod LineReading
+pub mod NamesDeclared
+pub mod TakesMemory
+pub mod Workbench
+pub mod WorkbenchCode

@@ -1,0 +1,17 @@
+-- Which commands may be refused for want of memory.
+use Rattle.std.specs.Prelude.{◌≡◌, ◌⊎◌, List}
+use Rattle.pw_decl.specs.Declaration.{Declared}
+use Rattle.pw_sessions.specs.declared.command.Command.{Command}
+use Rattle.pw_sessions.specs.declared.command.Command.TheVariants as commands
+use Rattle.pw_sessions.specs.declared.reply.Refusal.TheVariants as refusal
+use Rattle.pw_sessions.specs.LineReading.{LineReading, Refused, Says}
+
+-- after lines that read so, the command takes memory: it tells a fact. The others never do
+abbrev pub TakesMemory : Declared → List LineReading → Command → Type 0
+TakesMemory d before (commands.Tell user cell fact) = Unit {0}
+TakesMemory d before command = ⊥
+
+-- what a line that says the command comes to, after lines that read so: it says it; or it is refused for want of memory
+abbrev pub MayBecome : Declared → List LineReading → Command → LineReading → Type 0
+MayBecome d before command reading =
+    (reading ≡ Says command) ⊎ ((reading ≡ Refused refusal.Memory) × TakesMemory d before command)

@@ -1,0 +1,21 @@
+//! What users ask for.
+
+use pw_facts::Fact;
+use pw_premises::PremiseSet;
+
+/// What a line of a transcript asks for. Users, cells and premises go by their numbers in the declaration.
+///
+/// What a user believes is a worldview: premises are brought in and kicked out, and nothing that was told is lost (Radul
+/// and Sussman, *The Art of the Propagator*, on dependencies for alternate worldviews). That each user has one of their
+/// own is this program's.
+#[derive(Clone, Copy, Debug, PartialEq, Eq)]
+pub enum Command {
+    /// A fact for a cell; it rests on the premises that the line names.
+    Tell { user: u8, cell: u32, fact: Fact },
+    /// Premises that the user believes from now on.
+    Believe { user: u8, premises: PremiseSet },
+    /// Premises that the user believes no longer.
+    Doubt { user: u8, premises: PremiseSet },
+    /// What is known of a cell under what the user believes.
+    Ask { user: u8, cell: u32 },
+}

@@ -1,0 +1,49 @@
+//! What a line is answered with.
+
+use pw_info::Info;
+use thiserror::Error;
+
+/// Why a line is refused. A line that several of these apply to is refused for the first of them, in the order
+/// line too long, syntax, unknown user, unknown command, unknown cell, wrong information, unknown premise,
+/// not your premise, memory.
+#[derive(Clone, Copy, Debug, PartialEq, Eq, Error)]
+pub enum Refusal {
+    /// A byte that is no blank and not visible ASCII, one word alone, or words that do not fit the command's form.
+    #[error("syntax")]
+    Syntax,
+    /// The first word is no declared user.
+    #[error("unknown user")]
+    UnknownUser,
+    /// The second word is no command.
+    #[error("unknown command")]
+    UnknownCommand,
+    /// A cell that is not declared.
+    #[error("unknown cell")]
+    UnknownCell,
+    /// A premise that is not declared.
+    #[error("unknown premise")]
+    UnknownPremise,
+    /// A tell under a premise of another user.
+    #[error("not your premise")]
+    NotYourPremise,
+    /// A word that spells no information of the cell's kind.
+    #[error("wrong information")]
+    WrongInformation,
+    /// More than 1,024 bytes.
+    #[error("line too long")]
+    LineTooLong,
+    /// A growth of memory was refused.
+    #[error("memory")]
+    Memory,
+}
+
+/// What a line is answered with.
+#[derive(Clone, Copy, Debug, PartialEq, Eq)]
+pub enum Reply {
+    /// A command that tells or changes something was carried out.
+    Done,
+    /// What is known of the cell that was asked for.
+    Value(Info),
+    /// The line was refused, and changed nothing.
+    Refused(Refusal),
+}

@@ -1,0 +1,15 @@
+use Rattle.std.proofs.Common.{◌≡◌, List, ℕ, ◌++◌, length}
+use Rattle.pw_transcript.specs.Steps.Running.{IsRunning, GoesOn}
+use Rattle.pw_transcript.proofs.progress.Progress.feed.Given as goal
+
+-- what lies in front of the rest is answered
+abbrev pub invariant-loop-rest : goal.invariant-loop-rest
+invariant-loop-rest g l = record {
+  done : List ℕ;
+  whole : l.fn.bytes ≡ done ++ l.rest;
+  so_far : GoesOn g.O.Output.passes l.d l.fn.self l.fn.output done l.self l.output;
+  running : IsRunning l.d l.self;
+}
+
+abbrev pub decreases-loop-rest : goal.decreases-loop-rest
+decreases-loop-rest g l = length l.rest

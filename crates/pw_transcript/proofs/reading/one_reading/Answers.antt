@@ -1,5 +1,0 @@
-use Rattle.pw_transcript.proofs.ReadingLemmas as readings
-use Rattle.pw_transcript.proofs.reading.one_reading.Goals as goal
-
-pub returns : goal.returns
-returns c = readings.one_reading

@@ -1,5 +1,0 @@
-use Rattle.pw_transcript.proofs.WordLemmas.{given, found_at}
-use Rattle.pw_transcript.proofs.words.one_list.Goals as goal
-
-pub returns : goal.returns
-returns c = λ line words. (given line words, found_at line words)

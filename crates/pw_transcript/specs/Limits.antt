@@ -1,0 +1,40 @@
+-- What a run answers at most, and where a transcript goes past it.
+use Rattle.std.specs.Prelude.{ℕ, ◌+◌, ◌<◌, ◌≤◌, List, ◌++◌, length, take, ◌⊎◌}
+use Rattle.pw_info.specs.Lines.{lines_of}
+
+-- how many lines of a transcript a run answers at most
+abbrev pub most_lines : ℕ
+most_lines = 1000000
+
+-- how many bytes of a transcript a run answers at most
+abbrev pub most_bytes : ℕ
+most_bytes = 67108864
+
+-- how many bytes a line has at most that is not refused for its length
+abbrev pub most_line_bytes : ℕ
+most_line_bytes = 1024
+
+-- how many bytes a run takes at once at most
+abbrev pub most_at_once : ℕ
+most_at_once = 65536
+
+-- the byte that ends a line
+abbrev pub line_feed : ℕ
+line_feed = 10
+
+-- a transcript has no more lines and no more bytes than a run answers
+pub record IsWithinLimits (transcript : List ℕ) : Type 0 where
+  pub lines : length (lines_of transcript) ≤ most_lines
+  pub bytes : length transcript ≤ most_bytes
+
+-- it has more lines, or more bytes
+abbrev pub IsPastLimits : List ℕ → Type 0
+IsPastLimits transcript = (most_lines < length (lines_of transcript)) ⊎ (most_bytes < length transcript)
+
+-- `within` is within the limits, and with the first byte of `past` it is no longer. What is past them came with that
+-- byte: it is no more than a run takes at once.
+pub record GoesPastLimits (within past : List ℕ) : Type 0 where
+  pub is_within : IsWithinLimits within
+  pub first_past : IsPastLimits (within ++ take 1 past)
+  pub at_once : length past ≤ most_at_once
+  pub in_all : length (within ++ past) ≤ most_bytes + 1

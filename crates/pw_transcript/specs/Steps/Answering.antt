@@ -1,0 +1,57 @@
+-- The answer to one line, as a step from what the lines before it left to what they leave with it.
+use Rattle.std.specs.Prelude.{◌≡◌, ℕ, nat_le, List, [], ◌∷◌, ◌++◌, length, Option, Some, None, is_some, Bool, if◌then◌else◌}
+use Rattle.pw_info.specs.Passing.{PassesPart}
+use Rattle.pw_sessions.specs.declared.reply.Reply.{Reply}
+use Rattle.pw_decl.specs.Declaration.{Declared}
+use Rattle.pw_sessions.specs.LineReading.{LineReading}
+use Rattle.pw_transcript.specs.Limits.{most_line_bytes}
+use Rattle.pw_sessions.specs.Answer.{reply_to}
+use Rattle.pw_sessions.specs.Workbench.{Workbench, IsLeftBy}
+use Rattle.pw_transcript.specs.ReplyText.{text_if_any}
+use Rattle.pw_transcript.specs.FromScratch.{ComesTo}
+
+-- what is held of a line: the line, or nothing where it is longer than a line that is read
+abbrev pub held_line : List ℕ → Option (List ℕ)
+held_line line = if nat_le (length line) most_line_bytes then Some line else None
+
+-- some lines left it
+abbrev pub IsLeft : Declared → Workbench → Type 0
+IsLeft d workbench = (before : List LineReading) × IsLeftBy d before workbench
+
+-- After lines that came to these readings this line came to a reading, this is its reply if it gets one, and what is there
+-- now is what the lines leave with it.
+pub record RepliesToLine (d : Declared) (before : List LineReading) (line : List ℕ) (new : Workbench) (answer : Option Reply) : Type 0 where
+  pub reading : LineReading
+  pub comes : ComesTo d before line reading
+  pub left : IsLeftBy d (before ++ reading ∷ []) new
+  pub answer_is : reply_to d before reading ≡ answer
+
+-- whatever the lines before it, and whatever line is held so: the reply to it
+abbrev pub RepliesToHeld : Declared → Option (List ℕ) → Workbench → Workbench → Option Reply → Type 0
+RepliesToHeld d held old new answer =
+    (before : List LineReading) (line : List ℕ) → IsLeftBy d before old → held ≡ held_line line → RepliesToLine d before line new answer
+
+module _ {O : Type 0} (passes : O → List ℕ → O → Type 0) (d : Declared) where
+  -- the same, and the reply was passed if the line gets one
+  pub record PassesReply (number : ℕ) (before : List LineReading) (line : List ℕ) (new : Workbench) (o o' : O) (replied : Bool) : Type 0 where
+    pub reading : LineReading
+    pub comes : ComesTo d before line reading
+    pub left : IsLeftBy d (before ++ reading ∷ []) new
+    pub passed : passes o (text_if_any d number (reply_to d before reading)) o'
+    pub replied_is : replied ≡ is_some (reply_to d before reading)
+
+  -- the line came to a reading, and the output failed while its reply was passed
+  pub record FailsInReply (number : ℕ) (before : List LineReading) (line : List ℕ) (o o' : O) : Type 0 where
+    pub reading : LineReading
+    pub comes : ComesTo d before line reading
+    pub part : PassesPart passes o o' (text_if_any d number (reply_to d before reading))
+
+  -- whatever the lines before it, and whatever line is held so: its reply was passed
+  abbrev pub PassesHeldReply : ℕ → Option (List ℕ) → Workbench → Workbench → O → O → Bool → Type 0
+  PassesHeldReply number held old new o o' replied =
+      (before : List LineReading) (line : List ℕ) → IsLeftBy d before old → held ≡ held_line line → PassesReply number before line new o o' replied
+
+  -- whatever the lines before it, and whatever line is held so: the output failed while its reply was passed
+  abbrev pub FailsInHeldReply : ℕ → Option (List ℕ) → Workbench → O → O → Type 0
+  FailsInHeldReply number held old o o' =
+      (before : List LineReading) (line : List ℕ) → IsLeftBy d before old → held ≡ held_line line → FailsInReply number before line o o'

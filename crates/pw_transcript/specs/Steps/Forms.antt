@@ -1,0 +1,56 @@
+-- The sentence that the words of a line form, as a function.
+use Rattle.std.specs.Prelude.{ℕ, List, [], ◌∷◌, Option, None, Some, option_map, codes, if◌then◌else◌}
+use Rattle.std.specs.Str.{bytes_eq}
+use Rattle.pw_transcript.specs.declared.sentence.Said.{Said as Spelled}
+use Rattle.pw_transcript.specs.declared.sentence.Said.TheVariants as spelled
+use Rattle.pw_transcript.specs.declared.sentence.Sentence.{Sentence as SentenceSpelled}
+use Rattle.pw_transcript.specs.Sentence.{Said, Tell, Believe, Doubt, Ask, Other, Sentence}
+
+-- the premises at the end of a tell
+abbrev pub under_form : List (List ℕ) → Option (List (List ℕ))
+under_form [] = Some []
+under_form (word ∷ []) = None
+under_form (word ∷ premise ∷ premises) = if bytes_eq word (codes "under") then Some (premise ∷ premises) else None
+
+-- what stands after `tell`
+abbrev pub tell_form : List (List ℕ) → Option Said
+tell_form (cell ∷ info ∷ tail) = option_map (Tell cell info) (under_form tail)
+tell_form rest = None
+
+-- what stands after `believe` and after `doubt`: a premise at least
+abbrev pub premises_form : (List (List ℕ) → Said) → List (List ℕ) → Option Said
+premises_form says [] = None
+premises_form says (premise ∷ premises) = Some (says (premise ∷ premises))
+
+-- what stands after `ask`
+abbrev pub ask_form : List (List ℕ) → Option Said
+ask_form (cell ∷ []) = Some (Ask cell)
+ask_form rest = None
+
+-- what is said by a word, and the words after it
+abbrev pub said_form : List ℕ → List (List ℕ) → Option Said
+said_form name rest =
+    if bytes_eq name (codes "tell") then tell_form rest
+    else (if bytes_eq name (codes "believe") then premises_form Believe rest
+    else (if bytes_eq name (codes "doubt") then premises_form Doubt rest
+    else (if bytes_eq name (codes "ask") then ask_form rest
+    else Some Other)))
+
+abbrev pub sentence_by : List ℕ → Said → Sentence
+sentence_by user said = record { user = user; said = said }
+
+-- the sentence of a line's words, if they fit a form
+abbrev pub sentence_form : List (List ℕ) → Option Sentence
+sentence_form (user ∷ name ∷ rest) = option_map (sentence_by user) (said_form name rest)
+sentence_form words = None
+
+-- what the references spell
+abbrev pub said_in : Spelled → Said
+said_in (spelled.Tell cell info premises) = Tell cell.now info.now premises
+said_in (spelled.Believe premises) = Believe premises
+said_in (spelled.Doubt premises) = Doubt premises
+said_in (spelled.Ask cell) = Ask cell.now
+said_in spelled.Other = Other
+
+abbrev pub sentence_in : SentenceSpelled → Sentence
+sentence_in sentence = sentence_by sentence.user.now (said_in sentence.said)

@@ -1,0 +1,30 @@
+-- What becomes of what is said by a user who is known.
+use Rattle.std.specs.Prelude.{ℕ, List, [], ◌∷◌}
+use Rattle.pw_info.specs.First.{IsFirstIn, HoldsOfNone}
+use Rattle.pw_decl.specs.Declaration.{Declared}
+use Rattle.pw_sessions.specs.declared.reply.Refusal.{Refusal}
+use Rattle.pw_sessions.specs.declared.reply.Refusal.TheVariants as refusal
+use Rattle.pw_transcript.specs.Sentence.{Said}
+use Rattle.pw_transcript.specs.Reading.{HasUnknownCommand, HasUnknownCell, HasWrongInformation, HasUnknownPremise, HasAnothersPremise}
+
+-- the condition of each refusal on what this user says
+abbrev pub RefusalAppliesToSaid : Declared → ℕ → Said → Refusal → Type 0
+RefusalAppliesToSaid d user said refusal.UnknownCommand = HasUnknownCommand said
+RefusalAppliesToSaid d user said refusal.UnknownCell = HasUnknownCell d said
+RefusalAppliesToSaid d user said refusal.WrongInformation = HasWrongInformation d said
+RefusalAppliesToSaid d user said refusal.UnknownPremise = HasUnknownPremise d said
+RefusalAppliesToSaid d user said refusal.NotYourPremise = HasAnothersPremise d user said
+RefusalAppliesToSaid d user said refusal = ⊥
+
+-- the refusals of what is said, in the order in which they are tried
+abbrev pub said_refusals : List Refusal
+said_refusals =
+    refusal.UnknownCommand ∷ refusal.UnknownCell ∷ refusal.WrongInformation ∷ refusal.UnknownPremise ∷ refusal.NotYourPremise ∷ []
+
+-- no refusal applies to what this user says
+abbrev pub IsFree : Declared → ℕ → Said → Type 0
+IsFree d user said = HoldsOfNone (RefusalAppliesToSaid d user said) said_refusals
+
+-- this is the first refusal that applies to what this user says
+abbrev pub IsRefusedFor : Declared → ℕ → Said → Refusal → Type 0
+IsRefusedFor d user said refusal = IsFirstIn (RefusalAppliesToSaid d user said) said_refusals refusal

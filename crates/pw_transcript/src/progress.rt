@@ -1,0 +1,143 @@
+//! How far a run has come between two takes, and the steps by which it goes on.
+
+ghost use Rattle.std.specs.Prelude.{◌≡◌, ◌+◌, ◌<◌, ◌≤◌, [], ◌∷◌, true, false, IfOk, OnOk, OnErr, if◌then◌else◌};
+ghost use Rattle.pw_transcript.specs.Limits.{most_lines, line_feed};
+ghost use Rattle.pw_transcript.specs.Steps.Answering.{held_line};
+ghost use Rattle.pw_transcript.specs.Steps.Running.{IsRunning, GoesOn, FailsIn, StopsIn, Ends, FailsAtEnd};
+
+use crate::answer::answer_line;
+use crate::line_buffer::LineBuffer;
+use crate::transcript::Lines;
+use pw_decl::Declaration;
+use pw_info::{Failed, Output, next_line};
+use pw_sessions::Workbench;
+use std::alloc::Allocator;
+
+// How many ended lines a run answers at most.
+const MOST_LINES: u32 = 1_000_000;
+
+/// How far the bytes that a run was fed were answered.
+#[derive(Clone, Copy)]
+pub(crate) enum Fed {
+    /// All lines that end in them were.
+    Whole,
+    /// The last line that a run answers ended, and there is a byte after it.
+    PastLimit,
+}
+
+impl Lines {
+    // One line more, with a reply or with none.
+    fn and_one(self, replied: bool) -> Lines
+        requires lines { self.lines < most_lines }
+        requires replies { self.replies ≤ self.lines }
+        ensures lines { result.lines ≡ self.lines + 1 }
+        ensures replies { result.replies ≡ self.replies + (if replied then 1 else 0) }
+    {
+        Lines {
+            lines: self.lines + 1,
+            replies: if replied {
+                self.replies + 1
+            } else {
+                self.replies
+            },
+        }
+    }
+}
+
+/// What stands between two takes: what the lines so far left, how many there were, and what came of the next one.
+#[derive(Drop)]
+pub(crate) struct Progress<B: Allocator> {
+    workbench: Workbench<B>,
+    pub(crate) counts: Lines,
+    line: LineBuffer,
+}
+
+impl<B: Allocator + Copy> Progress<B> {
+    /// Nothing has come.
+    pub(crate) fn new(workbench: Workbench<B>) -> Progress<B>
+        ensures workbench { result.workbench ≡ workbench }
+        ensures lines { result.counts.lines ≡ 0 }
+        ensures replies { result.counts.replies ≡ 0 }
+        ensures line { result.line ≡ held_line [] }
+    {
+        Progress {
+            workbench,
+            counts: Lines {
+                lines: 0,
+                replies: 0,
+            },
+            line: LineBuffer::new(),
+        }
+    }
+
+    // Answers the line that has come, as one that has ended.
+    fn end_line<A: Allocator + Copy, O: Output>(
+        &mut self,
+        d: &Declaration<A>,
+        output: &mut O,
+    ) -> Result<(), Failed>
+        requires running { IsRunning d.now self.old }
+        requires more { self.old.counts.lines < most_lines }
+        ensures ok { OnOk result (GoesOn O.passes d.now self.old output.old (line_feed ∷ []) self.new output.new) }
+        ensures empty { OnOk result (self.new.line ≡ held_line []) }
+        ensures running { OnOk result (IsRunning d.now self.new) }
+        ensures err { OnErr result (FailsIn O.passes d.now self.old output.old (line_feed ∷ []) output.new) }
+        ensures failed { OnErr result (O.has_failed output.new ≡ true) }
+    {
+        let number = self.counts.lines + 1;
+        let replied = answer_line(d, number, self.line.line(), &mut self.workbench, output)?;
+        self.counts = self.counts.and_one(replied);
+        self.line.clear();
+        Ok(())
+    }
+
+    /// Answers the lines that end in the bytes, and holds the rest.
+    pub(crate) fn feed<A: Allocator + Copy, O: Output>(
+        &mut self,
+        d: &Declaration<A>,
+        bytes: &[u8],
+        output: &mut O,
+    ) -> Result<Fed, Failed>
+        requires running { IsRunning d.now self.old }
+        ensures whole { IfOk result (λ fed. fed ≡ Fed.Whole → GoesOn O.passes d.now self.old output.old bytes.now self.new output.new) }
+        ensures limit { IfOk result (λ fed. fed ≡ Fed.PastLimit → StopsIn O.passes d.now self.old output.old bytes.now output.new) }
+        ensures running { OnOk result (IsRunning d.now self.new) }
+        ensures err { OnErr result (FailsIn O.passes d.now self.old output.old bytes.now output.new) }
+        ensures failed { OnErr result (O.has_failed output.new ≡ true) }
+    {
+        let mut rest = bytes;
+        while !rest.is_empty() {
+            if self.counts.lines == MOST_LINES {
+                return Ok(Fed::PastLimit);
+            }
+            let Some((piece, after)) = next_line(rest) else {
+                self.line.extend(rest);
+                return Ok(Fed::Whole);
+            };
+            self.line.extend(piece);
+            match self.end_line(d, output) {
+                Ok(()) => {}
+                Err(fault) => return Err(fault),
+            }
+            rest = after;
+        }
+        Ok(Fed::Whole)
+    }
+
+    /// Answers the last line, which has no line feed after it, if one has come.
+    pub(crate) fn end<A: Allocator + Copy, O: Output>(
+        &mut self,
+        d: &Declaration<A>,
+        output: &mut O,
+    ) -> Result<(), Failed>
+        requires running { IsRunning d.now self.old }
+        ensures ok { OnOk result (Ends O.passes d.now self.old output.old self.new output.new) }
+        ensures err { OnErr result (FailsAtEnd O.passes d.now self.old output.old output.new) }
+        ensures failed { OnErr result (O.has_failed output.new ≡ true) }
+    {
+        if self.line.is_empty() {
+            return Ok(());
+        }
+        self.end_line(d, output)
+    }
+}
