@@ -246,6 +246,11 @@ mod tests {
         ]
     }
 
+    // The first of two inputs, or both.
+    fn front(inputs: &[Info; 2], count: usize) -> &[Info] {
+        if count < 2 { &inputs[..1] } else { &inputs[..] }
+    }
+
     // What the procedure of a name gives on inputs that fit.
     fn call(registry: &Registry, name: &str, inputs: &[Info]) -> Option<Info> {
         let number = registry.find(name.as_bytes())?;
@@ -287,7 +292,7 @@ mod tests {
         assert_eq!(rt; registry.len(), 15);
         for (name, inputs, count, want) in calls() {
             assert_eq!(rt;
-                call(&registry, name, &inputs[..count]),
+                call(&registry, name, front(&inputs, count)),
                 Some(want),
                 "{name}"
             );
