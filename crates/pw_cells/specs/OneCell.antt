@@ -1,9 +1,10 @@
 -- What is true of the facts of one cell, and of the list that a change leaves of them.
-use Rattle.std.specs.Prelude.{◌≡◌, ◌≢◌, ◌⊎◌, true, List, All, AllPairs, Contains, map}
+use Rattle.std.specs.Prelude.{◌≡◌, ◌≢◌, ◌⊎◌, ℕ, true, List, All, AllPairs, Contains, map, position, Option}
 use Rattle.std.specs.FinSet.{is_subset}
 use Rattle.pw_info.specs.declared.kind.Kind.{Kind}
 use Rattle.pw_info.specs.Information.{kind_of, meet, Implies}
 use Rattle.pw_premises.specs.Premises.{Premises}
+use Rattle.pw_premises.specs.PremiseSubsets.{has_same_numbers}
 use Rattle.pw_facts.specs.declared.fact.Fact.{Fact}
 use Rattle.pw_facts.specs.Facts.{shows, Subsumes}
 use Rattle.pw_cells.specs.Cells.{shown_by, ArePremisesOf}
@@ -15,6 +16,10 @@ AreOfKind kind facts = All (λ f. kind_of f.info ≡ kind) facts
 -- none of the facts subsumes another
 abbrev pub AreApart : List Fact → Type 0
 AreApart facts = (f g : Fact) → Contains facts f → Contains facts g → Subsumes f g → f ≡ g
+
+-- the place of the first of the facts with this support
+abbrev pub place_of_support : Premises → List Fact → Option ℕ
+place_of_support support facts = position (λ f. has_same_numbers f.support support) facts
 
 -- no two facts have one support
 abbrev pub OneEach : List Fact → Type 0

@@ -1,13 +1,12 @@
 // The facts of one cell.
 
-ghost use Rattle.std.specs.Prelude.{◌≡◌, ◌<◌, ◌≤◌, ◌↔◌, ◌++◌, ◌∷◌, [], true, false, vec_len, vec_capacity, position, IsTrue, IfOk, OnOk, OnErr};
+ghost use Rattle.std.specs.Prelude.{◌≡◌, ◌<◌, ◌≤◌, ◌↔◌, ◌++◌, ◌∷◌, [], true, false, vec_len, vec_capacity, IsTrue, IfOk, OnOk, OnErr};
 ghost use Rattle.pw_info.specs.Information.{kind_of, Implies};
-ghost use Rattle.pw_premises.specs.PremiseSubsets.{has_same_numbers};
 ghost use Rattle.pw_facts.specs.Facts.{IsMergeOfAll, visible_facts};
 ghost use Rattle.pw_facts.specs.Worldviews.{IsLeastAbove, IsMostBelow};
 ghost use Rattle.pw_cells.specs.Cells.{new_cell, shown_by, told_of, kept_of, IsSubsumedBy};
-ghost use Rattle.pw_cells.specs.Changes.{GainsFact, Assimilates};
-ghost use Rattle.pw_cells.specs.OneCell.{AreOfKind, AreApart, OneEach, IsRest, ShowsMore, StandsFor};
+ghost use Rattle.pw_cells.specs.Changes.{GainsFact, Assimilates, TellsNews};
+ghost use Rattle.pw_cells.specs.OneCell.{AreOfKind, AreApart, OneEach, place_of_support, IsRest, ShowsMore, StandsFor};
 
 use pw_facts::{Fact, merge_facts, subsumes};
 use pw_info::{Info, Kind};
@@ -80,7 +79,7 @@ impl<A: Allocator + Copy> CellFacts<A> {
     // Keeps a fact, and answers whether it was news. Where memory is refused nothing changes.
     pub(crate) fn keep(&mut self, fact: &Fact) -> Result<bool, AllocError>
         requires { kind_of fact.now.info ≡ self.old.kind }
-        ensures answer { IfOk result (λ news. (news ≡ false) ↔ IsSubsumedBy self.old.kept fact.now) }
+        ensures answer { IfOk result (λ news. TellsNews self.old.kept fact.now news) }
         ensures known { IfOk result (λ news. news ≡ false → self.new ≡ self.old) }
         ensures kept { OnOk result (GainsFact fact.now (kept_of self.old) (kept_of self.new)) }
         ensures assimilates { OnOk result (Assimilates fact.now self.old.kept self.new.kept) }
@@ -118,7 +117,7 @@ impl<A: Allocator + Copy> CellFacts<A> {
 
 // Where the first fact with this support is.
 fn place_of(told: &[Fact], support: &PremiseSet) -> Option<usize>
-    ensures { result ≡ position (λ f. has_same_numbers f.support support.now) told.now }
+    ensures { result ≡ place_of_support support.now told.now }
 {
     told.iter().position(|held| held.support == *support)
 }
@@ -151,7 +150,7 @@ fn reserve_unless<A: Allocator>(facts: &mut Vec<Fact, A>, known: bool) -> Result
 fn add_told<A: Allocator>(told: &mut Vec<Fact, A>, place: Option<usize>, fact: &Fact)
     requires kinds { AreOfKind (kind_of fact.now.info) told.old.items }
     requires one_each { OneEach told.old.items }
-    requires place { place ≡ position (λ f. has_same_numbers f.support fact.now.support) told.old.items }
+    requires place { place ≡ place_of_support fact.now.support told.old.items }
     requires room { place ≡ None → vec_len told.old < vec_capacity told.old }
     ensures kinds { AreOfKind (kind_of fact.now.info) told.new.items }
     ensures one_each { OneEach told.new.items }

@@ -1,13 +1,13 @@
 // The store: cells by number, each with what was told of it and what is kept of it.
 
-ghost use Rattle.std.specs.Prelude.{◌≡◌, ◌↔◌, ◌+◌, ◌≤◌, ◌<◌, ◌++◌, [], true, false, length, map, IsOk, IfOk, vec_len, vec_capacity, OnOk, OnErr};
+ghost use Rattle.std.specs.Prelude.{◌≡◌, ◌+◌, ◌≤◌, ◌<◌, ◌++◌, [], true, false, length, map, IsOk, IfOk, vec_len, vec_capacity, OnOk, OnErr};
 ghost use Rattle.std.specs.FinSet.{is_subset};
 ghost use Rattle.pw_info.specs.Information.{kind_of, Implies};
 ghost use Rattle.pw_premises.specs.Premises.{Premises};
 ghost use Rattle.pw_facts.specs.Facts.{IsMergeOfAll, visible_facts};
 ghost use Rattle.pw_facts.specs.Worldviews.{IsLeastAbove, IsMostBelow};
-ghost use Rattle.pw_cells.specs.Changes.{GainsFact, Assimilates, LeavesOthers};
-ghost use Rattle.pw_cells.specs.Cells.{new_cell, kind_in_store, kinds_of, kept_at, told_in, kept_in, most_cells, IsSubsumedBy, ArePremisesOf};
+ghost use Rattle.pw_cells.specs.Changes.{GainsTold, GainsKept, TellsNews, AssimilatesAt, LeavesOthers};
+ghost use Rattle.pw_cells.specs.Cells.{new_cell, kind_in_store, kinds_of, kept_at, told_in, kept_in, most_cells, ArePremisesOf};
 
 use crate::cell_facts::CellFacts;
 use pw_facts::Fact;
@@ -35,7 +35,10 @@ impl<A: Allocator> Model for CellStore<A> {
 
     ghost coded = { store_code kinds.the_row.coded facts.the_row.coded };
 
-    ghost view = { λ a. record { cells = a.cells.items; room = vec_capacity a.cells - vec_len a.cells } };
+    ghost view = { λ a. record {
+      cells = a.cells.items;
+      room = vec_capacity a.cells - vec_len a.cells;
+    } };
 
     ghost invariant = { λ a. length a.cells.items ≤ most_cells };
 }
@@ -96,9 +99,9 @@ impl<A: Allocator + Copy> CellStore<A> {
     pub fn tell(&mut self, cell: u32, fact: Fact) -> Result<(), AllocError>
         requires there { cell < length self.old.cells }
         requires kind { kind_of fact.info ≡ kind_in_store self.old cell }
-        ensures told { OnOk result (GainsFact fact (told_in self.old cell) (told_in self.new cell)) }
-        ensures kept { OnOk result (GainsFact fact (kept_in self.old cell) (kept_in self.new cell)) }
-        ensures assimilates { OnOk result (Assimilates fact (kept_at self.old cell) (kept_at self.new cell)) }
+        ensures told { OnOk result (GainsTold cell fact self.old self.new) }
+        ensures kept { OnOk result (GainsKept cell fact self.old self.new) }
+        ensures assimilates { OnOk result (AssimilatesAt cell fact self.old self.new) }
         ensures others { LeavesOthers cell self.old self.new }
         ensures kinds { kinds_of self.new ≡ kinds_of self.old }
         ensures room { self.new.room ≡ self.old.room }
@@ -113,11 +116,11 @@ impl<A: Allocator + Copy> CellStore<A> {
     pub fn keep(&mut self, cell: u32, fact: Fact) -> Result<bool, AllocError>
         requires there { cell < length self.old.cells }
         requires kind { kind_of fact.info ≡ kind_in_store self.old cell }
-        ensures answer { IfOk result (λ news. (news ≡ false) ↔ IsSubsumedBy (kept_at self.old cell) fact) }
+        ensures answer { IfOk result (λ news. TellsNews (kept_at self.old cell) fact news) }
         ensures known { IfOk result (λ news. news ≡ false → self.new ≡ self.old) }
         ensures told { (w : Premises) → told_in self.new cell w ≡ told_in self.old cell w }
-        ensures kept { OnOk result (GainsFact fact (kept_in self.old cell) (kept_in self.new cell)) }
-        ensures assimilates { OnOk result (Assimilates fact (kept_at self.old cell) (kept_at self.new cell)) }
+        ensures kept { OnOk result (GainsKept cell fact self.old self.new) }
+        ensures assimilates { OnOk result (AssimilatesAt cell fact self.old self.new) }
         ensures others { LeavesOthers cell self.old self.new }
         ensures kinds { kinds_of self.new ≡ kinds_of self.old }
         ensures room { self.new.room ≡ self.old.room }

@@ -9,9 +9,12 @@ ghost use Rattle.pw_cells.specs.Cells.{Store, kind_in_store, kinds_of, told_in, 
 
 /// What is told and what is kept of a cell is of its kind; past the last cell everything is of the kind of intervals.
 pub fn cells_show_their_kinds()
-    ensures told { (s : Store) (c : ℕ) (w : Premises) → kind_of (told_in s c w) ≡ kind_in_store s c }
-    ensures kept { (s : Store) (c : ℕ) (w : Premises) → kind_of (kept_in s c w) ≡ kind_in_store s c }
-    ensures listed { (s : Store) (c : ℕ) → kind_in_store s c ≡ slice_index_or (kinds_of s) c kinds.Interval }
+    ensures told { (s : Store) (c : ℕ) (w : Premises)
+        → kind_of (told_in s c w) ≡ kind_in_store s c }
+    ensures kept { (s : Store) (c : ℕ) (w : Premises)
+        → kind_of (kept_in s c w) ≡ kind_in_store s c }
+    ensures listed { (s : Store) (c : ℕ)
+        → kind_in_store s c ≡ slice_index_or (kinds_of s) c kinds.Interval }
 {}
 
 /// A larger worldview is told at least as much, and keeps at least as much.

@@ -17,10 +17,12 @@ pub fn worldviews_show_what_is_supported()
 pub fn subsumption_is_an_order()
     ensures reflexive { (a : Fact) → Subsumes a a }
     ensures transitive { (a b c : Fact) → Subsumes a b → Subsumes b c → Subsumes a c }
-    ensures antisymmetric { (a b : Fact) → kind_of a.info ≡ kind_of b.info → Subsumes a b → Subsumes b a → a ≡ b }
+    ensures antisymmetric { (a b : Fact) → kind_of a.info ≡ kind_of b.info → Subsumes a b
+        → Subsumes b a → a ≡ b }
 {}
 
 /// Two facts of one kind have one merge.
 pub fn one_merge()
-    ensures { (a b m n : Fact) → kind_of a.info ≡ kind_of b.info → IsMerge a b m → IsMerge a b n → m ≡ n }
+    ensures { (a b m n : Fact) → kind_of a.info ≡ kind_of b.info → IsMerge a b m → IsMerge a b n
+        → m ≡ n }
 {}

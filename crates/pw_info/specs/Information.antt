@@ -23,6 +23,10 @@ kind_of (info.Interval part) = kinds.Interval
 kind_of (info.Members number part) = set_kind number part
 kind_of (info.Exact part) = kinds.Exact
 
+-- the information is what these members are, of the set of some number
+abbrev pub HasMembers : Info → Members → Type 0
+HasMembers known part = (number : ℕ) × (known ≡ info.Members number part)
+
 -- whether a number stands for a value of the kind
 abbrev pub is_value : Kind → ℤ → Bool
 is_value kinds.Interval v = is_in_interval_range v

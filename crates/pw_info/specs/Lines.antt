@@ -1,19 +1,24 @@
 -- A text as lines: each ends before a line feed, and what comes after the last line feed is a line if it is not empty.
 use Rattle.std.specs.Prelude.{◌≡◌, ◌≢◌, ℕ, ◌==◌, List, [], ◌∷◌, ◌++◌, if◌then◌else◌}
 use Rattle.std.specs.List.{onto_first, AllByRecursion, flat_map}
+use Rattle.pw_info.specs.Bytes.{line_feed}
 
 -- the lines of a text, without their line feeds
 abbrev pub lines_of : List ℕ → List (List ℕ)
 lines_of [] = []
-lines_of (byte ∷ text) = if byte == 10 then [] ∷ lines_of text else onto_first byte (lines_of text)
+lines_of (byte ∷ text) = if byte == line_feed then [] ∷ lines_of text else onto_first byte (lines_of text)
 
 -- no line feed stands in these bytes
 abbrev pub HasNoEnd : List ℕ → Type 0
-HasNoEnd bytes = AllByRecursion (λ byte. byte ≢ 10) bytes
+HasNoEnd bytes = AllByRecursion (λ byte. byte ≢ line_feed) bytes
+
+-- a text is a line, its line feed, and the rest
+abbrev pub BeginsWithLine : List ℕ → List ℕ → List ℕ → Type 0
+BeginsWithLine text line rest = (text ≡ line ++ line_feed ∷ rest) × HasNoEnd line
 
 -- the text of these lines, each with its line feed, and then of a last piece with none
 abbrev pub text_of_lines : List (List ℕ) → List ℕ → List ℕ
-text_of_lines ended last = flat_map (λ line. line ++ 10 ∷ []) ended ++ last
+text_of_lines ended last = flat_map (λ line. line ++ line_feed ∷ []) ended ++ last
 
 -- a last piece with no line feed is a line if it is not empty
 abbrev pub last_line : List ℕ → List (List ℕ)

@@ -10,6 +10,10 @@ pub record NamesApart (names : List (List ℕ)) (text : List ℕ) (seen : Member
   pub text_is : text ≡ row_of names places
   pub apart : All (λ place. allows seen (pos place) ≡ false) places
 
+-- the text names no members of which none was seen
+abbrev pub NamesNoneApart : List (List ℕ) → List ℕ → Members → Type 0
+NamesNoneApart names text seen = (places : List ℕ) → NamesApart names text seen places → ⊥
+
 -- the text names some members, none of which was seen; these and those that were seen are possible, and no others
 pub record AddsPlaces (names : List (List ℕ)) (text : List ℕ) (seen part : Members) : Type 0 where
   pub places : List ℕ

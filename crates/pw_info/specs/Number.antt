@@ -25,6 +25,10 @@ SpellsNumber (c ∷ word) (negsuc n) = (c ≡ minus) × SpellsPositive word (suc
 abbrev pub IsUpTo : ℕ → ℤ → Type 0
 IsUpTo most n = (neg_ℤ (pos most) ≤ℤ n) × (n ≤ℤ pos most)
 
+-- it holds of no two numbers that stand from -most to most
+abbrev pub HoldsOfNoneUpTo : ℕ → (ℤ → ℤ → Type 0) → Type 0
+HoldsOfNoneUpTo most Holds = (lo hi : ℤ) → Holds lo hi → IsUpTo most lo → IsUpTo most hi → ⊥
+
 -- the greatest number that is read and written, of any kind
 abbrev pub greatest_number : ℕ
 greatest_number = 1000000000

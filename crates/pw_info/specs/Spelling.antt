@@ -37,8 +37,16 @@ SpellsValues sets word (kinds.Members set) info =
     (places : List ℕ) × ArePlaces set.size places × (word ≡ text_of_set (sets set.number) places) × AllowsPlaces info places
 SpellsValues sets word kinds.Exact info = (n : ℤ) × SpellsNumber word n × IsInExactRange n × AllowsOne info n
 
+-- a word is in the form of the kind itself for no information
+abbrev pub SpellsNoValues : SetNames → List ℕ → Kind → Type 0
+SpellsNoValues sets word kind = (info : Info) → SpellsValues sets word kind info → ⊥
+
 -- a word spells an information of a kind: `nothing`, `contradiction`, or in the kind's own form
 abbrev pub SpellsInfo : SetNames → List ℕ → Kind → Info → Type 0
 SpellsInfo sets word kind info = (kind_of info ≡ kind)
     × (((word ≡ codes "nothing") × IsNothing info)
     ⊎ (((word ≡ codes "contradiction") × IsContradiction info) ⊎ SpellsValues sets word kind info))
+
+-- a word spells no information of a kind
+abbrev pub SpellsNoInfo : SetNames → List ℕ → Kind → Type 0
+SpellsNoInfo sets word kind = (info : Info) → SpellsInfo sets word kind info → ⊥

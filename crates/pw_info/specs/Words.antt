@@ -1,10 +1,11 @@
 -- Lines as words: blanks, words, comments, and the bytes that a line may have.
 use Rattle.std.specs.Prelude.{◌≡◌, ℕ, ◌<◌, Bool, true, false, not, ◌||◌, ◌&&◌, ◌==◌, nat_le, List, [], ◌∷◌, ◌++◌, length, if◌then◌else◌}
 use Rattle.std.specs.List.{onto_first, AllByRecursion}
+use Rattle.pw_info.specs.Bytes.{tab, carriage_return, space, first_visible, hash, last_visible}
 
 -- a byte is a blank: a space, a tab or a carriage return
 abbrev pub is_blank : ℕ → Bool
-is_blank byte = byte == 32 || byte == 9 || byte == 13
+is_blank byte = byte == space || byte == tab || byte == carriage_return
 
 -- a word ends before these bytes: there are none, or the first is a blank
 abbrev pub ends_word : List ℕ → Bool
@@ -44,8 +45,8 @@ is_nil (word ∷ words) = false
 -- a line that says nothing: no byte, blanks alone, or a comment, whose first byte that is not a blank is `#`
 abbrev pub is_idle : List ℕ → Bool
 is_idle [] = true
-is_idle (byte ∷ line) = if is_blank byte then is_idle line else byte == 35
+is_idle (byte ∷ line) = if is_blank byte then is_idle line else byte == hash
 
 -- a byte that a line may have: a blank or a visible ASCII character
 abbrev pub is_allowed : ℕ → Bool
-is_allowed byte = is_blank byte || (nat_le 33 byte && nat_le byte 126)
+is_allowed byte = is_blank byte || (nat_le first_visible byte && nat_le byte last_visible)

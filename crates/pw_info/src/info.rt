@@ -1,10 +1,10 @@
 // One type of information over all kinds of values.
-ghost use Rattle.std.specs.Prelude.{◌≡◌, ◌≢◌, ◌↔◌, ◌&&◌, ℕ, ℤ, Bool, true, IsTrue, IfSome, IfNone};
+ghost use Rattle.std.specs.Prelude.{◌≡◌, ◌≢◌, ◌↔◌, ◌&&◌, ℤ, Bool, true, IsTrue, IfSome, IfNone};
 ghost use Rattle.pw_kinds.specs.Interval as interval;
 ghost use Rattle.pw_kinds.specs.Members as members;
 ghost use Rattle.pw_kinds.specs.Exact as exact;
 ghost use Rattle.pw_info.specs.declared.kind.SetKind.{SetKind as SetOfMembers};
-ghost use Rattle.pw_info.specs.Information.{set_kind, kind_of, allows, meet, nothing, contradiction, IsNothing, IsContradiction, Implies};
+ghost use Rattle.pw_info.specs.Information.{set_kind, kind_of, HasMembers, allows, meet, nothing, contradiction, IsNothing, IsContradiction, Implies};
 
 use crate::kind::{Kind, SetKind};
 use pw_kinds::{Exact, Interval, Members};
@@ -67,7 +67,7 @@ impl Info {
 
     /// The members that this information is, None for another kind.
     pub fn members(&self) -> Option<Members>
-        ensures found { IfSome result (λ part. (number : ℕ) × (self.now ≡ Info.Members number part)) }
+        ensures found { IfSome result (λ part. HasMembers self.now part) }
         ensures none { IfNone result ((set : SetOfMembers) → kind_of self.now ≢ Kind.Members set) }
     {
         match *self {

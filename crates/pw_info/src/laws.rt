@@ -28,13 +28,15 @@ pub fn same_values_are_equal()
 pub fn merge_is_intersection()
     ensures nothing { (k : Kind) → IsNothing (nothing k) }
     ensures contradiction { (k : Kind) → IsContradiction (contradiction k) }
-    ensures meet { (a b : Info) → kind_of a ≡ kind_of b → (v : ℤ) → allows (meet a b) v ≡ (allows a v && allows b v) }
+    ensures meet { (a b : Info) → kind_of a ≡ kind_of b
+        → (v : ℤ) → allows (meet a b) v ≡ (allows a v && allows b v) }
 {}
 
 /// Merge is commutative, associative and idempotent, with nothing as its unit and the contradiction as its zero.
 pub fn merge_is_a_semilattice()
     ensures commutative { (a b : Info) → kind_of a ≡ kind_of b → meet a b ≡ meet b a }
-    ensures associative { (a b c : Info) → kind_of a ≡ kind_of b → kind_of b ≡ kind_of c → meet (meet a b) c ≡ meet a (meet b c) }
+    ensures associative { (a b c : Info) → kind_of a ≡ kind_of b → kind_of b ≡ kind_of c
+        → meet (meet a b) c ≡ meet a (meet b c) }
     ensures idempotent { (a : Info) → meet a a ≡ a }
     ensures unit { (a : Info) → meet a (nothing (kind_of a)) ≡ a }
     ensures zero { (a : Info) → meet a (contradiction (kind_of a)) ≡ contradiction (kind_of a) }
@@ -45,7 +47,8 @@ pub fn merge_is_a_semilattice()
 pub fn implication_is_an_order()
     ensures reflexive { (a : Info) → Implies a a }
     ensures transitive { (a b c : Info) → Implies a b → Implies b c → Implies a c }
-    ensures antisymmetric { (a b : Info) → kind_of a ≡ kind_of b → Implies a b → Implies b a → a ≡ b }
+    ensures antisymmetric { (a b : Info) → kind_of a ≡ kind_of b
+        → Implies a b → Implies b a → a ≡ b }
     ensures merge { (a b : Info) → kind_of a ≡ kind_of b → (Implies a b ↔ (meet a b ≡ a)) }
     ensures nothing { (a : Info) (k : Kind) → kind_of a ≡ k → Implies a (nothing k) }
 {}
@@ -58,8 +61,10 @@ pub fn closest_grows()
 /// A real gain of information lowers the rank: of two of a kind where the first implies the second, the first is the
 /// second, or has a lower rank.
 pub fn gain_lowers_the_rank()
-    ensures gain { (a b : Info) → kind_of a ≡ kind_of b → Implies a b → a ≢ b → rank_of a < rank_of b }
-    ensures same_or_gain { (a b : Info) → kind_of a ≡ kind_of b → Implies a b → (a ≡ b) ⊎ (rank_of a < rank_of b) }
+    ensures gain { (a b : Info) → kind_of a ≡ kind_of b
+        → Implies a b → a ≢ b → rank_of a < rank_of b }
+    ensures same_or_gain { (a b : Info) → kind_of a ≡ kind_of b
+        → Implies a b → (a ≡ b) ⊎ (rank_of a < rank_of b) }
 {}
 
 /// Nothing has the greatest rank of its kind, which is at most that of intervals, 2,000,001. A contradiction has rank 0.
@@ -87,7 +92,8 @@ pub fn written_is_spelled()
 
 /// A number has one spelling: its decimal digits, behind `-` where it is negative.
 pub fn one_spelling()
-    ensures { (word : List ℕ) (n : ℤ) → IsUpTo greatest_number n → SpellsNumber word n → word ≡ signed_decimal n }
+    ensures { (word : List ℕ) (n : ℤ) → IsUpTo greatest_number n
+        → SpellsNumber word n → word ≡ signed_decimal n }
 {}
 
 /// A word spells at most one range.
@@ -97,7 +103,8 @@ pub fn one_range()
 
 /// What is written for a range spells it.
 pub fn written_range_is_spelled()
-    ensures { (lo hi : ℤ) → lo ≤ℤ hi → IsUpTo greatest_number lo → IsUpTo greatest_number hi → SpellsRange (text_of_range lo hi) lo hi }
+    ensures { (lo hi : ℤ) → lo ≤ℤ hi → IsUpTo greatest_number lo → IsUpTo greatest_number hi
+        → SpellsRange (text_of_range lo hi) lo hi }
 {}
 
 /// The words `nothing` and `contradiction` spell no range, so they are free to name other things.
@@ -125,20 +132,24 @@ pub fn spelling_examples()
 
 /// A word spells at most one information of a kind, where the members of each set have names.
 pub fn one_information()
-    ensures { (sets : SetNames) (word : List ℕ) (k : Kind) → AllAreNames sets → IsNamed sets k → AtMostOne (SpellsInfo sets word k) }
+    ensures { (sets : SetNames) (word : List ℕ) (k : Kind)
+        → AllAreNames sets → IsNamed sets k → AtMostOne (SpellsInfo sets word k) }
 {}
 
 /// What is written for an information spells it: what is written is read as the same information.
 pub fn text_is_a_spelling()
-    ensures { (sets : SetNames) (info : Info) → SpellsInfo sets (text_of_info sets info) (kind_of info) info }
+    ensures { (sets : SetNames) (info : Info)
+        → SpellsInfo sets (text_of_info sets info) (kind_of info) info }
 {}
 
 /// The lines of a text are the one list of lines that, with a line feed after each but perhaps the last, make up the text.
 pub fn lines_are_one_list()
-    ensures { (text : List ℕ) (lines : List (List ℕ)) → AreLines text lines ↔ (lines ≡ lines_of text) }
+    ensures { (text : List ℕ) (lines : List (List ℕ))
+        → AreLines text lines ↔ (lines ≡ lines_of text) }
 {}
 
 /// The words of a line are the one list of words that, with blanks between them, make up the line.
 pub fn words_are_one_list()
-    ensures { (line : List ℕ) (words : List (List ℕ)) → AreWords line words ↔ (words ≡ words_of line) }
+    ensures { (line : List ℕ) (words : List (List ℕ))
+        → AreWords line words ↔ (words ≡ words_of line) }
 {}

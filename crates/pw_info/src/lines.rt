@@ -7,7 +7,7 @@ use memchr::memchr;
 
 /// What stands before the first line feed, and what after it; `None` where there is no line feed.
 pub fn next_line(bytes: &[u8]) -> Option<(&[u8], &[u8])>
-    ensures some { IfSome result (λ parts. (bytes.now ≡ parts.0.now ++ 10 ∷ parts.1.now) × spec.HasNoEnd parts.0.now) }
+    ensures some { IfSome result (λ parts. spec.BeginsWithLine bytes.now parts.0.now parts.1.now) }
     ensures none { IfNone result (spec.HasNoEnd bytes.now) }
 {
     let end = memchr(b'\n', bytes)?;

@@ -1,13 +1,12 @@
 // The texts of members of a set: `{`, their names joined by `,`, `}`.
-ghost use Rattle.std.specs.Prelude.{◌≡◌, ◌++◌, ℕ, List, codes, length, IfSome, IfNone};
+ghost use Rattle.std.specs.Prelude.{◌≡◌, ◌++◌, codes, length, IfSome, IfNone};
 ghost use Rattle.pw_kinds.specs.Members.{size_of, IsEmpty};
-ghost use Rattle.pw_info.specs.declared.info.Info.{Info};
 ghost use Rattle.pw_info.specs.declared.kind.Kind.TheVariants as kinds;
 ghost use Rattle.pw_info.specs.Information.{kind_of};
 ghost use Rattle.pw_info.specs.Cut.{HasNoComma};
-ghost use Rattle.pw_info.specs.MemberReading.{AddsPlaces, NamesApart};
+ghost use Rattle.pw_info.specs.MemberReading.{AddsPlaces, NamesNoneApart};
 ghost use Rattle.pw_info.specs.Passing.{Writes};
-ghost use Rattle.pw_info.specs.Spelling.{SpellsValues};
+ghost use Rattle.pw_info.specs.Spelling.{SpellsValues, SpellsNoValues};
 ghost use Rattle.pw_info.specs.SetText.{text_of_set};
 ghost use Rattle.pw_info.specs.Text.{places_of, text_of_members};
 
@@ -34,7 +33,7 @@ fn cut_at_comma(text: &[u8]) -> (&[u8], Option<&[u8]>)
 fn read_names<N: KindNames>(text: &[u8], set: u8, names: &N, seen: Members) -> Option<Members>
     requires named { length (N.members names.now set) ≡ size_of seen }
     ensures some { IfSome result (λ part. AddsPlaces (N.members names.now set) text.now seen part) }
-    ensures none { IfNone result ((places : List ℕ) → NamesApart (N.members names.now set) text.now seen places → ⊥) }
+    ensures none { IfNone result (NamesNoneApart (N.members names.now set) text.now seen) }
 {
     let (name, rest) = cut_at_comma(text);
     let place = names.place(set, name)?;
@@ -53,8 +52,10 @@ fn read_names<N: KindNames>(text: &[u8], set: u8, names: &N, seen: Members) -> O
 pub(crate) fn read_members<N: KindNames>(word: &[u8], set: SetKind, names: &N) -> Option<Info>
     requires named { length (N.members names.now set.number) ≡ set.size }
     ensures kind { IfSome result (λ info. kind_of info ≡ kinds.Members set) }
-    ensures some { IfSome result (λ info. SpellsValues (N.members names.now) word.now (kinds.Members set) info) }
-    ensures none { IfNone result ((info : Info) → SpellsValues (N.members names.now) word.now (kinds.Members set) info → ⊥) }
+    ensures some { IfSome result (λ info.
+        SpellsValues (N.members names.now) word.now (kinds.Members set) info) }
+    ensures none { IfNone result (
+        SpellsNoValues (N.members names.now) word.now (kinds.Members set)) }
 {
     let list = word.strip_prefix(b"{")?.strip_suffix(b"}")?;
     let part = read_names(list, set.number, names, Members::empty(set.size))?;
@@ -69,7 +70,8 @@ pub(crate) fn write_members<N: KindNames, O: Output>(
     output: &mut O,
 ) -> Result<(), Failed>
     requires named { length (N.members names.now set) ≡ size_of part }
-    ensures { Writes O.passes O.has_failed output.old output.new result (text_of_members (N.members names.now set) part) }
+    ensures { Writes O.passes O.has_failed output.old output.new result
+        (text_of_members (N.members names.now set) part) }
 {
     if part.is_empty() {
         return put_all(output, b"contradiction");
@@ -89,7 +91,8 @@ fn write_set<N: KindNames, O: Output>(
 ) -> Result<(), Failed>
     requires named { length (N.members names.now set) ≡ size_of part }
     requires some { IsEmpty part → ⊥ }
-    ensures { Writes O.passes O.has_failed output.old output.new result (text_of_set (N.members names.now set) (places_of part)) }
+    ensures { Writes O.passes O.has_failed output.old output.new result
+        (text_of_set (N.members names.now set) (places_of part)) }
 {
     let mut mark = b"{";
     for place in 0..part.size() {

@@ -15,7 +15,7 @@ pub trait KindNames {
 
     /// The place of the member of this name, None where the set has none.
     fn place(&self, set: u8, name: &[u8]) -> Option<u8>
-        ensures found { IfSome result (λ place. slice_get (members self.now set) place ≡ Some name.now) }
+        ensures found { IfSome result (λ k. slice_get (members self.now set) k ≡ Some name.now) }
         ensures none { IfNone result (Contains (members self.now set) name.now → ⊥) }
         ensures names { AreNames (members self.now set) };
 }

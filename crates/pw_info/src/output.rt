@@ -36,7 +36,8 @@ pub trait Output {
     // Nothing is passed at one moment.
     ghost none: { (s : Self) → passes s [] s };
     // What is passed first and what is passed next are passed together.
-    ghost joins: { (s t u : Self) (xs ys : List ℕ) → passes s xs t → passes t ys u → passes s (xs ++ ys) u };
+    ghost joins: { (s t u : Self) (xs ys : List ℕ)
+        → passes s xs t → passes t ys u → passes s (xs ++ ys) u };
 }
 
 /// An output that writes to a writer.
@@ -83,7 +84,8 @@ impl<W: Write> Output for Writing<W> {
     ghost use Rattle.pw_info.specs.Writers.{writer_of, writer_failed};
 
     // Where the writer's bytes are known, they grow by those that are passed.
-    ghost passes = { λ s bytes t. Appends (W.contents (writer_of s)) (W.contents (writer_of t)) bytes };
+    ghost passes = { λ s bytes t.
+        Appends (W.contents (writer_of s)) (W.contents (writer_of t)) bytes };
 
     ghost has_failed = { λ s. writer_failed s };
 
@@ -109,7 +111,8 @@ impl<W: Write> Output for Writing<W> {
 
     ghost none = { λ s. Appends-nil (W.contents (writer_of s)) };
 
-    ghost joins = { λ s t u xs ys p q. Appends-trans (W.contents (writer_of s)) (W.contents (writer_of t)) (W.contents (writer_of u)) xs ys p q };
+    ghost joins = { λ s t u xs ys p q. Appends-trans (W.contents (writer_of s))
+        (W.contents (writer_of t)) (W.contents (writer_of u)) xs ys p q };
 }
 
 /// Puts all of the bytes. A put that fails ends it with `Failed`: a front of the bytes was passed then.

@@ -1,6 +1,6 @@
 // Ranges as words: the reader.
-ghost use Rattle.std.specs.Prelude.{◌≡◌, ℤ, ◌≤◌, ◌++◌, codes, IfSome, IfNone};
-ghost use Rattle.pw_info.specs.Number.{IsUpTo, greatest_number};
+ghost use Rattle.std.specs.Prelude.{◌≡◌, ◌≤◌, ◌++◌, codes, IfSome, IfNone};
+ghost use Rattle.pw_info.specs.Number.{IsUpTo, HoldsOfNoneUpTo, greatest_number};
 ghost use Rattle.pw_info.specs.Cut.{HasNoDot, SpellsCut};
 ghost use Rattle.pw_info.specs.Range.{SpellsRange};
 
@@ -21,7 +21,7 @@ fn read_ends(front: &[u8], rest: &[u8], most: u32) -> Option<(i64, i64)>
     requires { most ≤ greatest_number }
     ensures some { IfSome result (λ ends. SpellsCut front.now rest.now ends.0 ends.1) }
     ensures within { IfSome result (λ ends. IsUpTo most ends.0 × IsUpTo most ends.1) }
-    ensures none { IfNone result ((lo hi : ℤ) → SpellsCut front.now rest.now lo hi → IsUpTo most lo → IsUpTo most hi → ⊥) }
+    ensures none { IfNone result (HoldsOfNoneUpTo most (SpellsCut front.now rest.now)) }
 {
     let [b'.', back @ ..] = rest else {
         return None;
@@ -43,7 +43,7 @@ pub(crate) fn read_range(word: &[u8], most: u32) -> Option<(i64, i64)>
     requires { most ≤ greatest_number }
     ensures some { IfSome result (λ ends. SpellsRange word.now ends.0 ends.1) }
     ensures within { IfSome result (λ ends. IsUpTo most ends.0 × IsUpTo most ends.1) }
-    ensures none { IfNone result ((lo hi : ℤ) → SpellsRange word.now lo hi → IsUpTo most lo → IsUpTo most hi → ⊥) }
+    ensures none { IfNone result (HoldsOfNoneUpTo most (SpellsRange word.now)) }
 {
     match split_at_dot(word) {
         Some((front, rest)) => read_ends(front, rest, most),

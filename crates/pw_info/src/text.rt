@@ -1,12 +1,11 @@
 // The texts of informations: reading and writing them.
 ghost use Rattle.std.specs.Prelude.{◌≡◌, ◌++◌, codes, IfSome, IfNone};
 ghost use Rattle.std.specs.Fmt.{signed_decimal};
-ghost use Rattle.pw_info.specs.declared.info.Info.{Info};
 ghost use Rattle.pw_info.specs.Information.{kind_of};
 ghost use Rattle.pw_info.specs.Passing.{Writes};
 ghost use Rattle.pw_info.specs.Range.{text_of_range};
 ghost use Rattle.pw_info.specs.SetNames.{SetNames, IsNamed};
-ghost use Rattle.pw_info.specs.Spelling.{SpellsInfo, SpellsValues};
+ghost use Rattle.pw_info.specs.Spelling.{SpellsInfo, SpellsNoInfo, SpellsValues, SpellsNoValues};
 ghost use Rattle.pw_info.specs.Text.{text_of_exact, text_of_info, text_of_interval};
 
 use crate::info::Info;
@@ -31,7 +30,7 @@ const GREATEST_EXACT: u32 = 1_000_000_000;
 pub fn read_info<N: KindNames>(word: &[u8], kind: Kind, names: &N) -> Option<Info>
     requires named { IsNamed (N.members names.now) kind }
     ensures some { IfSome result (λ info. SpellsInfo (N.members names.now) word.now kind info) }
-    ensures none { IfNone result ((info : Info) → SpellsInfo (N.members names.now) word.now kind info → ⊥) }
+    ensures none { IfNone result (SpellsNoInfo (N.members names.now) word.now kind) }
 {
     if word == b"nothing".as_slice() {
         return Some(Info::nothing(kind));
@@ -49,8 +48,10 @@ pub fn read_info<N: KindNames>(word: &[u8], kind: Kind, names: &N) -> Option<Inf
 // The information that a word spells in the form of an interval.
 fn read_interval(word: &[u8]) -> Option<Info>
     ensures kind { IfSome result (λ info. kind_of info ≡ Kind.Interval) }
-    ensures some { IfSome result (λ info. (sets : SetNames) → SpellsValues sets word.now Kind.Interval info) }
-    ensures none { IfNone result ((sets : SetNames) (info : Info) → SpellsValues sets word.now Kind.Interval info → ⊥) }
+    ensures some { IfSome result (λ info. (sets : SetNames)
+        → SpellsValues sets word.now Kind.Interval info) }
+    ensures none { IfNone result ((sets : SetNames)
+        → SpellsNoValues sets word.now Kind.Interval) }
 {
     let (lo, hi) = read_range(word, GREATEST_OF_INTERVALS)?;
     let interval = Interval::new(lo, hi)?;
@@ -60,8 +61,10 @@ fn read_interval(word: &[u8]) -> Option<Info>
 // The information that a word spells in the form of an exact number.
 fn read_exact(word: &[u8]) -> Option<Info>
     ensures kind { IfSome result (λ info. kind_of info ≡ Kind.Exact) }
-    ensures some { IfSome result (λ info. (sets : SetNames) → SpellsValues sets word.now Kind.Exact info) }
-    ensures none { IfNone result ((sets : SetNames) (info : Info) → SpellsValues sets word.now Kind.Exact info → ⊥) }
+    ensures some { IfSome result (λ info. (sets : SetNames)
+        → SpellsValues sets word.now Kind.Exact info) }
+    ensures none { IfNone result ((sets : SetNames)
+        → SpellsNoValues sets word.now Kind.Exact) }
 {
     let number = read_number(word, GREATEST_EXACT)?;
     let exact = Exact::one(number)?;
@@ -76,7 +79,8 @@ pub fn write_info<N: KindNames, O: Output>(
     output: &mut O,
 ) -> Result<(), Failed>
     requires named { IsNamed (N.members names.now) (kind_of info.now) }
-    ensures { Writes O.passes O.has_failed output.old output.new result (text_of_info (N.members names.now) info.now) }
+    ensures { Writes O.passes O.has_failed output.old output.new result
+        (text_of_info (N.members names.now) info.now) }
 {
     match *info {
         Info::Interval(part) => write_interval(part, output),
@@ -124,7 +128,8 @@ fn write_range<O: Output>(lo: i64, hi: i64, output: &mut O) -> Result<(), Failed
 // Writes `..` and a number.
 #[tactic(auto, using(crate::proofs::PassingFacts::first_fails, crate::proofs::PassingFacts::second_writes))]
 fn write_end<O: Output>(number: i64, output: &mut O) -> Result<(), Failed>
-    ensures { Writes O.passes O.has_failed output.old output.new result (codes ".." ++ signed_decimal number) }
+    ensures { Writes O.passes O.has_failed output.old output.new result
+        (codes ".." ++ signed_decimal number) }
 {
     put_all(output, b"..")?;
     write_number(number, output)

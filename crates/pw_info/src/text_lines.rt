@@ -7,7 +7,8 @@ use std::marker::Model;
 
 // The first line of a text, and what comes after it.
 fn split_line(text: &[u8]) -> Option<(&[u8], &[u8])>
-    ensures { MatchOption result (lines_of text.now ≡ []) (λ parts. lines_of text.now ≡ parts.0.now ∷ lines_of parts.1.now) }
+    ensures { MatchOption result (lines_of text.now ≡ [])
+        (λ parts. lines_of text.now ≡ parts.0.now ∷ lines_of parts.1.now) }
 {
     if let Some((line, rest)) = next_line(text) {
         return Some((line, rest));
@@ -43,7 +44,8 @@ impl<'a> TextLines<'a> {
 
     /// Takes the next line, or gives `None` where no line is left.
     pub fn next(&mut self) -> Option<&'a [u8]>
-        ensures { MatchOption result ((self.old ≡ []) × (self.new ≡ [])) (λ line. self.old ≡ line.now ∷ self.new) }
+        ensures { MatchOption result ((self.old ≡ []) × (self.new ≡ []))
+            (λ line. self.old ≡ line.now ∷ self.new) }
     {
         let (line, rest) = split_line(self.rest)?;
         self.rest = rest;

@@ -20,7 +20,8 @@ pub fn are_names(mut words: Words<'_>) -> bool
 
 /// The word as a text, if it is a name.
 pub fn read_name(word: &[u8]) -> Option<&str>
-    ensures { MatchOption result (spec.is_name word.now ≡ false) (λ name. (spec.is_name word.now ≡ true) × (name.now ≡ word.now)) }
+    ensures { MatchOption result (spec.is_name word.now ≡ false)
+        (λ name. (spec.is_name word.now ≡ true) × (name.now ≡ word.now)) }
 {
     if !is_name(word) {
         return None;

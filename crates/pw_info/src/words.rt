@@ -74,7 +74,8 @@ fn word_len(bytes: &[u8]) -> usize
 
 // The first word, and what comes after it.
 fn split_word(bytes: &[u8]) -> Option<(&[u8], &[u8])>
-    ensures { MatchOption result (spec.words_of bytes.now ≡ []) (λ parts. spec.words_of bytes.now ≡ parts.0.now ∷ spec.words_of parts.1.now) }
+    ensures { MatchOption result (spec.words_of bytes.now ≡ [])
+        (λ parts. spec.words_of bytes.now ≡ parts.0.now ∷ spec.words_of parts.1.now) }
 {
     let text = after_blanks(bytes);
     let end = word_len(text);
@@ -109,7 +110,8 @@ impl<'a> Words<'a> {
 
     /// Takes the next word, or gives `None` where no word is left.
     pub fn next(&mut self) -> Option<&'a [u8]>
-        ensures { MatchOption result ((self.old ≡ []) × (self.new ≡ [])) (λ word. self.old ≡ word.now ∷ self.new) }
+        ensures { MatchOption result ((self.old ≡ []) × (self.new ≡ []))
+            (λ word. self.old ≡ word.now ∷ self.new) }
     {
         let (word, rest) = split_word(self.rest)?;
         self.rest = rest;

@@ -1,5 +1,5 @@
 -- What an interval says of a number: a set of whole numbers in range, given by its test.
-use Rattle.std.specs.Prelude.{◌≡◌, ℤ, pos, ◌≤ℤ◌, Bool, true, false, ◌&&◌, Option, Some, refl}
+use Rattle.std.specs.Prelude.{◌≡◌, ℕ, ℤ, pos, neg_ℤ, ◌≤ℤ◌, Bool, true, false, ◌&&◌, Option, Some, refl}
 use Rattle.std.specs.Int.Signed.{le_z}
 use Rattle.pw_kinds.specs.declared.interval.Interval.{Interval}
 use Rattle.pw_kinds.specs.Search.{least, greatest}
@@ -46,6 +46,13 @@ checked lo hi false e = empty
 -- the interval from lo to hi where these are its ends, else the empty one
 abbrev pub from_to : ℤ → ℤ → Interval
 from_to lo hi = checked lo hi _ refl
+
+-- the interval from lo to hi, and the one from -lo to hi
+abbrev pub range : ℕ → ℕ → Interval
+range lo hi = from_to (pos lo) (pos hi)
+
+abbrev pub from_minus_to : ℕ → ℕ → Interval
+from_minus_to lo hi = from_to (neg_ℤ (pos lo)) (pos hi)
 
 -- the interval from the one to the other where there are both, else the empty one
 abbrev pub between : Option ℤ → Option ℤ → Interval

@@ -1,8 +1,8 @@
 -- The places of the members of a set, counted from 0, and the masks that tell which of them are possible.
 -- How wide a mask is stands in `Limits` and in the code; nothing else depends on it.
-use Rattle.std.specs.Prelude.{◌≡◌, ℕ, zero, suc, ℤ, pos, negsuc, ◌+◌, ◌*◌, ◌^◌, ◌<◌, ◌≤◌, ◌==◌, Bool, true, false, ◌&&◌, nat_le, if◌then◌else◌}
+use Rattle.std.specs.Prelude.{◌≡◌, ◌↔◌, ℕ, zero, suc, ℤ, pos, negsuc, ◌+◌, ◌*◌, ◌^◌, ◌<◌, ◌≤◌, ◌==◌, Bool, true, false, ◌&&◌, nat_le, if◌then◌else◌}
 use Rattle.std.specs.Int.Signed.{le_z, lt_z}
-use Rattle.std.specs.Int.{bit_at}
+use Rattle.std.specs.Int.{bit_at, IsBitSet}
 use Rattle.std.proofs.Common.{arith}
 use Rattle.std.proofs.Math.Nat.{pow-suc}
 use Rattle.pw_kinds.specs.Limits.{most_members}
@@ -32,6 +32,10 @@ pub record IsMask (size mask : ℕ) : Type 0 where
 abbrev pub mask_allows : ℕ → ℤ → Bool
 mask_allows mask (pos k) = bit_at mask k == 1
 mask_allows mask (negsuc k) = false
+
+-- just the places whose bits of the mask are set pass
+abbrev pub PassesBitsOf : ℕ → (ℤ → Bool) → Type 0
+PassesBitsOf mask passes = (k : ℕ) → (passes (pos k) ≡ true) ↔ IsBitSet mask k
 
 -- the mask whose bit k is set exactly where place k passes, for the places below n
 unfoldable pub mask_of : (ℤ → Bool) → ℕ → ℕ

@@ -1,15 +1,16 @@
 //! Laws of the kinds, each the contract of a function that does nothing: they hold of every value of the kind.
 
-ghost use Rattle.std.specs.Prelude.{◌≡◌, ℕ, ℤ, pos, negsuc, ◌&&◌, Bool, true, false, Some, [], ◌∷◌};
+ghost use Rattle.std.specs.Prelude.{◌≡◌, ℕ, ℤ, pos, negsuc, neg_ℤ, ◌&&◌, Bool, true, false, Some, [], ◌∷◌};
 ghost use Rattle.std.specs.Int.Signed.{le_z};
 ghost use Rattle.std.specs.Ordering.{int_eq};
 ghost use Rattle.pw_kinds.specs.Ranges.{is_in_interval_range, is_in_exact_range};
 ghost use Rattle.pw_kinds.specs.declared.interval.Interval.{Interval};
 ghost use Rattle.pw_kinds.specs.Interval.{allows, IsEmpty, IsWithin, IsFromTo, AreEnds, PassesFromTo, SameValues};
-ghost use Rattle.pw_kinds.specs.Interval.{IsClosest, closest, from_to, whole, empty, meet_of, least_of, greatest_of};
+ghost use Rattle.pw_kinds.specs.Interval.{IsClosest, closest, from_to, range, from_minus_to, whole, empty, meet_of, least_of, greatest_of};
 ghost use Rattle.pw_kinds.specs.declared.members.Members.{Members};
 ghost use Rattle.pw_kinds.specs.Places.{IsSize, is_place};
 ghost use Rattle.pw_kinds.specs.Members as members;
+ghost use Rattle.pw_kinds.specs.Members.{at_places};
 ghost use Rattle.pw_kinds.specs.declared.exact.Exact.{Exact};
 ghost use Rattle.pw_kinds.specs.Exact as exact;
 
@@ -21,7 +22,8 @@ pub fn same_values_are_equal()
 /// The interval from one number to another leaves possible just those between, and no other interval does.
 pub fn ends_give_an_interval()
     ensures values { (lo hi : ℤ) → AreEnds lo hi → IsFromTo (from_to lo hi) lo hi }
-    ensures only { (lo hi : ℤ) (i : Interval) → AreEnds lo hi → IsFromTo i lo hi → i ≡ from_to lo hi }
+    ensures only { (lo hi : ℤ) (i : Interval)
+        → AreEnds lo hi → IsFromTo i lo hi → i ≡ from_to lo hi }
 {}
 
 /// The closest interval to a test is the smallest in which each number in range that passes is possible.
@@ -38,50 +40,58 @@ pub fn merge_is_intersection()
 
 /// The definitions on small intervals.
 pub fn interval_examples()
-    ensures overlap { meet_of (from_to (pos 5) (pos 9)) (from_to (pos 0) (pos 7)) ≡ from_to (pos 5) (pos 7) }
-    ensures touch { meet_of (from_to (negsuc 2) (pos 2)) (from_to (pos 2) (pos 4)) ≡ from_to (pos 2) (pos 2) }
-    ensures apart { meet_of (from_to (pos 1) (pos 2)) (from_to (pos 3) (pos 4)) ≡ empty }
-    ensures within { IsWithin (from_to (pos 5) (pos 5)) (from_to (pos 0) (pos 7)) }
-    ensures not_within { ¬ IsWithin (from_to (pos 0) (pos 7)) (from_to (pos 5) (pos 9)) }
-    ensures least { least_of (from_to (negsuc 2) (pos 4)) ≡ Some (negsuc 2) }
-    ensures greatest { greatest_of (from_to (negsuc 2) (pos 4)) ≡ Some (pos 4) }
-    ensures one { least_of (from_to (pos 5) (pos 5)) ≡ greatest_of (from_to (pos 5) (pos 5)) }
-    ensures whole { whole ≡ from_to (negsuc 999999) (pos 1000000) }
+    ensures overlap { meet_of (range 5 9) (range 0 7) ≡ range 5 7 }
+    ensures touch { meet_of (from_minus_to 3 2) (range 2 4) ≡ range 2 2 }
+    ensures apart { meet_of (range 1 2) (range 3 4) ≡ empty }
+    ensures within { IsWithin (range 5 5) (range 0 7) }
+    ensures not_within { ¬ IsWithin (range 0 7) (range 5 9) }
+    ensures least { least_of (from_minus_to 3 4) ≡ Some (neg_ℤ (pos 3)) }
+    ensures greatest { greatest_of (from_minus_to 3 4) ≡ Some (pos 4) }
+    ensures one { least_of (range 5 5) ≡ greatest_of (range 5 5) }
+    ensures whole { whole ≡ from_minus_to 1000000 1000000 }
     ensures empty_within { (i : Interval) → IsWithin empty i }
     ensures whole_not_within { ¬ IsWithin whole empty }
-    ensures closest { (p : ℤ → Bool) → PassesFromTo p (pos 2) (pos 5) → closest p ≡ from_to (pos 2) (pos 5) }
+    ensures closest { (p : ℤ → Bool) → PassesFromTo p (pos 2) (pos 5) → closest p ≡ range 2 5 }
     ensures none_in_range { closest (λ v. le_z (pos 1000001) v) ≡ empty }
 {}
 
 /// Members of sets of one size that leave the same places possible are equal.
 pub fn same_members_are_equal()
-    ensures { (m n : Members) → members.size_of m ≡ members.size_of n → members.SameValues m n → m ≡ n }
+    ensures { (m n : Members)
+        → members.size_of m ≡ members.size_of n → members.SameValues m n → m ≡ n }
 {}
 
 /// The closest members to a test are those whose place passes, and any that are so are the closest.
 pub fn closest_members_are_those_that_pass()
-    ensures closest { (size : ℕ) (p : ℤ → Bool) → IsSize size → members.IsClosest size p (members.closest size p) }
-    ensures only { (size : ℕ) (p : ℤ → Bool) (m : Members) → members.IsClosest size p m → m ≡ members.closest size p }
+    ensures closest { (size : ℕ) (p : ℤ → Bool)
+        → IsSize size → members.IsClosest size p (members.closest size p) }
+    ensures only { (size : ℕ) (p : ℤ → Bool) (m : Members)
+        → members.IsClosest size p m → m ≡ members.closest size p }
 {}
 
 /// What the definitions of every member, of no member and of a merge leave possible.
 pub fn merge_of_members_is_intersection()
-    ensures full { (size : ℕ) → IsSize size → (v : ℤ) → members.allows (members.full size) v ≡ is_place size v }
+    ensures full { (size : ℕ) → IsSize size
+        → (v : ℤ) → members.allows (members.full size) v ≡ is_place size v }
     ensures empty { (size : ℕ) → IsSize size → members.IsEmpty (members.empty size) }
     ensures size { (m n : Members) → members.size_of (members.meet_of m n) ≡ members.size_of m }
-    ensures meet { (m n : Members) (v : ℤ) → members.allows (members.meet_of m n) v ≡ (members.allows m v && members.allows n v) }
-    ensures places { (m : Members) (v : ℤ) → members.allows m v ≡ true → is_place (members.size_of m) v ≡ true }
+    ensures meet { (m n : Members) (v : ℤ)
+        → members.allows (members.meet_of m n) v ≡ (members.allows m v && members.allows n v) }
+    ensures places { (m : Members) (v : ℤ)
+        → members.allows m v ≡ true → is_place (members.size_of m) v ≡ true }
 {}
 
 /// The definitions of members on a set of three.
 pub fn members_examples()
-    ensures full { members.full 3 ≡ members.at_places 3 (0 ∷ 1 ∷ 2 ∷ []) }
+    ensures full { members.full 3 ≡ at_places 3 (0 ∷ 1 ∷ 2 ∷ []) }
     ensures past { members.allows (members.full 3) (pos 3) ≡ false }
     ensures below { members.allows (members.full 3) (negsuc 0) ≡ false }
-    ensures closest { members.closest 3 (λ v. le_z v (pos 1)) ≡ members.at_places 3 (0 ∷ 1 ∷ []) }
-    ensures in_any_order { members.at_places 3 (2 ∷ 0 ∷ []) ≡ members.at_places 3 (0 ∷ 2 ∷ []) }
-    ensures meet { members.meet_of (members.at_places 3 (0 ∷ 1 ∷ [])) (members.at_places 3 (1 ∷ 2 ∷ [])) ≡ members.at_places 3 (1 ∷ []) }
-    ensures apart { members.meet_of (members.at_places 3 (0 ∷ [])) (members.at_places 3 (1 ∷ 2 ∷ [])) ≡ members.empty 3 }
+    ensures closest { members.closest 3 (λ v. le_z v (pos 1)) ≡ at_places 3 (0 ∷ 1 ∷ []) }
+    ensures in_any_order { at_places 3 (2 ∷ 0 ∷ []) ≡ at_places 3 (0 ∷ 2 ∷ []) }
+    ensures meet { members.meet_of (at_places 3 (0 ∷ 1 ∷ [])) (at_places 3 (1 ∷ 2 ∷ []))
+        ≡ at_places 3 (1 ∷ []) }
+    ensures apart { members.meet_of (at_places 3 (0 ∷ [])) (at_places 3 (1 ∷ 2 ∷ []))
+        ≡ members.empty 3 }
     ensures sizes { ¬ (members.full 2 ≡ members.full 3) }
 {}
 
@@ -102,7 +112,8 @@ pub fn merge_of_exact_values_is_intersection()
     ensures one { (n : ℤ) → is_in_exact_range n ≡ true → exact.IsOne (exact.one n) n }
     ensures any { (v : ℤ) → exact.allows exact.any v ≡ is_in_exact_range v }
     ensures empty { exact.IsEmpty exact.empty }
-    ensures meet { (e f : Exact) (v : ℤ) → exact.allows (exact.meet_of e f) v ≡ (exact.allows e v && exact.allows f v) }
+    ensures meet { (e f : Exact) (v : ℤ)
+        → exact.allows (exact.meet_of e f) v ≡ (exact.allows e v && exact.allows f v) }
     ensures range { (e : Exact) (v : ℤ) → exact.allows e v ≡ true → is_in_exact_range v ≡ true }
 {}
 
@@ -111,7 +122,8 @@ pub fn exact_examples()
     ensures same { exact.meet_of (exact.one (pos 7)) (exact.one (pos 7)) ≡ exact.one (pos 7) }
     ensures other { exact.meet_of (exact.one (pos 7)) (exact.one (pos 8)) ≡ exact.empty }
     ensures closest_one { exact.closest (λ v. int_eq v (pos 7)) ≡ exact.one (pos 7) }
-    ensures closest_two { (p : ℤ → Bool) → p (pos 2) ≡ true → p (pos 5) ≡ true → exact.closest p ≡ exact.any }
+    ensures closest_two { (p : ℤ → Bool)
+        → p (pos 2) ≡ true → p (pos 5) ≡ true → exact.closest p ≡ exact.any }
     ensures none_in_range { exact.closest (λ v. le_z (pos 1000000001) v) ≡ exact.empty }
     ensures apart { ¬ (exact.any ≡ exact.empty) }
 {}

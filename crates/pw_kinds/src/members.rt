@@ -25,7 +25,7 @@ fn full_mask(size: u8) -> u64
 impl Members {
     ghost use Rattle.std.specs.Prelude.{ℕ, ℤ, pos, ◌<◌, ◌≤◌, ◌↔◌, ◌&&◌, ◌||◌, Bool, true, false, Some, IsTrue, IsSome, IfSome, IsBitSet};
     ghost use Rattle.std.specs.Ordering.{int_eq};
-    ghost use Rattle.pw_kinds.specs.Places.{is_place};
+    ghost use Rattle.pw_kinds.specs.Places.{is_place, PassesBitsOf};
     ghost use Rattle.pw_kinds.specs.Members.{size_of, allows, IsEmpty, IsFull, IsWithin, full, empty, meet_of};
 
     /// Every member of a set of `size` members, which is 2 to 64.
@@ -56,7 +56,7 @@ impl Members {
     pub fn of(size: u8, mask: u64) -> Option<Members>
         ensures some { IsSome result ↔ (IsSize size × ((k : ℕ) → IsBitSet mask k → k < size)) }
         ensures size { IfSome result (λ m. size_of m ≡ size) }
-        ensures values { IfSome result (λ m. (k : ℕ) → (allows m (pos k) ≡ true) ↔ IsBitSet mask k) }
+        ensures values { IfSome result (λ m. PassesBitsOf mask (allows m)) }
     {
         if size < 2 || size > MOST_MEMBERS {
             return None;

@@ -9,7 +9,8 @@ ghost use Rattle.pw_premises.specs.Premises.{Premises, most_premises};
 /// To be a subset is a partial order, and the empty set is the least.
 pub fn subset_is_an_order()
     ensures reflexive { (s : Premises) → is_subset s s ≡ true }
-    ensures transitive { (s t u : Premises) → is_subset s t ≡ true → is_subset t u ≡ true → is_subset s u ≡ true }
+    ensures transitive { (s t u : Premises) → is_subset s t ≡ true → is_subset t u ≡ true
+        → is_subset s u ≡ true }
     ensures antisymmetric { (s t : Premises) → is_subset s t ≡ true → is_subset t s ≡ true → s ≡ t }
     ensures least { (s : Premises) → is_subset empty s ≡ true }
 {}
@@ -18,7 +19,8 @@ pub fn subset_is_an_order()
 pub fn join_is_least_upper_bound()
     ensures own { (s t : Premises) → is_subset s (union s t) ≡ true }
     ensures other { (s t : Premises) → is_subset t (union s t) ≡ true }
-    ensures least { (s t u : Premises) → is_subset (union s t) u ≡ (is_subset s u && is_subset t u) }
+    ensures least { (s t u : Premises)
+        → is_subset (union s t) u ≡ (is_subset s u && is_subset t u) }
 {}
 
 /// A set without a number is a subset of the set.
@@ -29,5 +31,6 @@ pub fn without_is_a_subset()
 /// The list of the numbers of a set rises, and has just those numbers of premises that are in the set.
 pub fn numbers_are_the_members()
     ensures rising { (s : Premises) → IsStrictlyIncreasing (numbers_of s) }
-    ensures members { (s : Premises) (q : ℕ) → Contains (numbers_of s) q ↔ ((q < most_premises) × (contains s q ≡ true)) }
+    ensures members { (s : Premises) (q : ℕ)
+        → Contains (numbers_of s) q ↔ ((q < most_premises) × (contains s q ≡ true)) }
 {}

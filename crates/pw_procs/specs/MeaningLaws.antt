@@ -8,9 +8,9 @@ use Rattle.pw_procs.specs.declared.rule.Rule.{Rule}
 use Rattle.pw_procs.specs.declared.slot.Slot.{Slot}
 use Rattle.pw_procs.specs.declared.meaning.Meaning.{Meaning}
 use Rattle.pw_procs.specs.Slots.{FitSlots, kind_in}
-use Rattle.pw_procs.specs.Values.{input, is_possible}
+use Rattle.pw_procs.specs.Values.{input, is_possible, truth}
 use Rattle.pw_procs.specs.Rules.{value_of_rules}
-use Rattle.pw_procs.specs.Meaning.{value_of_meaning}
+use Rattle.pw_procs.specs.Meaning.{value_of_meaning, switched}
 
 -- on inputs that fit these slots the value is of the kind of the output
 abbrev pub IsOfSlotKind : Slot → Meaning → List Slot → Type 0
@@ -34,6 +34,13 @@ KeepsSolutionsOfOne meaning solves = (output : Slot) (xs : List Info) (a z : ℤ
 abbrev pub KeepsSolutionsOfTwo : Meaning → (ℤ → ℤ → ℤ → Type 0) → Type 0
 KeepsSolutionsOfTwo meaning solves = (output : Slot) (xs : List Info) (a b z : ℤ) → solves a b z → is_in_interval_range z ≡ true
     → allows (input xs 0) a ≡ true → allows (input xs 1) b ≡ true → allows (value_of_meaning output meaning xs) z ≡ true
+
+-- a switch: where its truth is exactly true its value is what it passes, and where it may be false, nothing
+abbrev pub SwitchPasses : Info → Info → Type 0
+SwitchPasses p x = allows p (truth true) ≡ true → allows p (truth false) ≡ false → switched p x ≡ x
+
+abbrev pub SwitchWaits : Info → Info → Type 0
+SwitchWaits p x = allows p (truth false) ≡ true → switched p x ≡ nothing (kind_of x)
 
 -- one rule of one input: where its guard includes the input the value is its result, and where the input may be what the
 -- guard leaves out, nothing

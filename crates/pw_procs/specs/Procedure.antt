@@ -30,6 +30,10 @@ procedures_of list = map procedure_of list
 abbrev pub names_of : List Procedure → List (List ℕ)
 names_of procedures = map (λ procedure. procedure.name) procedures
 
+-- the names of stored procedures, in order
+abbrev pub stored_names : {X : Type 0} {F : X → Type 0} {C : _} → List (Stored X F C) → List (List ℕ)
+stored_names list = names_of (procedures_of list)
+
 -- the value of a procedure on inputs that fit
 abbrev pub value_by : Procedure → List Info → Info
 value_by procedure inputs = value_under procedure.signature procedure.meaning inputs

@@ -22,6 +22,10 @@ IsFaultAfter before name BadName = IsBadName name
 IsFaultAfter before name DuplicateName = (IsBadName name → ⊥) × Contains before name
 IsFaultAfter before name _ = ⊥
 
+-- nothing is wrong with the name, after these
+abbrev pub IsFaultlessAfter : List (List ℕ) → List ℕ → Type 0
+IsFaultlessAfter before name = (fault : RegistryFault) → IsFaultAfter before name fault → ⊥
+
 -- nothing is wrong with the names up to place n
 abbrev pub AreFreeBelow : List (List ℕ) → ℕ → Type 0
 AreFreeBelow names n = (k : ℕ) (name : List ℕ) (fault : RegistryFault) → k < n → slice_get names k ≡ Some name → IsFaultAfter (take k names) name fault → ⊥

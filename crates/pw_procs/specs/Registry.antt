@@ -1,8 +1,12 @@
 -- The procedures of a registry.
-use Rattle.std.specs.Prelude.{List}
+use Rattle.std.specs.Prelude.{ℕ, List}
 use Rattle.pw_procs.specs.declared.registry.holding.Registry.{Registry}
-use Rattle.pw_procs.specs.Procedure.{Procedure, procedures_of}
+use Rattle.pw_procs.specs.Procedure.{Procedure, procedures_of, names_of}
 
 -- the procedures, in the order of their numbers
 abbrev pub procedures_in : {A : _} {X : Type 0} {F : X → Type 0} {C : _} → Registry A X F C → List Procedure
 procedures_in registry = procedures_of registry.entries.items
+
+-- their names, in that order
+abbrev pub names_in : {A : _} {X : Type 0} {F : X → Type 0} {C : _} → Registry A X F C → List (List ℕ)
+names_in registry = names_of (procedures_in registry)

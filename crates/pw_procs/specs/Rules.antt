@@ -31,6 +31,13 @@ pub record AreRules (inputs : List Kind) (output : Kind) (rules : List Rule) : T
   pub guards : All (λ rule. map kind_of rule.guards.items ≡ inputs) rules
   pub results : All (λ rule. kind_of rule.result ≡ output) rules
 
+-- the guards of rules, and their results, in order
+abbrev pub guards_of : List Rule → List (List Info)
+guards_of rules = map (λ rule. rule.guards.items) rules
+
+abbrev pub results_of : List Rule → List Info
+results_of rules = map (λ rule. rule.result) rules
+
 -- rules of one input, of the kinds of this guard and this result
 abbrev pub AreRulesLike : Info → Info → List Rule → Type 0
 AreRulesLike guard result rules = AreRules (kind_of guard ∷ []) (kind_of result) rules

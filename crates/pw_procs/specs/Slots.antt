@@ -12,9 +12,13 @@ abbrev pub kind_in : Kind → Slot → Kind
 kind_in same (Fixed kind) = kind
 kind_in same Same = same
 
--- kinds fit slots: one for each, for some kind of the slots that take any
+-- these are the kinds in slots, one for each, where `same` is the kind of the slots that take any kind
+abbrev pub AreKindsIn : List Slot → List Kind → Kind → Type 0
+AreKindsIn slots kinds same = kinds ≡ map (kind_in same) slots
+
+-- kinds fit slots: they are those in them, for some kind of the slots that take any
 abbrev pub KindsFit : List Slot → List Kind → Type 0
-KindsFit slots kinds = (same : Kind) × (kinds ≡ map (kind_in same) slots)
+KindsFit slots kinds = (same : Kind) × AreKindsIn slots kinds same
 
 -- informations fit slots: their kinds do
 abbrev pub FitSlots : List Slot → List Info → Type 0

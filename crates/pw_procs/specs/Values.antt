@@ -1,6 +1,6 @@
 -- The values that informations leave possible, what an operation gives on all of them, and the information that is
 -- nearest to a set of numbers. A set of whole numbers is given by its test: does some number of the set pass?
-use Rattle.std.specs.Prelude.{◌≡◌, ◌<◌, ℕ, ℤ, pos, Bool, true, false, ◌&&◌, List, ◌≤ℤ◌, is_some, slice_index_or}
+use Rattle.std.specs.Prelude.{◌≡◌, ◌<◌, ℕ, ℤ, pos, neg_ℤ, Bool, true, false, ◌&&◌, List, ◌≤ℤ◌, is_some, slice_index_or}
 use Rattle.std.specs.Int.{IsBitSet}
 use Rattle.std.specs.Int.Signed.{le_z}
 use Rattle.std.specs.Ordering.{int_eq}
@@ -11,11 +11,15 @@ use Rattle.std.proofs.Common.{arith}
 use Rattle.pw_info.specs.declared.kind.Kind.{Kind}
 use Rattle.pw_info.specs.declared.kind.Kind.TheVariants as kinds
 use Rattle.pw_info.specs.declared.info.Info.{Info}
-use Rattle.pw_info.specs.Information.{allows, closest, nothing}
+use Rattle.pw_info.specs.Information.{allows, closest, nothing, contradiction}
 
 -- whether some possible value passes
 unfoldable pub some : Info → (ℤ → Bool) → Bool
 some info passes = is_some (least (λ v. allows info v && passes v) exact_numbers exact_lowest)
+
+-- a number passes, and no other number does
+abbrev pub PassesAlone : (ℤ → Bool) → ℤ → Type 0
+PassesAlone passes v = (passes v ≡ true) × ((w : ℤ) → passes w ≡ true → w ≡ v)
 
 -- whether a value is possible at all
 abbrev pub is_possible : Info → Bool
@@ -62,9 +66,28 @@ is_true v = int_eq v (pos 1)
 abbrev pub truths_of : NumberSet → Info
 truths_of set = closest bool (λ v. set (int_eq v))
 
+-- it is what is known of each set of truths that has `false`, and `true`, just where these say so
+abbrev pub HasTruths : Bool → Bool → Info → Type 0
+HasTruths has_false has_true info = (set : NumberSet)
+    → set (int_eq (truth false)) ≡ has_false → set (int_eq (truth true)) ≡ has_true → info ≡ truths_of set
+
 -- the numbers in range from lo to hi
 abbrev pub from_to : ℤ → ℤ → Info
 from_to lo hi = closest kinds.Interval (λ v. le_z lo v && le_z v hi)
+
+-- the numbers in range from lo to hi, and those from -lo to hi
+abbrev pub range : ℕ → ℕ → Info
+range lo hi = from_to (pos lo) (pos hi)
+
+abbrev pub from_minus_to : ℕ → ℕ → Info
+from_minus_to lo hi = from_to (neg_ℤ (pos lo)) (pos hi)
+
+-- any number in range, and no number
+abbrev pub any_number : Info
+any_number = nothing kinds.Interval
+
+abbrev pub no_number : Info
+no_number = contradiction kinds.Interval
 
 -- one truth alone, and one number alone, known exactly
 abbrev pub just : Bool → Info

@@ -1,6 +1,6 @@
 //! The kind of truths, and members of set kinds by their masks.
-ghost use Rattle.std.specs.Prelude.{◌≡◌, ◌↔◌, ℕ, pos, true};
-ghost use Rattle.std.specs.Int.{IsBitSet};
+ghost use Rattle.std.specs.Prelude.{◌≡◌};
+ghost use Rattle.pw_kinds.specs.Places.{PassesBitsOf};
 ghost use Rattle.pw_info.specs.Information.{kind_of, allows, IsContradiction};
 ghost use Rattle.pw_procs.specs.Values.{bool, IsMaskOf};
 
@@ -18,7 +18,7 @@ pub fn truth_kind() -> Kind
 /// is none of the set's, and the result is the contradiction.
 pub fn members_of_mask(set: SetKind, mask: u64) -> Info
     ensures kind { kind_of result ≡ Kind.Members set }
-    ensures values { IsMaskOf set.size mask → (k : ℕ) → (allows result (pos k) ≡ true) ↔ IsBitSet mask k }
+    ensures values { IsMaskOf set.size mask → PassesBitsOf mask (allows result) }
     ensures bad { (IsMaskOf set.size mask → ⊥) → IsContradiction result }
 {
     match Members::of(set.size, mask) {

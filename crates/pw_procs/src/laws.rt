@@ -1,10 +1,9 @@
 //! Laws of the meanings, each the contract of a function that does nothing: they hold of every meaning and all inputs.
 
-ghost use Rattle.std.specs.Prelude.{◌≡◌, ◌≢◌, ◌↔◌, ℕ, ℤ, pos, negsuc, ◌+ℤ◌, ◌-ℤ◌, ◌*ℤ◌, Bool, true, false, not, List, [], ◌∷◌, ◌++◌};
+ghost use Rattle.std.specs.Prelude.{◌≡◌, ◌≢◌, ◌↔◌, ℕ, ℤ, pos, ◌+ℤ◌, ◌-ℤ◌, ◌*ℤ◌, Bool, true, false, not, List, [], ◌∷◌, ◌++◌};
 ghost use Rattle.pw_info.specs.declared.kind.Kind.{Kind};
-ghost use Rattle.pw_info.specs.declared.kind.Kind.TheVariants as kinds;
 ghost use Rattle.pw_info.specs.declared.info.Info.{Info};
-ghost use Rattle.pw_info.specs.Information.{allows, kind_of, nothing, contradiction, IsContradiction};
+ghost use Rattle.pw_info.specs.Information.{nothing, contradiction, IsContradiction};
 ghost use Rattle.pw_procs.specs.declared.rule.Rule.{Rule};
 ghost use Rattle.pw_procs.specs.declared.slot.Slot.{Slot};
 ghost use Rattle.pw_procs.specs.declared.signature.Signature.{Signature};
@@ -16,43 +15,52 @@ ghost use Rattle.pw_procs.specs.Signature.{Accepts, AcceptsApart, IsOfOutputKind
 ghost use Rattle.pw_procs.specs.Procedure.{Procedure, GivesWhatItAccepts};
 ghost use Rattle.pw_procs.specs.Registering.{AreRegistered, IsRegistryFault};
 ghost use Rattle.pw_procs.specs.Values.{NumberSet, IsSetOf, IsImageOfOne, IsImageOfTwo, IsHull, image_of_one, image_of_two, hull_of};
-ghost use Rattle.pw_procs.specs.Values.{from_to, just, exactly, bool, truth, input};
+ghost use Rattle.pw_procs.specs.Values.{range, from_minus_to, any_number, no_number, just, exactly, bool, input};
 ghost use Rattle.pw_procs.specs.Quotient.{quotient_of};
 ghost use Rattle.pw_procs.specs.Meaning.{AreSlotsOf, value_of_meaning, sum_of, difference_of, product_of, square_of};
-ghost use Rattle.pw_procs.specs.Meaning.{at_most_of, equality_of, negation_of, conjunction_of, disjunction_of, switched, point_of, fixed_of};
+ghost use Rattle.pw_procs.specs.Meaning.{at_most_of, equality_of, negation_of, conjunction_of, disjunction_of, point_of, fixed_of};
 ghost use Rattle.pw_procs.specs.MeaningLaws.{IsOfSlotKind, IsMonotone, IsContradictedByInputs, KeepsSolutionsOfOne, KeepsSolutionsOfTwo};
-ghost use Rattle.pw_procs.specs.MeaningLaws.{RuleApplies, RuleWaits};
+ghost use Rattle.pw_procs.specs.MeaningLaws.{SwitchPasses, SwitchWaits, RuleApplies, RuleWaits};
 
 /// The hull of a set of numbers leaves just the numbers in range possible that lie between two of the set, or on one; and
 /// what an operation gives on possible values is a set of just these numbers.
 pub fn hull_lies_between()
-    ensures image_of_one { (op : ℤ → ℤ) (x : Info) → IsSetOf (IsImageOfOne op x) (image_of_one op x) }
-    ensures image_of_two { (op : ℤ → ℤ → ℤ) (x y : Info) → IsSetOf (IsImageOfTwo op x y) (image_of_two op x y) }
-    ensures hull { (numbers : ℤ → Bool) (set : NumberSet) → IsSetOf (λ z. numbers z ≡ true) set → IsHull (λ z. numbers z ≡ true) (hull_of set) }
-    ensures hull_of_one { (op : ℤ → ℤ) (x : Info) → IsHull (IsImageOfOne op x) (hull_of (image_of_one op x)) }
-    ensures hull_of_two { (op : ℤ → ℤ → ℤ) (x y : Info) → IsHull (IsImageOfTwo op x y) (hull_of (image_of_two op x y)) }
+    ensures image_of_one { (op : ℤ → ℤ) (x : Info)
+        → IsSetOf (IsImageOfOne op x) (image_of_one op x) }
+    ensures image_of_two { (op : ℤ → ℤ → ℤ) (x y : Info)
+        → IsSetOf (IsImageOfTwo op x y) (image_of_two op x y) }
+    ensures hull { (numbers : ℤ → Bool) (set : NumberSet)
+        → IsSetOf (λ z. numbers z ≡ true) set → IsHull (λ z. numbers z ≡ true) (hull_of set) }
+    ensures hull_of_one { (op : ℤ → ℤ) (x : Info)
+        → IsHull (IsImageOfOne op x) (hull_of (image_of_one op x)) }
+    ensures hull_of_two { (op : ℤ → ℤ → ℤ) (x y : Info)
+        → IsHull (IsImageOfTwo op x y) (hull_of (image_of_two op x y)) }
 {}
 
 /// The value of a meaning is of the kind of its output, where the inputs fit.
 pub fn values_have_the_output_kind()
-    ensures { (output : Slot) (meaning : Meaning) (slots : List Slot) → AreSlotsOf meaning slots output → IsOfSlotKind output meaning slots }
+    ensures { (output : Slot) (meaning : Meaning) (slots : List Slot)
+        → AreSlotsOf meaning slots output → IsOfSlotKind output meaning slots }
 {}
 
 /// Kinds fit a signature where those of the inputs and that of the output do, with one kind for the slots of any kind.
 pub fn kinds_fit_apart()
-    ensures { (signature : Signature) (xs : List Kind) (k : Kind) → Accepts signature (xs ++ k ∷ []) ↔ AcceptsApart signature xs k }
+    ensures { (signature : Signature) (xs : List Kind) (k : Kind)
+        → Accepts signature (xs ++ k ∷ []) ↔ AcceptsApart signature xs k }
 {}
 
 /// A procedure gives values of the kind of its output. So where it accepts the kinds of some inputs and a kind besides,
 /// the inputs fit and its value is of that kind.
 pub fn procedures_give_their_output_kind()
     ensures kind { (procedure : Procedure) → IsOfOutputKind procedure.signature procedure.meaning }
-    ensures accepted { (procedure : Procedure) (xs : List Info) (k : Kind) → GivesWhatItAccepts procedure xs k }
+    ensures accepted { (procedure : Procedure) (xs : List Info) (k : Kind)
+        → GivesWhatItAccepts procedure xs k }
 {}
 
 /// A list of procedures under names that those of a registry may have is refused for want of memory alone.
 pub fn good_names_are_refused_for_memory_alone()
-    ensures { (names : List (List ℕ)) (fault : RegistryFault) → AreRegistered names → IsRegistryFault names fault → fault ≡ Memory }
+    ensures { (names : List (List ℕ)) (fault : RegistryFault)
+        → AreRegistered names → IsRegistryFault names fault → fault ≡ Memory }
 {}
 
 /// More informed inputs give a value that is at least as informed.
@@ -64,7 +72,8 @@ pub fn meanings_are_monotone()
 pub fn contradictory_inputs_give_contradictions()
     ensures value { (output : Slot) (meaning : Meaning) (slots : List Slot) → (meaning ≢ Switch)
         → AreSlotsOf meaning slots output → IsContradictedByInputs output meaning slots }
-    ensures switch { (output : Slot) (xs : List Info) → IsContradiction (input xs 0) → IsContradiction (value_of_meaning output Switch xs) }
+    ensures switch { (output : Slot) (xs : List Info)
+        → IsContradiction (input xs 0) → IsContradiction (value_of_meaning output Switch xs) }
 {}
 
 /// Numbers in range that satisfy the relation of a meaning of arithmetic stay possible: where the inputs allow theirs,
@@ -79,38 +88,38 @@ pub fn arithmetic_loses_no_solution()
 
 /// The definitions on small inputs: ranges of numbers.
 pub fn examples_of_numbers()
-    ensures sum { sum_of (from_to (pos 1) (pos 2)) (from_to (pos 10) (pos 20)) ≡ from_to (pos 11) (pos 22) }
-    ensures difference { difference_of (from_to (pos 10) (pos 20)) (from_to (pos 1) (pos 2)) ≡ from_to (pos 8) (pos 19) }
-    ensures product { product_of (from_to (negsuc 2) (pos 4)) (from_to (pos 2) (pos 2)) ≡ from_to (negsuc 5) (pos 8) }
-    ensures cut { product_of (from_to (pos 333333) (pos 333334)) (from_to (pos 3) (pos 3)) ≡ from_to (pos 999999) (pos 1000000) }
-    ensures square { square_of (from_to (negsuc 0) (pos 2)) ≡ from_to (pos 0) (pos 4) }
-    ensures quotient { quotient_of (from_to (pos 5) (pos 13)) (from_to (pos 2) (pos 2)) ≡ from_to (pos 3) (pos 6) }
-    ensures no_quotient { quotient_of (from_to (pos 7) (pos 7)) (from_to (pos 2) (pos 2)) ≡ contradiction kinds.Interval }
-    ensures by_zero { quotient_of (from_to (pos 1) (pos 5)) (from_to (negsuc 0) (pos 1)) ≡ nothing kinds.Interval }
-    ensures none_by_zero { quotient_of (contradiction kinds.Interval) (from_to (negsuc 0) (pos 1)) ≡ contradiction kinds.Interval }
-    ensures point { point_of (exactly (pos 5)) ≡ from_to (pos 5) (pos 5) }
-    ensures fixed { fixed_of (from_to (pos 5) (pos 5)) ≡ exactly (pos 5) }
+    ensures sum { sum_of (range 1 2) (range 10 20) ≡ range 11 22 }
+    ensures difference { difference_of (range 10 20) (range 1 2) ≡ range 8 19 }
+    ensures product { product_of (from_minus_to 3 4) (range 2 2) ≡ from_minus_to 6 8 }
+    ensures cut { product_of (range 333333 333334) (range 3 3) ≡ range 999999 1000000 }
+    ensures square { square_of (from_minus_to 1 2) ≡ range 0 4 }
+    ensures quotient { quotient_of (range 5 13) (range 2 2) ≡ range 3 6 }
+    ensures no_quotient { quotient_of (range 7 7) (range 2 2) ≡ no_number }
+    ensures by_zero { quotient_of (range 1 5) (from_minus_to 1 1) ≡ any_number }
+    ensures none_by_zero { quotient_of no_number (from_minus_to 1 1) ≡ no_number }
+    ensures point { point_of (exactly (pos 5)) ≡ range 5 5 }
+    ensures fixed { fixed_of (range 5 5) ≡ exactly (pos 5) }
 {}
 
 /// The same of truths.
 pub fn examples_of_truths()
-    ensures at_most { at_most_of (from_to (pos 1) (pos 5)) (from_to (pos 5) (pos 9)) ≡ just true }
-    ensures at_most_open { at_most_of (from_to (pos 1) (pos 6)) (from_to (pos 5) (pos 9)) ≡ nothing bool }
-    ensures equal { equality_of (from_to (pos 2) (pos 2)) (from_to (pos 2) (pos 2)) ≡ just true }
-    ensures parted { equality_of (from_to (pos 1) (pos 2)) (from_to (pos 3) (pos 4)) ≡ just false }
-    ensures equal_open { equality_of (from_to (pos 1) (pos 2)) (from_to (pos 2) (pos 3)) ≡ nothing bool }
+    ensures at_most { at_most_of (range 1 5) (range 5 9) ≡ just true }
+    ensures at_most_open { at_most_of (range 1 6) (range 5 9) ≡ nothing bool }
+    ensures equal { equality_of (range 2 2) (range 2 2) ≡ just true }
+    ensures parted { equality_of (range 1 2) (range 3 4) ≡ just false }
+    ensures equal_open { equality_of (range 1 2) (range 2 3) ≡ nothing bool }
     ensures inverter { (b : Bool) → negation_of (just b) ≡ just (not b) }
     ensures conjoiner { conjunction_of (just false) (nothing bool) ≡ just false }
     ensures conjoiner_open { conjunction_of (just true) (nothing bool) ≡ nothing bool }
-    ensures conjoiner_of_none { conjunction_of (just false) (contradiction bool) ≡ contradiction bool }
+    ensures conjoiner_none { conjunction_of (just false) (contradiction bool) ≡ contradiction bool }
     ensures disjoiner { disjunction_of (nothing bool) (just true) ≡ just true }
     ensures disjoiner_open { disjunction_of (nothing bool) (just false) ≡ nothing bool }
 {}
 
 /// The same of switches and rules.
 pub fn examples_of_switches_and_rules()
-    ensures switch_true { (p x : Info) → allows p (truth true) ≡ true → allows p (truth false) ≡ false → switched p x ≡ x }
-    ensures switch_false { (p x : Info) → allows p (truth false) ≡ true → switched p x ≡ nothing (kind_of x) }
+    ensures switch_true { (p x : Info) → SwitchPasses p x }
+    ensures switch_false { (p x : Info) → SwitchWaits p x }
     ensures rule_applies { (rule : Rule) (guard x : Info) → RuleApplies rule guard x }
     ensures rule_waits { (rule : Rule) (guard x : Info) (v : ℤ) → RuleWaits rule guard x v }
 {}

@@ -25,7 +25,7 @@ pub use procedures::{add_by_rules, add_of_table};
 pub use registry::{Registry, RegistryFault};
 pub use rule::Rule;
 pub use rule_tables::{add_rule, copied};
-pub use signature::Signature;
+pub use signature::{Signature, are_equal_kinds};
 pub use slot::Slot;
 pub use stored::{Body, Stored};
 pub use table::signature_of;

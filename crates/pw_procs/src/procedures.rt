@@ -50,8 +50,10 @@ pub fn add_by_rules(
 ) -> Result<(), AllocError>
     requires rules { AreRules (kinds.0 ∷ []) kinds.1 rules.items }
     requires callable { (p : _) → map kind_of p.now ≡ kinds.0 ∷ [] → Body.pre body p }
-    requires gives { (p : _) (r : _) → map kind_of p.now ≡ kinds.0 ∷ [] → Body.post body p r → r ≡ value_of_rules kinds.1 rules.items p.now }
-    ensures ok { OnOk result (IsAdded list.old.items list.new.items name.now (Slot.Fixed kinds.0 ∷ []) (Slot.Fixed kinds.1) (Meaning.Rules rules)) }
+    requires gives { (p : _) (r : _) → map kind_of p.now ≡ kinds.0 ∷ [] → Body.post body p r
+        → r ≡ value_of_rules kinds.1 rules.items p.now }
+    ensures ok { OnOk result (IsAdded list.old.items list.new.items name.now
+        (Slot.Fixed kinds.0 ∷ []) (Slot.Fixed kinds.1) (Meaning.Rules rules)) }
     ensures err { OnErr result (list.new.items ≡ list.old.items) }
 {
     let Some(signature) = Signature::new(&[Slot::Fixed(kinds.0)], Slot::Fixed(kinds.1)) else {

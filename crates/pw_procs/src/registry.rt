@@ -1,8 +1,9 @@
 //! The procedures that there are, by name and by number.
 ghost use Rattle.std.specs.Prelude.{◌≡◌, ◌↔◌, ◌<◌, length, slice_get, Some, IsTrue, IfOk, IfErr, IfSome, IfNone, Contains};
-ghost use Rattle.pw_procs.specs.Procedure.{procedure_of, procedures_of, names_of};
-ghost use Rattle.pw_procs.specs.Registry.{procedures_in};
-ghost use Rattle.pw_procs.specs.Registering.{IsBadName, IsFaultAfter, AreRegistered, IsRegistryFault};
+ghost use Rattle.pw_procs.specs.Place.{place_of_name};
+ghost use Rattle.pw_procs.specs.Procedure.{procedure_of, procedures_of, stored_names};
+ghost use Rattle.pw_procs.specs.Registry.{procedures_in, names_in};
+ghost use Rattle.pw_procs.specs.Registering.{IsBadName, IsFaultAfter, IsFaultlessAfter, AreRegistered, IsRegistryFault};
 
 use crate::name_table::NameTable;
 use crate::stored::Stored;
@@ -31,7 +32,7 @@ fn is_bad_name(name: &[u8]) -> bool
 
 // Whether a procedure has this name.
 fn is_named(entries: &[Stored], name: &[u8]) -> bool
-    ensures { IsTrue result ↔ Contains (names_of (procedures_of entries.now)) name.now }
+    ensures { IsTrue result ↔ Contains (stored_names entries.now) name.now }
 {
     for entry in entries {
         if entry.name().as_bytes() == name {
@@ -43,8 +44,8 @@ fn is_named(entries: &[Stored], name: &[u8]) -> bool
 
 // What is wrong with a name after the procedures before it.
 fn fault_after(before: &[Stored], name: &[u8]) -> Option<RegistryFault>
-    ensures none { IfNone result ((fault : _) → IsFaultAfter (names_of (procedures_of before.now)) name.now fault → ⊥) }
-    ensures fault { IfSome result (λ fault. IsFaultAfter (names_of (procedures_of before.now)) name.now fault) }
+    ensures none { IfNone result (IsFaultlessAfter (stored_names before.now) name.now) }
+    ensures fault { IfSome result (λ fault. IsFaultAfter (stored_names before.now) name.now fault) }
 {
     if is_bad_name(name) {
         return Some(RegistryFault::BadName);
@@ -57,8 +58,8 @@ fn fault_after(before: &[Stored], name: &[u8]) -> Option<RegistryFault>
 
 // What is wrong with the list, memory apart.
 fn first_fault(entries: &[Stored]) -> Option<RegistryFault>
-    ensures none { IfNone result (AreRegistered (names_of (procedures_of entries.now))) }
-    ensures fault { IfSome result (λ fault. IsRegistryFault (names_of (procedures_of entries.now)) fault) }
+    ensures none { IfNone result (AreRegistered (stored_names entries.now)) }
+    ensures fault { IfSome result (λ fault. IsRegistryFault (stored_names entries.now) fault) }
 {
     if entries.len() > MOST_PROCEDURES {
         return Some(RegistryFault::TooMany);
@@ -73,8 +74,8 @@ fn first_fault(entries: &[Stored]) -> Option<RegistryFault>
 
 // The names of the procedures, in order.
 fn names_of<A: Allocator + Copy>(alloc: A, entries: &[Stored]) -> Result<NameTable<A>, AllocError>
-    requires { AreRegistered (names_of (procedures_of entries.now)) }
-    ensures { IfOk result (λ names. names ≡ names_of (procedures_of entries.now)) }
+    requires { AreRegistered (stored_names entries.now) }
+    ensures { IfOk result (λ names. names ≡ stored_names entries.now) }
 {
     let mut names = NameTable::new(alloc);
     for entry in entries {
@@ -88,10 +89,10 @@ impl<A: Allocator + Copy> Registry<A> {
     /// Otherwise the list is handed back with the first thing that is wrong: too many, then, from the first on, a bad
     /// name or one that an earlier procedure has, and want of memory last.
     pub fn new(alloc: A, entries: Vec<Stored>) -> Result<Registry<A>, (RegistryFault, Vec<Stored>)>
-        ensures holds { IfOk result (λ registry. procedures_in registry ≡ procedures_of entries.items) }
-        ensures names { IfOk result (λ registry. AreRegistered (names_of (procedures_of entries.items))) }
-        ensures fault { IfErr result (λ refusal. IsRegistryFault (names_of (procedures_of entries.items)) refusal.0) }
-        ensures back { IfErr result (λ refusal. refusal.1 ≡ entries) }
+        ensures holds { IfOk result (λ made. procedures_in made ≡ procedures_of entries.items) }
+        ensures names { IfOk result (λ made. AreRegistered (stored_names entries.items)) }
+        ensures fault { IfErr result (λ e. IsRegistryFault (stored_names entries.items) e.0) }
+        ensures back { IfErr result (λ e. e.1 ≡ entries) }
     {
         if let Some(fault) = first_fault(&entries) {
             return Err((fault, entries));
@@ -111,9 +112,10 @@ impl<A: Allocator + Copy> Registry<A> {
 
     /// The number of the procedure of this name, if there is one.
     pub fn find(&self, name: &[u8]) -> Option<u8>
-        ensures found { IfSome result (λ number. slice_get (names_of (procedures_in self.now)) number ≡ Some name.now) }
-        ensures within { IfSome result (λ number. number < length (procedures_in self.now)) }
-        ensures none { IfNone result (Contains (names_of (procedures_in self.now)) name.now → ⊥) }
+        ensures place { result ≡ place_of_name (names_in self.now) name.now }
+        ensures found { IfSome result (λ n. slice_get (names_in self.now) n ≡ Some name.now) }
+        ensures within { IfSome result (λ n. n < length (procedures_in self.now)) }
+        ensures none { IfNone result (Contains (names_in self.now) name.now → ⊥) }
     {
         let number = self.names.find(name)?;
         Some(number as u8)

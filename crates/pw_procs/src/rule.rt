@@ -13,7 +13,8 @@ pub struct Rule {
 }
 
 impl Clone for Rule {
-    ghost is_clone = { λ rule copy. (copy.guards.items ≡ rule.guards.items) × (copy.result ≡ rule.result) };
+    ghost is_clone = { λ rule copy. (copy.guards.items ≡ rule.guards.items)
+        × (copy.result ≡ rule.result) };
 
     fn clone(&self) -> Result<Rule, AllocError> {
         Ok(Rule {

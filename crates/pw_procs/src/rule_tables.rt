@@ -1,6 +1,6 @@
 //! Lists of rules: how they are made, and copied for a body that owns the table that its meaning tells.
-ghost use Rattle.std.specs.Prelude.{◌≡◌, ◌++◌, ◌∷◌, [], map, IfOk, OnOk};
-ghost use Rattle.pw_procs.specs.Rules.{AreRulesLike, AreRulesAsWell, HaveTheSameValues};
+ghost use Rattle.std.specs.Prelude.{◌≡◌, ◌++◌, ◌∷◌, [], IfOk, OnOk};
+ghost use Rattle.pw_procs.specs.Rules.{AreRulesLike, AreRulesAsWell, HaveTheSameValues, guards_of, results_of};
 
 use crate::rule::Rule;
 use pw_info::Info;
@@ -23,9 +23,12 @@ pub fn add_rule(
     guard: Info,
     known: Info,
 ) -> Result<(), AllocError>
-    ensures rules { OnOk result (AreRulesLike guard known rules.old.items → AreRulesLike guard known rules.new.items) }
-    ensures guards { OnOk result (map (λ r. r.guards.items) rules.new.items ≡ map (λ r. r.guards.items) rules.old.items ++ (guard ∷ []) ∷ []) }
-    ensures results { OnOk result (map (λ r. r.result) rules.new.items ≡ map (λ r. r.result) rules.old.items ++ known ∷ []) }
+    ensures rules { OnOk result (AreRulesLike guard known rules.old.items
+        → AreRulesLike guard known rules.new.items) }
+    ensures guards { OnOk result (guards_of rules.new.items
+        ≡ guards_of rules.old.items ++ (guard ∷ []) ∷ []) }
+    ensures results { OnOk result (results_of rules.new.items
+        ≡ results_of rules.old.items ++ known ∷ []) }
 {
     let guards = [guard].to_vec(alloc)?;
     rules.push(Rule {

@@ -1,4 +1,4 @@
-ghost use Rattle.std.specs.Prelude.{◌≡◌, ◌↔◌, IsTrue, map};
+ghost use Rattle.std.specs.Prelude.{◌≡◌, ◌↔◌, IsTrue};
 ghost use Rattle.pw_procs.specs.Shapes.{IsSignature};
 ghost use Rattle.pw_procs.specs.Slots as spec;
 
@@ -30,9 +30,23 @@ fn are_equal(one: Kind, another: Kind) -> bool
     }
 }
 
+/// Whether two lists of kinds are one.
+pub fn are_equal_kinds(kinds: &[Kind], others: &[Kind]) -> bool
+    ensures { IsTrue result ↔ (kinds.now ≡ others.now) }
+{
+    match (kinds, others) {
+        ([], []) => true,
+        ([kind, kinds @ ..], [other, others @ ..]) => {
+            are_equal(*kind, *other) && are_equal_kinds(kinds, others)
+        }
+        _ => false,
+    }
+}
+
 // The kind in the first slot of any kind, if there is one: where kinds fit, they fit with it.
 fn same_kind(slots: &[Slot], kinds: &[Kind]) -> Kind
-    ensures { (same : Kind) → kinds.now ≡ map (spec.kind_in same) slots.now → kinds.now ≡ map (spec.kind_in result) slots.now }
+    ensures { (same : Kind) → spec.AreKindsIn slots.now kinds.now same
+        → spec.AreKindsIn slots.now kinds.now result }
 {
     match (slots, kinds) {
         ([slot, slots @ ..], [kind, kinds @ ..]) => match *slot {
@@ -45,7 +59,7 @@ fn same_kind(slots: &[Slot], kinds: &[Kind]) -> Kind
 
 // Whether these are the kinds in the slots, where `same` is the kind in those of any kind.
 fn are_kinds_in(slots: &[Slot], kinds: &[Kind], same: Kind) -> bool
-    ensures { IsTrue result ↔ (kinds.now ≡ map (spec.kind_in same) slots.now) }
+    ensures { IsTrue result ↔ spec.AreKindsIn slots.now kinds.now same }
 {
     match (slots, kinds) {
         ([], []) => true,
@@ -81,7 +95,8 @@ impl Signature {
     /// and no input is.
     pub fn new(inputs: &[Slot], output: Slot) -> Option<Signature>
         ensures some { IsSome result ↔ AreSlots inputs.now output }
-        ensures slots { IfSome result (λ signature. (input_slots_of signature ≡ inputs.now) × (output_slot_of signature ≡ output)) }
+        ensures inputs { IfSome result (λ signature. input_slots_of signature ≡ inputs.now) }
+        ensures output { IfSome result (λ signature. output_slot_of signature ≡ output) }
     {
         if inputs.is_empty() || inputs.len() > MOST_INPUTS {
             return None;

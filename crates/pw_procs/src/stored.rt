@@ -28,7 +28,8 @@ impl Stored {
     pub fn new(name: String, signature: Signature, meaning: Meaning, body: Body) -> Stored
         requires slots { IsSignatureOf meaning signature }
         requires callable { (p : _) → FitSignature signature p.now → Body.pre body p }
-        requires gives { (p : _) (r : _) → Body.post body p r → IsValueUnder signature meaning p.now r }
+        requires gives { (p : _) (r : _) → Body.post body p r
+            → IsValueUnder signature meaning p.now r }
         ensures name { string_bytes result.name ≡ string_bytes name }
         ensures signature { result.signature ≡ signature }
         ensures meaning { result.meaning ≡ meaning }

@@ -1,8 +1,7 @@
 // Each procedure by its stored closure, at the calls whose values were found by hand.
-ghost use Rattle.std.specs.Prelude.{◌≡◌, ◌∷◌, [], List, map, IfOk};
-ghost use Rattle.pw_info.specs.declared.info.Info.{Info as Information};
+ghost use Rattle.std.specs.Prelude.{◌≡◌, ◌∷◌, [], map, IfOk};
 ghost use Rattle.pw_info.specs.Information.{kind_of};
-ghost use Rattle.pw_procs.specs.Rules.{AreRules, value_of_rules};
+ghost use Rattle.pw_procs.specs.Rules.{AreRules, HaveTheSameValues, value_of_rules};
 
 use crate::bodies;
 use crate::bodies::by_rules;
@@ -123,7 +122,7 @@ fn others(rt: HostRuntime) -> Result<(), Fail> {
 
 // The rules of the sign of a number: negative, zero and positive.
 fn sign_rules(alloc: Global, sign: SetKind) -> Result<Vec<Rule>, AllocError>
-    ensures { IfOk result (λ rules. AreRules (Kind.Interval ∷ []) (Kind.Members sign) rules.items) }
+    ensures { IfOk result (λ made. AreRules (Kind.Interval ∷ []) (Kind.Members sign) made.items) }
 {
     let mut rules = Vec::new(alloc);
     add_rule(
@@ -161,7 +160,7 @@ fn sign_rules(alloc: Global, sign: SetKind) -> Result<Vec<Rule>, AllocError>
 
 // The rules of a light by a number: red, green and blue.
 fn light_rules(alloc: Global, light: SetKind) -> Result<Vec<Rule>, AllocError>
-    ensures { IfOk result (λ rules. AreRules (Kind.Interval ∷ []) (Kind.Members light) rules.items) }
+    ensures { IfOk result (λ made. AreRules (Kind.Interval ∷ []) (Kind.Members light) made.items) }
 {
     let mut rules = Vec::new(alloc);
     add_rule(
@@ -183,7 +182,7 @@ fn light_rules(alloc: Global, light: SetKind) -> Result<Vec<Rule>, AllocError>
 fn table_of(alloc: Global, rules: &[Rule], output: Kind) -> Result<Vec<Rule>, AllocError>
     requires { AreRules (Kind.Interval ∷ []) output rules.now }
     ensures rules { IfOk result (λ table. AreRules (Kind.Interval ∷ []) output table.items) }
-    ensures value { IfOk result (λ table. (inputs : List Information) → value_of_rules output table.items inputs ≡ value_of_rules output rules.now inputs) }
+    ensures value { IfOk result (λ table. HaveTheSameValues rules.now table.items) }
 {
     let table = copied(alloc, rules)?;
     Ok(table)

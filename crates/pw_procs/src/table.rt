@@ -15,9 +15,9 @@ const EXACT: Slot = Slot::Fixed(Kind::Exact);
 
 /// The signature of a meaning. None for one that is given by rules: its kinds are those of the rules.
 pub fn signature_of(meaning: &Meaning) -> Option<Signature>
-    ensures inputs { IfSome result (λ signature. input_slots_of signature ≡ inputs_of_meaning meaning.now) }
-    ensures output { IfSome result (λ signature. output_slot_of signature ≡ output_of_meaning meaning.now) }
-    ensures some { IfSome result (λ signature. is_given_by_rules meaning.now ≡ false) }
+    ensures inputs { IfSome result (λ s. input_slots_of s ≡ inputs_of_meaning meaning.now) }
+    ensures output { IfSome result (λ s. output_slot_of s ≡ output_of_meaning meaning.now) }
+    ensures some { IfSome result (λ s. is_given_by_rules meaning.now ≡ false) }
     ensures none { IfNone result (is_given_by_rules meaning.now ≡ true) }
 {
     let truth = Slot::Fixed(truth_kind());

@@ -3,13 +3,14 @@ ghost use Rattle.std.specs.Prelude.{◌≡◌, ◌↔◌, ℤ, pos, true, Some, 
 ghost use Rattle.pw_info.specs.Information.{allows};
 ghost use Rattle.pw_kinds.specs.Interval as interval;
 ghost use Rattle.pw_kinds.specs.Members as members;
+ghost use Rattle.pw_procs.specs.Values.{PassesAlone};
 
 use pw_info::Info;
 use pw_kinds::{Interval, Members};
 
 // The number where exactly one is possible.
 fn only_number(part: Interval) -> Option<i64>
-    ensures { (v : ℤ) → (result ≡ Some v) ↔ ((interval.allows part v ≡ true) × ((w : ℤ) → interval.allows part w ≡ true → w ≡ v)) }
+    ensures { (v : ℤ) → (result ≡ Some v) ↔ PassesAlone (interval.allows part) v }
 {
     if part.is_empty() {
         return None;
@@ -44,7 +45,7 @@ fn is_only(part: Members, place: u8) -> bool
 
 // The place where exactly one is possible.
 fn only_place(part: Members) -> Option<i64>
-    ensures { (v : ℤ) → (result ≡ Some v) ↔ ((members.allows part v ≡ true) × ((w : ℤ) → members.allows part w ≡ true → w ≡ v)) }
+    ensures { (v : ℤ) → (result ≡ Some v) ↔ PassesAlone (members.allows part) v }
 {
     let Some(place) = first_place(part) else {
         return None;
@@ -57,7 +58,7 @@ fn only_place(part: Members) -> Option<i64>
 
 /// The value where exactly one is possible: a number, or the place of a member.
 pub(crate) fn only_value(info: &Info) -> Option<i64>
-    ensures { (v : ℤ) → (result ≡ Some v) ↔ ((allows info.now v ≡ true) × ((w : ℤ) → allows info.now w ≡ true → w ≡ v)) }
+    ensures { (v : ℤ) → (result ≡ Some v) ↔ PassesAlone (allows info.now) v }
 {
     match *info {
         Info::Interval(part) => only_number(part),

@@ -5,7 +5,7 @@ ghost use Rattle.pw_kinds.specs.Members as members;
 ghost use Rattle.pw_kinds.specs.Members.{size_of};
 ghost use Rattle.pw_info.specs.declared.info.Info.TheVariants as info;
 ghost use Rattle.pw_info.specs.Information.{kind_of};
-ghost use Rattle.pw_procs.specs.Values.{some, is_true, NumberSet, truths_of};
+ghost use Rattle.pw_procs.specs.Values.{some, is_true, HasTruths};
 ghost use Rattle.pw_procs.specs.Meaning.{at_most_of, equality_of, negation_of, conjunction_of, disjunction_of};
 
 use crate::bodies::only::only_value;
@@ -20,7 +20,8 @@ const TRUE: u8 = 1;
 fn with_if(part: Members, place: u8, may_be: bool) -> Members
     requires { place < size_of part }
     ensures size { size_of result ≡ size_of part }
-    ensures values { (v : ℤ) → members.allows result v ≡ (members.allows part v || (may_be && int_eq (pos place) v)) }
+    ensures values { (v : ℤ) → members.allows result v
+        ≡ (members.allows part v || (may_be && int_eq (pos place) v)) }
 {
     if may_be {
         return part.with(place);
@@ -30,7 +31,7 @@ fn with_if(part: Members, place: u8, may_be: bool) -> Members
 
 // The truths that may be: of a set of truths that has `false`, and `true`, where these say so.
 fn truths(may_be_false: bool, may_be_true: bool) -> Info
-    ensures { (set : NumberSet) → set (int_eq (pos 0)) ≡ may_be_false → set (int_eq (pos 1)) ≡ may_be_true → result ≡ truths_of set }
+    ensures { HasTruths may_be_false may_be_true result }
 {
     let part = with_if(Members::empty(2), FALSE, may_be_false);
     Info::of_members(0, with_if(part, TRUE, may_be_true))

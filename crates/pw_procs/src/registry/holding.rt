@@ -1,6 +1,6 @@
 //! What a registry holds.
 ghost use Rattle.std.specs.Prelude.{◌≡◌};
-ghost use Rattle.pw_procs.specs.Procedure.{procedures_of, names_of};
+ghost use Rattle.pw_procs.specs.Procedure.{stored_names};
 ghost use Rattle.pw_procs.specs.Registering.{AreRegistered};
 
 use crate::name_table::NameTable;
@@ -12,6 +12,6 @@ use std::alloc::{Allocator, Global};
 pub struct Registry<A: Allocator = Global> {
     pub(super) entries: Vec<Stored>,
     pub(super) names: NameTable<A>,
-    ghost named: { names ≡ names_of (procedures_of entries.items) },
-    ghost registered: { AreRegistered (names_of (procedures_of entries.items)) },
+    ghost named: { names ≡ stored_names entries.items },
+    ghost registered: { AreRegistered (stored_names entries.items) },
 }

@@ -44,7 +44,7 @@ returns c = record {
   conjoiner_open = truths_at (image_of_two (λ a b. truth (is_true a && is_true b)) (just true) (nothing bool)) _
       (gives (λ a b. is_true a && is_true b) (just true) (nothing bool) false (pos 1) (pos 0) (just_itself true) (either false) refl)
       (gives (λ a b. is_true a && is_true b) (just true) (nothing bool) true (pos 1) (pos 1) (just_itself true) (either true) refl);
-  conjoiner_of_none = truths_at (image_of_two (λ a b. truth (is_true a && is_true b)) (just false) (contradiction bool)) _
+  conjoiner_none = truths_at (image_of_two (λ a b. truth (is_true a && is_true b)) (just false) (contradiction bool)) _
       (never (λ a b. is_true a && is_true b) (just false) (contradiction bool) false (λ a b p_a p_b e. not_both _ p_b (allows-contradiction bool b)))
       (never (λ a b. is_true a && is_true b) (just false) (contradiction bool) true (λ a b p_a p_b e. not_both _ p_b (allows-contradiction bool b)));
   disjoiner = truths_at (image_of_two (λ a b. truth (is_true a || is_true b)) (nothing bool) (just true)) _

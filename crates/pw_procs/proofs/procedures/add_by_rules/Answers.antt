@@ -7,7 +7,7 @@ returns-clause-ok g c = record {
   added = c.new-2.result;
   list = c.in_ok-push.ensures.items;
   name_is = c.new-2.ensures.name ∙ c.in_ok-name.ensures.ok;
-  inputs_are = ap input_slots_of c.new-2.ensures.signature ∙ c.in-Some.ensures.slots.0;
-  output_is = ap output_slot_of c.new-2.ensures.signature ∙ c.in-Some.ensures.slots.1;
+  inputs_are = ap input_slots_of c.new-2.ensures.signature ∙ c.in-Some.ensures.inputs;
+  output_is = ap output_slot_of c.new-2.ensures.signature ∙ c.in-Some.ensures.output;
   meaning_is = c.new-2.ensures.meaning;
 }
