@@ -1,39 +1,66 @@
 -- From the form of a line to what the line declares, or to its first fault.
-use Rattle.std.proofs.Common.{◌≡◌, ℕ, ◌<◌, ◌≤◌, true, false, List, length, Option, Some, None, Result, Ok, Err, OnOk, IfErr, inl, inr, sym, refl, subst, ◌∙◌, arith}
+use Rattle.std.proofs.Common.{◌≡◌, ℕ, ◌<◌, ◌≤◌, true, false, List, length, Some, None, Result, Ok, Err, IfErr, inl, inr, sym, refl, subst, ◌∙◌, arith}
+use Rattle.std.specs.Prelude.{IsErrAnd}
 use Rattle.std.specs.List.{list_all}
+use Rattle.std.proofs.lemmas.Bool.{false≢true}
 use Rattle.pw_decl.specs.declared.decl_fault.DeclFaultKind.{DeclFaultKind}
+use Rattle.pw_decl.specs.declared.decl_fault.DeclFaultKind.TheVariants.{Syntax}
 use Rattle.pw_info.specs.First.{IsFirstIn}
 use Rattle.pw_info.specs.Words.{words_of, is_idle, is_allowed}
-use Rattle.pw_decl.specs.Declaration.{Declared, DeclarationSentence}
-use Rattle.pw_decl.specs.Steps.Forms.{declaration_sentence_of}
-use Rattle.pw_decl.specs.Faults.{SaysInPlace, Declares, IsInPlace, LineFault, BadSyntax, Duplicate, Unknown, TooFew, TooMany, FaultApplies, IsFirstFaultOf, HasNoFault, HasDuplicate, HasUnknown, HasTooFew, IsOneTooMany}
+use Rattle.pw_decl.specs.Declaration.{Declared, SoFar, BeforeHeader, Outside, DeclarationSentence, Header, Set, Begin, Call, IsOuterSentence, IsInnerSentence, Makes}
+use Rattle.pw_decl.specs.Steps.Forms.{sentence_at, outer_sentence_of, inner_sentence_of, is_header}
+use Rattle.pw_decl.specs.Faults.{SaysInPlace, Declares, LineFault, BadSyntax, Duplicate, Unknown, Wrong, TooMany, FaultApplies, IsFirstFaultOf, HasNoFault, HasDuplicate, HasUnknown, HasWrongArguments, IsOneTooMany}
 use Rattle.pw_decl.specs.Limits.{most_line_bytes}
-use Rattle.pw_decl.specs.Steps.SentenceFaults.{FaultAppliesTo, sentence_faults, IsFaultless, IsToldOf, IsToldInPlace, IsMade, IsToldOfLine}
-use Rattle.pw_decl.proofs.LineFaults.{found, given, one_sentence}
+use Rattle.pw_decl.specs.Steps.SentenceFaults.{FaultAppliesTo, HasGoodParts, sentence_faults, IsFaultless, IsToldOf, IsToldOfLine}
+use Rattle.pw_info.proofs.NameLemmas.{all_pass}
+use Rattle.pw_decl.proofs.LineFaults.{found, found_outer, found_inner, given, parameters_pass, one_sentence}
 
--- a line whose words fit no form
-pub unformed : (so_far : Option Declared) (line : List ℕ) → length line ≤ most_line_bytes → is_idle line ≡ false → declaration_sentence_of (words_of line) ≡ None → IsFirstFaultOf so_far line BadSyntax
+-- a line whose words fit no form where it stands
+pub unformed : (so_far : SoFar) (line : List ℕ) → length line ≤ most_line_bytes → is_idle line ≡ false → sentence_at so_far (words_of line) ≡ None → IsFirstFaultOf so_far line BadSyntax
 unformed so_far line short spoken none =
-    inr (λ long. omega arith, inl (refl, (spoken, λ s says. let e : None ≡ Some s = sym none ∙ given (words_of line) s says.words in cc)))
+    inr (λ long. omega arith, inl (refl, (spoken, λ s says. let e : None ≡ Some s = sym none ∙ given so_far (words_of line) s says.words in cc)))
+
+pub told_unformed : (so_far : SoFar) (line : List ℕ) → length line ≤ most_line_bytes → is_idle line ≡ false → sentence_at so_far (words_of line) ≡ None → IsToldOfLine so_far line Syntax
+told_unformed so_far line short spoken none = inr (BadSyntax, unformed so_far line short spoken none, refl)
+
+-- a line with a byte that no line may have
+pub told_not_allowed : (so_far : SoFar) (line : List ℕ) → length line ≤ most_line_bytes → is_idle line ≡ false → list_all is_allowed line ≡ false → IsToldOfLine so_far line Syntax
+told_not_allowed so_far line short spoken bad =
+    inr (BadSyntax, inr (λ long. omega arith, inl (refl, (spoken, λ s says. false≢true (sym bad ∙ says.allowed)))), refl)
+
+-- the parts of a sentence are as its form wants them
+good_outer : (words : List (List ℕ)) (s : DeclarationSentence) → IsOuterSentence words s → HasGoodParts s
+good_outer words (Set name members) is = all_pass members is.2
+good_outer words (Begin name parameters) is = parameters_pass parameters is.2
+good_outer words (Call callable arguments) is = absurd is
+good_outer words s is = tt
+
+good_inner : (words : List (List ℕ)) (s : DeclarationSentence) → IsInnerSentence words s → HasGoodParts s
+good_inner words (Set name members) is = absurd is
+good_inner words (Begin name parameters) is = absurd is
+good_inner words (Call callable arguments) is = is.3
+good_inner words s is = tt
+
+pub outer_parts : (words : List (List ℕ)) (s : DeclarationSentence) → Some s ≡ outer_sentence_of words → HasGoodParts s
+outer_parts words s formed = good_outer words s (found_outer words s (sym formed))
+
+pub inner_parts : (words : List (List ℕ)) (s : DeclarationSentence) → Some s ≡ inner_sentence_of words → HasGoodParts s
+inner_parts words s formed = good_inner words s (found_inner words s (sym formed))
 
 -- a line whose words form a sentence
-module _ (so_far : Option Declared) (line : List ℕ) (s : DeclarationSentence) (short : length line ≤ most_line_bytes) (spoken : is_idle line ≡ false) (allowed : list_all is_allowed line ≡ true) (formed : declaration_sentence_of (words_of line) ≡ Some s) where
-  said : IsInPlace so_far s → SaysInPlace so_far line s
-  said place = record { spoken = spoken; allowed = allowed; words = found (words_of line) s formed; place = place }
+module _ (so_far : SoFar) (line : List ℕ) (s : DeclarationSentence) (short : length line ≤ most_line_bytes) (spoken : is_idle line ≡ false) (allowed : list_all is_allowed line ≡ true) (formed : sentence_at so_far (words_of line) ≡ Some s) where
+  said : SaysInPlace so_far line s
+  said = record { spoken = spoken; allowed = allowed; words = found so_far (words_of line) s formed }
 
   -- what is said is this sentence
   at : (P : DeclarationSentence → Type 0) (t : DeclarationSentence) → SaysInPlace so_far line t → P t → P s
-  at P t says h = subst P (one_sentence (words_of line) t s says.words (found (words_of line) s formed)) h
+  at P t says h = subst P (one_sentence so_far (words_of line) t s says.words (found so_far (words_of line) s formed)) h
 
   not_long : most_line_bytes < length line → ⊥
   not_long long = omega arith
 
-  not_bad : IsInPlace so_far s → FaultApplies so_far line BadSyntax → ⊥
-  not_bad place bad = bad.1 s (said place)
-
-  -- out of place
-  pub misplaced : (IsInPlace so_far s → ⊥) → IsFirstFaultOf so_far line BadSyntax
-  misplaced out = inr (not_long, inl (refl, (spoken, λ t says. out (at (IsInPlace so_far) t says says.place))))
+  not_bad : FaultApplies so_far line BadSyntax → ⊥
+  not_bad bad = bad.1 s said
 
   no_duplicate : (HasDuplicate so_far s → ⊥) → FaultApplies so_far line Duplicate → ⊥
   no_duplicate none (t, says, h) = none (at (HasDuplicate so_far) t says h)
@@ -41,42 +68,62 @@ module _ (so_far : Option Declared) (line : List ℕ) (s : DeclarationSentence) 
   no_unknown : (HasUnknown so_far s → ⊥) → FaultApplies so_far line Unknown → ⊥
   no_unknown none (t, says, h) = none (at (HasUnknown so_far) t says h)
 
-  not_few : (HasTooFew so_far s → ⊥) → FaultApplies so_far line TooFew → ⊥
-  not_few none (t, says, h) = none (at (HasTooFew so_far) t says h)
+  not_wrong : (HasWrongArguments so_far s → ⊥) → FaultApplies so_far line Wrong → ⊥
+  not_wrong none (t, says, h) = none (at (HasWrongArguments so_far) t says h)
 
   not_many : (IsOneTooMany so_far s → ⊥) → FaultApplies so_far line TooMany → ⊥
   not_many none (t, says, h) = none (at (IsOneTooMany so_far) t says h)
 
-  none_later : IsInPlace so_far s → IsFaultless so_far s → HasNoFault so_far line
-  none_later place (duplicate, (unknown, (few, (many, end)))) =
-      (not_long, (not_bad place, (no_duplicate duplicate, (no_unknown unknown, (not_few few, (not_many many, tt))))))
+  none_later : IsFaultless so_far s → HasNoFault so_far line
+  none_later (duplicate, (unknown, (wrong, (many, end)))) =
+      (not_long, (not_bad, (no_duplicate duplicate, (no_unknown unknown, (not_wrong wrong, (not_many many, tt))))))
 
-  pub declared : (after : Option Declared) → IsInPlace so_far s → IsFaultless so_far s → IsMade so_far s after → Declares so_far line after
-  declared after place none (d, made, is) = (none_later place none, inr (s, d, said place, made, is))
+  pub declared : (after : SoFar) → IsFaultless so_far s → Makes so_far s after → Declares so_far line after
+  declared after none makes = (none_later none, inr (s, said, makes))
 
-  first_later : IsInPlace so_far s → (fault : LineFault) → IsFirstIn (FaultAppliesTo so_far s) sentence_faults fault → IsFirstFaultOf so_far line fault
-  first_later place fault (inl (is, h)) = inr (not_long, inr (not_bad place, inl (is, (s, said place, h))))
-  first_later place fault (inr (a, inl (is, h))) = inr (not_long, inr (not_bad place, inr (no_duplicate a, inl (is, (s, said place, h)))))
-  first_later place fault (inr (a, inr (b, inl (is, h)))) = inr (not_long, inr (not_bad place, inr (no_duplicate a, inr (no_unknown b, inl (is, (s, said place, h))))))
-  first_later place fault (inr (a, inr (b, inr (c, inl (is, h))))) =
-      inr (not_long, inr (not_bad place, inr (no_duplicate a, inr (no_unknown b, inr (not_few c, inl (is, (s, said place, h)))))))
-  first_later place fault (inr (a, inr (b, inr (c, inr (m, last))))) = absurd last
+  first_later : (fault : LineFault) → IsFirstIn (FaultAppliesTo so_far s) sentence_faults fault → IsFirstFaultOf so_far line fault
+  first_later fault (inl (is, h)) = inr (not_long, inr (not_bad, inl (is, (s, said, h))))
+  first_later fault (inr (a, inl (is, h))) = inr (not_long, inr (not_bad, inr (no_duplicate a, inl (is, (s, said, h)))))
+  first_later fault (inr (a, inr (b, inl (is, h)))) = inr (not_long, inr (not_bad, inr (no_duplicate a, inr (no_unknown b, inl (is, (s, said, h))))))
+  first_later fault (inr (a, inr (b, inr (c, inl (is, h))))) =
+      inr (not_long, inr (not_bad, inr (no_duplicate a, inr (no_unknown b, inr (not_wrong c, inl (is, (s, said, h)))))))
+  first_later fault (inr (a, inr (b, inr (c, inr (m, last))))) = absurd last
 
-  pub faulty : (why : DeclFaultKind) → IsToldInPlace so_far s why → IsToldOfLine so_far line why
-  faulty why (inl (is, out)) = inr (BadSyntax, misplaced out, is)
-  faulty why (inr (place, inl (none, memory))) = inl (none_later place none, memory)
-  faulty why (inr (place, inr (fault, first, is))) = inr (fault, first_later place fault first, is)
+  pub faulty : (why : DeclFaultKind) → IsToldOf so_far s why → IsToldOfLine so_far line why
+  faulty why (inl (none, memory)) = inl (none_later none, memory)
+  faulty why (inr (fault, first, is)) = inr (fault, first_later fault first, is)
 
-  -- the same of what a call gives back
-  pub declared_on : (r : Result (Unit {0}) DeclFaultKind) (after : Option Declared) → OnOk r (IsMade so_far s after) → OnOk r (IsFaultless so_far s) → OnOk r (IsInPlace so_far s) → OnOk r (Declares so_far line after)
-  declared_on (Ok u) after made none place = declared after place none made
-  declared_on (Err e) after made none place = made
+-- ---- where the line stands
 
-  pub faulty_on : (r : Result (Unit {0}) DeclFaultKind) → IfErr r (λ why. IsToldInPlace so_far s why) → IfErr r (λ why. IsToldOfLine so_far line why)
-  faulty_on (Ok u) h = h
-  faulty_on (Err e) h = faulty e h
+-- before the header
+pub no_header : (so_far : SoFar) (d : Declared) (line : List ℕ) → so_far ≡ BeforeHeader d → length line ≤ most_line_bytes → is_idle line ≡ false →
+    is_header (words_of line) ≡ false → IsToldOfLine so_far line Syntax
+no_header so_far d line is short spoken other =
+    subst (λ (x : SoFar). IsToldOfLine x line Syntax) (sym is) (told_unformed (BeforeHeader d) line short spoken (rw other refl))
 
--- a fault of a sentence that stands in its place
-pub in_place : (so_far : Option Declared) (s : DeclarationSentence) → IsInPlace so_far s → (r : Result (Unit {0}) DeclFaultKind) → IfErr r (λ why. IsToldOf so_far s why) → IfErr r (λ why. IsToldInPlace so_far s why)
-in_place so_far s place (Ok u) h = tt
-in_place so_far s place (Err e) h = inr (place, h)
+pub header_declares : (so_far : SoFar) (d : Declared) (line : List ℕ) → so_far ≡ BeforeHeader d → length line ≤ most_line_bytes → is_idle line ≡ false →
+    list_all is_allowed line ≡ true → is_header (words_of line) ≡ true → Declares so_far line (Outside d)
+header_declares so_far d line is short spoken allowed header =
+    subst (λ (x : SoFar). Declares x line (Outside d)) (sym is)
+    (declared (BeforeHeader d) line Header short spoken allowed (rw header refl) (Outside d) (λ h. h, (λ h. h, (λ h. h, (λ h. h, tt)))) refl)
+
+-- elsewhere
+pub no_sentence : (so_far at : SoFar) (line : List ℕ) → so_far ≡ at → length line ≤ most_line_bytes → is_idle line ≡ false →
+    None ≡ sentence_at at (words_of line) → IsToldOfLine so_far line Syntax
+no_sentence so_far at line is short spoken none =
+    subst (λ (x : SoFar). IsToldOfLine x line Syntax) (sym is) (told_unformed at line short spoken (sym none))
+
+pub sentence_declares : (so_far at after : SoFar) (line : List ℕ) (s : DeclarationSentence) → so_far ≡ at → length line ≤ most_line_bytes → is_idle line ≡ false →
+    list_all is_allowed line ≡ true → Some s ≡ sentence_at at (words_of line) → IsFaultless at s → Makes at s after → Declares so_far line after
+sentence_declares so_far at after line s is short spoken allowed formed none makes =
+    subst (λ (x : SoFar). Declares x line after) (sym is) (declared at line s short spoken allowed (sym formed) after none makes)
+
+pub sentence_faulty : (so_far at : SoFar) (line : List ℕ) (s : DeclarationSentence) (why : DeclFaultKind) → so_far ≡ at → length line ≤ most_line_bytes → is_idle line ≡ false →
+    list_all is_allowed line ≡ true → Some s ≡ sentence_at at (words_of line) → IsToldOf at s why → IsToldOfLine so_far line why
+sentence_faulty so_far at line s why is short spoken allowed formed told =
+    subst (λ (x : SoFar). IsToldOfLine x line why) (sym is) (faulty at line s short spoken allowed (sym formed) why told)
+
+-- what holds of the error of a call holds of what `?` gives back
+pub told_on_error : {T : Type 0} (P : DeclFaultKind → Type 0) (r : Result T DeclFaultKind) (why : DeclFaultKind) → IsErrAnd r (λ given. given ≡ why) → P why → IfErr r P
+told_on_error P (Ok x) why is told = tt
+told_on_error P (Err given) why is told = subst P (sym is) told

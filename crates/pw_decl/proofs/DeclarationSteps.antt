@@ -1,15 +1,18 @@
 -- Going over the lines of a declaration.
-use Rattle.std.proofs.Common.{◌≡◌, ℕ, ◌+◌, ◌≤◌, eqb, List, [], ◌∷◌, ◌++◌, length, Option, None, inl, inr, sym, refl, ap, subst, ◌∙◌, arith, append_assoc, length-append, Result, Ok, Err}
+use Rattle.std.proofs.Common.{◌≡◌, ℕ, ◌+◌, ◌≤◌, eqb, List, [], ◌∷◌, ◌++◌, length, ◌⊎◌, inl, inr, sym, refl, ap, subst, ◌∙◌, arith, append_assoc, append-nil, length-append, Result, Ok, Err, IfOk, IfErr}
 use Rattle.std.specs.List.{onto_first}
 use Rattle.std.proofs.lemmas.Bool.{cases_Bool}
-use Rattle.std.specs.Prelude.{IfOk, IfErr}
+use Rattle.pw_info.specs.Lines.{lines_of}
+use Rattle.pw_procs.specs.Procedure.{Procedure}
+use Rattle.pw_decl.specs.declared.decl_fault.DeclFault.{DeclFault}
 use Rattle.pw_decl.specs.declared.decl_fault.DeclFaultKind.{DeclFaultKind}
 use Rattle.pw_decl.specs.declared.decl_fault.DeclFaultKind.TheVariants.{Memory}
-use Rattle.pw_decl.specs.declared.decl_fault.DeclFault.{DeclFault}
-use Rattle.pw_info.specs.Lines.{lines_of}
-use Rattle.pw_decl.specs.Declaration.{Declared}
-use Rattle.pw_decl.specs.Faults.{LineFault, TooLong, BadSyntax, Duplicate, Unknown, TooFew, TooMany, kind_of_fault, Declares, Leads, SpellsDeclaration, IsFirstFault, HasNoFaultUpTo, IsTold, IsReadAs, IsFaultAt}
+use Rattle.pw_decl.specs.declared.declaration.holding.Declaration.{Declaration}
+use Rattle.pw_decl.specs.Declaration.{Declared, nothing_declared, SoFar, BeforeHeader, Outside, Inside}
+use Rattle.pw_decl.specs.Faults.{LineFault, TooLong, BadSyntax, Duplicate, Unknown, Wrong, TooMany, kind_of_fault, Declares, Leads, PreludeDeclares, SpellsDeclaration, IsUnfinished, IsFaultAmong, IsClearUpTo, IsFaultOfPrelude, IsFirstFault, IsToldAmong, IsClearInPrelude, HasNoFaultUpTo, IsTold, IsReadAs, IsFaultAt}
+use Rattle.pw_decl.specs.Fields.{declared_by}
 use Rattle.pw_decl.specs.Limits.{most_text_bytes}
+use Rattle.pw_decl.specs.Prelude.{prelude_text}
 use Rattle.pw_decl.specs.Steps.SentenceFaults.{IsToldOfLine}
 use Rattle.pw_decl.proofs.LineFaults.{one_spelled, one_fault, not_both}
 
@@ -29,28 +32,9 @@ length-lines_of (byte ∷ text) =
 
 -- ---- one line more
 
-Leads-push : (start : Option Declared) (lines : List (List ℕ)) (line : List ℕ) (s t : Option Declared) → Leads start lines s → Declares s line t → Leads start (lines ++ line ∷ []) t
-Leads-push start [] line s t e h = (t, subst (λ (x : Option Declared). Declares x line t) e h, refl)
+Leads-push : (start : SoFar) (lines : List (List ℕ)) (line : List ℕ) (s t : SoFar) → Leads start lines s → Declares s line t → Leads start (lines ++ line ∷ []) t
+Leads-push start [] line s t e h = (t, subst (λ (x : SoFar). Declares x line t) e h, refl)
 Leads-push start (first ∷ lines) line s t (m, p, ps) h = (m, p, Leads-push m lines line s t ps h)
-
--- the lines of the text before those that are left, and what they lead to
-pub record IsReadUpTo (text : List ℕ) (left : List (List ℕ)) (count : ℕ) (so_far : Option Declared) : Type 0 where
-  pub before : List (List ℕ)
-  pub lines : lines_of text ≡ before ++ left
-  pub counted : count ≡ length before
-  pub leads : Leads None before so_far
-
-pub read_none : (text : List ℕ) → IsReadUpTo text (lines_of text) 0 None
-read_none text = record { before = []; lines = refl; counted = refl; leads = refl }
-
-pub read_more : (text : List ℕ) (line : List ℕ) (left left' : List (List ℕ)) (count : ℕ) (s t : Option Declared) →
-    IsReadUpTo text left count s → left ≡ line ∷ left' → Declares s line t → IsReadUpTo text left' (count + 1) t
-read_more text line left left' count s t r e h = record {
-  before = r.before ++ line ∷ [];
-  lines = r.lines ∙ ap (λ (x : List (List ℕ)). r.before ++ x) e ∙ sym (append_assoc r.before (line ∷ []) left');
-  counted = omega (arith, r.counted, length-append r.before (line ∷ []));
-  leads = Leads-push None r.before line s t r.leads h;
-}
 
 -- no fault of a line is told as want of memory
 not_memory : (fault : LineFault) → kind_of_fault fault ≡ Memory → ⊥
@@ -58,39 +42,162 @@ not_memory TooLong e = cc
 not_memory BadSyntax e = cc
 not_memory Duplicate e = cc
 not_memory Unknown e = cc
-not_memory TooFew e = cc
+not_memory Wrong e = cc
 not_memory TooMany e = cc
 
--- where want of memory is told of the line that is next, it has no fault
-pub memory_last : (text : List ℕ) (line : List ℕ) (left left' : List (List ℕ)) (count : ℕ) (s : Option Declared) (why : DeclFaultKind) →
-    length text ≤ most_text_bytes → IsReadUpTo text left count s → left ≡ line ∷ left' → IsToldOfLine s line why → why ≡ Memory → HasNoFaultUpTo text (count + 1)
-memory_last text line left left' count s why short r e (inl (none, is)) memory = record {
-  before = r.before;
-  line = line;
-  rest = left';
-  so_far = s;
-  short = short;
-  lines = r.lines ∙ ap (λ (x : List (List ℕ)). r.before ++ x) e;
-  count = omega (arith, r.counted);
-  leads = r.leads;
-  clear = none;
-}
-memory_last text line left left' count s why short r e (inr (fault, first, is)) memory = absurd (not_memory fault (sym is ∙ memory))
+-- nor is what is wrong after the last line
+pub end_not_memory : (s : SoFar) (why : DeclFaultKind) → IsUnfinished s why → why ≡ Memory → ⊥
+end_not_memory (BeforeHeader d) why is memory = let e = sym is ∙ memory in cc
+end_not_memory (Outside d) why is memory = is
+end_not_memory (Inside d opened) why is memory = let e = sym is ∙ memory in cc
+
+-- the lines before those that are left, and what they lead to
+pub record IsReadUpTo (start : SoFar) (lines left : List (List ℕ)) (count : ℕ) (so_far : SoFar) : Type 0 where
+  pub before : List (List ℕ)
+  pub parts : lines ≡ before ++ left
+  pub counted : count ≡ length before
+  pub leads : Leads start before so_far
+
+pub read_none : (start : SoFar) (lines : List (List ℕ)) → IsReadUpTo start lines lines 0 start
+read_none start lines = record { before = []; parts = refl; counted = refl; leads = refl }
+
+module _ (start : SoFar) (lines left : List (List ℕ)) (count : ℕ) (s : SoFar) (r : IsReadUpTo start lines left count s) where
+  pub read_more : (line : List ℕ) (left' : List (List ℕ)) (t : SoFar) → left ≡ line ∷ left' → Declares s line t → IsReadUpTo start lines left' (count + 1) t
+  read_more line left' t e h = record {
+    before = r.before ++ line ∷ [];
+    parts = r.parts ∙ ap (λ (x : List (List ℕ)). r.before ++ x) e ∙ sym (append_assoc r.before (line ∷ []) left');
+    counted = omega (arith, r.counted, length-append r.before (line ∷ []));
+    leads = Leads-push start r.before line s t r.leads h;
+  }
+
+  -- all lines are read
+  pub read_all : (t : SoFar) → left ≡ [] → s ≡ t → Leads start lines t
+  read_all t none is =
+      subst (λ (l : List (List ℕ)). Leads start l t) (sym (r.parts ∙ ap (λ (x : List (List ℕ)). r.before ++ x) none ∙ append-nil r.before))
+      (subst (λ (x : SoFar). Leads start r.before x) is r.leads)
+
+  -- and the last leaves something open
+  pub fault_at_end : (why : DeclFaultKind) → left ≡ [] → IsUnfinished s why → IsFaultAmong start lines (count + 1) why
+  fault_at_end why none unfinished = record {
+    before = r.before;
+    rest = [];
+    so_far = s;
+    parts = r.parts ∙ ap (λ (x : List (List ℕ)). r.before ++ x) none;
+    count = ap (λ (n : ℕ). n + 1) r.counted;
+    leads = r.leads;
+    fault = unfinished;
+  }
+
+  -- what is told of the line that is next
+  pub told_next : (line : List ℕ) (left' : List (List ℕ)) (why : DeclFaultKind) → left ≡ line ∷ left' → IsToldOfLine s line why →
+      (why ≡ Memory) ⊎ IsFaultAmong start lines (count + 1) why
+  told_next line left' why e (inl (none, memory)) = inl memory
+  told_next line left' why e (inr (fault, first, is)) = inr (record {
+    before = r.before;
+    rest = line ∷ left';
+    so_far = s;
+    parts = r.parts ∙ ap (λ (x : List (List ℕ)). r.before ++ x) e;
+    count = ap (λ (n : ℕ). n + 1) r.counted;
+    leads = r.leads;
+    fault = (fault, first, is);
+  })
+
+  -- where want of memory is told of it, it has no fault
+  pub memory_last : (line : List ℕ) (left' : List (List ℕ)) (why : DeclFaultKind) → left ≡ line ∷ left' → IsToldOfLine s line why → why ≡ Memory →
+      IsClearUpTo start lines (count + 1)
+  memory_last line left' why e (inl (none, is)) memory = record {
+    before = r.before;
+    line = line;
+    rest = left';
+    so_far = s;
+    parts = r.parts ∙ ap (λ (x : List (List ℕ)). r.before ++ x) e;
+    count = ap (λ (n : ℕ). n + 1) r.counted;
+    leads = r.leads;
+    clear = none;
+  }
+  memory_last line left' why e (inr (fault, first, is)) memory = absurd (not_memory fault (sym is ∙ memory))
+
+-- ---- what a call gives back
+
+-- what holds of what is given back, by what holds of it already
+pub ok_to : {D E : Type 0} (P Q : D → Type 0) → ((d : D) → P d → Q d) → (r : Result D E) → IfOk r P → IfOk r Q
+ok_to P Q more (Ok d) h = more d h
+ok_to P Q more (Err e) h = tt
+
+pub err_to : {D E : Type 0} (P Q : E → Type 0) → ((e : E) → P e → Q e) → (r : Result D E) → IfErr r P → IfErr r Q
+err_to P Q more (Ok d) h = tt
+err_to P Q more (Err e) h = more e h
+
+-- what is told after the last line
+pub told_at_end : (start : SoFar) (lines left : List (List ℕ)) (count : ℕ) (s : SoFar) (r : IsReadUpTo start lines left count s) (fault : DeclFault) →
+    left ≡ [] → IsUnfinished s fault.why × (fault.line ≡ count + 1) → IsToldAmong start lines fault
+told_at_end start lines left count s r fault none (unfinished, at) =
+    inr (subst (λ (n : ℕ). IsFaultAmong start lines n fault.why) (sym at) (fault_at_end start lines left count s r fault.why none unfinished))
+
+-- ---- the prelude
+
+-- what stands before the prelude is nothing
+module _ (ps : List Procedure) (d : Declared) (text : List ℕ) (nothing : d ≡ nothing_declared ps) (prelude : text ≡ prelude_text) where
+  from_nothing : (P : SoFar → List (List ℕ) → Type 0) → P (Outside d) (lines_of text) → P (Outside (nothing_declared ps)) (lines_of prelude_text)
+  from_nothing P h =
+      subst (λ (t : List ℕ). P (Outside (nothing_declared ps)) (lines_of t)) prelude (subst (λ (x : Declared). P (Outside x) (lines_of text)) nothing h)
+
+  pub prelude_declares : (known : Declared) → Leads (Outside d) (lines_of text) (Outside known) → PreludeDeclares ps known
+  prelude_declares known leads = from_nothing (λ s lines. Leads s lines (Outside known)) leads
+
+  pub prelude_faulty : (fault : DeclFault) → IsToldAmong (Outside d) (lines_of text) fault → (fault.why ≡ Memory) ⊎ IsFaultOfPrelude ps fault.why
+  prelude_faulty fault (inl memory) = inl memory
+  prelude_faulty fault (inr among) = inr (fault.line, from_nothing (λ s lines. IsFaultAmong s lines fault.line fault.why) among)
+
+  pub prelude_clear : (number : ℕ) → IsClearUpTo (Outside d) (lines_of text) number → IsClearInPrelude ps
+  prelude_clear number clear = (number, from_nothing (λ s lines. IsClearUpTo s lines number) clear)
+
+-- ---- the whole text
+
+module _ (ps : List Procedure) (text : List ℕ) (short : length text ≤ most_text_bytes) where
+  -- what is told of the prelude
+  pub told_of_prelude : (fault : DeclFault) → fault.line ≡ 0 → (fault.why ≡ Memory) ⊎ IsFaultOfPrelude ps fault.why → IsTold ps text fault
+  told_of_prelude fault at (inl memory) = inl memory
+  told_of_prelude fault at (inr wrong) = inr (inr (short, inl (at, wrong)))
+
+  pub clear_in_prelude : (number : ℕ) → number ≡ 0 → IsClearInPrelude ps → HasNoFaultUpTo ps text number
+  clear_in_prelude number at clear = (short, inl (at, clear))
+
+  -- what is told of the lines after it
+  pub told_of_text : (known : Declared) (fault : DeclFault) → PreludeDeclares ps known → IsToldAmong (BeforeHeader known) (lines_of text) fault → IsTold ps text fault
+  told_of_text known fault prelude (inl memory) = inl memory
+  told_of_text known fault prelude (inr among) = inr (inr (short, inr (record { known = known; prelude = prelude; among = among })))
+
+  pub clear_in_text : (known : Declared) (number : ℕ) → PreludeDeclares ps known → IsClearUpTo (BeforeHeader known) (lines_of text) number → HasNoFaultUpTo ps text number
+  clear_in_text known number prelude clear = (short, inr (known, prelude, clear))
+
+  pub text_spells : (known d : Declared) → PreludeDeclares ps known → Leads (BeforeHeader known) (lines_of text) (Outside d) → SpellsDeclaration ps text d
+  text_spells known d prelude leads = record { short = short; known = known; prelude = prelude; leads = leads }
 
 -- ---- the other way round
 
--- what is read of a text that spells a declaration
-pub only_declaration : (text : List ℕ) (r : Result Declared DeclFault) →
-    IfOk r (λ d. SpellsDeclaration text d) → IfErr r (IsTold text) →
-    (d : Declared) → SpellsDeclaration text d → IsReadAs d r
-only_declaration text (Ok x) ok err d spells = one_spelled text x d ok spells
-only_declaration text (Err fault) ok (inl memory) d spells = memory
-only_declaration text (Err fault) ok (inr first) d spells = absurd (not_both text fault.line fault.why d first spells)
+-- where a fault is told, the text spells no declaration, but for want of memory
+pub told_only : (ps : List Procedure) (text : List ℕ) (fault : DeclFault) → IsTold ps text fault → (d : Declared) → SpellsDeclaration ps text d → fault.why ≡ Memory
+told_only ps text fault (inl memory) d spells = memory
+told_only ps text fault (inr first) d spells = absurd (not_both ps text fault.line fault.why d first spells)
 
--- what is told of a text that has a first fault
-pub only_fault : (text : List ℕ) (r : Result Declared DeclFault) →
-    IfOk r (λ d. SpellsDeclaration text d) → IfErr r (IsTold text) →
-    (line : ℕ) (why : DeclFaultKind) → IsFirstFault text line why → IsFaultAt line why r
-only_fault text (Ok x) ok err line why first = absurd (not_both text line why x first ok)
-only_fault text (Err fault) ok (inl memory) line why first = inl memory
-only_fault text (Err fault) ok (inr told) line why first = inr (one_fault text fault.line line fault.why why told first)
+-- and the fault is the text's first, but for want of memory
+pub told_first : (ps : List Procedure) (text : List ℕ) (fault : DeclFault) → IsTold ps text fault →
+    (line : ℕ) (why : DeclFaultKind) → IsFirstFault ps text line why → (fault.why ≡ Memory) ⊎ ((fault.line ≡ line) × (fault.why ≡ why))
+told_first ps text fault (inl memory) line why first = inl memory
+told_first ps text fault (inr told) line why first = inr (one_fault ps text fault.line line fault.why why told first)
+
+module _ {A : _} {X : Type 0} {F : X → Type 0} {C : _} (ps : List Procedure) (text : List ℕ) where
+  -- what is read of a text that spells a declaration
+  pub only_declaration : (r : Result (Declaration A X F C) DeclFault) →
+      IfOk r (λ x. SpellsDeclaration ps text (declared_by x)) → IfErr r (IsTold ps text) →
+      (d : Declared) → SpellsDeclaration ps text d → IsReadAs d r
+  only_declaration (Ok x) ok err d spells = one_spelled ps text (declared_by x) d ok spells
+  only_declaration (Err fault) ok err d spells = told_only ps text fault err d spells
+
+  -- what is told of a text that has a first fault
+  pub only_fault : (r : Result (Declaration A X F C) DeclFault) →
+      IfOk r (λ x. SpellsDeclaration ps text (declared_by x)) → IfErr r (IsTold ps text) →
+      (line : ℕ) (why : DeclFaultKind) → IsFirstFault ps text line why → IsFaultAt line why r
+  only_fault (Ok x) ok err line why first = absurd (not_both ps text line why (declared_by x) first ok)
+  only_fault (Err fault) ok err line why first = told_first ps text fault err line why first

@@ -1,6 +1,7 @@
 -- What a declaration keeps as names are added, and the places of names.
-use Rattle.std.proofs.Common.{◌≡◌, ℕ, zero, suc, ◌+◌, ◌-◌, ◌<◌, ◌≤◌, true, List, [], ◌∷◌, ◌++◌, Option, Some, None, length, get_or, refl, sym, ap, arith, length-append, inl, inr}
-use Rattle.std.specs.Prelude.{IfSome, IfNone, Contains, slice_get, slice_index_or}
+use Rattle.std.proofs.Common.{◌≡◌, ℕ, zero, suc, ◌+◌, ◌-◌, ◌<◌, ◌≤◌, true, List, [], ◌∷◌, ◌++◌, Option, Some, None, length, get_or, refl, sym, subst, ap, arith, length-append, inl, inr, Result, Ok, Err}
+use Rattle.std.proofs.Math.Logic.{∥∥₁_map}
+use Rattle.std.specs.Prelude.{All, OnOk, OnErr, IfSome, IfNone, Contains, slice_get, slice_index_or}
 use Rattle.std.specs.List.{position_from}
 use Rattle.std.specs.Str.{bytes_eq}
 use Rattle.std.proofs.lemmas.Bool.{cases_Bool}
@@ -9,9 +10,13 @@ use Rattle.std.proofs.lemmas.Slice.Eq.{bytes_eq-Decides}
 use Rattle.pw_kinds.specs.Places.{IsSize}
 use Rattle.pw_info.specs.declared.kind.Kind.{Kind}
 use Rattle.pw_info.specs.SetNames.{AreNames, IsNamed}
-use Rattle.pw_decl.specs.Declaration.{Declared, nothing_declared, built_in_sets, members_of, with_user, with_premise, with_cell, with_set}
-use Rattle.pw_decl.specs.Limits.{most_users, most_premises, most_cells, most_sets}
-use Rattle.pw_decl.specs.WellDeclared.{IsWellDeclared}
+use Rattle.pw_decl.specs.Declaration.{Declared, nothing_declared, built_in_sets, members_of, with_user, with_premise, with_cell, with_set, with_compound}
+use Rattle.pw_decl.specs.Compound.{Compound, AreSteps, size_of_steps, sizes_of}
+use Rattle.pw_decl.specs.Limits.{most_users, most_premises, most_cells, most_sets, most_compounds, most_parameters}
+use Rattle.pw_decl.specs.Prelude.{prelude_compounds}
+use Rattle.pw_procs.specs.Procedure.{Procedure}
+use Rattle.pw_decl.specs.WellDeclared.{IsSmall, IsWellDeclared}
+use Rattle.pw_decl.proofs.CompoundLaws.{compounds_push, sizes_push}
 use Rattle.pw_decl.proofs.SetLemmas.{nothing_named, named_push, named_stays}
 
 -- an owner stays a user as users are added
@@ -20,8 +25,8 @@ still_user m n h None p = p
 still_user m n h (Some user) p = omega arith
 
 -- all holds where nothing is declared
-pub well_at_first : IsWellDeclared nothing_declared
-well_at_first =
+pub well_at_first : (procedures : List Procedure) → IsWellDeclared (nothing_declared procedures)
+well_at_first procedures =
     record {
       users = omega arith;
       premises = omega arith;
@@ -32,8 +37,13 @@ well_at_first =
       sets = omega arith;
       set_names = refl;
       sizes = All-nil (λ names. IsSize (length names));
-      named = nothing_named;
-      known = All-nil (IsNamed (members_of nothing_declared));
+      named = nothing_named procedures;
+      known = All-nil (IsNamed (members_of (nothing_declared procedures)));
+      compound_names = refl;
+      compounds = omega arith;
+      steps = ∣ tt ∣₁;
+      expansions = All-nil IsSmall;
+      few = All-nil (λ (compound : Compound). length compound.parameters ≤ most_parameters);
     }
 
 -- and still with one more user
@@ -52,6 +62,11 @@ well_with_user d name well room =
       sizes = well.sizes;
       named = well.named;
       known = well.known;
+      compound_names = well.compound_names;
+      compounds = well.compounds;
+      steps = well.steps;
+      expansions = well.expansions;
+      few = well.few;
     }
 
 -- with one more premise, of a user or of none
@@ -73,6 +88,11 @@ well_with_premise d name owner well room own =
       sizes = well.sizes;
       named = well.named;
       known = well.known;
+      compound_names = well.compound_names;
+      compounds = well.compounds;
+      steps = well.steps;
+      expansions = well.expansions;
+      few = well.few;
     }
 
 -- with one more cell, of a kind that is there
@@ -94,6 +114,11 @@ well_with_cell d name kind well room known =
       sizes = well.sizes;
       named = well.named;
       known = All-push (IsNamed (members_of d)) d.kinds kind well.known known;
+      compound_names = well.compound_names;
+      compounds = well.compounds;
+      steps = well.steps;
+      expansions = well.expansions;
+      few = well.few;
     }
 
 -- and with one more set, of members that have names
@@ -115,6 +140,11 @@ well_with_set d name members well room size names =
       sizes = All-push (λ names. IsSize (length names)) d.sets members well.sizes size;
       named = named_push (built_in_sets ++ d.sets) members well.named names;
       known = All-weaker (IsNamed (members_of d)) (IsNamed (λ set. slice_index_or (built_in_sets ++ d.sets ++ members ∷ []) set [])) (named_stays (built_in_sets ++ d.sets) (members ∷ [])) d.kinds well.known;
+      compound_names = well.compound_names;
+      compounds = well.compounds;
+      steps = well.steps;
+      expansions = well.expansions;
+      few = well.few;
     }
 
 -- ---- the place of a name
@@ -155,3 +185,37 @@ place_none names word e (k, h, same) = none_from names word 0 k e h same
 pub place_none_if : {X : Type 0} (o : Option X) (names : List (List ℕ)) (word : List ℕ) → position_from (bytes_eq word) 0 names ≡ None → IfNone o (Contains names word → ⊥)
 place_none_if None names word e = place_none names word e
 place_none_if (Some x) names word e = tt
+
+-- with one more user, or as before where it was not added
+pub well_with_user_or_not : {U E : Type 0} (d : Declared) (name : List ℕ) (users : List (List ℕ)) (r : Result U E) → IsWellDeclared d → length d.users < most_users →
+    OnOk r (users ≡ d.users ++ name ∷ []) → OnErr r (users ≡ d.users) → IsWellDeclared (record d { users = users })
+well_with_user_or_not d name users (Ok u) well room ok err = rw ok (well_with_user d name well room)
+well_with_user_or_not d name users (Err e) well room ok err = rw err well
+
+-- and with one more compound, which was open
+pub well_with_compound : (d : Declared) (name : List ℕ) (compound : Compound) → IsWellDeclared d → length d.compounds < prelude_compounds + most_compounds →
+    length compound.parameters ≤ most_parameters → AreSteps d.procedures d.compounds compound.parameters compound.steps →
+    IsSmall (size_of_steps (sizes_of d.compounds) compound.steps) → IsWellDeclared (with_compound d name compound)
+well_with_compound d name compound well room parameters steps small =
+    let longer : length (d.compound_names ++ name ∷ []) ≡ length d.compound_names + 1 = length-append d.compound_names (name ∷ []) in
+    let more : length (d.compounds ++ compound ∷ []) ≡ length d.compounds + 1 = length-append d.compounds (compound ∷ []) in
+    let alike : length d.compound_names ≡ length d.compounds = well.compound_names in
+    record {
+      users = well.users;
+      premises = well.premises;
+      owners = well.owners;
+      cells = well.cells;
+      kinds = well.kinds;
+      owned = well.owned;
+      sets = well.sets;
+      set_names = well.set_names;
+      sizes = well.sizes;
+      named = well.named;
+      known = well.known;
+      compound_names = omega arith;
+      compounds = omega arith;
+      steps = ∥∥₁_map well.steps (λ are. compounds_push d.procedures [] d.compounds compound are steps);
+      expansions =
+          subst (All IsSmall) (sym (sizes_push [] d.compounds compound)) (All-push IsSmall (sizes_of d.compounds) (size_of_steps (sizes_of d.compounds) compound.steps) well.expansions small);
+      few = All-push (λ (compound : Compound). length compound.parameters ≤ most_parameters) d.compounds compound well.few parameters;
+    }

@@ -1,9 +1,13 @@
+pub mod CompoundLaws
+pub mod CompoundLemmas
 pub mod Decided
 pub mod DeclarationLines
 pub mod DeclarationSteps
 pub mod DeclaredLemmas
+pub mod KeptLemmas
 pub mod LineFaults
 pub mod LineLaw
 pub mod MemberLemmas
+pub mod ParameterLemmas
 pub mod Places
 pub mod SetLemmas

@@ -1,6 +1,6 @@
 -- Each line has a fault or leads on, and each text has a first fault or spells a declaration.
 use Rattle.std.proofs.Common.{◌≡◌, ℕ, zero, suc, ◌+◌, ◌<◌, ◌≤◌, true, false, List, [], ◌∷◌, ◌++◌, length, Option, Some, None, ◌⊎◌, inl, inr, sym, refl, ap, subst, ◌∙◌, arith, append-nil}
-use Rattle.std.specs.Prelude.{All}
+use Rattle.std.specs.Prelude.{All, IsSome}
 use Rattle.std.specs.List.{list_all}
 use Rattle.std.proofs.lemmas.Bool.{cases_Bool, false≢true}
 use Rattle.std.proofs.Math.Nat.{lt_of_not-le}
@@ -13,15 +13,20 @@ use Rattle.pw_info.specs.Words.{words_of, is_idle, is_allowed}
 use Rattle.pw_info.specs.SetNames.{IsNamed}
 use Rattle.pw_info.proofs.FirstLemmas.{none_is_first}
 use Rattle.pw_procs.specs.Place.{place_of_name}
+use Rattle.pw_procs.specs.Procedure.{Procedure}
 use Rattle.pw_decl.specs.declared.decl_fault.DeclFaultKind.{DeclFaultKind}
-use Rattle.pw_decl.specs.declared.decl_fault.DeclFaultKind.TheVariants.{Syntax, Limit}
-use Rattle.pw_decl.specs.Declaration.{Declared, nothing_declared, kind_names, members_of, NamesKind, DeclarationSentence, Header, User, Premise, PremiseOf, Set, Cell, IsDeclarationSentence, with_user, with_premise, with_cell, with_set, Makes}
-use Rattle.pw_decl.specs.Faults.{IsInPlace, SaysInPlace, HasDuplicate, HasUnknown, HasTooFew, IsOneTooMany, LineFault, TooLong, BadSyntax, Duplicate, Unknown, TooFew, TooMany, line_faults, kind_of_fault, FaultApplies, HasNoFault, IsFirstFaultOf, HasAFault, Declares, LeadsOn, Leads, SpellsDeclaration, IsFirstFault}
-use Rattle.pw_decl.specs.Limits.{most_users, most_premises, most_cells, most_sets, most_line_bytes, most_text_bytes}
+use Rattle.pw_decl.specs.declared.decl_fault.DeclFaultKind.TheVariants.{Syntax, Limit, MissingEnd}
+use Rattle.pw_decl.specs.declared.step.Callable.{Callable}
+use Rattle.pw_decl.specs.Compound.{AcceptsKinds, kinds_at, cell_kinds, Size, size_of_local, size_of_callable, sizes_of}
+use Rattle.pw_decl.specs.Declaration.{Declared, nothing_declared, OpenCompound, SoFar, BeforeHeader, Outside, Inside, kind_names, members_of, NamesKind, NameKinds, parameter_names, parameter_kinds, callable_named, places_of, DeclarationSentence, Header, User, Premise, PremiseOf, Set, Cell, Begin, Local, Call, End, IsSentenceAt, begun, with_user, with_premise, with_cell, with_set, with_local, with_call, with_compound, Makes}
+use Rattle.pw_decl.specs.Faults.{SaysInPlace, HasDuplicate, HasUnknown, is_cell_of, HasWrongArguments, OutgrowsWith, IsOneTooMany, LineFault, TooLong, BadSyntax, Duplicate, Unknown, Wrong, TooMany, line_faults, kind_of_fault, FaultApplies, HasNoFault, IsFirstFaultOf, HasAFault, Declares, LeadsOn, Leads, PreludeDeclares, SpellsDeclaration, SpellsOne, IsFaultAmong, HasAFirstFault}
+use Rattle.pw_decl.specs.Limits.{most_users, most_premises, most_cells, most_sets, most_compounds, most_parameters, most_instances, most_inner_cells, most_line_bytes, most_text_bytes}
+use Rattle.pw_decl.specs.Prelude.{prelude_compounds, prelude_text}
 use Rattle.pw_decl.specs.WellDeclared.{IsWellDeclared, IsWellSoFar}
-use Rattle.pw_decl.specs.Steps.Forms.{declaration_sentence_of}
-use Rattle.pw_decl.proofs.Decided.{Decided, first_or_none, decided_not, decided_or, decided_less, decided_at_most, decided_some, decided_none, decided_distinct}
-use Rattle.pw_decl.proofs.DeclaredLemmas.{well_at_first, well_with_user, well_with_premise, well_with_cell, well_with_set}
+use Rattle.pw_decl.specs.Steps.Forms.{sentence_at}
+use Rattle.pw_decl.proofs.CompoundLaws.{well_begun, well_with_local, well_with_call, places_there}
+use Rattle.pw_decl.proofs.Decided.{Decided, first_or_none, decided_not, decided_or, decided_less, decided_at_most, decided_some, decided_none, decided_distinct, decided_false, decided_nil, decided_there, decided_accepts_kinds}
+use Rattle.pw_decl.proofs.DeclaredLemmas.{well_at_first, well_with_user, well_with_premise, well_with_cell, well_with_set, well_with_compound}
 use Rattle.pw_decl.proofs.LineFaults.{found, given, one_sentence, one_declared}
 use Rattle.pw_decl.proofs.Places.{place_of_name-lt}
 use Rattle.pw_decl.proofs.SetLemmas.{unnamed}
@@ -51,82 +56,139 @@ named_or_not : (d : Declared) (word : List ℕ) → IsWellDeclared d →
     ((kind : Kind) × NamesKind d word kind × IsNamed (members_of d) kind) ⊎ ((kind : Kind) → NamesKind d word kind → ⊥)
 named_or_not d word well = kind_at_place d word well (place_of_name (kind_names d) word) refl
 
+first_unnamed : (d : Declared) (word : List ℕ) (words : List (List ℕ)) → ((kind : Kind) → NamesKind d word kind → ⊥) →
+    (kinds : List Kind) → NameKinds d (word ∷ words) kinds → ⊥
+first_unnamed d word words none [] named = named
+first_unnamed d word words none (kind ∷ kinds) (first, named) = none kind first
+
+later_unnamed : (d : Declared) (word : List ℕ) (words : List (List ℕ)) → ((kinds : List Kind) → NameKinds d words kinds → ⊥) →
+    (kinds : List Kind) → NameKinds d (word ∷ words) kinds → ⊥
+later_unnamed d word words none [] named = named
+later_unnamed d word words none (kind ∷ kinds) (first, named) = none kinds named
+
+-- words name kinds, one each, or they do not
+named_all_or_not : (d : Declared) (words : List (List ℕ)) → IsWellDeclared d →
+    ((kinds : List Kind) × NameKinds d words kinds) ⊎ ((kinds : List Kind) → NameKinds d words kinds → ⊥)
+named_all_or_not d [] well = inl ([], tt)
+named_all_or_not d (word ∷ words) well =
+    elim (named_or_not d word well) [
+      | inl first ↦
+          elim (named_all_or_not d words well) [
+            | inl rest ↦ inl (first.0 ∷ rest.0, (first.1, rest.1))
+            | inr none ↦ inr (later_unnamed d word words none)
+          ]
+      | inr none ↦ inr (first_unnamed d word words none)
+    ]
+
+-- where all words name kinds, there are as many kinds as words
+length_of_kinds : (d : Declared) (words : List (List ℕ)) (kinds : List Kind) → NameKinds d words kinds → length words ≡ length kinds
+length_of_kinds d [] [] named = refl
+length_of_kinds d [] (kind ∷ kinds) named = absurd named
+length_of_kinds d (word ∷ words) [] named = absurd named
+length_of_kinds d (word ∷ words) (kind ∷ kinds) (first, named) = ap suc (length_of_kinds d words kinds named)
+
+-- there are as many names of parameters as kinds
+length_of_names : (parameters : List (List ℕ)) → length (parameter_names parameters) ≡ length (parameter_kinds parameters)
+length_of_names [] = refl
+length_of_names (name ∷ []) = refl
+length_of_names (name ∷ kind ∷ words) = ap suc (length_of_names words)
+
 -- ---- what can be wrong with a sentence
 
-decided_place : (so_far : Option Declared) (s : DeclarationSentence) → Decided (IsInPlace so_far s)
-decided_place None Header = inl tt
-decided_place None s = inr (λ place. place)
-decided_place (Some d) Header = inr (λ place. place)
-decided_place (Some d) s = inl tt
-
-decided_duplicate : (so_far : Option Declared) (s : DeclarationSentence) → Decided (HasDuplicate so_far s)
-decided_duplicate (Some d) (User name) = decided_some (place_of_name d.users name)
-decided_duplicate (Some d) (Premise name) = decided_some (place_of_name d.premises name)
-decided_duplicate (Some d) (PremiseOf name user) = decided_some (place_of_name d.premises name)
-decided_duplicate (Some d) (Set name members) = decided_or (decided_some (place_of_name (kind_names d) name)) (decided_not (decided_distinct members))
-decided_duplicate (Some d) (Cell name kind) = decided_some (place_of_name d.cells name)
+decided_duplicate : (so_far : SoFar) (s : DeclarationSentence) → Decided (HasDuplicate so_far s)
+decided_duplicate (Outside d) (User name) = decided_some (place_of_name d.users name)
+decided_duplicate (Outside d) (Premise name) = decided_some (place_of_name d.premises name)
+decided_duplicate (Outside d) (PremiseOf name user) = decided_some (place_of_name d.premises name)
+decided_duplicate (Outside d) (Set name members) = decided_or (decided_some (place_of_name (kind_names d) name)) (decided_not (decided_distinct members))
+decided_duplicate (Outside d) (Cell name kind) = decided_some (place_of_name d.cells name)
+decided_duplicate (Outside d) (Begin name parameters) =
+    decided_or (decided_some (callable_named d name)) (decided_not (decided_distinct (parameter_names parameters)))
+decided_duplicate (Inside d opened) (Local name kind) = decided_some (place_of_name opened.names name)
 decided_duplicate so_far s = inr (λ h. h)
 
-decided_unknown : (so_far : Option Declared) → IsWellSoFar so_far → (s : DeclarationSentence) → Decided (HasUnknown so_far s)
-decided_unknown (Some d) well (PremiseOf name user) = decided_none (place_of_name d.users user)
-decided_unknown (Some d) well (Cell name word) = elim (named_or_not d word well) [
+decided_unnamed : (d : Declared) (word : List ℕ) → IsWellDeclared d → Decided ((kind : Kind) → NamesKind d word kind → ⊥)
+decided_unnamed d word well = elim (named_or_not d word well) [
   | inl named ↦ inr (λ none. none named.0 named.1)
   | inr none ↦ inl none
 ]
+
+decided_all_unnamed : (d : Declared) (words : List (List ℕ)) → IsWellDeclared d → Decided ((kinds : List Kind) → NameKinds d words kinds → ⊥)
+decided_all_unnamed d words well = elim (named_all_or_not d words well) [
+  | inl named ↦ inr (λ none. none named.0 named.1)
+  | inr none ↦ inl none
+]
+
+decided_unknown : (so_far : SoFar) → IsWellSoFar so_far → (s : DeclarationSentence) → Decided (HasUnknown so_far s)
+decided_unknown (Outside d) well (PremiseOf name user) = decided_none (place_of_name d.users user)
+decided_unknown (Outside d) well (Cell name word) = decided_unnamed d word well
+decided_unknown (Outside d) well (Begin name parameters) = decided_all_unnamed d (parameter_kinds parameters) well
+decided_unknown (Inside d opened) well (Local name word) = decided_unnamed d word well.0
+decided_unknown (Inside d opened) well (Call word arguments) =
+    decided_or (decided_none (callable_named d word)) (decided_false (list_all (is_cell_of opened) arguments))
 decided_unknown so_far well s = inr (λ h. h)
 
-decided_few : (so_far : Option Declared) (s : DeclarationSentence) → Decided (HasTooFew so_far s)
-decided_few (Some d) (Set name members) = decided_less (length members) fewest_members
-decided_few so_far s = inr (λ h. h)
+decided_wrong : (so_far : SoFar) (s : DeclarationSentence) → Decided (HasWrongArguments so_far s)
+decided_wrong (Outside d) (Set name members) = decided_less (length members) fewest_members
+decided_wrong (Outside d) (Begin name parameters) = decided_nil parameters
+decided_wrong (Inside d opened) (Call word arguments) =
+    let given_kinds = kinds_at (cell_kinds opened.compound) (places_of opened arguments) in
+    decided_there (callable_named d word) (λ callable. AcceptsKinds d.procedures d.compounds callable given_kinds → ⊥)
+    (λ callable. decided_not (decided_accepts_kinds d.procedures d.compounds callable given_kinds))
+decided_wrong so_far s = inr (λ h. h)
 
-decided_many : (so_far : Option Declared) (s : DeclarationSentence) → Decided (IsOneTooMany so_far s)
-decided_many (Some d) (User name) = decided_at_most most_users (length d.users)
-decided_many (Some d) (Premise name) = decided_at_most most_premises (length d.premises)
-decided_many (Some d) (PremiseOf name user) = decided_at_most most_premises (length d.premises)
-decided_many (Some d) (Set name members) = decided_or (decided_at_most most_sets (length d.sets)) (decided_less most_members (length members))
-decided_many (Some d) (Cell name kind) = decided_at_most most_cells (length d.cells)
+decided_outgrows : (d : Declared) (opened : OpenCompound) (size : Size) → Decided (OutgrowsWith d opened size)
+decided_outgrows d opened size = decided_or (decided_less most_instances _) (decided_less most_inner_cells _)
+
+decided_many : (so_far : SoFar) (s : DeclarationSentence) → Decided (IsOneTooMany so_far s)
+decided_many (Outside d) (User name) = decided_at_most most_users (length d.users)
+decided_many (Outside d) (Premise name) = decided_at_most most_premises (length d.premises)
+decided_many (Outside d) (PremiseOf name user) = decided_at_most most_premises (length d.premises)
+decided_many (Outside d) (Set name members) = decided_or (decided_at_most most_sets (length d.sets)) (decided_less most_members (length members))
+decided_many (Outside d) (Cell name kind) = decided_at_most most_cells (length d.cells)
+decided_many (Outside d) (Begin name parameters) =
+    decided_or (decided_at_most (prelude_compounds + most_compounds) (length d.compounds)) (decided_less most_parameters (length (parameter_names parameters)))
+decided_many (Inside d opened) (Local name word) = decided_outgrows d opened size_of_local
+decided_many (Inside d opened) (Call word arguments) =
+    decided_there (callable_named d word) (λ callable. OutgrowsWith d opened (size_of_callable (sizes_of d.compounds) callable))
+    (λ callable. decided_outgrows d opened (size_of_callable (sizes_of d.compounds) callable))
 decided_many so_far s = inr (λ h. h)
 
 -- ---- what a line says
 
-said_by : (so_far : Option Declared) (line : List ℕ) → is_idle line ≡ false → list_all is_allowed line ≡ true → (o : Option DeclarationSentence) → declaration_sentence_of (words_of line) ≡ o →
+said_by : (so_far : SoFar) (line : List ℕ) → is_idle line ≡ false → list_all is_allowed line ≡ true → (o : Option DeclarationSentence) → sentence_at so_far (words_of line) ≡ o →
     ((s : DeclarationSentence) × SaysInPlace so_far line s) ⊎ ((s : DeclarationSentence) → SaysInPlace so_far line s → ⊥)
 said_by so_far line spoken allowed None none =
-    inr (λ s says. let e : None ≡ Some s = sym none ∙ given (words_of line) s says.words in cc)
+    inr (λ s says. let e : None ≡ Some s = sym none ∙ given so_far (words_of line) s says.words in cc)
 said_by so_far line spoken allowed (Some s) formed =
-    let words : IsDeclarationSentence (words_of line) s = found (words_of line) s formed in
-    elim (decided_place so_far s) [
-      | inl place ↦ inl (s, record { spoken = spoken; allowed = allowed; words = words; place = place })
-      | inr out ↦ inr (λ t says. out (subst (IsInPlace so_far) (one_sentence (words_of line) t s says.words words) says.place))
-    ]
+    inl (s, record { spoken = spoken; allowed = allowed; words = found so_far (words_of line) s formed })
 
 -- the line says a sentence in its place, or none
-said_or_not : (so_far : Option Declared) (line : List ℕ) →
+said_or_not : (so_far : SoFar) (line : List ℕ) →
     ((s : DeclarationSentence) × SaysInPlace so_far line s) ⊎ ((s : DeclarationSentence) → SaysInPlace so_far line s → ⊥)
 said_or_not so_far line =
     elim (cases_Bool (is_idle line)) [
       | inl idle ↦ inr (λ s says. false≢true (sym says.spoken ∙ idle))
       | inr spoken ↦
           elim (cases_Bool (list_all is_allowed line)) [
-            | inl allowed ↦ said_by so_far line spoken allowed (declaration_sentence_of (words_of line)) refl
+            | inl allowed ↦ said_by so_far line spoken allowed (sentence_at so_far (words_of line)) refl
             | inr bad ↦ inr (λ s says. false≢true (sym bad ∙ says.allowed))
           ]
     ]
 
 -- whether what is known of each sentence holds of the one that the line says
-decided_of_said : (so_far : Option Declared) (line : List ℕ) (P : DeclarationSentence → Type 0) → ((s : DeclarationSentence) → Decided (P s)) →
+decided_of_said : (so_far : SoFar) (line : List ℕ) (P : DeclarationSentence → Type 0) → ((s : DeclarationSentence) → Decided (P s)) →
     Decided ((s : DeclarationSentence) × SaysInPlace so_far line s × P s)
 decided_of_said so_far line P decide =
     elim (said_or_not so_far line) [
       | inl said ↦
           elim (decide said.0) [
             | inl holds ↦ inl (said.0, said.1, holds)
-            | inr fails ↦ inr (λ other. fails (subst P (one_sentence (words_of line) other.0 said.0 other.1.words said.1.words) other.2))
+            | inr fails ↦ inr (λ other. fails (subst P (one_sentence so_far (words_of line) other.0 said.0 other.1.words said.1.words) other.2))
           ]
       | inr unsaid ↦ inr (λ said. unsaid said.0 said.1)
     ]
 
-decided_syntax : (so_far : Option Declared) (line : List ℕ) → Decided (FaultApplies so_far line BadSyntax)
+decided_syntax : (so_far : SoFar) (line : List ℕ) → Decided (FaultApplies so_far line BadSyntax)
 decided_syntax so_far line =
     elim (cases_Bool (is_idle line)) [
       | inl idle ↦ inr (λ bad. false≢true (sym bad.0 ∙ idle))
@@ -137,52 +199,108 @@ decided_syntax so_far line =
           ]
     ]
 
-decided_fault : (so_far : Option Declared) (line : List ℕ) → IsWellSoFar so_far → (fault : LineFault) → Decided (FaultApplies so_far line fault)
+decided_fault : (so_far : SoFar) (line : List ℕ) → IsWellSoFar so_far → (fault : LineFault) → Decided (FaultApplies so_far line fault)
 decided_fault so_far line well TooLong = decided_less most_line_bytes (length line)
 decided_fault so_far line well BadSyntax = decided_syntax so_far line
 decided_fault so_far line well Duplicate = decided_of_said so_far line (HasDuplicate so_far) (decided_duplicate so_far)
 decided_fault so_far line well Unknown = decided_of_said so_far line (HasUnknown so_far) (decided_unknown so_far well)
-decided_fault so_far line well TooFew = decided_of_said so_far line (HasTooFew so_far) (decided_few so_far)
+decided_fault so_far line well Wrong = decided_of_said so_far line (HasWrongArguments so_far) (decided_wrong so_far)
 decided_fault so_far line well TooMany = decided_of_said so_far line (IsOneTooMany so_far) (decided_many so_far)
 
 -- ---- where a line leads
 
+-- what a sentence makes, and that it is well
+abbrev MakesWell : SoFar → DeclarationSentence → Type 0
+MakesWell so_far s = (after : SoFar) × Makes so_far s after × IsWellSoFar after
+
+-- the header
+header_made : (d : Declared) (s : DeclarationSentence) → IsWellDeclared d → s ≡ Header → MakesWell (BeforeHeader d) s
+header_made d s well is = subst (MakesWell (BeforeHeader d)) (sym is) (Outside d, refl, well)
+
 -- a premise of a user that is there
 premise_made : (d : Declared) (name user : List ℕ) → IsWellDeclared d → length d.premises < most_premises → (o : Option ℕ) → place_of_name d.users user ≡ o → (o ≡ None → ⊥) →
-    (after : Declared) × Makes (Some d) (PremiseOf name user) after × IsWellDeclared after
+    MakesWell (Outside d) (PremiseOf name user)
 premise_made d name user well room None none there = absurd (there refl)
 premise_made d name user well room (Some owner) at there =
-    (with_premise d name (Some owner), (owner, at, refl), well_with_premise d name (Some owner) well room (place_of_name-lt d.users user owner at))
+    (Outside (with_premise d name (Some owner)), (owner, at, refl), well_with_premise d name (Some owner) well room (place_of_name-lt d.users user owner at))
 
--- a sentence in its place, with nothing wrong with it, makes a declaration
-made : (so_far : Option Declared) (words : List (List ℕ)) (s : DeclarationSentence) → IsWellSoFar so_far → IsDeclarationSentence words s → IsInPlace so_far s →
-    (HasDuplicate so_far s → ⊥) → (HasUnknown so_far s → ⊥) → (HasTooFew so_far s → ⊥) → (IsOneTooMany so_far s → ⊥) →
-    (after : Declared) × Makes so_far s after × IsWellDeclared after
-made None words Header well is place new known enough few = (nothing_declared, refl, well_at_first)
-made None words s well is place new known enough few = absurd place
-made (Some d) words Header well is place new known enough few = absurd place
-made (Some d) words (User name) well is place new known enough few = (with_user d name, refl, well_with_user d name well (lt_of_not-le few))
-made (Some d) words (Premise name) well is place new known enough few =
-    (with_premise d name None, refl, well_with_premise d name None well (lt_of_not-le few) tt)
-made (Some d) words (PremiseOf name user) well is place new known enough few =
-    premise_made d name user well (lt_of_not-le few) (place_of_name d.users user) refl known
-made (Some d) words (Set name members) well is place new known enough few =
-    let room : length d.sets < most_sets = lt_of_not-le (λ many. few (inl many)) in
-    let least : (length members < fewest_members → ⊥) = enough in
-    let most : (most_members < length members → ⊥) = λ many. few (inr many) in
-    elim (decided_distinct members) [
-      | inl differ ↦ (with_set d name members, refl, well_with_set d name members well room (omega arith, omega arith) (record { each = is.2; differ = differ }))
-      | inr equal ↦ absurd (new (inr equal))
-    ]
-made (Some d) words (Cell name word) well is place new known enough few =
-    elim (named_or_not d word well) [
-      | inl named ↦ (with_cell d name named.0, (named.0, named.1, refl), well_with_cell d name named.0 well (lt_of_not-le few) named.2)
+absent : {A : Type 0} (o : Option A) → (IsSome o → ⊥) → o ≡ None
+absent None none = refl
+absent (Some x) none = absurd (none refl)
+
+-- a compound of parameters whose kinds are there
+begin_made : (d : Declared) (name : List ℕ) (parameters : List (List ℕ)) → IsWellDeclared d →
+    (HasDuplicate (Outside d) (Begin name parameters) → ⊥) → (HasUnknown (Outside d) (Begin name parameters) → ⊥) →
+    (IsOneTooMany (Outside d) (Begin name parameters) → ⊥) → MakesWell (Outside d) (Begin name parameters)
+begin_made d name parameters well new known few =
+    elim (named_all_or_not d (parameter_kinds parameters) well) [
+      | inl named ↦
+          let names = parameter_names parameters in
+          let alike : length names ≡ length named.0 = length_of_names parameters ∙ length_of_kinds d (parameter_kinds parameters) named.0 named.1 in
+          let room : length d.compounds < prelude_compounds + most_compounds = lt_of_not-le (λ many. few (inl many)) in
+          let most : (most_parameters < length names → ⊥) = λ many. few (inr many) in
+          let fresh : callable_named d name ≡ None = absent (callable_named d name) (λ old. new (inl old)) in
+          (Inside d (begun name names named.0), (named.0, named.1, refl), (well, well_begun d name names named.0 room fresh alike (omega arith)))
       | inr none ↦ absurd (known none)
     ]
 
+-- a call of a callable that is there
+call_made : (d : Declared) (opened : OpenCompound) (word : List ℕ) (arguments : List (List ℕ)) → IsWellSoFar (Inside d opened) →
+    (HasWrongArguments (Inside d opened) (Call word arguments) → ⊥) → (IsOneTooMany (Inside d opened) (Call word arguments) → ⊥) →
+    (o : Option Callable) → callable_named d word ≡ o → (o ≡ None → ⊥) → MakesWell (Inside d opened) (Call word arguments)
+call_made d opened word arguments well right few None none there = absurd (there refl)
+call_made d opened word arguments well right few (Some callable) at there =
+    let places = places_of opened arguments in
+    elim (decided_accepts_kinds d.procedures d.compounds callable (kinds_at (cell_kinds opened.compound) places)) [
+      | inl accepts ↦ (
+        Inside d (with_call opened callable places),
+        (callable, at, refl),
+        (well.0, well_with_call d opened callable places well.1 (places_there d opened arguments well.1) accepts (λ more. few (callable, at, more))),
+      )
+      | inr refuses ↦ absurd (right (callable, at, refuses))
+    ]
+
+-- a sentence where it stands, with nothing wrong with it, makes something
+made : (so_far : SoFar) (words : List (List ℕ)) (s : DeclarationSentence) → IsWellSoFar so_far → IsSentenceAt so_far words s →
+    (HasDuplicate so_far s → ⊥) → (HasUnknown so_far s → ⊥) → (HasWrongArguments so_far s → ⊥) → (IsOneTooMany so_far s → ⊥) → MakesWell so_far s
+made (BeforeHeader d) words s well is new known right few = header_made d s well is.0
+made (Outside d) words (User name) well is new known right few = (Outside (with_user d name), refl, well_with_user d name well (lt_of_not-le few))
+made (Outside d) words (Premise name) well is new known right few =
+    (Outside (with_premise d name None), refl, well_with_premise d name None well (lt_of_not-le few) tt)
+made (Outside d) words (PremiseOf name user) well is new known right few =
+    premise_made d name user well (lt_of_not-le few) (place_of_name d.users user) refl known
+made (Outside d) words (Set name members) well is new known right few =
+    let room : length d.sets < most_sets = lt_of_not-le (λ many. few (inl many)) in
+    let least : (length members < fewest_members → ⊥) = right in
+    let most : (most_members < length members → ⊥) = λ many. few (inr many) in
+    elim (decided_distinct members) [
+      | inl differ ↦ (Outside (with_set d name members), refl, well_with_set d name members well room (omega arith, omega arith) (record { each = is.2; differ = differ }))
+      | inr equal ↦ absurd (new (inr equal))
+    ]
+made (Outside d) words (Cell name word) well is new known right few =
+    elim (named_or_not d word well) [
+      | inl named ↦ (Outside (with_cell d name named.0), (named.0, named.1, refl), well_with_cell d name named.0 well (lt_of_not-le few) named.2)
+      | inr none ↦ absurd (known none)
+    ]
+made (Outside d) words (Begin name parameters) well is new known right few = begin_made d name parameters well new known few
+made (Outside d) words s well is new known right few = absurd is
+made (Inside d opened) words (Local name word) well is new known right few =
+    elim (named_or_not d word well.0) [
+      | inl named ↦ (Inside d (with_local opened name named.0), (named.0, named.1, refl), (well.0, well_with_local d opened name named.0 well.1 few))
+      | inr none ↦ absurd (known none)
+    ]
+made (Inside d opened) words (Call word arguments) well is new known right few =
+    call_made d opened word arguments well right few (callable_named d word) refl (λ none. known (inl none))
+made (Inside d opened) words End well is new known right few = (
+  Outside (with_compound d opened.name opened.compound),
+  refl,
+  well_with_compound d opened.name opened.compound well.0 well.1.room well.1.parameters well.1.steps well.1.small,
+)
+made (Inside d opened) words s well is new known right few = absurd is
+
 -- a line without fault leads on, to what is well declared
-next_well : (so_far : Option Declared) (line : List ℕ) → IsWellSoFar so_far → HasNoFault so_far line →
-    (after : Option Declared) × Declares so_far line after × IsWellSoFar after
+next_well : (so_far : SoFar) (line : List ℕ) → IsWellSoFar so_far → HasNoFault so_far line →
+    (after : SoFar) × Declares so_far line after × IsWellSoFar after
 next_well so_far line well none =
     elim (cases_Bool (is_idle line)) [
       | inl idle ↦ (so_far, (none, inl (idle, refl)), well)
@@ -190,16 +308,16 @@ next_well so_far line well none =
           elim (said_or_not so_far line) [
             | inl said ↦
                 let after =
-                made so_far (words_of line) said.0 well said.1.words said.1.place
+                made so_far (words_of line) said.0 well said.1.words
                 (λ h. none.1.1.0 (said.0, said.1, h)) (λ h. none.1.1.1.0 (said.0, said.1, h)) (λ h. none.1.1.1.1.0 (said.0, said.1, h)) (λ h. none.1.1.1.1.1.0 (said.0, said.1, h)) in
-                (Some after.0, (none, inr (said.0, after.0, said.1, after.1, refl)), after.2)
+                (after.0, (none, inr (said.0, said.1, after.1)), after.2)
             | inr unsaid ↦ absurd (none.1.0 (spoken, unsaid))
           ]
     ]
 
 -- each line has a fault or leads on, to what is well declared
-faulty_or_well : (so_far : Option Declared) (line : List ℕ) → IsWellSoFar so_far →
-    HasAFault so_far line ⊎ ((after : Option Declared) × Declares so_far line after × IsWellSoFar after)
+faulty_or_well : (so_far : SoFar) (line : List ℕ) → IsWellSoFar so_far →
+    HasAFault so_far line ⊎ ((after : SoFar) × Declares so_far line after × IsWellSoFar after)
 faulty_or_well so_far line well =
     elim (first_or_none (FaultApplies so_far line) (decided_fault so_far line well) line_faults) [
       | inl first ↦ inl first
@@ -207,7 +325,7 @@ faulty_or_well so_far line well =
     ]
 
 -- each line has a fault or leads on
-pub faulty_or_leads : (so_far : Option Declared) (line : List ℕ) → IsWellSoFar so_far → HasAFault so_far line ⊎ LeadsOn so_far line
+pub faulty_or_leads : (so_far : SoFar) (line : List ℕ) → IsWellSoFar so_far → HasAFault so_far line ⊎ LeadsOn so_far line
 faulty_or_leads so_far line well =
     elim (faulty_or_well so_far line well) [
       | inl faulty ↦ inl faulty
@@ -215,7 +333,7 @@ faulty_or_leads so_far line well =
     ]
 
 -- a line leads to what is well declared
-pub kept : (so_far after : Option Declared) (line : List ℕ) → IsWellSoFar so_far → Declares so_far line after → IsWellSoFar after
+pub kept : (so_far after : SoFar) (line : List ℕ) → IsWellSoFar so_far → Declares so_far line after → IsWellSoFar after
 kept so_far after line well declares =
     elim (faulty_or_well so_far line well) [
       | inl faulty ↦ absurd (none_is_first (FaultApplies so_far line) line_faults faulty.0 declares.0 faulty.1)
@@ -225,27 +343,32 @@ kept so_far after line well declares =
 -- ---- one line after another
 
 -- so do lines
-kept_over : (start after : Option Declared) (lines : List (List ℕ)) → IsWellSoFar start → Leads start lines after → IsWellSoFar after
+kept_over : (start after : SoFar) (lines : List (List ℕ)) → IsWellSoFar start → Leads start lines after → IsWellSoFar after
 kept_over start after [] well leads = subst IsWellSoFar (sym leads) well
 kept_over start after (line ∷ lines) well (next, declares, leads) = kept_over next after lines (kept start next line well declares) leads
 
--- what a text spells is well declared
-pub spelled_well : (text : List ℕ) (d : Declared) → SpellsDeclaration text d → IsWellDeclared d
-spelled_well text d spells = kept_over None (Some d) (lines_of text) tt spells.1
+-- what the prelude declares is well declared
+known_well : (ps : List Procedure) (known : Declared) → PreludeDeclares ps known → IsWellDeclared known
+known_well ps known leads = kept_over (Outside (nothing_declared ps)) (Outside known) (lines_of prelude_text) (well_at_first ps) leads
+
+-- and so is what a text spells
+pub spelled_well : (ps : List Procedure) (text : List ℕ) (d : Declared) → SpellsDeclaration ps text d → IsWellDeclared d
+spelled_well ps text d spells =
+    kept_over (BeforeHeader spells.known) (Outside d) (lines_of text) (known_well ps spells.known spells.prelude) spells.leads
 
 -- the lines lead on up to one that has a fault
-record StopsAt (start : Option Declared) (lines : List (List ℕ)) : Type 0 where
+record StopsAt (start : SoFar) (lines : List (List ℕ)) : Type 0 where
   pub before : List (List ℕ)
   pub line : List ℕ
   pub rest : List (List ℕ)
-  pub so_far : Option Declared
+  pub so_far : SoFar
   pub parts : lines ≡ before ++ line ∷ rest
   pub leads : Leads start before so_far
   pub fault : LineFault
   pub first : IsFirstFaultOf so_far line fault
 
-stops_or_leads : (start : Option Declared) (lines : List (List ℕ)) → IsWellSoFar start →
-    StopsAt start lines ⊎ ((after : Option Declared) × Leads start lines after)
+stops_or_leads : (start : SoFar) (lines : List (List ℕ)) → IsWellSoFar start →
+    StopsAt start lines ⊎ ((after : SoFar) × Leads start lines after)
 stops_or_leads start [] well = inr (start, refl)
 stops_or_leads start (line ∷ lines) well =
     elim (faulty_or_well start line well) [
@@ -259,49 +382,62 @@ stops_or_leads start (line ∷ lines) well =
           ]
     ]
 
--- where all lines lead on, the text spells a declaration, or it has no header
-at_the_end : (text : List ℕ) (after : Option Declared) → length text ≤ most_text_bytes → Leads None (lines_of text) after →
-    ((d : Declared) × SpellsDeclaration text d) ⊎ ((number : ℕ) × (why : DeclFaultKind) × IsFirstFault text number why)
-at_the_end text (Some d) short leads = inl (d, (short, leads))
-at_the_end text None short leads =
+-- the lines lead out of every compound, or have a first fault
+abbrev LeadsOut : SoFar → List (List ℕ) → Type 0
+LeadsOut start lines = (d : Declared) × Leads start lines (Outside d)
+
+abbrev FaultAmong : SoFar → List (List ℕ) → Type 0
+FaultAmong start lines = (number : ℕ) × (why : DeclFaultKind) × IsFaultAmong start lines number why
+
+-- where all lines lead on, they lead out, or there is no header or no end
+at_the_end : (start : SoFar) (lines : List (List ℕ)) (after : SoFar) → Leads start lines after → LeadsOut start lines ⊎ FaultAmong start lines
+at_the_end start lines (BeforeHeader d) leads =
     inr (
-      length (lines_of text) + 1,
+      length lines + 1,
       Syntax,
-      inr (record {
-        before = lines_of text;
-        rest = [];
-        so_far = None;
-        short = short;
-        lines = sym (append-nil (lines_of text));
-        count = refl;
-        leads = leads;
-        fault = (refl, refl);
-      }),
+      record { before = lines; rest = []; so_far = BeforeHeader d; parts = sym (append-nil lines); count = refl; leads = leads; fault = refl },
+    )
+at_the_end start lines (Outside d) leads = inl (d, leads)
+at_the_end start lines (Inside d opened) leads =
+    inr (
+      length lines + 1,
+      MissingEnd,
+      record { before = lines; rest = []; so_far = Inside d opened; parts = sym (append-nil lines); count = refl; leads = leads; fault = refl },
     )
 
+out_or_faulty : (start : SoFar) (lines : List (List ℕ)) → IsWellSoFar start → LeadsOut start lines ⊎ FaultAmong start lines
+out_or_faulty start lines well =
+    elim (stops_or_leads start lines well) [
+      | inl stop ↦
+          inr (
+            length stop.before + 1,
+            kind_of_fault stop.fault,
+            record {
+              before = stop.before;
+              rest = stop.line ∷ stop.rest;
+              so_far = stop.so_far;
+              parts = stop.parts;
+              count = refl;
+              leads = stop.leads;
+              fault = (stop.fault, stop.first, refl);
+            },
+          )
+      | inr led ↦ at_the_end start lines led.0 led.1
+    ]
+
 -- each text spells a declaration or has a first fault
-pub spelled_or_faulty : (text : List ℕ) → ((d : Declared) × SpellsDeclaration text d) ⊎ ((number : ℕ) × (why : DeclFaultKind) × IsFirstFault text number why)
-spelled_or_faulty text =
+pub spelled_or_faulty : (ps : List Procedure) (text : List ℕ) → SpellsOne ps text ⊎ HasAFirstFault ps text
+spelled_or_faulty ps text =
     elim (decided_less most_text_bytes (length text)) [
       | inl long ↦ inr (0, Limit, inl (long, refl, refl))
       | inr fits ↦
           let short : length text ≤ most_text_bytes = omega arith in
-          elim (stops_or_leads None (lines_of text) tt) [
-            | inl stop ↦
-                inr (
-                  length stop.before + 1,
-                  kind_of_fault stop.fault,
-                  inr (record {
-                    before = stop.before;
-                    rest = stop.line ∷ stop.rest;
-                    so_far = stop.so_far;
-                    short = short;
-                    lines = stop.parts;
-                    count = refl;
-                    leads = stop.leads;
-                    fault = (stop.fault, stop.first, refl);
-                  }),
-                )
-            | inr led ↦ at_the_end text led.0 short led.1
+          elim (out_or_faulty (Outside (nothing_declared ps)) (lines_of prelude_text) (well_at_first ps)) [
+            | inl known ↦
+                elim (out_or_faulty (BeforeHeader known.0) (lines_of text) (known_well ps known.0 known.1)) [
+                  | inl led ↦ inl (led.0, record { short = short; known = known.0; prelude = known.1; leads = led.1 })
+                  | inr fault ↦ inr (fault.0, fault.1, inr (short, inr (record { known = known.0; prelude = known.1; among = fault.2 })))
+                ]
+            | inr fault ↦ inr (0, fault.1, inr (short, inl (refl, (fault.0, fault.2))))
           ]
     ]

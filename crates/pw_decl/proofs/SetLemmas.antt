@@ -15,7 +15,8 @@ use Rattle.pw_info.specs.Name.{IsName, is_name, is_reserved}
 use Rattle.pw_info.specs.SetNames.{AreNames, IsNamed}
 use Rattle.pw_info.proofs.NameTests.{passed}
 use Rattle.pw_procs.specs.Place.{place_of_name}
-use Rattle.pw_decl.specs.Declaration.{Declared, nothing_declared, built_in_sets, built_in_kind_names, kind_names, members_of, NamesKind}
+use Rattle.pw_procs.specs.Procedure.{Procedure}
+use Rattle.pw_decl.specs.Declaration.{Declared, nothing_declared, built_in_sets, built_in_members, built_in_kind_names, kind_names, members_of, NamesKind}
 
 -- ---- the members of set kinds
 
@@ -35,11 +36,11 @@ built_in_named d (suc zero) few = tested (codes "neg" ∷ codes "zero" ∷ codes
 built_in_named d (suc (suc set)) few = absurd (omega arith)
 
 -- before a set is declared there are no other members
-pub nothing_named : (set : ℕ) → AreNames (members_of nothing_declared set)
+pub nothing_named : (procedures : List Procedure) (set : ℕ) → AreNames (members_of (nothing_declared procedures) set)
 unfolding IsDistinct
-nothing_named zero = built_in_named nothing_declared zero (omega arith)
-nothing_named (suc zero) = built_in_named nothing_declared (suc zero) (omega arith)
-nothing_named (suc (suc set)) = tested [] tt tt
+nothing_named procedures zero = built_in_named (nothing_declared procedures) zero (omega arith)
+nothing_named procedures (suc zero) = built_in_named (nothing_declared procedures) (suc zero) (omega arith)
+nothing_named procedures (suc (suc set)) = tested [] tt tt
 
 -- the members of sets have names also with one more set
 pub named_push : (sets : List (List (List ℕ))) (members : List (List ℕ)) → ((set : ℕ) → AreNames (slice_index_or sets set [])) → AreNames members →
@@ -167,3 +168,9 @@ at_some (Some x) there p then = then x p
 pub at_none : {X : Type 0} (o : Option X) {P : Type 0} → is_some o ≡ false → IfNone o P → P
 at_none None absent p = p
 at_none (Some x) absent p = absurd (cc)
+
+-- a set that is built in has its own members, whatever is declared
+pub built_in_same : (d : Declared) (set : ℕ) → set < 2 → members_of d set ≡ built_in_members set
+built_in_same d zero few = refl
+built_in_same d (suc zero) few = refl
+built_in_same d (suc (suc set)) few = absurd (omega arith)

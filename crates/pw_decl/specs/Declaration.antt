@@ -1,15 +1,22 @@
 -- What a declaration is, and what each of its lines adds.
-use Rattle.std.specs.Prelude.{◌≡◌, ℕ, ◌+◌, List, [], ◌∷◌, ◌++◌, All, length, Option, Some, None, codes, slice_index_or}
+use Rattle.std.specs.Prelude.{◌≡◌, ◌≢◌, ℕ, ◌+◌, List, [], ◌∷◌, ◌++◌, All, length, Option, Some, None, codes, slice_index_or}
+use Rattle.std.specs.List.{filter_map}
+use Rattle.std.specs.Option.{option_map, option_or}
 use Rattle.pw_info.specs.declared.kind.Kind.{Kind}
 use Rattle.pw_info.specs.declared.kind.Kind.TheVariants as kinds
 use Rattle.pw_info.specs.Name.{IsName}
 use Rattle.pw_info.specs.SetNames.{SetNames}
 use Rattle.pw_procs.specs.Place.{place_of_name}
+use Rattle.pw_procs.specs.Procedure.{Procedure, names_of}
+use Rattle.pw_decl.specs.declared.step.Callable.{Callable}
+use Rattle.pw_decl.specs.declared.step.Callable.TheVariants as callables
+use Rattle.pw_decl.specs.Compound.{Compound, NewCell, CallOn, AcceptsKinds, IsThere, with_step}
 
--- what is declared: the names of the users, premises, cells and set kinds in the order of their lines,
--- for each premise the number of the user that it belongs to, if any, for each cell its kind,
--- and for each set kind the names of its members
+-- what is declared, over the procedures of a registry: the names of the users, premises, cells, set kinds and compounds in the
+-- order of their lines, for each premise the number of the user that it belongs to, if any, for each cell its kind,
+-- for each set kind the names of its members, and each compound
 pub record Declared : Type 0 where
+  pub procedures : List Procedure
   pub users : List (List ℕ)
   pub premises : List (List ℕ)
   pub owners : List (Option ℕ)
@@ -17,10 +24,23 @@ pub record Declared : Type 0 where
   pub kinds : List Kind
   pub set_names : List (List ℕ)
   pub sets : List (List (List ℕ))
+  pub compound_names : List (List ℕ)
+  pub compounds : List Compound
 
--- the header alone declares nothing
-abbrev pub nothing_declared : Declared
-nothing_declared = record { users = []; premises = []; owners = []; cells = []; kinds = []; set_names = []; sets = [] }
+-- over these procedures nothing is declared
+abbrev pub nothing_declared : List Procedure → Declared
+nothing_declared procedures = record {
+  procedures = procedures;
+  users = [];
+  premises = [];
+  owners = [];
+  cells = [];
+  kinds = [];
+  set_names = [];
+  sets = [];
+  compound_names = [];
+  compounds = [];
+}
 
 -- the user that a premise belongs to, if it belongs to one
 abbrev pub owner_of : Declared → ℕ → Option ℕ
@@ -57,7 +77,30 @@ NamesKind d word kinds.Exact = place_of_name (kind_names d) word ≡ Some 1
 NamesKind d word (kinds.Members set) =
     (place_of_name (kind_names d) word ≡ Some (set.number + 2)) × (length (members_of d set.number) ≡ set.size)
 
--- what a line of a declaration says, by its words: nothing is looked up yet
+-- the words name these kinds, one each
+abbrev pub NameKinds : Declared → List (List ℕ) → List Kind → Type 0
+NameKinds d [] [] = Unit {0}
+NameKinds d (word ∷ words) (kind ∷ kinds) = NamesKind d word kind × NameKinds d words kinds
+NameKinds d words kinds = ⊥
+
+-- the callable of this name, if there is one: a procedure, or a compound that is ended
+abbrev pub callable_named : Declared → List ℕ → Option Callable
+callable_named d word =
+    option_or (option_map callables.Stored (place_of_name (names_of d.procedures) word))
+    (option_map callables.Compound (place_of_name d.compound_names word))
+
+-- the callable is there
+abbrev pub IsCallable : Declared → Callable → Type 0
+IsCallable d callable = IsThere d.procedures d.compounds callable
+
+-- the callable takes cells of these kinds
+abbrev pub Takes : Declared → Callable → List Kind → Type 0
+Takes d callable kinds = AcceptsKinds d.procedures d.compounds callable kinds
+
+-- ---- lines
+
+-- what a line of a declaration says, by its words: nothing is looked up yet. A compound begins with the name and the kind of
+-- each of its parameters in turn; the last three stand in a compound
 pub data DeclarationSentence : Type 0 where
   Header : DeclarationSentence
   User : (name : List ℕ) → DeclarationSentence
@@ -65,15 +108,66 @@ pub data DeclarationSentence : Type 0 where
   PremiseOf : (name user : List ℕ) → DeclarationSentence
   Set : (name : List ℕ) (members : List (List ℕ)) → DeclarationSentence
   Cell : (name kind : List ℕ) → DeclarationSentence
+  Begin : (name : List ℕ) (parameters : List (List ℕ)) → DeclarationSentence
+  Local : (name kind : List ℕ) → DeclarationSentence
+  Call : (callable : List ℕ) (arguments : List (List ℕ)) → DeclarationSentence
+  End : DeclarationSentence
 
--- the words form the sentence, and its new names are names
-abbrev pub IsDeclarationSentence : List (List ℕ) → DeclarationSentence → Type 0
-IsDeclarationSentence words Header = words ≡ codes "workbench" ∷ codes "1" ∷ []
-IsDeclarationSentence words (User name) = (words ≡ codes "user" ∷ name ∷ []) × IsName name
-IsDeclarationSentence words (Premise name) = (words ≡ codes "premise" ∷ name ∷ []) × IsName name
-IsDeclarationSentence words (PremiseOf name user) = (words ≡ codes "premise" ∷ name ∷ codes "of" ∷ user ∷ []) × IsName name
-IsDeclarationSentence words (Set name members) = (words ≡ codes "set" ∷ name ∷ members) × IsName name × All IsName members
-IsDeclarationSentence words (Cell name kind) = (words ≡ codes "cell" ∷ name ∷ kind ∷ []) × IsName name
+-- the words are names and kinds in turn, and the names are names
+abbrev pub AreParameters : List (List ℕ) → Type 0
+AreParameters [] = Unit {0}
+AreParameters (name ∷ []) = ⊥
+AreParameters (name ∷ kind ∷ words) = IsName name × AreParameters words
+
+-- of words that are names and kinds in turn, the names
+abbrev pub parameter_names : List (List ℕ) → List (List ℕ)
+parameter_names (name ∷ kind ∷ words) = name ∷ parameter_names words
+parameter_names words = []
+
+-- and the kinds
+abbrev pub parameter_kinds : List (List ℕ) → List (List ℕ)
+parameter_kinds (name ∷ kind ∷ words) = kind ∷ parameter_kinds words
+parameter_kinds words = []
+
+-- outside a compound, the words form the sentence, and its new names are names
+abbrev pub IsOuterSentence : List (List ℕ) → DeclarationSentence → Type 0
+IsOuterSentence words (User name) = (words ≡ codes "user" ∷ name ∷ []) × IsName name
+IsOuterSentence words (Premise name) = (words ≡ codes "premise" ∷ name ∷ []) × IsName name
+IsOuterSentence words (PremiseOf name user) = (words ≡ codes "premise" ∷ name ∷ codes "of" ∷ user ∷ []) × IsName name
+IsOuterSentence words (Set name members) = (words ≡ codes "set" ∷ name ∷ members) × IsName name × All IsName members
+IsOuterSentence words (Cell name kind) = (words ≡ codes "cell" ∷ name ∷ kind ∷ []) × IsName name
+IsOuterSentence words (Begin name parameters) = (words ≡ codes "compound" ∷ name ∷ parameters) × IsName name × AreParameters parameters
+IsOuterSentence words sentence = ⊥
+
+-- inside a compound: a first word that is neither `local` nor `end` begins a call, which has an argument or more
+abbrev pub IsInnerSentence : List (List ℕ) → DeclarationSentence → Type 0
+IsInnerSentence words (Local name kind) = (words ≡ codes "local" ∷ name ∷ kind ∷ []) × IsName name
+IsInnerSentence words (Call callable arguments) =
+    (words ≡ callable ∷ arguments) × (callable ≢ codes "local") × (callable ≢ codes "end") × (arguments ≢ [])
+IsInnerSentence words End = words ≡ codes "end" ∷ []
+IsInnerSentence words sentence = ⊥
+
+-- ---- what was declared so far
+
+-- a compound that is begun and not ended: its name, the names of its parameters and then of its private cells so far, and
+-- what it is so far
+pub record OpenCompound : Type 0 where
+  pub name : List ℕ
+  pub names : List (List ℕ)
+  pub compound : Compound
+
+-- what was declared before a line, and where the line stands: before the header, where only the prelude is declared,
+-- outside a compound, or inside one
+pub data SoFar : Type 0 where
+  BeforeHeader : (d : Declared) → SoFar
+  Outside : (d : Declared) → SoFar
+  Inside : (d : Declared) (opened : OpenCompound) → SoFar
+
+-- where the line stands, its words form the sentence. The header stands before every other line, and once
+abbrev pub IsSentenceAt : SoFar → List (List ℕ) → DeclarationSentence → Type 0
+IsSentenceAt (BeforeHeader d) words sentence = (sentence ≡ Header) × (words ≡ codes "workbench" ∷ codes "1" ∷ [])
+IsSentenceAt (Outside d) words sentence = IsOuterSentence words sentence
+IsSentenceAt (Inside d opened) words sentence = IsInnerSentence words sentence
 
 -- with one more user
 abbrev pub with_user : Declared → List ℕ → Declared
@@ -91,12 +185,43 @@ with_cell d name kind = record d { cells = d.cells ++ name ∷ []; kinds = d.kin
 abbrev pub with_set : Declared → List ℕ → List (List ℕ) → Declared
 with_set d name members = record d { set_names = d.set_names ++ name ∷ []; sets = d.sets ++ members ∷ [] }
 
--- after what was declared so far, and nothing is before the header, the sentence makes this declaration
-abbrev pub Makes : Option Declared → DeclarationSentence → Declared → Type 0
-Makes None Header after = after ≡ nothing_declared
-Makes (Some d) (User name) after = after ≡ with_user d name
-Makes (Some d) (Premise name) after = after ≡ with_premise d name None
-Makes (Some d) (PremiseOf name user) after = (owner : ℕ) × (place_of_name d.users user ≡ Some owner) × (after ≡ with_premise d name (Some owner))
-Makes (Some d) (Set name members) after = after ≡ with_set d name members
-Makes (Some d) (Cell name word) after = (kind : Kind) × NamesKind d word kind × (after ≡ with_cell d name kind)
+-- with one more compound
+abbrev pub with_compound : Declared → List ℕ → Compound → Declared
+with_compound d name compound =
+    record d { compound_names = d.compound_names ++ name ∷ []; compounds = d.compounds ++ compound ∷ [] }
+
+-- a compound of this name is begun, with parameters of these names and kinds
+abbrev pub begun : List ℕ → List (List ℕ) → List Kind → OpenCompound
+begun name names kinds = record { name = name; names = names; compound = record { parameters = kinds; steps = [] } }
+
+-- the open compound with one more private cell
+abbrev pub with_local : OpenCompound → List ℕ → Kind → OpenCompound
+with_local opened name kind =
+    record opened { names = opened.names ++ name ∷ []; compound = with_step opened.compound (NewCell kind) }
+
+-- the open compound with one more call
+abbrev pub with_call : OpenCompound → Callable → List ℕ → OpenCompound
+with_call opened callable places = record opened { compound = with_step opened.compound (CallOn callable places) }
+
+-- the places of the cells that the words name
+abbrev pub places_of : OpenCompound → List (List ℕ) → List ℕ
+places_of opened words = filter_map (place_of_name opened.names) words
+
+-- after what was declared so far the sentence makes this
+abbrev pub Makes : SoFar → DeclarationSentence → SoFar → Type 0
+Makes (BeforeHeader d) Header after = after ≡ Outside d
+Makes (Outside d) (User name) after = after ≡ Outside (with_user d name)
+Makes (Outside d) (Premise name) after = after ≡ Outside (with_premise d name None)
+Makes (Outside d) (PremiseOf name user) after =
+    (owner : ℕ) × (place_of_name d.users user ≡ Some owner) × (after ≡ Outside (with_premise d name (Some owner)))
+Makes (Outside d) (Set name members) after = after ≡ Outside (with_set d name members)
+Makes (Outside d) (Cell name word) after = (kind : Kind) × NamesKind d word kind × (after ≡ Outside (with_cell d name kind))
+Makes (Outside d) (Begin name parameters) after =
+    (kinds : List Kind) × NameKinds d (parameter_kinds parameters) kinds
+    × (after ≡ Inside d (begun name (parameter_names parameters) kinds))
+Makes (Inside d opened) (Local name word) after = (kind : Kind) × NamesKind d word kind × (after ≡ Inside d (with_local opened name kind))
+Makes (Inside d opened) (Call word arguments) after =
+    (callable : Callable) × (callable_named d word ≡ Some callable)
+    × (after ≡ Inside d (with_call opened callable (places_of opened arguments)))
+Makes (Inside d opened) End after = after ≡ Outside (with_compound d opened.name opened.compound)
 Makes so_far sentence after = ⊥

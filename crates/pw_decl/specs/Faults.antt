@@ -1,5 +1,5 @@
 -- Which texts spell a declaration, and the first fault of those that do not.
-use Rattle.std.specs.Prelude.{◌≡◌, ℕ, ◌+◌, ◌<◌, ◌≤◌, true, false, List, [], ◌∷◌, ◌++◌, length, Option, Some, None, IsSome, ◌⊎◌, Result, MatchResult, IsErrAnd}
+use Rattle.std.specs.Prelude.{◌≡◌, ℕ, ◌+◌, ◌<◌, ◌≤◌, Bool, true, false, List, [], ◌∷◌, ◌++◌, length, Some, None, is_some, IsSome, ◌⊎◌, Result, MatchResult, IsErrAnd}
 use Rattle.std.specs.List.{list_all, IsDistinct}
 use Rattle.std.specs.Str.{bytes_eq}
 use Rattle.pw_info.specs.declared.kind.Kind.{Kind}
@@ -7,55 +7,79 @@ use Rattle.pw_kinds.specs.Limits.{most_members}
 use Rattle.pw_kinds.specs.Places.{fewest_members}
 use Rattle.pw_procs.specs.Place.{place_of_name}
 use Rattle.pw_decl.specs.declared.decl_fault.DeclFault.{DeclFault}
+use Rattle.pw_decl.specs.declared.declaration.holding.Declaration.{Declaration}
+use Rattle.pw_decl.specs.Fields.{declared_by}
 use Rattle.pw_decl.specs.declared.decl_fault.DeclFaultKind.{DeclFaultKind}
-use Rattle.pw_decl.specs.declared.decl_fault.DeclFaultKind.TheVariants.{Syntax, DuplicateName, UnknownName, WrongArguments, Limit, Memory}
+use Rattle.pw_decl.specs.declared.decl_fault.DeclFaultKind.TheVariants.{Syntax, DuplicateName, UnknownName, WrongArguments, Limit, MissingEnd, Memory}
 use Rattle.pw_info.specs.Words.{words_of, is_idle, is_allowed}
 use Rattle.pw_info.specs.Lines.{lines_of}
 use Rattle.pw_info.specs.First.{IsFirstIn, HoldsOfNone}
-use Rattle.pw_decl.specs.Declaration.{Declared, DeclarationSentence, Header, User, Premise, PremiseOf, Set, Cell, IsDeclarationSentence, kind_names, NamesKind, Makes}
-use Rattle.pw_decl.specs.Limits.{most_users, most_premises, most_cells, most_sets, most_line_bytes, most_text_bytes}
-
--- the header stands before every other sentence, and once
-abbrev pub IsInPlace : Option Declared → DeclarationSentence → Type 0
-IsInPlace None Header = Unit {0}
-IsInPlace None sentence = ⊥
-IsInPlace (Some d) Header = ⊥
-IsInPlace (Some d) sentence = Unit {0}
+use Rattle.pw_procs.specs.Procedure.{Procedure}
+use Rattle.pw_decl.specs.declared.step.Callable.{Callable}
+use Rattle.pw_decl.specs.Compound.{kinds_at, cell_kinds, Size, sum_of_sizes, size_of_local, size_of_callable, size_of_steps, sizes_of, IsTooLarge}
+use Rattle.pw_decl.specs.Prelude.{prelude_compounds, prelude_text}
+use Rattle.pw_decl.specs.Declaration.{Declared, nothing_declared, OpenCompound, SoFar, BeforeHeader, Outside, Inside, DeclarationSentence, User, Premise, PremiseOf, Set, Cell, Begin, Local, Call, IsSentenceAt, parameter_names, parameter_kinds, kind_names, NamesKind, NameKinds, callable_named, Takes, places_of, Makes}
+use Rattle.pw_decl.specs.Limits.{most_users, most_premises, most_cells, most_sets, most_compounds, most_parameters, most_line_bytes, most_text_bytes}
 
 -- the line, where it stands, says the sentence
-pub record SaysInPlace (so_far : Option Declared) (line : List ℕ) (sentence : DeclarationSentence) : Type 0 where
+pub record SaysInPlace (so_far : SoFar) (line : List ℕ) (sentence : DeclarationSentence) : Type 0 where
   pub spoken : is_idle line ≡ false
   pub allowed : list_all is_allowed line ≡ true
-  pub words : IsDeclarationSentence (words_of line) sentence
-  pub place : IsInPlace so_far sentence
+  pub words : IsSentenceAt so_far (words_of line) sentence
 
--- the new name is one that its name space has already, or a member is named twice
-abbrev pub HasDuplicate : Option Declared → DeclarationSentence → Type 0
-HasDuplicate (Some d) (User name) = IsSome (place_of_name d.users name)
-HasDuplicate (Some d) (Premise name) = IsSome (place_of_name d.premises name)
-HasDuplicate (Some d) (PremiseOf name user) = IsSome (place_of_name d.premises name)
-HasDuplicate (Some d) (Set name members) = IsSome (place_of_name (kind_names d) name) ⊎ (IsDistinct bytes_eq members → ⊥)
-HasDuplicate (Some d) (Cell name kind) = IsSome (place_of_name d.cells name)
+-- the new name is one that its name space has already, or a member or a parameter is named twice
+abbrev pub HasDuplicate : SoFar → DeclarationSentence → Type 0
+HasDuplicate (Outside d) (User name) = IsSome (place_of_name d.users name)
+HasDuplicate (Outside d) (Premise name) = IsSome (place_of_name d.premises name)
+HasDuplicate (Outside d) (PremiseOf name user) = IsSome (place_of_name d.premises name)
+HasDuplicate (Outside d) (Set name members) = IsSome (place_of_name (kind_names d) name) ⊎ (IsDistinct bytes_eq members → ⊥)
+HasDuplicate (Outside d) (Cell name kind) = IsSome (place_of_name d.cells name)
+HasDuplicate (Outside d) (Begin name parameters) =
+    IsSome (callable_named d name) ⊎ (IsDistinct bytes_eq (parameter_names parameters) → ⊥)
+HasDuplicate (Inside d opened) (Local name kind) = IsSome (place_of_name opened.names name)
 HasDuplicate so_far sentence = ⊥
 
--- there is no such user, or no such kind
-abbrev pub HasUnknown : Option Declared → DeclarationSentence → Type 0
-HasUnknown (Some d) (PremiseOf name user) = place_of_name d.users user ≡ None
-HasUnknown (Some d) (Cell name word) = (kind : Kind) → NamesKind d word kind → ⊥
+-- the word names a cell of the open compound
+abbrev pub is_cell_of : OpenCompound → List ℕ → Bool
+is_cell_of opened word = is_some (place_of_name opened.names word)
+
+-- there is no such user, no such kind, no such callable, or no such cell of the compound
+abbrev pub HasUnknown : SoFar → DeclarationSentence → Type 0
+HasUnknown (Outside d) (PremiseOf name user) = place_of_name d.users user ≡ None
+HasUnknown (Outside d) (Cell name word) = (kind : Kind) → NamesKind d word kind → ⊥
+HasUnknown (Outside d) (Begin name parameters) = (kinds : List Kind) → NameKinds d (parameter_kinds parameters) kinds → ⊥
+HasUnknown (Inside d opened) (Local name word) = (kind : Kind) → NamesKind d word kind → ⊥
+HasUnknown (Inside d opened) (Call word arguments) =
+    (callable_named d word ≡ None) ⊎ (list_all (is_cell_of opened) arguments ≡ false)
 HasUnknown so_far sentence = ⊥
 
--- a set has fewer members than it may have
-abbrev pub HasTooFew : Option Declared → DeclarationSentence → Type 0
-HasTooFew (Some d) (Set name members) = length members < fewest_members
-HasTooFew so_far sentence = ⊥
+-- a set has fewer members than it may have, a compound has no parameter, or a callable does not accept the cells of a call
+abbrev pub HasWrongArguments : SoFar → DeclarationSentence → Type 0
+HasWrongArguments (Outside d) (Set name members) = length members < fewest_members
+HasWrongArguments (Outside d) (Begin name parameters) = parameters ≡ []
+HasWrongArguments (Inside d opened) (Call word arguments) =
+    (callable : Callable) × (callable_named d word ≡ Some callable)
+    × (Takes d callable (kinds_at (cell_kinds opened.compound) (places_of opened arguments)) → ⊥)
+HasWrongArguments so_far sentence = ⊥
 
--- there are as many users, premises, sets or cells as may be already, or the set has more members than it may have
-abbrev pub IsOneTooMany : Option Declared → DeclarationSentence → Type 0
-IsOneTooMany (Some d) (User name) = most_users ≤ length d.users
-IsOneTooMany (Some d) (Premise name) = most_premises ≤ length d.premises
-IsOneTooMany (Some d) (PremiseOf name user) = most_premises ≤ length d.premises
-IsOneTooMany (Some d) (Set name members) = (most_sets ≤ length d.sets) ⊎ (most_members < length members)
-IsOneTooMany (Some d) (Cell name kind) = most_cells ≤ length d.cells
+-- what the open compound expands to is too large with this line more
+abbrev pub OutgrowsWith : Declared → OpenCompound → Size → Type 0
+OutgrowsWith d opened size = IsTooLarge (sum_of_sizes (size_of_steps (sizes_of d.compounds) opened.compound.steps) size)
+
+-- there are as many users, premises, sets, cells or compounds as may be already, the set has more members or the compound more
+-- parameters than it may have, or the compound expands to more instances or inner cells than it may
+abbrev pub IsOneTooMany : SoFar → DeclarationSentence → Type 0
+IsOneTooMany (Outside d) (User name) = most_users ≤ length d.users
+IsOneTooMany (Outside d) (Premise name) = most_premises ≤ length d.premises
+IsOneTooMany (Outside d) (PremiseOf name user) = most_premises ≤ length d.premises
+IsOneTooMany (Outside d) (Set name members) = (most_sets ≤ length d.sets) ⊎ (most_members < length members)
+IsOneTooMany (Outside d) (Cell name kind) = most_cells ≤ length d.cells
+IsOneTooMany (Outside d) (Begin name parameters) =
+    (prelude_compounds + most_compounds ≤ length d.compounds) ⊎ (most_parameters < length (parameter_names parameters))
+IsOneTooMany (Inside d opened) (Local name word) = OutgrowsWith d opened size_of_local
+IsOneTooMany (Inside d opened) (Call word arguments) =
+    (callable : Callable) × (callable_named d word ≡ Some callable)
+    × OutgrowsWith d opened (size_of_callable (sizes_of d.compounds) callable)
 IsOneTooMany so_far sentence = ⊥
 
 -- what can be wrong with a line
@@ -64,105 +88,161 @@ pub data LineFault : Type 0 where
   BadSyntax : LineFault
   Duplicate : LineFault
   Unknown : LineFault
-  TooFew : LineFault
+  Wrong : LineFault
   TooMany : LineFault
 
 -- in the order in which they are told
 abbrev pub line_faults : List LineFault
-line_faults = TooLong ∷ BadSyntax ∷ Duplicate ∷ Unknown ∷ TooFew ∷ TooMany ∷ []
+line_faults = TooLong ∷ BadSyntax ∷ Duplicate ∷ Unknown ∷ Wrong ∷ TooMany ∷ []
 
 abbrev pub kind_of_fault : LineFault → DeclFaultKind
 kind_of_fault TooLong = Limit
 kind_of_fault BadSyntax = Syntax
 kind_of_fault Duplicate = DuplicateName
 kind_of_fault Unknown = UnknownName
-kind_of_fault TooFew = WrongArguments
+kind_of_fault Wrong = WrongArguments
 kind_of_fault TooMany = Limit
 
 -- the line, after what was declared so far, has the fault, whatever else is wrong with it
-abbrev pub FaultApplies : Option Declared → List ℕ → LineFault → Type 0
+abbrev pub FaultApplies : SoFar → List ℕ → LineFault → Type 0
 FaultApplies so_far line TooLong = most_line_bytes < length line
 FaultApplies so_far line BadSyntax = (is_idle line ≡ false) × ((sentence : DeclarationSentence) → SaysInPlace so_far line sentence → ⊥)
 FaultApplies so_far line Duplicate = (sentence : DeclarationSentence) × SaysInPlace so_far line sentence × HasDuplicate so_far sentence
 FaultApplies so_far line Unknown = (sentence : DeclarationSentence) × SaysInPlace so_far line sentence × HasUnknown so_far sentence
-FaultApplies so_far line TooFew = (sentence : DeclarationSentence) × SaysInPlace so_far line sentence × HasTooFew so_far sentence
+FaultApplies so_far line Wrong = (sentence : DeclarationSentence) × SaysInPlace so_far line sentence × HasWrongArguments so_far sentence
 FaultApplies so_far line TooMany = (sentence : DeclarationSentence) × SaysInPlace so_far line sentence × IsOneTooMany so_far sentence
 
 -- the line, after what was declared so far, has no fault
-abbrev pub HasNoFault : Option Declared → List ℕ → Type 0
+abbrev pub HasNoFault : SoFar → List ℕ → Type 0
 HasNoFault so_far line = HoldsOfNone (FaultApplies so_far line) line_faults
 
 -- this is the line's fault: of those that it has, the first
-abbrev pub IsFirstFaultOf : Option Declared → List ℕ → LineFault → Type 0
+abbrev pub IsFirstFaultOf : SoFar → List ℕ → LineFault → Type 0
 IsFirstFaultOf so_far line fault = IsFirstIn (FaultApplies so_far line) line_faults fault
 
 -- the line has no fault, and leads to this: an idle line leaves what was declared so far
-abbrev pub Declares : Option Declared → List ℕ → Option Declared → Type 0
+abbrev pub Declares : SoFar → List ℕ → SoFar → Type 0
 Declares so_far line after =
     HasNoFault so_far line
     × (((is_idle line ≡ true) × (after ≡ so_far))
-    ⊎ ((sentence : DeclarationSentence) × (d : Declared) × SaysInPlace so_far line sentence × Makes so_far sentence d × (after ≡ Some d)))
+    ⊎ ((sentence : DeclarationSentence) × SaysInPlace so_far line sentence × Makes so_far sentence after))
 
 -- the line has a fault
-abbrev pub HasAFault : Option Declared → List ℕ → Type 0
+abbrev pub HasAFault : SoFar → List ℕ → Type 0
 HasAFault so_far line = (fault : LineFault) × IsFirstFaultOf so_far line fault
 
 -- the line has no fault, and leads on
-abbrev pub LeadsOn : Option Declared → List ℕ → Type 0
-LeadsOn so_far line = (after : Option Declared) × Declares so_far line after
+abbrev pub LeadsOn : SoFar → List ℕ → Type 0
+LeadsOn so_far line = (after : SoFar) × Declares so_far line after
 
 -- the lines lead from what was declared so far to what is declared after them, each without fault
-abbrev pub Leads : Option Declared → List (List ℕ) → Option Declared → Type 0
+abbrev pub Leads : SoFar → List (List ℕ) → SoFar → Type 0
 Leads so_far [] after = after ≡ so_far
-Leads so_far (line ∷ lines) after = (next : Option Declared) × Declares so_far line next × Leads next lines after
+Leads so_far (line ∷ lines) after = (next : SoFar) × Declares so_far line next × Leads next lines after
 
--- the text spells the declaration
-abbrev pub SpellsDeclaration : List ℕ → Declared → Type 0
-SpellsDeclaration text declared = (length text ≤ most_text_bytes) × Leads None (lines_of text) (Some declared)
+-- over these procedures the prelude declares this
+abbrev pub PreludeDeclares : List Procedure → Declared → Type 0
+PreludeDeclares procedures known = Leads (Outside (nothing_declared procedures)) (lines_of prelude_text) (Outside known)
 
--- what is wrong with the first of the lines that are left; where none is left, that there was no header
-abbrev pub IsFaultNext : Option Declared → List (List ℕ) → DeclFaultKind → Type 0
-IsFaultNext so_far [] why = (so_far ≡ None) × (why ≡ Syntax)
+-- over these procedures the text spells the declaration: its lines lead to it from what the prelude declares
+pub record SpellsDeclaration (procedures : List Procedure) (text : List ℕ) (declared : Declared) : Type 0 where
+  pub short : length text ≤ most_text_bytes
+  pub known : Declared
+  pub prelude : PreludeDeclares procedures known
+  pub leads : Leads (BeforeHeader known) (lines_of text) (Outside declared)
+
+-- what is wrong after the last line: there was no header, or a compound is not ended
+abbrev pub IsUnfinished : SoFar → DeclFaultKind → Type 0
+IsUnfinished (BeforeHeader d) why = why ≡ Syntax
+IsUnfinished (Outside d) why = ⊥
+IsUnfinished (Inside d opened) why = why ≡ MissingEnd
+
+-- what is wrong with the first of the lines that are left, or after the last of them
+abbrev pub IsFaultNext : SoFar → List (List ℕ) → DeclFaultKind → Type 0
+IsFaultNext so_far [] why = IsUnfinished so_far why
 IsFaultNext so_far (line ∷ lines) why = (fault : LineFault) × IsFirstFaultOf so_far line fault × (why ≡ kind_of_fault fault)
 
--- the fault is on this line: the lines before it have none
-pub record IsFaultOnLine (text : List ℕ) (number : ℕ) (why : DeclFaultKind) : Type 0 where
+-- from what was declared so far, the first fault of the lines is at this one, counted from 1, or after the last
+pub record IsFaultAmong (start : SoFar) (lines : List (List ℕ)) (number : ℕ) (why : DeclFaultKind) : Type 0 where
   pub before : List (List ℕ)
   pub rest : List (List ℕ)
-  pub so_far : Option Declared
-  pub short : length text ≤ most_text_bytes
-  pub lines : lines_of text ≡ before ++ rest
+  pub so_far : SoFar
+  pub parts : lines ≡ before ++ rest
   pub count : number ≡ length before + 1
-  pub leads : Leads None before so_far
+  pub leads : Leads start before so_far
   pub fault : IsFaultNext so_far rest why
 
--- the text is not too long and has a line of this number, from 1, and neither that line nor one before it has a fault
-pub record HasNoFaultUpTo (text : List ℕ) (number : ℕ) : Type 0 where
+-- from what was declared so far, neither the line of this number, from 1, nor one before it has a fault
+pub record IsClearUpTo (start : SoFar) (lines : List (List ℕ)) (number : ℕ) : Type 0 where
   pub before : List (List ℕ)
   pub line : List ℕ
   pub rest : List (List ℕ)
-  pub so_far : Option Declared
-  pub short : length text ≤ most_text_bytes
-  pub lines : lines_of text ≡ before ++ line ∷ rest
+  pub so_far : SoFar
+  pub parts : lines ≡ before ++ line ∷ rest
   pub count : number ≡ length before + 1
-  pub leads : Leads None before so_far
+  pub leads : Leads start before so_far
   pub clear : HasNoFault so_far line
 
--- the first fault of a text, and the number of its line, from 1; too long a text is a fault at line 0
-abbrev pub IsFirstFault : List ℕ → ℕ → DeclFaultKind → Type 0
-IsFirstFault text number why =
-    ((most_text_bytes < length text) × (number ≡ 0) × (why ≡ Limit)) ⊎ IsFaultOnLine text number why
+-- the first fault of the text's lines, after the prelude
+pub record IsFaultOnLine (procedures : List Procedure) (text : List ℕ) (number : ℕ) (why : DeclFaultKind) : Type 0 where
+  pub known : Declared
+  pub prelude : PreludeDeclares procedures known
+  pub among : IsFaultAmong (BeforeHeader known) (lines_of text) number why
+
+-- the first fault of the prelude
+abbrev pub IsFaultOfPrelude : List Procedure → DeclFaultKind → Type 0
+IsFaultOfPrelude procedures why =
+    (number : ℕ) × IsFaultAmong (Outside (nothing_declared procedures)) (lines_of prelude_text) number why
+
+-- the first fault of a text that is not too long: one of the prelude is told at line 0, and one of the text at its line, from 1
+abbrev pub IsFaultInside : List Procedure → List ℕ → ℕ → DeclFaultKind → Type 0
+IsFaultInside procedures text number why =
+    ((number ≡ 0) × IsFaultOfPrelude procedures why) ⊎ IsFaultOnLine procedures text number why
+
+-- the first fault of a text over these procedures, and the number of its line; too long a text is a fault at line 0
+abbrev pub IsFirstFault : List Procedure → List ℕ → ℕ → DeclFaultKind → Type 0
+IsFirstFault procedures text number why =
+    ((most_text_bytes < length text) × (number ≡ 0) × (why ≡ Limit))
+    ⊎ ((length text ≤ most_text_bytes) × IsFaultInside procedures text number why)
+
+-- the text spells a declaration
+abbrev pub SpellsOne : List Procedure → List ℕ → Type 0
+SpellsOne procedures text = (d : Declared) × SpellsDeclaration procedures text d
+
+-- the text has a first fault
+abbrev pub HasAFirstFault : List Procedure → List ℕ → Type 0
+HasAFirstFault procedures text = (number : ℕ) × (why : DeclFaultKind) × IsFirstFault procedures text number why
 
 -- ---- what is read
 
+-- from what was declared so far, the fault is the first among the lines, or want of memory
+abbrev pub IsToldAmong : SoFar → List (List ℕ) → DeclFault → Type 0
+IsToldAmong start lines fault = (fault.why ≡ Memory) ⊎ IsFaultAmong start lines fault.line fault.why
+
+-- a line of the prelude has no fault, and none before it has one
+abbrev pub IsClearInPrelude : List Procedure → Type 0
+IsClearInPrelude procedures =
+    (line : ℕ) × IsClearUpTo (Outside (nothing_declared procedures)) (lines_of prelude_text) line
+
+-- the line of this number, from 1, has no fault, and none before it has one, nor has the prelude
+abbrev pub IsClearInText : List Procedure → List ℕ → ℕ → Type 0
+IsClearInText procedures text number =
+    (known : Declared) × PreludeDeclares procedures known × IsClearUpTo (BeforeHeader known) (lines_of text) number
+
+-- the text is not too long, and up to here, where 0 stands for a line of the prelude, no line has a fault
+abbrev pub HasNoFaultUpTo : List Procedure → List ℕ → ℕ → Type 0
+HasNoFaultUpTo procedures text number =
+    (length text ≤ most_text_bytes)
+    × (((number ≡ 0) × IsClearInPrelude procedures) ⊎ IsClearInText procedures text number)
+
 -- the fault is the first of the text, or want of memory
-abbrev pub IsTold : List ℕ → DeclFault → Type 0
-IsTold text fault = (fault.why ≡ Memory) ⊎ IsFirstFault text fault.line fault.why
+abbrev pub IsTold : List Procedure → List ℕ → DeclFault → Type 0
+IsTold procedures text fault = (fault.why ≡ Memory) ⊎ IsFirstFault procedures text fault.line fault.why
 
 -- what is read is the declaration, but for want of memory
-abbrev pub IsReadAs : Declared → Result Declared DeclFault → Type 0
-IsReadAs d read = MatchResult read (λ declaration. declaration ≡ d) (λ fault. fault.why ≡ Memory)
+abbrev pub IsReadAs : {A : _} {X : Type 0} {F : X → Type 0} {C : _} → Declared → Result (Declaration A X F C) DeclFault → Type 0
+IsReadAs d read = MatchResult read (λ declaration. declared_by declaration ≡ d) (λ fault. fault.why ≡ Memory)
 
 -- what is read is this fault, but for want of memory
-abbrev pub IsFaultAt : ℕ → DeclFaultKind → Result Declared DeclFault → Type 0
+abbrev pub IsFaultAt : {A : _} {X : Type 0} {F : X → Type 0} {C : _} → ℕ → DeclFaultKind → Result (Declaration A X F C) DeclFault → Type 0
 IsFaultAt number why read = IsErrAnd read (λ fault. (fault.why ≡ Memory) ⊎ ((fault.line ≡ number) × (fault.why ≡ why)))

@@ -1,5 +1,10 @@
+pub mod Compound
 pub mod Declaration
 pub mod Faults
+pub mod Fields
+pub mod Kept
 pub mod Limits
+pub mod Prelude
+pub mod Props
 pub mod Steps
 pub mod WellDeclared

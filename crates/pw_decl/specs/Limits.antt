@@ -16,6 +16,22 @@ most_cells = 1024
 abbrev pub most_sets : ℕ
 most_sets = 32
 
+-- declared compounds
+abbrev pub most_compounds : ℕ
+most_compounds = 64
+
+-- parameters of a compound
+abbrev pub most_parameters : ℕ
+most_parameters = 8
+
+-- instances of procedures in the expansion of a compound
+abbrev pub most_instances : ℕ
+most_instances = 256
+
+-- inner cells in the expansion of a compound
+abbrev pub most_inner_cells : ℕ
+most_inner_cells = 256
+
 -- bytes in a line
 abbrev pub most_line_bytes : ℕ
 most_line_bytes = 4096

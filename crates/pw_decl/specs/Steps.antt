@@ -1,4 +1,5 @@
 -- What only the steps of the code and their proofs speak of.
-pub mod Fields
 pub mod Forms
+pub mod Opened
 pub mod SentenceFaults
+pub mod Standing

@@ -1,12 +1,20 @@
 -- What holds of everything that is declared.
-use Rattle.std.specs.Prelude.{◌≡◌, ℕ, ◌<◌, ◌≤◌, Option, length, All, IfSome}
+use Rattle.std.specs.Prelude.{◌≡◌, ℕ, ◌+◌, ◌<◌, ◌≤◌, [], None, length, All, IfSome}
 use Rattle.pw_kinds.specs.Places.{IsSize}
 use Rattle.pw_info.specs.SetNames.{AreNames, IsNamed}
-use Rattle.pw_decl.specs.Declaration.{Declared, members_of}
-use Rattle.pw_decl.specs.Limits.{most_users, most_premises, most_cells, most_sets}
+use Rattle.pw_decl.specs.Compound.{AreSteps, AreCompoundsAfter, cell_kinds, Size, size_of_steps, sizes_of}
+use Rattle.pw_decl.specs.Declaration.{Declared, OpenCompound, SoFar, BeforeHeader, Outside, Inside, callable_named, members_of}
+use Rattle.pw_decl.specs.Limits.{most_users, most_premises, most_cells, most_sets, most_compounds, most_parameters, most_instances, most_inner_cells}
+use Rattle.pw_decl.specs.Prelude.{prelude_compounds}
+
+-- an expansion may have so much
+pub record IsSmall (size : Size) : Type 0 where
+  pub instances : size.instances ≤ most_instances
+  pub inner_cells : size.inner_cells ≤ most_inner_cells
 
 -- the limits are kept, each premise has an owner or none, each cell a kind and each set kind its members, owners are
--- users, members have names, and the kinds of cells are there
+-- users, members have names, the kinds of cells are there, and compounds have no more parameters than they may and name only
+-- what stands before them
 pub record IsWellDeclared (d : Declared) : Type 0 where
   pub users : length d.users ≤ most_users
   pub premises : length d.premises ≤ most_premises
@@ -19,7 +27,24 @@ pub record IsWellDeclared (d : Declared) : Type 0 where
   pub sizes : All (λ names. IsSize (length names)) d.sets
   pub named : (set : ℕ) → AreNames (members_of d set)
   pub known : All (IsNamed (members_of d)) d.kinds
+  pub compound_names : length d.compound_names ≡ length d.compounds
+  pub compounds : length d.compounds ≤ prelude_compounds + most_compounds
+  pub few : All (λ compound. length compound.parameters ≤ most_parameters) d.compounds
+  pub steps : ∥ AreCompoundsAfter d.procedures [] d.compounds ∥₁
+  pub expansions : All IsSmall (sizes_of d.compounds)
 
--- so it is with what was declared so far: nothing is declared before the header
-abbrev pub IsWellSoFar : Option Declared → Type 0
-IsWellSoFar so_far = IfSome so_far IsWellDeclared
+-- an open compound has room among the others and a name of its own, each of its cells has a name, and its lines name only
+-- what stands before them and expand to no more than they may
+pub record IsWellOpen (d : Declared) (opened : OpenCompound) : Type 0 where
+  pub room : length d.compounds < prelude_compounds + most_compounds
+  pub fresh : callable_named d opened.name ≡ None
+  pub names : length opened.names ≡ length (cell_kinds opened.compound)
+  pub parameters : length opened.compound.parameters ≤ most_parameters
+  pub steps : AreSteps d.procedures d.compounds opened.compound.parameters opened.compound.steps
+  pub small : IsSmall (size_of_steps (sizes_of d.compounds) opened.compound.steps)
+
+-- so it is with what was declared so far
+abbrev pub IsWellSoFar : SoFar → Type 0
+IsWellSoFar (BeforeHeader d) = IsWellDeclared d
+IsWellSoFar (Outside d) = IsWellDeclared d
+IsWellSoFar (Inside d opened) = IsWellDeclared d × IsWellOpen d opened

@@ -11,7 +11,8 @@ pub(crate) const BUILT_IN_SETS: u8 = 2;
 
 /// The kind of this name, None where it is none that every declaration has.
 pub(crate) fn built_in_kind(name: &[u8]) -> Option<Kind>
-    ensures some { IfSome result (λ kind. (d : Declared) → NamesKind d name.now kind × IsNamed (members_of d) kind) }
+    ensures some { IfSome result (λ kind.
+        (d : Declared) → NamesKind d name.now kind × IsNamed (members_of d) kind) }
     ensures none { IfNone result (place_of_name built_in_kind_names name.now ≡ None) }
 {
     if name == b"interval".as_slice() {
@@ -75,7 +76,8 @@ fn place_in_sign(name: &[u8]) -> Option<u8>
 /// The place of the member of this name of `bool`, number 0, or `sign`, number 1, None where it has none.
 pub(crate) fn built_in_place(set: u8, name: &[u8]) -> Option<u8>
     requires { set < 2 }
-    ensures found { IfSome result (λ place. slice_get (built_in_members set) place ≡ Some name.now) }
+    ensures found { IfSome result (λ place.
+        slice_get (built_in_members set) place ≡ Some name.now) }
     ensures none { IfNone result (Contains (built_in_members set) name.now → ⊥) }
 {
     if set == 0 {

@@ -1,56 +1,42 @@
-//! What a declaration declares: users, premises, cells and set kinds, by name and by number.
-ghost use Rattle.std.specs.Prelude.{◌≡◌, ℕ, None, Some, ◌<◌, ◌≤◌, length, is_some, slice_get, Contains, IfSome, IfNone, OnOk, OnErr};
+//! What a declaration declares: users, premises, cells, set kinds and compounds, by name and by number.
+ghost use Rattle.std.specs.Prelude.{◌≡◌, ◌↔◌, ℕ, ◌+◌, ◌-◌, None, Some, ◌<◌, ◌≤◌, IsTrue, length, is_some, slice_get, Contains, IfSome, IfNone, OnOk, OnErr};
 ghost use Rattle.pw_kinds.specs.Limits.{most_members};
 ghost use Rattle.pw_kinds.specs.Places.{IsSize};
 ghost use Rattle.pw_info.specs.declared.kind.Kind.{Kind as KindOfCell};
 ghost use Rattle.pw_info.specs.SetNames.{AreNames, IsNamed};
 ghost use Rattle.pw_procs.specs.Place.{place_of_name};
-ghost use Rattle.pw_decl.specs.Declaration.{nothing_declared, owner_of, kind_at, kind_names, members_of, NamesKind, with_user, with_premise, with_cell, with_set};
-ghost use Rattle.pw_decl.specs.Limits.{most_users, most_premises, most_cells, most_sets};
-ghost use Rattle.pw_decl.specs.WellDeclared.{IsWellDeclared};
+ghost use Rattle.pw_procs.specs.Registry.{procedures_in};
+ghost use Rattle.pw_decl.specs.Compound.{size_of_callable, sizes_of};
+ghost use Rattle.pw_decl.specs.Declaration.{nothing_declared, owner_of, kind_at, kind_names, members_of, NamesKind, callable_named, IsCallable, Takes};
+ghost use Rattle.pw_decl.specs.Declaration.{with_user, with_premise, with_cell, with_set, with_compound};
+ghost use Rattle.pw_decl.specs.Limits.{most_users, most_premises, most_cells, most_sets, most_compounds};
+ghost use Rattle.pw_decl.specs.Prelude.{prelude_compounds};
+ghost use Rattle.pw_decl.specs.Fields.{declared_by, StepsAre};
+ghost use Rattle.pw_decl.specs.Kept.{size_of, steps_of};
+ghost use Rattle.pw_decl.specs.Steps.Opened.{IsOpen, open_of};
+ghost use Rattle.pw_decl.specs.WellDeclared.{IsSmall, IsWellDeclared};
 
 use crate::built_in_sets::{BUILT_IN_SETS, built_in_kind, built_in_member, built_in_place};
+use crate::compound::{Compound, OpenCompound, Size};
+use crate::prelude::PRELUDE_COMPOUNDS;
+use crate::step::{Callable, Step};
 use pw_info::{Kind, KindNames, SetKind};
-use pw_procs::NameTable;
+use pw_procs::{NameTable, Registry, are_equal_kinds};
 use std::alloc::{AllocError, Allocator, Global};
-use std::marker::Model;
 
-/// Users, premises and cells, each numbered from 0 in the order of their lines, for each premise the user that it belongs to,
-/// if any, and for each cell its kind; and set kinds with the names of their members, numbered from 2 in the order of their
-/// lines, after `bool` and `sign`. There are at most 64 users, 64 premises, 1,024 cells and 32 declared set kinds, each of
-/// 2 to 64 members.
-#[derive(Drop)]
-pub struct Declaration<A: Allocator = Global> {
-    users: NameTable<A>,
-    premises: NameTable<A>,
-    owners: Vec<Option<u8>, A>,
-    cells: NameTable<A>,
-    kinds: Vec<Kind, A>,
-    // Of the declared set kinds.
-    set_names: NameTable<A>,
-    // The names of the members of each declared set kind.
-    sets: Vec<NameTable<A>, A>,
-}
+mod holding;
 
-impl<A: Allocator> Model for Declaration<A> {
-    ghost use Rattle.pw_decl.specs.Declaration.{Declared};
+pub use holding::Declaration;
 
-    ghost Value = { Declared };
+const MOST_COMPOUNDS: usize = 64;
 
-    ghost use Rattle.pw_decl.specs.Steps.Fields.{declared_by};
-    ghost use Rattle.pw_decl.specs.WellDeclared.{IsWellDeclared};
-
-    ghost view = { declared_by };
-
-    ghost invariant = { λ d. IsWellDeclared (declared_by d) };
-}
-
-impl<A: Allocator + Copy> Declaration<A> {
+impl<'r, A: Allocator + Copy> Declaration<'r, A> {
     /// Nothing is declared. It takes no memory.
-    pub(crate) fn new(alloc: A) -> Declaration<A>
-        ensures { result ≡ nothing_declared }
+    pub(crate) fn new(alloc: A, registry: &'r Registry) -> Declaration<'r, A>
+        ensures { declared_by result ≡ nothing_declared (procedures_in registry.entry.now) }
     {
         Declaration {
+            registry,
             users: NameTable::new(alloc),
             premises: NameTable::new(alloc),
             owners: Vec::new(alloc),
@@ -58,12 +44,21 @@ impl<A: Allocator + Copy> Declaration<A> {
             kinds: Vec::new(alloc),
             set_names: NameTable::new(alloc),
             sets: Vec::new(alloc),
+            compound_names: NameTable::new(alloc),
+            compounds: Vec::new(alloc),
         }
+    }
+
+    /// The registry over which it was read.
+    pub fn registry(&self) -> &'r Registry
+        ensures { procedures_in result.now ≡ (declared_by self.now).procedures }
+    {
+        self.registry
     }
 
     /// What holds of every declaration: its limits are kept, members of sets have names, and the kinds of cells are there.
     pub fn limits(&self)
-        ensures { IsWellDeclared self.now }
+        ensures { IsWellDeclared (declared_by self.now) }
     {
         // Looks at it, so that what holds of every declaration is known.
         let _users = &self.users;
@@ -71,7 +66,7 @@ impl<A: Allocator + Copy> Declaration<A> {
 
     /// The number of users, at most 64.
     pub fn users(&self) -> u8
-        ensures count { result ≡ length self.now.users }
+        ensures count { result ≡ length (declared_by self.now).users }
         ensures most { result ≤ most_users }
     {
         self.users.len() as u8
@@ -79,7 +74,7 @@ impl<A: Allocator + Copy> Declaration<A> {
 
     /// The number of premises, at most 64.
     pub fn premises(&self) -> u8
-        ensures count { result ≡ length self.now.premises }
+        ensures count { result ≡ length (declared_by self.now).premises }
         ensures most { result ≤ most_premises }
     {
         self.premises.len() as u8
@@ -87,7 +82,7 @@ impl<A: Allocator + Copy> Declaration<A> {
 
     /// The number of cells, at most 1,024.
     pub fn cells(&self) -> u32
-        ensures count { result ≡ length self.now.cells }
+        ensures count { result ≡ length (declared_by self.now).cells }
         ensures most { result ≤ most_cells }
     {
         self.cells.len() as u32
@@ -95,17 +90,85 @@ impl<A: Allocator + Copy> Declaration<A> {
 
     /// The number of declared set kinds, at most 32; `bool` and `sign` are not counted.
     pub fn sets(&self) -> u8
-        ensures count { result ≡ length self.now.sets }
+        ensures count { result ≡ length (declared_by self.now).sets }
         ensures most { result ≤ most_sets }
     {
         self.sets.len() as u8
     }
 
+    /// The number of declared compounds, at most 64; `sum`, `product` and `conditional` are not counted.
+    pub fn compounds(&self) -> u8
+        ensures count { result ≡ length (declared_by self.now).compounds - prelude_compounds }
+        ensures most { result ≤ most_compounds }
+    {
+        self.compounds.len().saturating_sub(PRELUDE_COMPOUNDS) as u8
+    }
+
+    /// What may be called or attached by this name, if there is such: a procedure of the registry, `sum`, `product`,
+    /// `conditional`, or a declared compound.
+    pub fn callable(&self, name: &[u8]) -> Option<Callable>
+        ensures named { result ≡ callable_named (declared_by self.now) name.now }
+        ensures there { IfSome result (λ callable. IsCallable (declared_by self.now) callable) }
+    {
+        if let Some(number) = self.registry.find(name) {
+            return Some(Callable::Stored(number));
+        }
+        let number = self.compound_names.find(name)?;
+        Some(Callable::Compound(number as u8))
+    }
+
+    /// Whether the callable, which is there, takes cells of these kinds: a procedure its inputs and then its output, a
+    /// compound its parameters.
+    pub fn accepts(&self, callable: Callable, kinds: &[Kind]) -> bool
+        requires { IsCallable (declared_by self.now) callable }
+        ensures { IsTrue result ↔ Takes (declared_by self.now) callable kinds.now }
+    {
+        match callable {
+            Callable::Stored(number) => self.registry.get(number).signature().accepts(kinds),
+            Callable::Compound(number) => {
+                are_equal_kinds(kinds, &self.compounds[usize::from(number)].parameters)
+            }
+        }
+    }
+
+    /// The lines of the compound of this number.
+    pub fn steps(&self, compound: u8) -> &[Step]
+        requires { compound < length (declared_by self.now).compounds }
+        ensures { StepsAre (declared_by self.now) compound (steps_of result.now) }
+    {
+        &self.compounds[usize::from(compound)].steps
+    }
+
+    /// What the callable, which is there, expands to.
+    pub(crate) fn size(&self, callable: Callable) -> Size
+        requires { IsCallable (declared_by self.now) callable }
+        ensures size { size_of result ≡ size_of_callable (sizes_of
+            (declared_by self.now).compounds) callable }
+        ensures small { IsSmall (size_of result) }
+    {
+        match callable {
+            Callable::Stored(_) => Size {
+                instances: 1,
+                inner_cells: 0,
+            },
+            Callable::Compound(number) => self.compounds[usize::from(number)].size,
+        }
+    }
+
+    /// Whether there may be no compound more.
+    pub(crate) fn is_full(&self) -> bool
+        ensures { IsTrue result
+            ↔ (prelude_compounds + most_compounds ≤ length (declared_by self.now).compounds) }
+    {
+        self.compounds.len() >= PRELUDE_COMPOUNDS + MOST_COMPOUNDS
+    }
+
     /// The kind of this name, if there is one: `interval`, `exact`, `bool`, `sign` or a declared set kind.
     pub(crate) fn kind(&self, name: &[u8]) -> Option<Kind>
-        ensures some { IfSome result (λ kind. NamesKind self.now name.now kind) }
-        ensures known { IfSome result (λ kind. IsNamed (members_of self.now) kind) }
-        ensures none { IfNone result ((kind : KindOfCell) → NamesKind self.now name.now kind → ⊥) }
+        ensures some { IfSome result (λ kind. NamesKind (declared_by self.now) name.now kind) }
+        ensures known { IfSome result (λ kind. IsNamed (members_of (declared_by self.now)) kind) }
+        ensures none { IfNone result ((kind : KindOfCell)
+            → NamesKind (declared_by self.now) name.now kind → ⊥) }
     {
         if let Some(kind) = built_in_kind(name) {
             return Some(kind);
@@ -119,15 +182,15 @@ impl<A: Allocator + Copy> Declaration<A> {
 
     /// Whether there is a kind of this name.
     pub(crate) fn has_kind(&self, name: &[u8]) -> bool
-        ensures { result ≡ is_some (place_of_name (kind_names self.now) name.now) }
+        ensures { result ≡ is_some (place_of_name (kind_names (declared_by self.now)) name.now) }
     {
         built_in_kind(name).is_some() || self.set_names.find(name).is_some()
     }
 
     /// The number of the user of this name, if there is one.
     pub fn user(&self, name: &[u8]) -> Option<u8>
-        ensures number { result ≡ place_of_name self.now.users name.now }
-        ensures within { IfSome result (λ number. number < length self.now.users) }
+        ensures number { result ≡ place_of_name (declared_by self.now).users name.now }
+        ensures within { IfSome result (λ number. number < length (declared_by self.now).users) }
         ensures limit { IfSome result (λ number. number < most_users) }
     {
         let number = self.users.find(name)?;
@@ -136,8 +199,8 @@ impl<A: Allocator + Copy> Declaration<A> {
 
     /// The number of the premise of this name, if there is one.
     pub fn premise(&self, name: &[u8]) -> Option<u8>
-        ensures number { result ≡ place_of_name self.now.premises name.now }
-        ensures within { IfSome result (λ number. number < length self.now.premises) }
+        ensures number { result ≡ place_of_name (declared_by self.now).premises name.now }
+        ensures within { IfSome result (λ number. number < length (declared_by self.now).premises) }
         ensures limit { IfSome result (λ number. number < most_premises) }
     {
         let number = self.premises.find(name)?;
@@ -146,8 +209,8 @@ impl<A: Allocator + Copy> Declaration<A> {
 
     /// The number of the cell of this name, if there is one.
     pub fn cell(&self, name: &[u8]) -> Option<u32>
-        ensures number { result ≡ place_of_name self.now.cells name.now }
-        ensures within { IfSome result (λ number. number < length self.now.cells) }
+        ensures number { result ≡ place_of_name (declared_by self.now).cells name.now }
+        ensures within { IfSome result (λ number. number < length (declared_by self.now).cells) }
         ensures limit { IfSome result (λ number. number < most_cells) }
     {
         let number = self.cells.find(name)?;
@@ -156,44 +219,44 @@ impl<A: Allocator + Copy> Declaration<A> {
 
     /// The name of the user of this number.
     pub fn user_name(&self, user: u8) -> &str
-        requires { user < length self.now.users }
-        ensures name { slice_get self.now.users user ≡ Some result.now }
-        ensures own { place_of_name self.now.users result.now ≡ Some user }
+        requires { user < length (declared_by self.now).users }
+        ensures name { slice_get (declared_by self.now).users user ≡ Some result.now }
+        ensures own { place_of_name (declared_by self.now).users result.now ≡ Some user }
     {
         self.users.name(usize::from(user))
     }
 
     /// The name of the premise of this number.
     pub fn premise_name(&self, premise: u8) -> &str
-        requires { premise < length self.now.premises }
-        ensures name { slice_get self.now.premises premise ≡ Some result.now }
-        ensures own { place_of_name self.now.premises result.now ≡ Some premise }
+        requires { premise < length (declared_by self.now).premises }
+        ensures name { slice_get (declared_by self.now).premises premise ≡ Some result.now }
+        ensures own { place_of_name (declared_by self.now).premises result.now ≡ Some premise }
     {
         self.premises.name(usize::from(premise))
     }
 
     /// The name of the cell of this number.
     pub fn cell_name(&self, cell: u32) -> &str
-        requires { cell < length self.now.cells }
-        ensures name { slice_get self.now.cells cell ≡ Some result.now }
-        ensures own { place_of_name self.now.cells result.now ≡ Some cell }
+        requires { cell < length (declared_by self.now).cells }
+        ensures name { slice_get (declared_by self.now).cells cell ≡ Some result.now }
+        ensures own { place_of_name (declared_by self.now).cells result.now ≡ Some cell }
     {
         self.cells.name(cell as usize)
     }
 
     /// The number of the user that the premise of this number belongs to, if it belongs to one.
     pub fn owner(&self, premise: u8) -> Option<u8>
-        requires { premise < length self.now.premises }
-        ensures owner { result ≡ owner_of self.now premise }
-        ensures user { IfSome result (λ user. user < length self.now.users) }
+        requires { premise < length (declared_by self.now).premises }
+        ensures owner { result ≡ owner_of (declared_by self.now) premise }
+        ensures user { IfSome result (λ user. user < length (declared_by self.now).users) }
     {
         self.owners[usize::from(premise)]
     }
 
     /// The kinds of the cells, at most 1,024, by the numbers of the cells.
     pub fn kinds(&self) -> &[Kind]
-        ensures kinds { result.now ≡ self.now.kinds }
-        ensures each { length self.now.kinds ≡ length self.now.cells }
+        ensures kinds { result.now ≡ (declared_by self.now).kinds }
+        ensures each { length (declared_by self.now).kinds ≡ length (declared_by self.now).cells }
         ensures most { length result.now ≤ most_cells }
     {
         &self.kinds
@@ -201,19 +264,20 @@ impl<A: Allocator + Copy> Declaration<A> {
 
     /// The kind of the cell of this number.
     pub fn cell_kind(&self, cell: u32) -> Kind
-        requires { cell < length self.now.cells }
-        ensures kind { result ≡ kind_at self.now cell }
-        ensures named { IsNamed (members_of self.now) result }
+        requires { cell < length (declared_by self.now).cells }
+        ensures kind { result ≡ kind_at (declared_by self.now) cell }
+        ensures named { IsNamed (members_of (declared_by self.now)) result }
     {
         self.kinds[cell as usize]
     }
 
     /// Adds a user. It fails only for want of memory, and then nothing changes.
     pub(crate) fn add_user(&mut self, name: &str) -> Result<(), AllocError>
-        requires fresh { place_of_name self.old.users name.now ≡ None }
-        requires room { length self.old.users < most_users }
-        ensures ok { OnOk result (self.new ≡ with_user self.old name.now) }
-        ensures err { OnErr result (self.new ≡ self.old) }
+        requires fresh { place_of_name (declared_by self.old).users name.now ≡ None }
+        requires room { length (declared_by self.old).users < most_users }
+        ensures ok { OnOk result ((declared_by self.new) ≡ with_user
+            (declared_by self.old) name.now) }
+        ensures err { OnErr result ((declared_by self.new) ≡ (declared_by self.old)) }
     {
         self.users.add(name)?;
         Ok(())
@@ -221,11 +285,12 @@ impl<A: Allocator + Copy> Declaration<A> {
 
     /// Adds a premise, which belongs to this user, if any. It fails only for want of memory, and then nothing changes.
     pub(crate) fn add_premise(&mut self, name: &str, owner: Option<u8>) -> Result<(), AllocError>
-        requires fresh { place_of_name self.old.premises name.now ≡ None }
-        requires room { length self.old.premises < most_premises }
-        requires user { IfSome owner (λ user. user < length self.old.users) }
-        ensures ok { OnOk result (self.new ≡ with_premise self.old name.now owner) }
-        ensures err { OnErr result (self.new ≡ self.old) }
+        requires fresh { place_of_name (declared_by self.old).premises name.now ≡ None }
+        requires room { length (declared_by self.old).premises < most_premises }
+        requires user { IfSome owner (λ user. user < length (declared_by self.old).users) }
+        ensures ok { OnOk result ((declared_by self.new) ≡ with_premise
+            (declared_by self.old) name.now owner) }
+        ensures err { OnErr result ((declared_by self.new) ≡ (declared_by self.old)) }
     {
         self.owners.reserve(1)?;
         self.premises.add(name)?;
@@ -235,11 +300,12 @@ impl<A: Allocator + Copy> Declaration<A> {
 
     /// Adds a cell of this kind. It fails only for want of memory, and then nothing changes.
     pub(crate) fn add_cell(&mut self, name: &str, kind: Kind) -> Result<(), AllocError>
-        requires fresh { place_of_name self.old.cells name.now ≡ None }
-        requires room { length self.old.cells < most_cells }
-        requires known { IsNamed (members_of self.old) kind }
-        ensures ok { OnOk result (self.new ≡ with_cell self.old name.now kind) }
-        ensures err { OnErr result (self.new ≡ self.old) }
+        requires fresh { place_of_name (declared_by self.old).cells name.now ≡ None }
+        requires room { length (declared_by self.old).cells < most_cells }
+        requires known { IsNamed (members_of (declared_by self.old)) kind }
+        ensures ok { OnOk result ((declared_by self.new) ≡ with_cell
+            (declared_by self.old) name.now kind) }
+        ensures err { OnErr result ((declared_by self.new) ≡ (declared_by self.old)) }
     {
         self.kinds.reserve(1)?;
         self.cells.add(name)?;
@@ -249,22 +315,36 @@ impl<A: Allocator + Copy> Declaration<A> {
 
     /// Adds a set kind with these members, 2 to 64. It fails only for want of memory, and then nothing changes.
     pub(crate) fn add_set(&mut self, name: &str, members: NameTable<A>) -> Result<(), AllocError>
-        requires fresh { place_of_name (kind_names self.old) name.now ≡ None }
-        requires room { length self.old.sets < most_sets }
+        requires fresh { place_of_name (kind_names (declared_by self.old)) name.now ≡ None }
+        requires room { length (declared_by self.old).sets < most_sets }
         requires size { IsSize (length members) }
         requires names { AreNames members }
-        ensures ok { OnOk result (self.new ≡ with_set self.old name.now members) }
-        ensures err { OnErr result (self.new ≡ self.old) }
+        ensures ok { OnOk result ((declared_by self.new) ≡ with_set
+            (declared_by self.old) name.now members) }
+        ensures err { OnErr result ((declared_by self.new) ≡ (declared_by self.old)) }
     {
         self.sets.reserve(1)?;
         self.set_names.add(name)?;
         self.sets.push(members).unwrap();
         Ok(())
     }
+
+    /// Adds an open compound, which ends. It fails only for want of memory, and then nothing changes.
+    pub(crate) fn add_compound(&mut self, opened: OpenCompound<A>) -> Result<(), AllocError>
+        requires { IsOpen (declared_by self.old) opened }
+        ensures ok { OnOk result ((declared_by self.new) ≡ with_compound (declared_by self.old)
+            (open_of opened).name (open_of opened).compound) }
+        ensures err { OnErr result ((declared_by self.new) ≡ (declared_by self.old)) }
+    {
+        self.compounds.reserve(1)?;
+        self.compound_names.add(opened.name.as_str())?;
+        self.compounds.push(opened.compound).unwrap();
+        Ok(())
+    }
 }
 
-impl<A: Allocator + Copy> KindNames for Declaration<A> {
-    ghost members = { members_of };
+impl<A: Allocator + Copy> KindNames for Declaration<'_, A> {
+    ghost members = { λ d. members_of (declared_by d) };
 
     fn member(&self, set: u8, place: u8) -> &str {
         if set < BUILT_IN_SETS {

@@ -2,14 +2,20 @@
 #![tactic(auto)]
 
 mod built_in_sets;
+mod compound;
+mod compound_line;
 mod decl_fault;
 mod declaration;
 pub mod laws;
 mod line;
+mod prelude;
 mod sentence;
 mod set_line;
+mod so_far;
+mod step;
 mod text;
 
 pub use decl_fault::{DeclFault, DeclFaultKind};
 pub use declaration::Declaration;
+pub use step::{Callable, Step};
 pub use text::read_declaration;

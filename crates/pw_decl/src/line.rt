@@ -1,14 +1,23 @@
 //! Reading one line of a declaration: what it declares, or its first fault.
-ghost use Rattle.std.specs.Prelude.{◌≡◌, None, Some, IfErr, OnOk, OnErr};
+ghost use Rattle.std.specs.Prelude.{◌≡◌, ◌≤◌, true, false, length, IfOk, IfErr, OnOk, OnErr};
 ghost use Rattle.pw_decl.specs.Declaration.{User, Premise, PremiseOf, Cell, Makes};
-ghost use Rattle.pw_decl.specs.Steps.Forms.{sentence_in};
-ghost use Rattle.pw_decl.specs.Faults.{Declares, IsInPlace};
-ghost use Rattle.pw_decl.specs.Steps.SentenceFaults.{IsFaultless, IsToldOf, IsToldInPlace, IsMade, IsToldOfLine, NamesMembers};
+ghost use Rattle.std.specs.List.{list_all};
+ghost use Rattle.pw_info.specs.Words.{is_idle, is_allowed};
+ghost use Rattle.pw_decl.specs.Faults.{Declares};
+ghost use Rattle.pw_decl.specs.Limits.{most_line_bytes};
+ghost use Rattle.pw_decl.specs.Fields.{declared_by};
+ghost use Rattle.pw_decl.specs.Steps.Opened.{IsOpen, IsWellPlaced, open_of};
+ghost use Rattle.pw_decl.specs.Steps.Standing.{outside, inside, IsWellKept, placed, so_far_of};
+ghost use Rattle.pw_decl.specs.Steps.Forms.{inner_in, outer_in};
+ghost use Rattle.pw_decl.specs.Steps.SentenceFaults.{HasGoodParts, IsFaultless, IsToldOf, IsToldOfLine};
 
+use crate::compound::OpenCompound;
+use crate::compound_line::{begin_compound, declare_call, declare_local};
 use crate::decl_fault::DeclFaultKind;
 use crate::declaration::Declaration;
-use crate::sentence::{DeclarationSentence, read_sentence};
+use crate::sentence::{InnerSentence, OuterSentence, is_header, read_inner, read_outer};
 use crate::set_line::declare_set;
+use crate::so_far::{Place, SoFar};
 use pw_info::{allows_all, idles};
 use std::alloc::Allocator;
 
@@ -22,13 +31,15 @@ const MOST_CELLS: u32 = 1024;
 
 // Declares a user of this name.
 fn declare_user<A: Allocator + Copy>(
-    declaration: &mut Declaration<A>,
+    declaration: &mut Declaration<'_, A>,
     name: &str,
 ) -> Result<(), DeclFaultKind>
-    ensures ok { OnOk result (Makes (Some declaration.old) (User name.now) declaration.new) }
-    ensures none { OnOk result (IsFaultless (Some declaration.old) (User name.now)) }
-    ensures err { IfErr result (IsToldOf (Some declaration.old) (User name.now)) }
-    ensures unchanged { OnErr result (declaration.new ≡ declaration.old) }
+    ensures ok { OnOk result (Makes (outside declaration.old) (User name.now)
+        (outside declaration.new)) }
+    ensures none { OnOk result (IsFaultless (outside declaration.old) (User name.now)) }
+    ensures err { IfErr result (IsToldOf (outside declaration.old) (User name.now)) }
+    ensures unchanged { OnErr result ((declared_by declaration.new) ≡
+        (declared_by declaration.old)) }
 {
     if declaration.user(name.as_bytes()).is_some() {
         return Err(DeclFaultKind::DuplicateName);
@@ -44,13 +55,15 @@ fn declare_user<A: Allocator + Copy>(
 
 // Declares a premise of this name, which belongs to no user.
 fn declare_premise<A: Allocator + Copy>(
-    declaration: &mut Declaration<A>,
+    declaration: &mut Declaration<'_, A>,
     name: &str,
 ) -> Result<(), DeclFaultKind>
-    ensures ok { OnOk result (Makes (Some declaration.old) (Premise name.now) declaration.new) }
-    ensures none { OnOk result (IsFaultless (Some declaration.old) (Premise name.now)) }
-    ensures err { IfErr result (IsToldOf (Some declaration.old) (Premise name.now)) }
-    ensures unchanged { OnErr result (declaration.new ≡ declaration.old) }
+    ensures ok { OnOk result (Makes (outside declaration.old) (Premise name.now)
+        (outside declaration.new)) }
+    ensures none { OnOk result (IsFaultless (outside declaration.old) (Premise name.now)) }
+    ensures err { IfErr result (IsToldOf (outside declaration.old) (Premise name.now)) }
+    ensures unchanged { OnErr result ((declared_by declaration.new) ≡
+        (declared_by declaration.old)) }
 {
     if declaration.premise(name.as_bytes()).is_some() {
         return Err(DeclFaultKind::DuplicateName);
@@ -66,14 +79,17 @@ fn declare_premise<A: Allocator + Copy>(
 
 // Declares a premise of this name, which belongs to the user of that name.
 fn declare_premise_of<A: Allocator + Copy>(
-    declaration: &mut Declaration<A>,
+    declaration: &mut Declaration<'_, A>,
     name: &str,
     user: &[u8],
 ) -> Result<(), DeclFaultKind>
-    ensures ok { OnOk result (Makes (Some declaration.old) (PremiseOf name.now user.now) declaration.new) }
-    ensures none { OnOk result (IsFaultless (Some declaration.old) (PremiseOf name.now user.now)) }
-    ensures err { IfErr result (IsToldOf (Some declaration.old) (PremiseOf name.now user.now)) }
-    ensures unchanged { OnErr result (declaration.new ≡ declaration.old) }
+    ensures ok { OnOk result (Makes (outside declaration.old) (PremiseOf name.now user.now)
+        (outside declaration.new)) }
+    ensures none { OnOk result (IsFaultless (outside declaration.old)
+        (PremiseOf name.now user.now)) }
+    ensures err { IfErr result (IsToldOf (outside declaration.old) (PremiseOf name.now user.now)) }
+    ensures unchanged { OnErr result ((declared_by declaration.new) ≡
+        (declared_by declaration.old)) }
 {
     if declaration.premise(name.as_bytes()).is_some() {
         return Err(DeclFaultKind::DuplicateName);
@@ -92,14 +108,16 @@ fn declare_premise_of<A: Allocator + Copy>(
 
 // Declares a cell of this name and of the kind of that name.
 fn declare_cell<A: Allocator + Copy>(
-    declaration: &mut Declaration<A>,
+    declaration: &mut Declaration<'_, A>,
     name: &str,
     kind: &[u8],
 ) -> Result<(), DeclFaultKind>
-    ensures ok { OnOk result (Makes (Some declaration.old) (Cell name.now kind.now) declaration.new) }
-    ensures none { OnOk result (IsFaultless (Some declaration.old) (Cell name.now kind.now)) }
-    ensures err { IfErr result (IsToldOf (Some declaration.old) (Cell name.now kind.now)) }
-    ensures unchanged { OnErr result (declaration.new ≡ declaration.old) }
+    ensures ok { OnOk result (Makes (outside declaration.old) (Cell name.now kind.now)
+        (outside declaration.new)) }
+    ensures none { OnOk result (IsFaultless (outside declaration.old) (Cell name.now kind.now)) }
+    ensures err { IfErr result (IsToldOf (outside declaration.old) (Cell name.now kind.now)) }
+    ensures unchanged { OnErr result ((declared_by declaration.new) ≡
+        (declared_by declaration.old)) }
 {
     if declaration.cell(name.as_bytes()).is_some() {
         return Err(DeclFaultKind::DuplicateName);
@@ -116,84 +134,128 @@ fn declare_cell<A: Allocator + Copy>(
     }
 }
 
-// Declares what a sentence after the header says.
-fn declare<A: Allocator + Copy>(
+// Declares what a sentence outside a compound says, and answers where the next line stands.
+fn declare_outside<A: Allocator + Copy>(
     alloc: A,
-    declaration: &mut Declaration<A>,
-    sentence: DeclarationSentence<'_>,
-) -> Result<(), DeclFaultKind>
-    requires members { NamesMembers (sentence_in sentence) }
-    ensures ok { OnOk result (Makes (Some declaration.old) (sentence_in sentence.entry) declaration.new) }
-    ensures none { OnOk result (IsFaultless (Some declaration.old) (sentence_in sentence.entry)) }
-    ensures place { OnOk result (IsInPlace (Some declaration.old) (sentence_in sentence.entry)) }
-    ensures err { IfErr result (IsToldInPlace (Some declaration.old) (sentence_in sentence.entry)) }
-    ensures unchanged { OnErr result (declaration.new ≡ declaration.old) }
+    declaration: &mut Declaration<'_, A>,
+    sentence: OuterSentence<'_>,
+) -> Result<Place<A>, DeclFaultKind>
+    requires parts { HasGoodParts (outer_in sentence) }
+    ensures ok { IfOk result (λ place. Makes (outside declaration.old) (outer_in sentence.entry)
+        (placed (declared_by declaration.new) place)) }
+    ensures well { IfOk result (λ place. IsWellPlaced (declared_by declaration.new) place) }
+    ensures none { OnOk result (IsFaultless (outside declaration.old) (outer_in sentence.entry)) }
+    ensures err { IfErr result (IsToldOf (outside declaration.old) (outer_in sentence.entry)) }
 {
     match sentence {
-        DeclarationSentence::Header => Err(DeclFaultKind::Syntax),
-        DeclarationSentence::User { name } => declare_user(declaration, name),
-        DeclarationSentence::Premise { name } => declare_premise(declaration, name),
-        DeclarationSentence::PremiseOf { name, user } => declare_premise_of(
-            declaration,
-            name,
-            user,
-        ),
-        DeclarationSentence::Set { name, members } => declare_set(
-            alloc,
-            declaration,
-            name,
-            members,
-        ),
-        DeclarationSentence::Cell { name, kind } => declare_cell(declaration, name, kind),
+        OuterSentence::User { name } => declare_user(declaration, name)?,
+        OuterSentence::Premise { name } => declare_premise(declaration, name)?,
+        OuterSentence::PremiseOf { name, user } => declare_premise_of(declaration, name, user)?,
+        OuterSentence::Set { name, members } => declare_set(alloc, declaration, name, members)?,
+        OuterSentence::Cell { name, kind } => declare_cell(declaration, name, kind)?,
+        OuterSentence::Compound { name, parameters } => {
+            return Ok(Place::Inside(begin_compound(alloc, declaration, name, parameters)?));
+        }
     }
+    Ok(Place::Outside)
 }
 
-// Declares what a sentence says. The header comes first, and once.
-fn follow<A: Allocator + Copy>(
-    alloc: A,
-    so_far: &mut Option<Declaration<A>>,
-    sentence: DeclarationSentence<'_>,
-) -> Result<(), DeclFaultKind>
-    requires members { NamesMembers (sentence_in sentence) }
-    ensures ok { OnOk result (IsMade so_far.old (sentence_in sentence.entry) so_far.new) }
-    ensures none { OnOk result (IsFaultless so_far.old (sentence_in sentence.entry)) }
-    ensures place { OnOk result (IsInPlace so_far.old (sentence_in sentence.entry)) }
-    ensures err { IfErr result (IsToldInPlace so_far.old (sentence_in sentence.entry)) }
-    ensures unchanged { OnErr result (so_far.new ≡ so_far.old) }
+// Declares what a sentence inside a compound says, and answers where the next line stands.
+fn declare_inside<A: Allocator + Copy>(
+    declaration: &mut Declaration<'_, A>,
+    mut opened: OpenCompound<A>,
+    sentence: InnerSentence<'_>,
+) -> Result<Place<A>, DeclFaultKind>
+    requires kept { IsOpen (declared_by declaration.old) opened }
+    requires parts { HasGoodParts (inner_in sentence) }
+    ensures ok { IfOk result (λ place. Makes (inside declaration.old opened)
+        (inner_in sentence.entry) (placed (declared_by declaration.new) place)) }
+    ensures well { IfOk result (λ place. IsWellPlaced (declared_by declaration.new) place) }
+    ensures none { OnOk result (IsFaultless (inside declaration.old opened)
+        (inner_in sentence.entry)) }
+    ensures err { IfErr result (IsToldOf (inside declaration.old opened)
+        (inner_in sentence.entry)) }
 {
-    if let Some(declaration) = so_far {
-        return declare(alloc, declaration, sentence);
+    match sentence {
+        InnerSentence::Local { name, kind } => declare_local(declaration, &mut opened, name, kind)?,
+        InnerSentence::Call {
+            callable,
+            arguments,
+        } => { declare_call(declaration, &mut opened, callable, arguments)? }
+        InnerSentence::End => {
+            return match declaration.add_compound(opened) {
+                Ok(()) => Ok(Place::Outside),
+                Err(_) => Err(DeclFaultKind::Memory),
+            };
+        }
     }
-    let DeclarationSentence::Header = sentence else {
-        return Err(DeclFaultKind::Syntax);
-    };
-    *so_far = Some(Declaration::new(alloc));
-    Ok(())
+    Ok(Place::Inside(opened))
 }
 
-/// Reads one line of a declaration: what it declares is added to what was declared so far, which is nothing before the header.
-///
-/// On an error, which is the first fault of the line or want of memory, nothing changes.
-pub(crate) fn read_declaration_line<A: Allocator + Copy>(
+// Declares what a line says that is not idle.
+fn declare_line<'r, A: Allocator + Copy>(
     alloc: A,
-    so_far: &mut Option<Declaration<A>>,
+    so_far: SoFar<'r, A>,
     line: &[u8],
-) -> Result<(), DeclFaultKind>
-    ensures ok { OnOk result (Declares so_far.old line.now so_far.new) }
-    ensures err { IfErr result (IsToldOfLine so_far.old line.now) }
-    ensures unchanged { OnErr result (so_far.new ≡ so_far.old) }
+) -> Result<SoFar<'r, A>, DeclFaultKind>
+    requires kept { IsWellKept so_far }
+    requires spoken { is_idle line.now ≡ false }
+    requires allowed { list_all is_allowed line.now ≡ true }
+    requires short { length line.now ≤ most_line_bytes }
+    ensures ok { IfOk result (λ after.
+        Declares (so_far_of so_far.entry) line.now (so_far_of after)) }
+    ensures kept { IfOk result (λ after. IsWellKept after) }
+    ensures err { IfErr result (IsToldOfLine (so_far_of so_far.entry) line.now) }
+{
+    let SoFar {
+        mut declaration,
+        place,
+    } = so_far;
+    let place = match place {
+        Place::BeforeHeader => {
+            if !is_header(line) {
+                return Err(DeclFaultKind::Syntax);
+            }
+            Place::Outside
+        }
+        Place::Outside => {
+            let Some(sentence) = read_outer(line) else {
+                return Err(DeclFaultKind::Syntax);
+            };
+            declare_outside(alloc, &mut declaration, sentence)?
+        }
+        Place::Inside(opened) => {
+            let Some(sentence) = read_inner(line) else {
+                return Err(DeclFaultKind::Syntax);
+            };
+            declare_inside(&mut declaration, opened, sentence)?
+        }
+    };
+    Ok(SoFar { declaration, place })
+}
+
+/// Reads one line of a declaration: what it declares is added to what was declared so far.
+///
+/// An error is the first fault of the line, or want of memory.
+pub(crate) fn read_declaration_line<'r, A: Allocator + Copy>(
+    alloc: A,
+    so_far: SoFar<'r, A>,
+    line: &[u8],
+) -> Result<SoFar<'r, A>, DeclFaultKind>
+    requires kept { IsWellKept so_far }
+    ensures ok { IfOk result (λ after.
+        Declares (so_far_of so_far.entry) line.now (so_far_of after)) }
+    ensures kept { IfOk result (λ after. IsWellKept after) }
+    ensures err { IfErr result (IsToldOfLine (so_far_of so_far.entry) line.now) }
 {
     if line.len() > MOST_LINE_BYTES {
         return Err(DeclFaultKind::Limit);
     }
     if idles(line) {
-        return Ok(());
+        return Ok(so_far);
     }
     if !allows_all(line) {
         return Err(DeclFaultKind::Syntax);
     }
-    let Some(sentence) = read_sentence(line) else {
-        return Err(DeclFaultKind::Syntax);
-    };
-    follow(alloc, so_far, sentence)
+    declare_line(alloc, so_far, line)
 }

@@ -1,10 +1,12 @@
 //! The line of a declaration that declares a set kind.
-ghost use Rattle.std.specs.Prelude.{◌≡◌, ◌↔◌, ◌+◌, Some, true, length, min, IsTrue, IfOk, IfErr, OnOk, OnErr};
+ghost use Rattle.std.specs.Prelude.{◌≡◌, ◌↔◌, ◌+◌, true, length, min, IsTrue, IfOk, IfErr, OnOk, OnErr};
 ghost use Rattle.std.specs.List.{list_all, list_any, IsDistinct};
 ghost use Rattle.std.specs.Str.{bytes_eq};
 ghost use Rattle.pw_info.specs.Name.{is_name};
 ghost use Rattle.pw_kinds.specs.Limits.{most_members};
 ghost use Rattle.pw_decl.specs.Declaration.{Set, Makes};
+ghost use Rattle.pw_decl.specs.Fields.{declared_by};
+ghost use Rattle.pw_decl.specs.Steps.Standing.{outside};
 ghost use Rattle.pw_decl.specs.Steps.SentenceFaults.{IsFaultless, IsToldOf};
 
 use crate::decl_fault::DeclFaultKind;
@@ -76,15 +78,18 @@ fn name_members<A: Allocator + Copy>(
 /// Declares a set kind of this name with these members, which are names.
 pub(crate) fn declare_set<A: Allocator + Copy>(
     alloc: A,
-    declaration: &mut Declaration<A>,
+    declaration: &mut Declaration<'_, A>,
     name: &str,
     members: Words<'_>,
 ) -> Result<(), DeclFaultKind>
     requires names { list_all is_name members ≡ true }
-    ensures ok { OnOk result (Makes (Some declaration.old) (Set name.now members.entry) declaration.new) }
-    ensures none { OnOk result (IsFaultless (Some declaration.old) (Set name.now members.entry)) }
-    ensures err { IfErr result (IsToldOf (Some declaration.old) (Set name.now members.entry)) }
-    ensures unchanged { OnErr result (declaration.new ≡ declaration.old) }
+    ensures ok { OnOk result (Makes (outside declaration.old) (Set name.now members.entry)
+        (outside declaration.new)) }
+    ensures none { OnOk result (IsFaultless (outside declaration.old)
+        (Set name.now members.entry)) }
+    ensures err { IfErr result (IsToldOf (outside declaration.old) (Set name.now members.entry)) }
+    ensures unchanged { OnErr result ((declared_by declaration.new) ≡
+        (declared_by declaration.old)) }
 {
     if declaration.has_kind(name.as_bytes()) || !are_distinct(members.again()) {
         return Err(DeclFaultKind::DuplicateName);

@@ -1,5 +1,5 @@
 //! For tests alone: an allocator that refuses the growths that a test chooses, and the tests that need it or cross crates:
-//! helpers first (`texts`, `sessions`, `ends`, `facts`), then a folder for each thing tested.
+//! helpers first (`texts`, `procedures`, `sessions`, `ends`, `facts`), then a folder for each thing tested.
 #![tactic(auto)]
 
 ghost use Rattle.std.specs.Prelude.{◌≡◌, ℕ, ◌<◌, ◌≤◌, ◌^◌, ◌↔◌, IsTrue};
@@ -105,6 +105,8 @@ mod declarations;
 mod ends;
 #[cfg(test)]
 mod facts;
+#[cfg(test)]
+mod procedures;
 #[cfg(test)]
 mod refusals;
 #[cfg(test)]

@@ -17,4 +17,9 @@ set color red green blue
 cell x interval
 cell y interval
 cell g color
+compound less x interval y interval p bool
+local s interval
+sum x s y
+at_most x y p
+end
 ";

@@ -1,9 +1,11 @@
 //! Sessions: rows of what is said and what is answered. A row whose answer is empty gets no reply.
 
+use crate::procedures::{OverRegistry, SOUND, over_procedures};
 use crate::texts::{ended, joined};
-use pw_decl::{Declaration, read_declaration};
-use pw_info::Writing;
-use pw_transcript::{Lines, Reading, RunFault, run};
+use pw_decl::read_declaration;
+use pw_info::{Output, Writing};
+use pw_procs::Registry;
+use pw_transcript::{Input, Lines, Reading, RunFault, run};
 use std::alloc::{AllocError, Allocator, Global};
 use std::process::Abort;
 use std::test::Fail;
@@ -21,9 +23,54 @@ cell x interval
 cell y interval
 ";
 
-/// The declaration of this text.
-pub fn declared(alloc: Global, text: &str) -> Result<Declaration, Fail> {
-    Ok(read_declaration(alloc, text.as_bytes())?)
+// A declaration is read, and a transcript is answered over it. The run's own growths are those of `memory`.
+#[derive(Drop)]
+struct Running<'a, A: Allocator, I, O> {
+    alloc: Global,
+    memory: A,
+    declaration: &'a str,
+    input: &'a mut I,
+    output: &'a mut O,
+}
+
+impl<A: Allocator + Copy, I: Input, O: Output> OverRegistry for Running<'_, A, I, O> {
+    type Answer = Result<Result<Lines, RunFault>, Fail>;
+
+    fn over(self, registry: &Registry) -> Result<Result<Lines, RunFault>, Fail> {
+        let Running {
+            alloc,
+            memory,
+            declaration,
+            input,
+            output,
+        } = self;
+        let world = read_declaration(alloc, declaration.as_bytes(), registry)?;
+        if input.failed() || input.ended() || output.failed() {
+            return Err("an end does not work".into());
+        }
+        Ok(run(memory, &world, input, output))
+    }
+}
+
+/// What a run over the declaration of this text comes to. Its own growths are those of `memory`.
+pub fn run_over<A: Allocator + Copy, I: Input, O: Output>(
+    alloc: Global,
+    memory: A,
+    declaration: &str,
+    input: &mut I,
+    output: &mut O,
+) -> Result<Result<Lines, RunFault>, Fail> {
+    over_procedures(
+        alloc,
+        SOUND,
+        Running {
+            alloc,
+            memory,
+            declaration,
+            input,
+            output,
+        },
+    )?
 }
 
 /// What a run over the declaration of this text came to, and what it wrote. Its own growths are those of `memory`.
@@ -33,10 +80,9 @@ pub fn outcome<A: Allocator + Copy>(
     declaration: &str,
     transcript: &str,
 ) -> Result<(Result<Lines, RunFault>, String), Fail> {
-    let world = declared(alloc, declaration)?;
     let mut input = Reading::new(transcript.as_bytes());
     let mut output = Writing::new(Vec::new(alloc));
-    let answer = run(memory, &world, &mut input, &mut output);
+    let answer = run_over(alloc, memory, declaration, &mut input, &mut output)?;
     Ok((answer, String::from_utf8(output.into_writer())?))
 }
 

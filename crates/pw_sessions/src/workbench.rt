@@ -2,6 +2,7 @@
 
 ghost use Rattle.std.specs.Prelude.{◌≡◌, ◌<◌, ◌≤◌, [], length, map, replicate, slice_set, IfOk};
 ghost use Rattle.pw_cells.specs.Cells.{new_cell};
+ghost use Rattle.pw_decl.specs.Fields.{declared_by};
 ghost use Rattle.pw_sessions.specs.Beliefs.{premises_below};
 ghost use Rattle.pw_sessions.specs.Carrying.{CanBeCarriedOut, CarriesOut};
 ghost use Rattle.pw_sessions.specs.Workbench.{IsLeftBy, beliefs_in};
@@ -42,7 +43,8 @@ impl<A: Allocator + Copy> Workbench<A> {
         requires cells { length kinds.now ≤ 1024 }
         requires in_range { premises ≤ 64 }
         ensures cells { IfOk result (λ workbench. workbench.store.cells ≡ map new_cell kinds.now) }
-        ensures beliefs { IfOk result (λ workbench. workbench.beliefs ≡ replicate users (premises_below premises)) }
+        ensures beliefs { IfOk result (λ workbench.
+            workbench.beliefs ≡ replicate users (premises_below premises)) }
     {
         let mut store = CellStore::new(alloc);
         store.add_cells(kinds)?;
@@ -54,9 +56,9 @@ impl<A: Allocator + Copy> Workbench<A> {
     /// premise. It fails only for want of memory.
     pub fn new<D: Allocator + Copy>(
         alloc: A,
-        declaration: &Declaration<D>,
+        declaration: &Declaration<'_, D>,
     ) -> Result<Workbench<A>, AllocError>
-        ensures { IfOk result (λ workbench. IsLeftBy declaration.now [] workbench) }
+        ensures { IfOk result (λ workbench. IsLeftBy (declared_by declaration.now) [] workbench) }
     {
         let d = declaration;
         Workbench::fresh(alloc, d.kinds(), d.users(), d.premises())

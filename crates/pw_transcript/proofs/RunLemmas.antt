@@ -12,8 +12,9 @@ use Rattle.pw_transcript.specs.declared.progress.Fed.{Fed}
 use Rattle.pw_transcript.specs.declared.progress.Fed.TheVariants as feds
 use Rattle.pw_transcript.specs.declared.progress.Progress.{Progress}
 use Rattle.pw_transcript.specs.declared.transcript.Lines.{Lines}
+use Rattle.pw_info.specs.Bytes.{line_feed}
 use Rattle.pw_info.specs.Lines.{lines_of, HasNoEnd, text_of_lines, last_line}
-use Rattle.pw_transcript.specs.Limits.{most_lines, most_bytes, most_at_once, line_feed, GoesPastLimits}
+use Rattle.pw_transcript.specs.Limits.{most_lines, most_bytes, most_at_once, GoesPastLimits}
 use Rattle.pw_decl.specs.Declaration.{Declared}
 use Rattle.pw_sessions.specs.LineReading.{LineReading}
 use Rattle.pw_sessions.specs.Answer.{reply_to, replies_of}

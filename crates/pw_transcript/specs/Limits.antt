@@ -18,10 +18,6 @@ most_line_bytes = 1024
 abbrev pub most_at_once : ℕ
 most_at_once = 65536
 
--- the byte that ends a line
-abbrev pub line_feed : ℕ
-line_feed = 10
-
 -- a transcript has no more lines and no more bytes than a run answers
 pub record IsWithinLimits (transcript : List ℕ) : Type 0 where
   pub lines : length (lines_of transcript) ≤ most_lines

@@ -2,6 +2,7 @@
 
 ghost use Rattle.std.specs.Prelude.{◌≡◌, true, false, IfSome, IfOk, OnOk, OnErr};
 ghost use Rattle.std.specs.Option.{option_copied};
+ghost use Rattle.pw_decl.specs.Fields.{declared_by};
 ghost use Rattle.pw_transcript.specs.Steps.Answering.{IsLeft, RepliesToHeld, PassesHeldReply, FailsInHeldReply};
 ghost use Rattle.pw_transcript.specs.ReplyText.{IsReplyNamed};
 
@@ -14,14 +15,15 @@ use std::alloc::Allocator;
 
 // The reply to a line, None where it gets none. The line is handed in where it has at most 1,024 bytes.
 fn reply_to_line<A: Allocator + Copy, B: Allocator + Copy>(
-    declaration: &Declaration<A>,
+    declaration: &Declaration<'_, A>,
     line: Option<&[u8]>,
     workbench: &mut Workbench<B>,
 ) -> Option<Reply>
-    requires left { IsLeft declaration.now workbench.old }
-    ensures named { IfSome result (λ reply. IsReplyNamed declaration.now reply) }
-    ensures reply { RepliesToHeld declaration.now (option_copied line.entry) workbench.old workbench.new result }
-    ensures left { IsLeft declaration.now workbench.new }
+    requires left { IsLeft (declared_by declaration.now) workbench.old }
+    ensures named { IfSome result (λ reply. IsReplyNamed (declared_by declaration.now) reply) }
+    ensures reply { RepliesToHeld (declared_by declaration.now)
+        (option_copied line.entry) workbench.old workbench.new result }
+    ensures left { IsLeft (declared_by declaration.now) workbench.new }
 {
     // Cells have kinds whose members are named.
     declaration.limits();
@@ -39,18 +41,21 @@ fn reply_to_line<A: Allocator + Copy, B: Allocator + Copy>(
 /// has at most 1,024 bytes. The answer is whether there was a reply; `Failed` where the output failed, and a front of
 /// the reply was passed then.
 pub(crate) fn answer_line<A: Allocator + Copy, B: Allocator + Copy, O: Output>(
-    d: &Declaration<A>,
+    d: &Declaration<'_, A>,
     number: u32,
     line: Option<&[u8]>,
     workbench: &mut Workbench<B>,
     output: &mut O,
 ) -> Result<bool, Failed>
-    requires left { IsLeft d.now workbench.old }
-    ensures ok { IfOk result (PassesHeldReply O.passes d.now number (option_copied line.entry) workbench.old workbench.new output.old output.new) }
-    ensures err { OnErr result (FailsInHeldReply O.passes d.now number (option_copied line.entry) workbench.old output.old output.new) }
+    requires left { IsLeft (declared_by d.now) workbench.old }
+    ensures ok { IfOk result (PassesHeldReply O.passes (declared_by d.now) number (option_copied line.entry)
+        workbench.old workbench.new output.old output.new) }
+    ensures err { OnErr result (FailsInHeldReply O.passes (declared_by d.now) number (option_copied line.entry)
+        workbench.old output.old output.new) }
     ensures failed { OnErr result (O.has_failed output.new ≡ true) }
-    ensures works { OnOk result (O.has_failed output.old ≡ false → O.has_failed output.new ≡ false) }
-    ensures left { IsLeft d.now workbench.new }
+    ensures works { OnOk result (O.has_failed output.old ≡ false
+        → O.has_failed output.new ≡ false) }
+    ensures left { IsLeft (declared_by d.now) workbench.new }
 {
     let Some(reply) = reply_to_line(d, line, workbench) else {
         return Ok(false);

@@ -2,6 +2,7 @@
 
 ghost use Rattle.std.specs.Prelude.{◌≡◌, true, false, IfOk, IfErr, OnOk, OnErr};
 ghost use Rattle.std.specs.List.{list_all};
+ghost use Rattle.pw_decl.specs.Fields.{declared_by};
 ghost use Rattle.pw_sessions.specs.LineReading.{LineReading};
 ghost use Rattle.pw_transcript.specs.Sentence.{Tell, Ask};
 ghost use Rattle.pw_transcript.specs.Steps.Forms.{said_in, sentence_in};
@@ -22,12 +23,15 @@ pub const MOST_LINE_BYTES: usize = 1024;
 
 // The premises that the words name, or the refusal of a word that names none.
 fn premise_set<A: Allocator + Copy>(
-    declaration: &Declaration<A>,
+    declaration: &Declaration<'_, A>,
     mut words: Words<'_>,
 ) -> Result<PremiseSet, Refusal>
-    ensures ok { IfOk result (λ set. set ≡ spec.premises_of declaration.now words.entry) }
-    ensures known { OnOk result (list_all (spec.is_known declaration.now) words.entry ≡ true) }
-    ensures unknown { OnErr result (list_all (spec.is_known declaration.now) words.entry ≡ false) }
+    ensures ok { IfOk result (λ set.
+        set ≡ spec.premises_of (declared_by declaration.now) words.entry) }
+    ensures known { OnOk result
+        (list_all (spec.is_known (declared_by declaration.now)) words.entry ≡ true) }
+    ensures unknown { OnErr result
+        (list_all (spec.is_known (declared_by declaration.now)) words.entry ≡ false) }
     ensures err { IfErr result (λ refusal. refusal ≡ Refusal.UnknownPremise) }
 {
     let mut set = PremiseSet::empty();
@@ -41,8 +45,8 @@ fn premise_set<A: Allocator + Copy>(
 }
 
 // Whether the user may tell under the premise that the word names.
-fn may_use<A: Allocator + Copy>(declaration: &Declaration<A>, user: u8, word: &[u8]) -> bool
-    ensures { result ≡ spec.may_use declaration.now user word.now }
+fn may_use<A: Allocator + Copy>(declaration: &Declaration<'_, A>, user: u8, word: &[u8]) -> bool
+    ensures { result ≡ spec.may_use (declared_by declaration.now) user word.now }
 {
     let Some(premise) = declaration.premise(word) else {
         return true;
@@ -55,11 +59,11 @@ fn may_use<A: Allocator + Copy>(declaration: &Declaration<A>, user: u8, word: &[
 
 // Whether the user may tell under each premise that the words name.
 fn may_use_all<A: Allocator + Copy>(
-    declaration: &Declaration<A>,
+    declaration: &Declaration<'_, A>,
     user: u8,
     mut words: Words<'_>,
 ) -> bool
-    ensures { result ≡ list_all (spec.may_use declaration.now user) words.entry }
+    ensures { result ≡ list_all (spec.may_use (declared_by declaration.now) user) words.entry }
 {
     while let Some(word) = words.next() {
         if !may_use(declaration, user, word) {
@@ -71,15 +75,18 @@ fn may_use_all<A: Allocator + Copy>(
 
 // What a user tells.
 fn resolve_tell<A: Allocator + Copy>(
-    declaration: &Declaration<A>,
+    declaration: &Declaration<'_, A>,
     user: u8,
     cell: &[u8],
     info: &[u8],
     premises: Words<'_>,
 ) -> Result<Command, Refusal>
-    ensures ok { IfOk result (λ command. MeansFor declaration.now user (Tell cell.now info.now premises.entry) command) }
-    ensures none { OnOk result (IsFree declaration.now user (Tell cell.now info.now premises.entry)) }
-    ensures err { IfErr result (λ refusal. IsRefusedFor declaration.now user (Tell cell.now info.now premises.entry) refusal) }
+    ensures ok { IfOk result (λ command.
+        MeansFor (declared_by declaration.now) user (Tell cell.now info.now premises.entry) command) }
+    ensures none { OnOk result (IsFree (declared_by declaration.now) user
+        (Tell cell.now info.now premises.entry)) }
+    ensures err { IfErr result (λ refusal.
+        IsRefusedFor (declared_by declaration.now) user (Tell cell.now info.now premises.entry) refusal) }
 {
     let Some(cell) = declaration.cell(cell) else {
         return Err(Refusal::UnknownCell);
@@ -99,13 +106,15 @@ fn resolve_tell<A: Allocator + Copy>(
 
 // What a user asks for.
 fn resolve_ask<A: Allocator + Copy>(
-    declaration: &Declaration<A>,
+    declaration: &Declaration<'_, A>,
     user: u8,
     cell: &[u8],
 ) -> Result<Command, Refusal>
-    ensures ok { IfOk result (λ command. MeansFor declaration.now user (Ask cell.now) command) }
-    ensures none { OnOk result (IsFree declaration.now user (Ask cell.now)) }
-    ensures err { IfErr result (λ refusal. IsRefusedFor declaration.now user (Ask cell.now) refusal) }
+    ensures ok { IfOk result (λ command.
+        MeansFor (declared_by declaration.now) user (Ask cell.now) command) }
+    ensures none { OnOk result (IsFree (declared_by declaration.now) user (Ask cell.now)) }
+    ensures err { IfErr result (λ refusal.
+        IsRefusedFor (declared_by declaration.now) user (Ask cell.now) refusal) }
 {
     match declaration.cell(cell) {
         Some(cell) => Ok(Command::Ask { user, cell }),
@@ -115,13 +124,15 @@ fn resolve_ask<A: Allocator + Copy>(
 
 // The command that is meant by what a user says, or its first refusal.
 fn resolve_said<A: Allocator + Copy>(
-    declaration: &Declaration<A>,
+    declaration: &Declaration<'_, A>,
     user: u8,
     said: Said<'_>,
 ) -> Result<Command, Refusal>
-    ensures ok { IfOk result (λ command. MeansFor declaration.now user (said_in said.entry) command) }
-    ensures none { OnOk result (IsFree declaration.now user (said_in said.entry)) }
-    ensures err { IfErr result (λ refusal. IsRefusedFor declaration.now user (said_in said.entry) refusal) }
+    ensures ok { IfOk result (λ command.
+        MeansFor (declared_by declaration.now) user (said_in said.entry) command) }
+    ensures none { OnOk result (IsFree (declared_by declaration.now) user (said_in said.entry)) }
+    ensures err { IfErr result (λ refusal.
+        IsRefusedFor (declared_by declaration.now) user (said_in said.entry) refusal) }
 {
     match said {
         Said::Tell {
@@ -144,12 +155,15 @@ fn resolve_said<A: Allocator + Copy>(
 
 // The command that a sentence means, or its first refusal.
 fn resolve<A: Allocator + Copy>(
-    declaration: &Declaration<A>,
+    declaration: &Declaration<'_, A>,
     sentence: Sentence<'_>,
 ) -> Result<Command, Refusal>
-    ensures ok { IfOk result (λ command. spec.Means declaration.now (sentence_in sentence.entry) command) }
-    ensures none { OnOk result (spec.IsUnrefused declaration.now (sentence_in sentence.entry)) }
-    ensures err { IfErr result (λ refusal. spec.IsRefusedWith declaration.now (sentence_in sentence.entry) refusal) }
+    ensures ok { IfOk result (λ command.
+        spec.Means (declared_by declaration.now) (sentence_in sentence.entry) command) }
+    ensures none { OnOk result (spec.IsUnrefused (declared_by declaration.now)
+        (sentence_in sentence.entry)) }
+    ensures err { IfErr result (λ refusal.
+        spec.IsRefusedWith (declared_by declaration.now) (sentence_in sentence.entry) refusal) }
 {
     match declaration.user(sentence.user) {
         Some(user) => resolve_said(declaration, user, sentence.said),
@@ -163,11 +177,12 @@ fn resolve<A: Allocator + Copy>(
 /// that applies to the line, which is never `Memory`.
 pub fn read_command<A: Allocator + Copy>(
     line: &[u8],
-    declaration: &Declaration<A>,
+    declaration: &Declaration<'_, A>,
 ) -> Result<Option<Command>, Refusal>
-    ensures reads { spec.Reads declaration.now line.now (spec.reading_of result) }
+    ensures reads { spec.Reads (declared_by declaration.now) line.now (spec.reading_of result) }
     // No line has another reading.
-    ensures only { (other : LineReading) → spec.Reads declaration.now line.now other → other ≡ spec.reading_of result }
+    ensures only { (other : LineReading) → spec.Reads (declared_by declaration.now) line.now other
+        → other ≡ spec.reading_of result }
 {
     // Members of sets have names, so that no word spells two informations.
     declaration.limits();

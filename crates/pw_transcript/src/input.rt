@@ -30,8 +30,10 @@ pub trait Input {
         ensures taken { TakeFills takes self.old self.new result buffer.new }
         ensures failed { has_failed self.new ≡ is_err result }
         ensures stays { has_failed self.old ≡ true → IsErr result }
-        ensures ended { IfOk result (λ n. 0 < length buffer.new → n ≡ 0 → has_ended self.new ≡ true) }
-        ensures nothing_left { IfOk result (λ n. 0 < length buffer.new → n ≡ 0 → nothing_left self.new) }
+        ensures ended { IfOk result (λ n.
+            0 < length buffer.new → n ≡ 0 → has_ended self.new ≡ true) }
+        ensures nothing_left { IfOk result (λ n.
+            0 < length buffer.new → n ≡ 0 → nothing_left self.new) }
         ensures goes_on { IfOk result (λ n. 0 < n → has_ended self.new ≡ has_ended self.old) }
         ensures no_room { length buffer.new ≡ 0 → has_ended self.new ≡ has_ended self.old }
         ensures no_end { OnErr result (has_ended self.new ≡ has_ended self.old) };
@@ -47,7 +49,8 @@ pub trait Input {
     // Nothing is taken at one moment.
     ghost none: { (s : Self) → takes s [] s };
     // What is taken first and what is taken next are taken together.
-    ghost joins: { (s t u : Self) (xs ys : List ℕ) → takes s xs t → takes t ys u → takes s (xs ++ ys) u };
+    ghost joins: { (s t u : Self) (xs ys : List ℕ) → takes s xs t → takes t ys u
+        → takes s (xs ++ ys) u };
 }
 
 /// An input that reads from a reader.
@@ -138,5 +141,6 @@ impl<R: Read> Input for Reading<R> {
 
     ghost none = { λ s. Consumes-nil (R.remaining (reader_of s)) };
 
-    ghost joins = { λ s t u xs ys p q. Consumes-trans (R.remaining (reader_of s)) (R.remaining (reader_of t)) (R.remaining (reader_of u)) xs ys p q };
+    ghost joins = { λ s t u xs ys p q. Consumes-trans (R.remaining (reader_of s)) (R.remaining
+        (reader_of t)) (R.remaining (reader_of u)) xs ys p q };
 }

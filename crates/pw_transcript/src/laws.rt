@@ -15,7 +15,8 @@ use std::io::Read;
 
 /// A line has at most one reading, after a declaration that keeps its limits, as every one that is read does.
 pub fn one_reading()
-    ensures { (d : Declared) (line : List ℕ) (a b : LineReading) → IsWellDeclared d → Reads d line a → Reads d line b → a ≡ b }
+    ensures { (d : Declared) (line : List ℕ) (a b : LineReading) → IsWellDeclared d → Reads d line a
+        → Reads d line b → a ≡ b }
 {}
 
 /// The words of a line are one sentence at most, the one that the function gives.
@@ -26,5 +27,6 @@ pub fn one_sentence()
 
 /// What is taken from a reader until nothing is left is all that remained of it, where that is known.
 pub fn whole_text_is_taken<R: Read>()
-    ensures { (old new : Reading R) (bytes : List ℕ) → ReaderTakes R.remaining old bytes new → NothingRemains R.remaining new → IsAllOf R.remaining old bytes }
+    ensures { (old new : Reading R) (bytes : List ℕ) → ReaderTakes R.remaining old bytes new
+        → NothingRemains R.remaining new → IsAllOf R.remaining old bytes }
 {}

@@ -42,7 +42,8 @@ impl LineBuffer {
 
     /// Adds a piece to what has come.
     pub fn extend(&mut self, piece: &[u8])
-        ensures { (line : List ℕ) → self.old ≡ held_line line → self.new ≡ held_line (line ++ piece.now) }
+        ensures { (line : List ℕ) → self.old ≡ held_line line
+            → self.new ≡ held_line (line ++ piece.now) }
     {
         if self.is_long {
             return;

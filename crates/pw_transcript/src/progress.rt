@@ -1,7 +1,9 @@
 //! How far a run has come between two takes, and the steps by which it goes on.
 
 ghost use Rattle.std.specs.Prelude.{◌≡◌, ◌+◌, ◌<◌, ◌≤◌, [], ◌∷◌, true, false, IfOk, OnOk, OnErr, if◌then◌else◌};
-ghost use Rattle.pw_transcript.specs.Limits.{most_lines, line_feed};
+ghost use Rattle.pw_info.specs.Bytes.{line_feed};
+ghost use Rattle.pw_decl.specs.Fields.{declared_by};
+ghost use Rattle.pw_transcript.specs.Limits.{most_lines};
 ghost use Rattle.pw_transcript.specs.Steps.Answering.{held_line};
 ghost use Rattle.pw_transcript.specs.Steps.Running.{IsRunning, GoesOn, FailsIn, StopsIn, Ends, FailsAtEnd};
 
@@ -73,15 +75,17 @@ impl<B: Allocator + Copy> Progress<B> {
     // Answers the line that has come, as one that has ended.
     fn end_line<A: Allocator + Copy, O: Output>(
         &mut self,
-        d: &Declaration<A>,
+        d: &Declaration<'_, A>,
         output: &mut O,
     ) -> Result<(), Failed>
-        requires running { IsRunning d.now self.old }
+        requires running { IsRunning (declared_by d.now) self.old }
         requires more { self.old.counts.lines < most_lines }
-        ensures ok { OnOk result (GoesOn O.passes d.now self.old output.old (line_feed ∷ []) self.new output.new) }
+        ensures ok { OnOk result (GoesOn O.passes (declared_by d.now) self.old output.old
+            (line_feed ∷ []) self.new output.new) }
         ensures empty { OnOk result (self.new.line ≡ held_line []) }
-        ensures running { OnOk result (IsRunning d.now self.new) }
-        ensures err { OnErr result (FailsIn O.passes d.now self.old output.old (line_feed ∷ []) output.new) }
+        ensures running { OnOk result (IsRunning (declared_by d.now) self.new) }
+        ensures err { OnErr result (FailsIn O.passes (declared_by d.now) self.old output.old
+            (line_feed ∷ []) output.new) }
         ensures failed { OnErr result (O.has_failed output.new ≡ true) }
     {
         let number = self.counts.lines + 1;
@@ -94,15 +98,18 @@ impl<B: Allocator + Copy> Progress<B> {
     /// Answers the lines that end in the bytes, and holds the rest.
     pub(crate) fn feed<A: Allocator + Copy, O: Output>(
         &mut self,
-        d: &Declaration<A>,
+        d: &Declaration<'_, A>,
         bytes: &[u8],
         output: &mut O,
     ) -> Result<Fed, Failed>
-        requires running { IsRunning d.now self.old }
-        ensures whole { IfOk result (λ fed. fed ≡ Fed.Whole → GoesOn O.passes d.now self.old output.old bytes.now self.new output.new) }
-        ensures limit { IfOk result (λ fed. fed ≡ Fed.PastLimit → StopsIn O.passes d.now self.old output.old bytes.now output.new) }
-        ensures running { OnOk result (IsRunning d.now self.new) }
-        ensures err { OnErr result (FailsIn O.passes d.now self.old output.old bytes.now output.new) }
+        requires running { IsRunning (declared_by d.now) self.old }
+        ensures whole { IfOk result (λ fed. fed ≡ Fed.Whole → GoesOn O.passes
+            (declared_by d.now) self.old output.old bytes.now self.new output.new) }
+        ensures limit { IfOk result (λ fed. fed ≡ Fed.PastLimit
+            → StopsIn O.passes (declared_by d.now) self.old output.old bytes.now output.new) }
+        ensures running { OnOk result (IsRunning (declared_by d.now) self.new) }
+        ensures err { OnErr result (FailsIn O.passes
+            (declared_by d.now) self.old output.old bytes.now output.new) }
         ensures failed { OnErr result (O.has_failed output.new ≡ true) }
     {
         let mut rest = bytes;
@@ -127,12 +134,14 @@ impl<B: Allocator + Copy> Progress<B> {
     /// Answers the last line, which has no line feed after it, if one has come.
     pub(crate) fn end<A: Allocator + Copy, O: Output>(
         &mut self,
-        d: &Declaration<A>,
+        d: &Declaration<'_, A>,
         output: &mut O,
     ) -> Result<(), Failed>
-        requires running { IsRunning d.now self.old }
-        ensures ok { OnOk result (Ends O.passes d.now self.old output.old self.new output.new) }
-        ensures err { OnErr result (FailsAtEnd O.passes d.now self.old output.old output.new) }
+        requires running { IsRunning (declared_by d.now) self.old }
+        ensures ok { OnOk result (Ends O.passes
+            (declared_by d.now) self.old output.old self.new output.new) }
+        ensures err { OnErr result (FailsAtEnd O.passes
+            (declared_by d.now) self.old output.old output.new) }
         ensures failed { OnErr result (O.has_failed output.new ≡ true) }
     {
         if self.line.is_empty() {

@@ -3,6 +3,7 @@
 ghost use Rattle.std.specs.Prelude.{◌≡◌, ◌++◌, codes};
 ghost use Rattle.std.specs.Fmt.{decimal};
 ghost use Rattle.pw_info.specs.Passing.{Writes};
+ghost use Rattle.pw_decl.specs.Fields.{declared_by};
 ghost use Rattle.pw_transcript.specs.ReplyText.{IsReplyNamed, text_of_refusal, text_of_answer, text_of_reply};
 
 use itoa::Buffer;
@@ -31,7 +32,8 @@ fn refusal_text(refusal: Refusal) -> &'static [u8]
 // Writes `refused` and why.
 #[tactic(auto, using(pw_info::proofs::PassingFacts::first_fails, pw_info::proofs::PassingFacts::second_writes))]
 fn write_refusal<O: Output>(refusal: Refusal, output: &mut O) -> Result<(), Failed>
-    ensures { Writes O.passes O.has_failed output.old output.new result (codes "refused " ++ text_of_refusal refusal) }
+    ensures { Writes O.passes O.has_failed output.old output.new result
+        (codes "refused " ++ text_of_refusal refusal) }
 {
     put_all(output, b"refused ")?;
     put_all(output, refusal_text(refusal))
@@ -40,11 +42,12 @@ fn write_refusal<O: Output>(refusal: Refusal, output: &mut O) -> Result<(), Fail
 // Writes what a reply says.
 fn write_answer<A: Allocator + Copy, O: Output>(
     reply: &Reply,
-    declaration: &Declaration<A>,
+    declaration: &Declaration<'_, A>,
     output: &mut O,
 ) -> Result<(), Failed>
-    requires named { IsReplyNamed declaration.now reply.now }
-    ensures { Writes O.passes O.has_failed output.old output.new result (text_of_answer declaration.now reply.now) }
+    requires named { IsReplyNamed (declared_by declaration.now) reply.now }
+    ensures { Writes O.passes O.has_failed output.old output.new result (text_of_answer
+        (declared_by declaration.now) reply.now) }
 {
     match *reply {
         Reply::Done => put_all(output, b"ok"),
@@ -56,7 +59,8 @@ fn write_answer<A: Allocator + Copy, O: Output>(
 // Writes the number of a line, a colon and a space.
 #[tactic(auto, using(pw_info::proofs::PassingFacts::first_fails, pw_info::proofs::PassingFacts::second_writes))]
 fn write_line_number<O: Output>(line: u32, output: &mut O) -> Result<(), Failed>
-    ensures { Writes O.passes O.has_failed output.old output.new result (decimal line ++ codes ": ") }
+    ensures { Writes O.passes O.has_failed output.old output.new result
+        (decimal line ++ codes ": ") }
 {
     let mut digits = Buffer::new();
     put_all(output, digits.format(line).as_bytes())?;
@@ -67,11 +71,12 @@ fn write_line_number<O: Output>(line: u32, output: &mut O) -> Result<(), Failed>
 #[tactic(auto, using(pw_info::proofs::PassingFacts::first_fails, pw_info::proofs::PassingFacts::second_writes))]
 fn write_answer_line<A: Allocator + Copy, O: Output>(
     reply: &Reply,
-    declaration: &Declaration<A>,
+    declaration: &Declaration<'_, A>,
     output: &mut O,
 ) -> Result<(), Failed>
-    requires named { IsReplyNamed declaration.now reply.now }
-    ensures { Writes O.passes O.has_failed output.old output.new result (text_of_answer declaration.now reply.now ++ codes "\n") }
+    requires named { IsReplyNamed (declared_by declaration.now) reply.now }
+    ensures { Writes O.passes O.has_failed output.old output.new result (text_of_answer
+        (declared_by declaration.now) reply.now ++ codes "\n") }
 {
     write_answer(reply, declaration, output)?;
     put_all(output, b"\n")
@@ -83,11 +88,12 @@ fn write_answer_line<A: Allocator + Copy, O: Output>(
 pub fn write_reply<A: Allocator + Copy, O: Output>(
     line: u32,
     reply: &Reply,
-    declaration: &Declaration<A>,
+    declaration: &Declaration<'_, A>,
     output: &mut O,
 ) -> Result<(), Failed>
-    requires named { IsReplyNamed declaration.now reply.now }
-    ensures { Writes O.passes O.has_failed output.old output.new result (text_of_reply declaration.now line reply.now) }
+    requires named { IsReplyNamed (declared_by declaration.now) reply.now }
+    ensures { Writes O.passes O.has_failed output.old output.new result (text_of_reply
+        (declared_by declaration.now) line reply.now) }
 {
     write_line_number(line, output)?;
     write_answer_line(reply, declaration, output)

@@ -42,7 +42,8 @@ pub struct Sentence<'a> {
 
 // The premises at the end of a tell.
 fn read_under<'a>(mut tail: Words<'a>) -> Option<Words<'a>>
-    ensures { MatchOption result (under_form tail.entry ≡ None) (λ premises. under_form tail.entry ≡ Some premises) }
+    ensures { MatchOption result (under_form tail.entry ≡ None) (λ premises.
+        under_form tail.entry ≡ Some premises) }
 {
     let Some(word) = tail.next() else {
         return Some(tail);

@@ -1,6 +1,7 @@
 //! A transcript from end to end: its lines in, their replies out.
 
 ghost use Rattle.std.specs.Prelude.{◌≡◌, [], true, false, IfOk, OnOk, OnErr, IsErrOf};
+ghost use Rattle.pw_decl.specs.Fields.{declared_by};
 ghost use Rattle.pw_transcript.specs.FromScratch.{RepliesToAll, RepliesToEnded, RepliesUpToLimit, RepliesInPart};
 ghost use Rattle.pw_sessions.specs.Workbench.{IsLeftBy};
 ghost use Rattle.pw_transcript.specs.Steps.Gatherers.{output_of, held_of, GatheredPasses};
@@ -49,23 +50,28 @@ pub enum RunFault {
 // Answers all lines of the input. It is taken chunk by chunk, and each chunk is answered before the next is taken.
 fn answer_all<A: Allocator + Copy, B: Allocator + Copy, I: Input, O: Output>(
     workbench: Workbench<B>,
-    d: &Declaration<A>,
+    d: &Declaration<'_, A>,
     input: &mut I,
     output: &mut Gathered<'_, O>,
 ) -> Result<Lines, RunFault>
-    requires start { IsLeftBy d.now [] workbench }
+    requires start { IsLeftBy (declared_by d.now) [] workbench }
     requires empty { held_of output.old ≡ [] }
-    ensures ok { IfOk result (RepliesToAll I.takes (GatheredPasses O.passes) d.now input.old input.new output.old output.new) }
+    ensures ok { IfOk result (RepliesToAll I.takes (GatheredPasses O.passes)
+        (declared_by d.now) input.old input.new output.old output.new) }
     ensures ended { OnOk result (I.has_ended input.new ≡ true) }
     ensures nothing_left { OnOk result (I.nothing_left input.new) }
     ensures works { OnOk result (O.has_failed (output_of output.new).now ≡ false) }
     ensures passed_on { OnOk result (held_of output.new ≡ []) }
-    ensures read { IsErrOf result RunFault.Read → RepliesToEnded I.takes (GatheredPasses O.passes) d.now input.old input.new output.old output.new }
+    ensures read { IsErrOf result RunFault.Read →
+        RepliesToEnded I.takes (GatheredPasses O.passes) (declared_by d.now) input.old input.new output.old output.new }
     ensures read_failed { IsErrOf result RunFault.Read → I.has_failed input.new ≡ true }
     ensures read_passed_on { IsErrOf result RunFault.Read → held_of output.new ≡ [] }
-    ensures write { IsErrOf result RunFault.Write → RepliesInPart I.takes (GatheredPasses O.passes) d.now input.old input.new output.old output.new }
-    ensures write_failed { IsErrOf result RunFault.Write → O.has_failed (output_of output.new).now ≡ true }
-    ensures limit { IsErrOf result RunFault.Limit → RepliesUpToLimit I.takes (GatheredPasses O.passes) d.now input.old input.new output.old output.new }
+    ensures write { IsErrOf result RunFault.Write →
+        RepliesInPart I.takes (GatheredPasses O.passes) (declared_by d.now) input.old input.new output.old output.new }
+    ensures write_failed { IsErrOf result RunFault.Write
+        → O.has_failed (output_of output.new).now ≡ true }
+    ensures limit { IsErrOf result RunFault.Limit →
+        RepliesUpToLimit I.takes (GatheredPasses O.passes) (declared_by d.now) input.old input.new output.old output.new }
     ensures limit_passed_on { IsErrOf result RunFault.Limit → held_of output.new ≡ [] }
     ensures no_memory { IsErrOf result RunFault.Memory → ⊥ }
 {
@@ -122,22 +128,27 @@ fn answer_all<A: Allocator + Copy, B: Allocator + Copy, I: Input, O: Output>(
 ///   before it are written then.
 pub fn run<A: Allocator + Copy, B: Allocator + Copy, I: Input, O: Output>(
     alloc: B,
-    d: &Declaration<A>,
+    d: &Declaration<'_, A>,
     input: &mut I,
     output: &mut O,
 ) -> Result<Lines, RunFault>
     requires input { (I.has_failed input.old ≡ false) × (I.has_ended input.old ≡ false) }
     requires output { O.has_failed output.old ≡ false }
-    ensures ok { IfOk result (RepliesToAll I.takes O.passes d.now input.old input.new output.old output.new) }
+    ensures ok { IfOk result (RepliesToAll I.takes O.passes
+        (declared_by d.now) input.old input.new output.old output.new) }
     ensures ended { OnOk result (I.has_ended input.new ≡ true) }
     ensures nothing_left { OnOk result (I.nothing_left input.new) }
     ensures works { OnOk result (O.has_failed output.new ≡ false) }
-    ensures read { IsErrOf result RunFault.Read → RepliesToEnded I.takes O.passes d.now input.old input.new output.old output.new }
+    ensures read { IsErrOf result RunFault.Read → RepliesToEnded I.takes O.passes
+        (declared_by d.now) input.old input.new output.old output.new }
     ensures read_failed { IsErrOf result RunFault.Read → I.has_failed input.new ≡ true }
-    ensures write { IsErrOf result RunFault.Write → RepliesInPart I.takes O.passes d.now input.old input.new output.old output.new }
+    ensures write { IsErrOf result RunFault.Write → RepliesInPart I.takes O.passes
+        (declared_by d.now) input.old input.new output.old output.new }
     ensures write_failed { IsErrOf result RunFault.Write → O.has_failed output.new ≡ true }
-    ensures memory { IsErrOf result RunFault.Memory → I.takes input.old [] input.new × O.passes output.old [] output.new }
-    ensures limit { IsErrOf result RunFault.Limit → RepliesUpToLimit I.takes O.passes d.now input.old input.new output.old output.new }
+    ensures memory { IsErrOf result RunFault.Memory → I.takes input.old [] input.new
+        × O.passes output.old [] output.new }
+    ensures limit { IsErrOf result RunFault.Limit → RepliesUpToLimit I.takes O.passes
+        (declared_by d.now) input.old input.new output.old output.new }
 {
     let Ok(workbench) = Workbench::new(alloc, d) else {
         return Err(RunFault::Memory);

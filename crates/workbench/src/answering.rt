@@ -1,10 +1,12 @@
-//! The job itself: the declaration is loaded, and the transcript answered on standard output.
+//! The jobs: over a registry of procedures a declaration is read, and then a transcript answered, or told how much is declared.
 
 use crate::arguments::Job;
+use crate::checking::check_line;
 use crate::fault::Fault;
-use crate::files::load_declaration;
-use pw_decl::Declaration;
+use crate::files::declaration_text;
+use pw_decl::{Declaration, read_declaration};
 use pw_info::Writing;
+use pw_procs::Registry;
 use pw_transcript::{Reading, RunFault, run};
 use std::io::Read;
 use std::rt::Files;
@@ -13,7 +15,7 @@ use std::{fs, io};
 // Answers the transcript on standard output.
 fn answer<R: Print + AllocGlobal, T: Read + Drop>(
     rt: &R,
-    declaration: &Declaration,
+    declaration: &Declaration<'_>,
     transcript: T,
 ) -> Result<(), RunFault> {
     let mut input = Reading::new(transcript);
@@ -22,13 +24,16 @@ fn answer<R: Print + AllocGlobal, T: Read + Drop>(
     Ok(())
 }
 
-/// Loads the declaration, and answers the transcript over it.
-pub fn answer_job<'a, R: Files + Input + Print + AllocGlobal>(
+// Reads the declaration, and answers the transcript over it: the file of this name, or standard input.
+fn answer_transcript<'a, R: Files + Input + Print + AllocGlobal>(
     rt: &R,
-    job: &Job<'a>,
+    registry: &Registry,
+    declaration: &'a str,
+    transcript: Option<&'a str>,
 ) -> Result<(), Fault<'a>> {
-    let declaration = load_declaration(rt, job.declaration)?;
-    match job.transcript {
+    let text = declaration_text(rt, declaration)?;
+    let declaration = read_declaration(rt.alloc(), &text, registry)?;
+    match transcript {
         Some(name) => match fs::open(rt, name) {
             Ok(file) => answer(rt, &declaration, file)?,
             Err(_) => return Err(Fault::CannotRead(name)),
@@ -36,4 +41,33 @@ pub fn answer_job<'a, R: Files + Input + Print + AllocGlobal>(
         None => answer(rt, &declaration, rt.reader())?,
     }
     Ok(())
+}
+
+// Reads the declaration, and says on standard output how much it declares.
+fn check<'a, R: Files + Print + AllocGlobal>(
+    rt: &R,
+    registry: &Registry,
+    declaration: &'a str,
+) -> Result<(), Fault<'a>> {
+    let text = declaration_text(rt, declaration)?;
+    let line = check_line(rt.alloc(), &text, registry)?;
+    match rt.println(line) {
+        Ok(()) => Ok(()),
+        Err(_) => Err(Fault::Run(RunFault::Write)),
+    }
+}
+
+/// Does the job over the registry.
+pub fn do_over<'a, R: Files + Input + Print + AllocGlobal>(
+    rt: &R,
+    registry: &Registry,
+    job: &Job<'a>,
+) -> Result<(), Fault<'a>> {
+    match *job {
+        Job::Run {
+            declaration,
+            transcript,
+        } => answer_transcript(rt, registry, declaration, transcript),
+        Job::Check { declaration } => check(rt, registry, declaration),
+    }
 }

@@ -14,7 +14,10 @@ const ABOUT: &str =
 const MORE: &str = "Files:
   DECL        a declaration: first `workbench 1`, then a line for each user, premise, set and cell,
               as `user ann`, `premise a`, `premise b of ann` (ann's alone to tell under),
-              `set part cable card`, `cell x interval`, `cell k exact`, `cell f part`
+              `set part cable card`, `cell x interval`, `cell k exact`, `cell f part`;
+              and compounds, each of several lines, as `compound twice x interval t interval`,
+              `adder x x t`, `end`: calls of procedures, of the compounds above it and of sum,
+              product and conditional, over its parameters and cells as `local s interval`
   TRANSCRIPT  a command on each line, read from standard input where no file is named
 
 Command lines:
@@ -25,8 +28,11 @@ Command lines:
 
 Each command is answered on standard output by a line `N: REPLY`, where N is the number of its line.
 
+`workbench check DECL` reads the declaration alone. Where it has no fault it prints how many users,
+premises, cells, sets and compounds are declared, as `ok users 1 premises 2 cells 3 sets 1 compounds 1`.
+
 Status:
-  0  the transcript was answered to its end
+  0  the transcript was answered to its end, or the declaration checked has no fault
   1  a fault, told by one line on standard error
   2  a bad command line
 
@@ -37,13 +43,18 @@ Example, with the declaration above:
 
 The manual is docs/FORMATS.md.";
 
-/// What the program is asked to do: to answer a transcript over a declaration.
+/// What the program is asked to do. Files go by their names.
 #[derive(Clone, Copy, Debug, PartialEq, Eq)]
-pub struct Job<'a> {
-    /// The name of the file of the declaration.
-    pub declaration: &'a str,
-    /// The name of the file of the transcript. Without one it is read from standard input.
-    pub transcript: Option<&'a str>,
+pub enum Job<'a> {
+    /// To answer a transcript over a declaration. Without a file it is read from standard input.
+    Run {
+        declaration: &'a str,
+        transcript: Option<&'a str>,
+    },
+    /// To say how much a declaration declares.
+    Check {
+        declaration: &'a str,
+    },
 }
 
 /// The arguments that the program was given. The first is the program's name.
@@ -57,24 +68,32 @@ pub fn given_arguments<R: Env + AllocGlobal>(rt: &R) -> Result<Vec<String>, Erro
     }
 }
 
+// The argument that names the declaration.
+fn declaration_argument<'a>(alloc: Global) -> Arg<'a> {
+    Arg::new(alloc, "DECL")
+        .help("The file of the declaration")
+        .required(true)
+}
+
 // The command line that the program understands.
 fn command<'a>(alloc: Global) -> Result<Command<'a>, Error> {
-    let declaration = Arg::new(alloc, "DECL")
-        .help("The file of the declaration")
-        .required(true);
     let transcript = Arg::new(alloc, "TRANSCRIPT").help(
         "The file of the transcript, instead of standard input",
     );
     let run = Command::new(alloc, "run")
         .about("Answers each command of a transcript")
-        .arg(declaration)?
+        .arg(declaration_argument(alloc))?
         .arg(transcript)?;
+    let check = Command::new(alloc, "check")
+        .about("Says how much a declaration declares, or its first fault")
+        .arg(declaration_argument(alloc))?;
     let workbench = Command::new(alloc, "workbench")
         .version(VERSION)
         .about(ABOUT)
         .after_help(MORE)
         .subcommand_required(true)
-        .subcommand(run)?;
+        .subcommand(run)?
+        .subcommand(check)?;
     Ok(workbench)
 }
 
@@ -86,14 +105,19 @@ pub fn read_arguments<'a>(alloc: Global, arguments: &'a [String]) -> Result<Job<
     let matches = command(alloc)?.try_get_matches_from(arguments)?;
     if let Some(run) = matches.subcommand_matches("run") {
         if let Some(declaration) = run.get_str("DECL") {
-            return Ok(Job {
+            return Ok(Job::Run {
                 declaration,
                 transcript: run.get_str("TRANSCRIPT"),
             });
         }
     }
+    if let Some(check) = matches.subcommand_matches("check") {
+        if let Some(declaration) = check.get_str("DECL") {
+            return Ok(Job::Check { declaration });
+        }
+    }
     // The command lets no arguments through that lack either.
-    Err(bad_command_line(alloc, "nothing to run was named"))
+    Err(bad_command_line(alloc, "no declaration was named"))
 }
 
 // A bad command line, told by this message. It is want of memory where there is none for the text.
@@ -124,21 +148,33 @@ mod tests {
     #[test]
     fn good_command_lines(rt: HostRuntime) -> Result<(), Fail> {
         let rows = [
-            ("workbench run d", "d", None),
-            ("bin/workbench run d t", "d", Some("t")),
-            ("workbench run -- --d -t", "--d", Some("-t")),
-        ];
-        for (line, declaration, transcript) in rows {
-            let arguments = split(rt.alloc(), line)?;
-            let job = read_arguments(rt.alloc(), &arguments)?;
-            assert_eq!(rt;
-                job,
-                Job {
-                    declaration,
-                    transcript
+            (
+                "workbench run d",
+                Job::Run {
+                    declaration: "d",
+                    transcript: None,
                 },
-                "{line}"
-            );
+            ),
+            (
+                "bin/workbench run d t",
+                Job::Run {
+                    declaration: "d",
+                    transcript: Some("t"),
+                },
+            ),
+            (
+                "workbench run -- --d -t",
+                Job::Run {
+                    declaration: "--d",
+                    transcript: Some("-t"),
+                },
+            ),
+            ("workbench check d", Job::Check { declaration: "d" }),
+            ("workbench check -- -d", Job::Check { declaration: "-d" }),
+        ];
+        for (line, job) in rows {
+            let arguments = split(rt.alloc(), line)?;
+            assert_eq!(rt; read_arguments(rt.alloc(), &arguments)?, job, "{line}");
         }
         Ok(())
     }
@@ -147,8 +183,10 @@ mod tests {
     fn bad_command_lines(rt: HostRuntime) -> Result<(), Fail> {
         let rows = [
             ("workbench", ErrorKind::MissingSubcommand),
-            ("workbench check d", ErrorKind::InvalidSubcommand),
+            ("workbench frob d", ErrorKind::InvalidSubcommand),
             ("workbench run", ErrorKind::MissingRequiredArgument),
+            ("workbench check", ErrorKind::MissingRequiredArgument),
+            ("workbench check d t", ErrorKind::UnknownArgument),
             ("workbench run d t u", ErrorKind::UnknownArgument),
             ("workbench run --fast d", ErrorKind::UnknownArgument),
         ];
@@ -171,6 +209,7 @@ mod tests {
             ("workbench --help", "The manual is docs/FORMATS.md.\n"),
             ("workbench help", "The manual is docs/FORMATS.md.\n"),
             ("workbench help run", "Print help\n"),
+            ("workbench check --help", "Print help\n"),
             ("workbench --version", "workbench 0.1.0\n"),
         ];
         for (line, end) in rows {

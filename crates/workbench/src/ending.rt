@@ -9,7 +9,7 @@ use pw_transcript::RunFault;
 use std::alloc::AllocError;
 use std::process::ExitCode;
 
-/// DeclFaultKind the program ends before it has answered a transcript to its end.
+/// Why the program ends before it has answered a transcript to its end.
 #[derive(Debug, Drop)]
 pub enum Stop<'a> {
     /// The command line is bad, or it asks for help or for the version.
@@ -55,7 +55,8 @@ fn tell_fault<R: Eprint + AllocGlobal>(rt: &R, fault: &Fault<'_>) -> ExitCode
 pub fn conclude<R: Print + Eprint + AllocGlobal>(rt: &R, ended: Result<(), Stop<'_>>) -> ExitCode
     ensures ok { OnOk ended.entry (exit_status result ≡ 0) }
     ensures fault { (fault : _) → IsErrOf ended.entry (Stop.Fault fault) → exit_status result ≡ 1 }
-    ensures bad { (error : _) → IsErrOf ended.entry (Stop.CommandLine error) → IsMistake error → exit_status result ≡ 2 }
+    ensures bad { (error : _) → IsErrOf ended.entry (Stop.CommandLine error) → IsMistake error
+        → exit_status result ≡ 2 }
     ensures most { exit_status result ≤ 2 }
 {
     let error = match ended {

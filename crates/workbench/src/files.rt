@@ -2,7 +2,6 @@
 ghost use Rattle.std.specs.Prelude.{◌≡◌, take, IfOk, IfSome};
 
 use crate::fault::Fault;
-use pw_decl::{Declaration, read_declaration};
 use std::alloc::Allocator;
 use std::io::{ErrorKind, Read};
 use std::rt::Files;
@@ -13,25 +12,26 @@ const MOST_BYTES: u64 = 1_048_577;
 
 // The bytes that a reader gives up to its end, but no more than 1,048,577.
 fn read_front<A: Allocator, R: Read + Drop>(alloc: A, reader: R) -> io::Result<Vec<u8, A>>
-    ensures { IfOk result (λ bytes. IfSome (R.remaining reader) (λ all. bytes.items ≡ take 1048577 all)) }
+    ensures { IfOk result (λ bytes. IfSome (R.remaining reader) (λ all.
+        bytes.items ≡ take 1048577 all)) }
 {
     let mut bytes = Vec::new(alloc);
     reader.take(MOST_BYTES).read_to_end(&mut bytes)?;
     Ok(bytes)
 }
 
-/// The declaration in the file of this name.
+/// The text of the declaration in the file of this name, or the first 1,048,577 bytes of a longer one.
 ///
-/// The file may not be opened, a read of it may fail, and its text may be at fault.
-pub fn load_declaration<'a, R: Files + AllocGlobal>(
+/// The file may not be opened, and a read of it may fail.
+pub fn declaration_text<'a, R: Files + AllocGlobal>(
     rt: &R,
     name: &'a str,
-) -> Result<Declaration, Fault<'a>> {
+) -> Result<Vec<u8>, Fault<'a>> {
     let Ok(file) = fs::open(rt, name) else {
         return Err(Fault::CannotRead(name));
     };
     match read_front(rt.alloc(), file) {
-        Ok(text) => Ok(read_declaration(rt.alloc(), &text)?),
+        Ok(text) => Ok(text),
         Err(error) if error.kind() == ErrorKind::OutOfMemory => Err(Fault::Memory),
         Err(_) => Err(Fault::CannotRead(name)),
     }

@@ -3,6 +3,7 @@
 
 mod answering;
 mod arguments;
+mod checking;
 mod ending;
 mod fault;
 mod files;

@@ -7,7 +7,7 @@ ghost use Rattle.pw_procs.specs.Procedure.{procedures_of};
 ghost use Rattle.pw_procs.specs.Registry.{procedures_in};
 ghost use Rattle.workbench.specs.Procedures.{AreOfProgram};
 
-use crate::answering::answer_job;
+use crate::answering::do_over;
 use crate::arguments::Job;
 use crate::fault::Fault;
 use pw_info::{Info, Kind, SetKind};
@@ -84,7 +84,8 @@ fn sign_rules(alloc: Global, sign: SetKind) -> Result<Vec<Rule>, AllocError>
 fn table_of(alloc: Global, rules: &[Rule], output: Kind) -> Result<Vec<Rule>, AllocError>
     requires { AreRules (Kind.Interval ∷ []) output rules.now }
     ensures rules { IfOk result (λ table. AreRules (Kind.Interval ∷ []) output table.items) }
-    ensures value { IfOk result (λ table. (inputs : List Information) → value_of_rules output table.items inputs ≡ value_of_rules output rules.now inputs) }
+    ensures value { IfOk result (λ table. (inputs : List Information)
+        → value_of_rules output table.items inputs ≡ value_of_rules output rules.now inputs) }
 {
     let table = copied(alloc, rules)?;
     Ok(table)
@@ -138,7 +139,7 @@ fn registry_of<'a>(alloc: Global, list: Vec<Stored>) -> Result<Registry, Fault<'
     }
 }
 
-/// Makes the procedures and a registry of them, and then does the job.
+/// Makes the procedures and a registry of them, and then does the job over it.
 ///
 /// The memory for them may be wanting. What holds a boxed closure stays inside this function.
 pub fn do_job<'a, R: Files + Input + Print + AllocGlobal>(
@@ -168,13 +169,14 @@ pub fn do_job<'a, R: Files + Input + Print + AllocGlobal>(
         body,
     )?;
     add_table!(alloc, &mut list);
-    let _registry = registry_of(alloc, list)?;
-    answer_job(rt, job)
+    let registry = registry_of(alloc, list)?;
+    do_over(rt, &registry, job)
 }
 
 #[cfg(test)]
 mod tests {
     use super::*;
+    use crate::checking::tests::texts_are_checked;
     use pw_kinds::Exact;
     use std::test::Fail;
 
@@ -261,6 +263,7 @@ mod tests {
         Some(procedure.call(inputs))
     }
 
+    // What is tested of the registry stands in one function, since each that makes the boxes takes minutes to prove.
     #[test]
     fn procedures_by_name(rt: HostRuntime) -> Result<(), Fail> {
         let alloc = rt.alloc();
@@ -298,6 +301,6 @@ mod tests {
             );
         }
         assert_eq!(rt; registry.find(b"sum"), None);
-        Ok(())
+        texts_are_checked(&rt, &registry)
     }
 }

@@ -17,7 +17,7 @@ fn faults_of_the_header(rt: HostRuntime) -> Result<(), Fail> {
     for (lines, line) in rows {
         let text = ended(rt.alloc(), lines)?;
         assert_eq!(rt;
-            first_fault(rt.alloc(), text.as_str()),
+            first_fault(rt.alloc(), text.as_str())?,
             Some((line, DeclFaultKind::Syntax)),
             "at {text}"
         );
@@ -43,7 +43,7 @@ fn faults_of_the_second_line(rt: HostRuntime) -> Result<(), Fail> {
     ] {
         let text = ended(rt.alloc(), &["workbench 1", line])?;
         assert_eq!(rt;
-            first_fault(rt.alloc(), text.as_str()),
+            first_fault(rt.alloc(), text.as_str())?,
             Some((2, why)),
             "at {line}"
         );
@@ -76,7 +76,7 @@ fn faults_of_two_lines(rt: HostRuntime) -> Result<(), Fail> {
     ] {
         let text = ended(rt.alloc(), &["workbench 1", first, second])?;
         assert_eq!(rt;
-            first_fault(rt.alloc(), text.as_str()),
+            first_fault(rt.alloc(), text.as_str())?,
             Some((line, why)),
             "at {first}, {second}"
         );
@@ -92,6 +92,7 @@ fn texts_of_faults(rt: HostRuntime) -> Result<(), Fail> {
         (DeclFaultKind::UnknownName, "unknown name"),
         (DeclFaultKind::WrongArguments, "wrong arguments"),
         (DeclFaultKind::Limit, "limit"),
+        (DeclFaultKind::MissingEnd, "missing end"),
         (DeclFaultKind::Memory, "memory"),
     ] {
         assert_eq!(rt; why.to_string(rt.alloc())?.as_str(), text);

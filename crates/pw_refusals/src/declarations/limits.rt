@@ -28,15 +28,15 @@ fn one_set(alloc: Global, count: u32) -> Result<String, AllocError> {
 #[test]
 fn one_member_too_many(rt: HostRuntime) -> Result<(), Fail> {
     let full = one_set(rt.alloc(), 64)?;
-    assert_eq!(rt; first_fault(rt.alloc(), full.as_str()), None);
+    assert_eq!(rt; first_fault(rt.alloc(), full.as_str())?, None);
     let mut over = one_set(rt.alloc(), 65)?;
     assert_eq!(rt;
-        first_fault(rt.alloc(), over.as_str()),
+        first_fault(rt.alloc(), over.as_str())?,
         Some((2, DeclFaultKind::Limit))
     );
     over.push_str(" m64")?;
     assert_eq!(rt;
-        first_fault(rt.alloc(), over.as_str()),
+        first_fault(rt.alloc(), over.as_str())?,
         Some((2, DeclFaultKind::DuplicateName))
     );
     Ok(())
@@ -51,10 +51,10 @@ fn one_too_many(rt: HostRuntime) -> Result<(), Fail> {
         ("cell c", " interval", 1024),
     ] {
         let full = numbered(rt.alloc(), first, rest, most)?;
-        assert_eq!(rt; first_fault(rt.alloc(), full.as_str()), None);
+        assert_eq!(rt; first_fault(rt.alloc(), full.as_str())?, None);
         let over = numbered(rt.alloc(), first, rest, most + 1)?;
         assert_eq!(rt;
-            first_fault(rt.alloc(), over.as_str()),
+            first_fault(rt.alloc(), over.as_str())?,
             Some((most + 2, DeclFaultKind::Limit))
         );
     }
@@ -68,10 +68,10 @@ fn too_long(rt: HostRuntime) -> Result<(), Fail> {
         line.push_str("x")?;
     }
     let fits = format!(in rt.alloc(); "{line}\nworkbench 1\n")?;
-    assert_eq!(rt; first_fault(rt.alloc(), fits.as_str()), None);
+    assert_eq!(rt; first_fault(rt.alloc(), fits.as_str())?, None);
     let over = format!(in rt.alloc(); "{line}x\nworkbench 1\n")?;
     assert_eq!(rt;
-        first_fault(rt.alloc(), over.as_str()),
+        first_fault(rt.alloc(), over.as_str())?,
         Some((1, DeclFaultKind::Limit))
     );
 
@@ -79,10 +79,10 @@ fn too_long(rt: HostRuntime) -> Result<(), Fail> {
     for _ in 12..1_048_576 {
         text.push_str("\n")?;
     }
-    assert_eq!(rt; first_fault(rt.alloc(), text.as_str()), None);
+    assert_eq!(rt; first_fault(rt.alloc(), text.as_str())?, None);
     text.push_str("\n")?;
     assert_eq!(rt;
-        first_fault(rt.alloc(), text.as_str()),
+        first_fault(rt.alloc(), text.as_str())?,
         Some((0, DeclFaultKind::Limit))
     );
     Ok(())

@@ -1,9 +1,13 @@
 //! Declarations that are read back.
 
+use super::questions::{Answer, Question, asked};
+use super::{Counts, counted};
+use crate::procedures::SOUND;
 use crate::texts::joined;
-use pw_decl::{Declaration, read_declaration};
-use pw_info::{Kind, KindNames, SetKind};
-use std::alloc::Global;
+use pw_decl::{Callable, Step};
+use pw_info::{Kind, SetKind};
+use pw_procs::Arguments;
+use std::process::Abort;
 use std::test::Fail;
 
 // Each form but sets, with blank lines, comments, tabs and CR LF.
@@ -31,74 +35,118 @@ const SETS: [&str; 7] = [
     "cell q sign",
 ];
 
-// The declaration of these lines, the last of which is not ended.
-fn read(alloc: Global, lines: &[&str]) -> Result<Declaration, Fail> {
-    let text = joined(alloc, lines)?;
-    Ok(read_declaration(alloc, text.as_bytes())?)
+// Two compounds, of which the second calls the first.
+const COMPOUNDS: [&str; 9] = [
+    "workbench 1",
+    "compound twice x interval t interval",
+    "adder x x t",
+    "end",
+    "compound less x interval y interval p bool",
+    "\tlocal\ts interval\r",
+    "  twice x s",
+    "at_most s y p",
+    " end ",
+];
+
+// How much a declaration of these lines declares.
+fn counts<R: AllocGlobal>(rt: &R, lines: &[&str]) -> Result<Option<Counts>, Fail> {
+    let text = joined(rt.alloc(), lines)?;
+    Ok(counted(rt.alloc(), rt.alloc(), SOUND, text.as_str())?.ok())
 }
 
-#[test]
-fn reads_users_back(rt: HostRuntime) -> Result<(), Fail> {
-    let declaration = read(rt.alloc(), &WORLD)?;
-    assert_eq!(rt; declaration.users(), 2);
-    for (name, number) in [
-        ("ann", Some(0)),
-        ("bob_2", Some(1)),
-        ("eve", None),
-        ("caf\u{e9}", None),
-    ] {
-        assert_eq!(rt; declaration.user(name.as_bytes()), number, "at {name}");
-    }
-    assert_eq!(rt; declaration.user_name(0), "ann");
-    assert_eq!(rt; declaration.user_name(1), "bob_2");
-    Ok(())
-}
-
-#[test]
-fn reads_premises_back(rt: HostRuntime) -> Result<(), Fail> {
-    let declaration = read(rt.alloc(), &WORLD)?;
-    assert_eq!(rt; declaration.premises(), 2);
-    for (name, number) in [("p", Some(0)), ("q", Some(1)), ("ann", None)] {
-        assert_eq!(rt; declaration.premise(name.as_bytes()), number, "at {name}");
-    }
-    assert_eq!(rt; declaration.premise_name(1), "q");
-    assert_eq!(rt; declaration.owner(0), Some(1));
-    assert_eq!(rt; declaration.owner(1), None);
-    Ok(())
-}
-
-#[test]
-fn reads_cells_back(rt: HostRuntime) -> Result<(), Fail> {
-    let declaration = read(rt.alloc(), &WORLD)?;
-    assert_eq!(rt; declaration.cells(), 2);
-    for (name, number) in [("ann", Some(0)), ("y", Some(1)), ("x", None)] {
-        assert_eq!(rt; declaration.cell(name.as_bytes()), number, "at {name}");
-    }
-    assert_eq!(rt; declaration.cell_name(1), "y");
-    assert_eq!(rt; declaration.cell_kind(1), Kind::Interval);
-    Ok(())
-}
-
-#[test]
-fn reads_kinds_back(rt: HostRuntime) -> Result<(), Fail> {
-    let declaration = read(rt.alloc(), &SETS)?;
-    assert_eq!(rt; (declaration.sets(), declaration.cells()), (2, 4));
-    assert_eq!(rt; declaration.cell_kind(0), Kind::Exact);
-    for (cell, number, size) in [(1u32, 0u8, 2u8), (2, 3, 3), (3, 1, 3)] {
-        assert!(rt; size >= 2 && size <= 64 && cell < declaration.cells());
+// That a declaration of these lines answers each question by what stands beside it.
+fn answers<R: Abort + AllocGlobal>(
+    rt: &R,
+    lines: &[&str],
+    rows: &[(Question<'_>, Option<Answer>)],
+) -> Result<(), Fail> {
+    for (question, answer) in rows {
         assert_eq!(rt;
-            declaration.cell_kind(cell),
-            Kind::Members(SetKind { number, size })
+            asked(rt.alloc(), lines, *question)?,
+            *answer,
+            "{question:?}"
         );
     }
     Ok(())
 }
 
 #[test]
+fn reads_counts_back(rt: HostRuntime) -> Result<(), Fail> {
+    for (lines, users, premises, cells, sets, compounds) in [
+        (WORLD.as_slice(), 2, 2, 2, 0, 0),
+        (SETS.as_slice(), 0, 0, 4, 2, 0),
+        (COMPOUNDS.as_slice(), 0, 0, 0, 0, 2),
+    ] {
+        let wanted = Counts {
+            users,
+            premises,
+            cells,
+            sets,
+            compounds,
+        };
+        assert_eq!(rt; counts(&rt, lines)?, Some(wanted));
+    }
+    Ok(())
+}
+
+#[test]
+fn reads_users_back(rt: HostRuntime) -> Result<(), Fail> {
+    let rows = [
+        (Question::User("ann"), Some(Answer::Number(0))),
+        (Question::User("bob_2"), Some(Answer::Number(1))),
+        (Question::User("eve"), None),
+        (Question::User("caf\u{e9}"), None),
+    ];
+    answers(&rt, &WORLD, &rows)
+}
+
+#[test]
+fn reads_premises_back(rt: HostRuntime) -> Result<(), Fail> {
+    let rows = [
+        (Question::Premise("p"), Some(Answer::Number(0))),
+        (Question::Premise("q"), Some(Answer::Number(1))),
+        (Question::Premise("ann"), None),
+        (Question::Owner("p"), Some(Answer::Number(1))),
+        (Question::Owner("q"), None),
+    ];
+    answers(&rt, &WORLD, &rows)
+}
+
+#[test]
+fn reads_cells_back(rt: HostRuntime) -> Result<(), Fail> {
+    let rows = [
+        (Question::Cell("ann"), Some(Answer::Number(0))),
+        (Question::Cell("y"), Some(Answer::Number(1))),
+        (Question::Cell("x"), None),
+        (Question::KindOf("y"), Some(Answer::Kind(Kind::Interval))),
+    ];
+    answers(&rt, &WORLD, &rows)
+}
+
+#[test]
+fn reads_kinds_back(rt: HostRuntime) -> Result<(), Fail> {
+    let rows = [
+        (Question::KindOf("k"), Some(Answer::Kind(Kind::Exact))),
+        (
+            Question::KindOf("e"),
+            Some(Answer::Kind(Kind::Members(SetKind { number: 0, size: 2 }))),
+        ),
+        (
+            Question::KindOf("g"),
+            Some(Answer::Kind(Kind::Members(SetKind { number: 3, size: 3 }))),
+        ),
+        (
+            Question::KindOf("q"),
+            Some(Answer::Kind(Kind::Members(SetKind { number: 1, size: 3 }))),
+        ),
+    ];
+    answers(&rt, &SETS, &rows)
+}
+
+#[test]
 fn reads_members_back(rt: HostRuntime) -> Result<(), Fail> {
-    let declaration = read(rt.alloc(), &SETS)?;
     for (set, name, place) in [
-        (0u8, "false", Some(0u8)),
+        (0u8, "false", Some(0u32)),
         (0, "true", Some(1)),
         (0, "neg", None),
         (1, "neg", Some(0)),
@@ -110,13 +158,128 @@ fn reads_members_back(rt: HostRuntime) -> Result<(), Fail> {
         (4, "bad", None),
         (255, "red", None),
     ] {
-        assert_eq!(rt;
-            declaration.place(set, name.as_bytes()),
-            place,
-            "{name} of {set}"
-        );
+        let answer = place.map(|place| Answer::Number(place));
+        answers(&rt, &SETS, &[(Question::Place(set, name), answer)])?;
     }
-    assert_eq!(rt; declaration.member(0, 1), "true");
-    assert_eq!(rt; declaration.member(1, 0), "neg");
     Ok(())
+}
+
+const BOOL: Kind = Kind::Members(SetKind { number: 0, size: 2 });
+
+#[test]
+fn reads_callables_back(rt: HostRuntime) -> Result<(), Fail> {
+    for (name, callable) in [
+        ("adder", Some(Callable::Stored(0))),
+        ("at_most", Some(Callable::Stored(7))),
+        ("sum", Some(Callable::Compound(0))),
+        ("product", Some(Callable::Compound(1))),
+        ("conditional", Some(Callable::Compound(2))),
+        ("twice", Some(Callable::Compound(3))),
+        ("less", Some(Callable::Compound(4))),
+        ("s", None),
+        ("Adder", None),
+    ] {
+        let answer = callable.map(|callable| Answer::Callable(callable));
+        answers(&rt, &COMPOUNDS, &[(Question::Callable(name), answer)])?;
+    }
+    Ok(())
+}
+
+#[test]
+fn callables_take_cells_of_their_kinds(rt: HostRuntime) -> Result<(), Fail> {
+    let rows: [(&str, &[Kind], bool); 9] = [
+        ("adder", &[Kind::Interval; 3], true),
+        ("adder", &[Kind::Interval; 2], false),
+        ("copy", &[BOOL, BOOL], true),
+        ("copy", &[BOOL, Kind::Exact], false),
+        ("sum", &[Kind::Interval; 3], true),
+        (
+            "conditional",
+            &[BOOL, Kind::Interval, Kind::Interval, Kind::Interval],
+            true,
+        ),
+        ("less", &[Kind::Interval, Kind::Interval, BOOL], true),
+        ("less", &[Kind::Interval; 3], false),
+        ("less", &[], false),
+    ];
+    for (name, kinds, accepted) in rows {
+        let answer = Some(Answer::Accepts(accepted));
+        answers(&rt, &COMPOUNDS, &[(Question::Accepts(name, kinds), answer)])?;
+    }
+    Ok(())
+}
+
+// A call over these cells.
+fn call(callable: Callable, cells: &[u32]) -> Option<Answer> {
+    let arguments = Arguments::of(cells)?;
+    Some(Answer::Step(Step::Call(callable, arguments)))
+}
+
+#[test]
+fn reads_lines_of_compounds_back(rt: HostRuntime) -> Result<(), Fail> {
+    let rows = [
+        (
+            Question::Step("twice", 0),
+            call(Callable::Stored(0), &[0, 0, 1]),
+        ),
+        (Question::Step("twice", 1), None),
+        (
+            Question::Step("less", 0),
+            Some(Answer::Step(Step::Local(Kind::Interval))),
+        ),
+        (
+            Question::Step("less", 1),
+            call(Callable::Compound(3), &[0, 3]),
+        ),
+        (
+            Question::Step("less", 2),
+            call(Callable::Stored(7), &[3, 1, 2]),
+        ),
+        (Question::Step("less", 3), None),
+    ];
+    answers(&rt, &COMPOUNDS, &rows)
+}
+
+#[test]
+fn reads_lines_of_built_in_compounds_back(rt: HostRuntime) -> Result<(), Fail> {
+    let rows = [
+        (
+            Question::Step("sum", 0),
+            call(Callable::Stored(0), &[0, 1, 2]),
+        ),
+        (
+            Question::Step("sum", 1),
+            call(Callable::Stored(1), &[2, 0, 1]),
+        ),
+        (
+            Question::Step("sum", 2),
+            call(Callable::Stored(1), &[2, 1, 0]),
+        ),
+        (
+            Question::Step("product", 0),
+            call(Callable::Stored(2), &[0, 1, 2]),
+        ),
+        (
+            Question::Step("product", 2),
+            call(Callable::Stored(3), &[2, 1, 0]),
+        ),
+        (
+            Question::Step("conditional", 0),
+            Some(Answer::Step(Step::Local(BOOL))),
+        ),
+        (
+            Question::Step("conditional", 1),
+            call(Callable::Stored(4), &[0, 4]),
+        ),
+        (
+            Question::Step("conditional", 2),
+            call(Callable::Stored(5), &[0, 1, 3]),
+        ),
+        (
+            Question::Step("conditional", 3),
+            call(Callable::Stored(5), &[4, 2, 3]),
+        ),
+        (Question::Step("conditional", 4), None),
+    ];
+    answers(&rt, &["workbench 1"], &rows)
 }

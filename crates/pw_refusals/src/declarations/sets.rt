@@ -29,7 +29,7 @@ fn first_faults_of_sets(rt: HostRuntime) -> Result<(), Fail> {
         ("set colour colour mood", None),
     ] {
         let text = ended(rt.alloc(), &["workbench 1", "set mood good bad", line])?;
-        let fault = first_fault(rt.alloc(), text.as_str());
+        let fault = first_fault(rt.alloc(), text.as_str())?;
         assert_eq!(rt; fault, why.map(|why| (3, why)), "at {line}");
     }
     Ok(())

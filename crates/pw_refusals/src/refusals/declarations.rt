@@ -2,7 +2,9 @@
 
 use super::WORLD;
 use crate::Refusing;
-use pw_decl::{DeclFaultKind, read_declaration};
+use crate::declarations::counted;
+use crate::procedures::SOUND;
+use pw_decl::DeclFaultKind;
 use std::test::Fail;
 
 #[test]
@@ -10,10 +12,10 @@ fn a_declaration_is_read_or_memory_is_told(rt: HostRuntime) -> Result<(), Fail> 
     let mut met = 0u32;
     for at in 1..1000u64 {
         let refusing = Refusing::nth(rt.alloc(), at);
-        match read_declaration(&refusing, WORLD.as_bytes()) {
+        match counted(rt.alloc(), &refusing, SOUND, WORLD)? {
             Ok(world) => {
                 assert!(rt; refusing.calls() < at, "at {at}");
-                assert_eq!(rt; (world.cells(), world.sets()), (3, 1), "at {at}");
+                assert_eq!(rt; (world.cells, world.compounds), (3, 1), "at {at}");
                 break;
             }
             Err(fault) => {
@@ -22,6 +24,6 @@ fn a_declaration_is_read_or_memory_is_told(rt: HostRuntime) -> Result<(), Fail> 
             }
         }
     }
-    assert!(rt; met > 12, "{met} growths were refused");
+    assert!(rt; met > 40, "{met} growths were refused");
     Ok(())
 }

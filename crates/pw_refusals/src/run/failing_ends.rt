@@ -1,19 +1,18 @@
 //! Ends that fail once, and then work: the first failure ends the run, and what was passed before it stays.
 
 use crate::ends::{Drip, Sink};
-use crate::sessions::{WORLD, answered, declared, said};
+use crate::sessions::{WORLD, answered, run_over, said};
 use pw_info::{Output, Writing};
-use pw_transcript::{Input, Reading, RunFault, run};
+use pw_transcript::{Input, Reading, RunFault};
 use std::test::Fail;
 
 #[test]
 fn a_failing_input_leaves_the_replies_to_ended_lines(rt: HostRuntime) -> Result<(), Fail> {
-    let world = declared(rt.alloc(), WORLD)?;
     let transcript = said(rt.alloc(), &[("ann ask x", ""), ("ann ask x", "")])?;
     // It fails within the second line, and would give the rest of it afterwards.
     let mut input = Reading::new(Drip::new(transcript.as_str(), 16));
     let mut output = Writing::new(Vec::new(rt.alloc()));
-    let answer = run(rt.alloc(), &world, &mut input, &mut output);
+    let answer = run_over(rt.alloc(), rt.alloc(), WORLD, &mut input, &mut output)?;
     assert_eq!(rt; answer, Err(RunFault::Read));
     assert!(rt; input.failed() && !output.failed());
     assert_eq!(rt; input.reader().given, 16);
@@ -32,14 +31,13 @@ fn a_failing_output_gets_a_front_of_the_replies(rt: HostRuntime) -> Result<(), F
     let transcript = said(rt.alloc(), &rows)?;
     let wanted = answered(rt.alloc(), &rows)?;
     let wanted = wanted.as_bytes();
-    let world = declared(rt.alloc(), WORLD)?;
     for breaks_at in 0..=wanted.len() {
         let mut input = Reading::new(transcript.as_bytes());
         let mut output = Writing::new(Sink {
             text: Vec::new(rt.alloc()),
             breaks_at,
         });
-        let answer = run(rt.alloc(), &world, &mut input, &mut output);
+        let answer = run_over(rt.alloc(), rt.alloc(), WORLD, &mut input, &mut output)?;
         assert_eq!(rt; answer.is_ok(), breaks_at == wanted.len(), "at {breaks_at}");
         assert_eq!(rt; output.failed(), breaks_at < wanted.len(), "at {breaks_at}");
         assert_eq!(rt;
@@ -59,14 +57,13 @@ fn many_replies_are_passed_on_or_a_front(rt: HostRuntime) -> Result<(), Fail> {
     let wanted = answered(rt.alloc(), &rows)?;
     let wanted = wanted.as_bytes();
     assert_eq!(rt; wanted.len(), 26_893);
-    let world = declared(rt.alloc(), WORLD)?;
     for breaks_at in [0, 1, 16_383, 16_384, 16_385, 26_892, 26_893, 26_894usize] {
         let mut input = Reading::new(transcript.as_bytes());
         let mut output = Writing::new(Sink {
             text: Vec::new(rt.alloc()),
             breaks_at,
         });
-        let answer = run(rt.alloc(), &world, &mut input, &mut output);
+        let answer = run_over(rt.alloc(), rt.alloc(), WORLD, &mut input, &mut output)?;
         assert_eq!(rt; answer.is_ok(), breaks_at >= wanted.len(), "at {breaks_at}");
         let front = &wanted[..breaks_at.min(wanted.len())];
         assert_eq!(rt;

@@ -1,9 +1,9 @@
 //! The longest line, the most lines and the most bytes that a run answers.
 
 use crate::ends::Repeated;
-use crate::sessions::{WORLD, answers, declared};
+use crate::sessions::{WORLD, answers, run_over};
 use pw_info::Writing;
-use pw_transcript::{Lines, Reading, RunFault, run};
+use pw_transcript::{Lines, Reading, RunFault};
 use std::alloc::Global;
 use std::test::Fail;
 
@@ -32,10 +32,9 @@ fn outcome_over(
     alloc: Global,
     repeated: Repeated<'_>,
 ) -> Result<(Result<Lines, RunFault>, String, u64), Fail> {
-    let world = declared(alloc, WORLD)?;
     let mut input = Reading::new(repeated);
     let mut output = Writing::new(Vec::new(alloc));
-    let answer = run(alloc, &world, &mut input, &mut output);
+    let answer = run_over(alloc, alloc, WORLD, &mut input, &mut output)?;
     let left = input.into_reader().left;
     Ok((answer, String::from_utf8(output.into_writer())?, left))
 }

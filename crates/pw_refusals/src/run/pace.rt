@@ -1,9 +1,9 @@
 //! When replies are passed on: before the next line is waited for, and however few bytes are taken at once.
 
 use crate::ends::{Asking, Counting, Drip};
-use crate::sessions::{WORLD, answered, answers, declared, said};
+use crate::sessions::{WORLD, answered, answers, run_over, said};
 use pw_info::{Output, Writing};
-use pw_transcript::{Input, Lines, Reading, run};
+use pw_transcript::{Input, Lines, Reading};
 use std::cell::Cell;
 use std::test::Fail;
 
@@ -21,10 +21,9 @@ fn takes_of_one_byte_give_the_same_replies(rt: HostRuntime) -> Result<(), Fail> 
     answers(&rt, WORLD, &rows)?;
     let transcript = said(rt.alloc(), &rows)?;
     let wanted = answered(rt.alloc(), &rows)?;
-    let world = declared(rt.alloc(), WORLD)?;
     let mut input = Reading::new(Drip::new(transcript.as_str(), usize::MAX));
     let mut output = Writing::new(Vec::new(rt.alloc()));
-    let answer = run(rt.alloc(), &world, &mut input, &mut output);
+    let answer = run_over(rt.alloc(), rt.alloc(), WORLD, &mut input, &mut output)?;
     assert_eq!(rt;
         answer,
         Ok(Lines {
@@ -39,7 +38,6 @@ fn takes_of_one_byte_give_the_same_replies(rt: HostRuntime) -> Result<(), Fail> 
 
 #[test]
 fn a_line_is_answered_before_the_next_is_taken(rt: HostRuntime) -> Result<(), Fail> {
-    let world = declared(rt.alloc(), WORLD)?;
     let written = Cell::new(0);
     let differs = Cell::new(false);
     let mut input = Reading::new(Asking {
@@ -54,7 +52,7 @@ fn a_line_is_answered_before_the_next_is_taken(rt: HostRuntime) -> Result<(), Fa
         differs: &differs,
     });
     let mut output = Writing::new(Counting { written: &written });
-    let answer = run(rt.alloc(), &world, &mut input, &mut output);
+    let answer = run_over(rt.alloc(), rt.alloc(), WORLD, &mut input, &mut output)?;
     assert_eq!(rt;
         answer,
         Ok(Lines {

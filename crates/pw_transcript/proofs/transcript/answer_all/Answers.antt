@@ -1,5 +1,6 @@
 use Rattle.std.proofs.Common.{◌≡◌, ◌+◌, ◌≤◌, ℕ, List, [], ◌++◌, length, take, drop, refl, sym, ap, ◌∙◌, subst, arith}
 use Rattle.std.proofs.lemmas.Grind.{common_steps}
+use Rattle.pw_decl.specs.Fields.{declared_by}
 use Rattle.pw_transcript.specs.Limits.{most_bytes, most_at_once}
 use Rattle.pw_sessions.specs.Workbench.{IsLeftBy}
 use Rattle.pw_transcript.specs.Steps.Gatherers.{GatheredPasses, GatheredPasses-none, GatheredPasses-joins}
@@ -13,13 +14,13 @@ loop-taken-init g c =
     record {
       bytes = [];
       taken = g.met.I.Input.none c.args.input.now;
-      so_far = SoFar-start (GatheredPasses g.O.Output.passes) c.args.d.now c.args.output.now c.new-progress.result
-          (GatheredPasses-none g.O.Output.passes g.met.O.Output.none c.args.output.now) (subst (IsLeftBy c.args.d.now []) (sym new.workbench) c.requires.start) new.line new.lines new.replies;
+      so_far = SoFar-start (GatheredPasses g.O.Output.passes) (declared_by c.args.d.now) c.args.output.now c.new-progress.result
+          (GatheredPasses-none g.O.Output.passes g.met.O.Output.none c.args.output.now) (subst (IsLeftBy (declared_by c.args.d.now) []) (sym new.workbench) c.requires.start) new.line new.lines new.replies;
       count = refl;
       bound = omega arith;
       passed_on = c.requires.empty;
       running = record {
-        left = ([], subst (IsLeftBy c.args.d.now []) (sym new.workbench) c.requires.start);
+        left = ([], subst (IsLeftBy (declared_by c.args.d.now) []) (sym new.workbench) c.requires.start);
         lines = omega (arith, new.lines);
         replies = omega (arith, new.lines, new.replies);
         last = λ _. new.line;
@@ -34,7 +35,7 @@ returns-in-Err-clause-read g c = λ _.
       bytes = inv.bytes;
       taken = taken_no_more g.I.Input.takes g.met.I.Input.joins _ _ _ inv.bytes inv.taken c.in-Err.ensures.taken;
       within = record { lines = inv.so_far.few; bytes = omega (arith, inv.count, inv.bound) };
-      passed = SoFar-ended_lines (GatheredPasses g.O.Output.passes) c.args.d.now _ _ c.loop-taken.progress inv.bytes inv.so_far;
+      passed = SoFar-ended_lines (GatheredPasses g.O.Output.passes) (declared_by c.args.d.now) _ _ c.loop-taken.progress inv.bytes inv.so_far;
     }
 
 -- a chunk
@@ -51,7 +52,7 @@ returns-in-Err-feed-clause-write g c = λ _.
     let size : length new ≤ c.min-room.result = grind (arith, common_steps) in
     let below : kept ≤ taken = grind (arith, common_steps) in
     let most : length (inv.bytes ++ take taken new) ≤ most_bytes + 1 = omega (arith, length_taken inv.bytes new taken within) in
-    replies_in_part g.I.Input.takes passes c.args.d.now _ _ _ _ (inv.bytes ++ take kept (new ++ rest)) (drop kept (take taken new)) (inv.bytes ++ take taken new) all most
+    replies_in_part g.I.Input.takes passes (declared_by c.args.d.now) _ _ _ _ (inv.bytes ++ take kept (new ++ rest)) (drop kept (take taken new)) (inv.bytes ++ take taken new) all most
     (kept_whole inv.bytes new rest kept taken below within) (c.in-Err-feed.ensures.err _ inv.bytes inv.so_far)
 
 pub returns-in-Err-flush-clause-write : goal.returns-in-Err-flush-clause-write
@@ -67,9 +68,9 @@ returns-in-Err-flush-clause-write g c = λ _.
     let size : length new ≤ c.min-room.result = grind (arith, common_steps) in
     let below : kept ≤ taken = grind (arith, common_steps) in
     let most : length (inv.bytes ++ take taken new) ≤ most_bytes + 1 = omega (arith, length_taken inv.bytes new taken within) in
-    replies_in_part g.I.Input.takes passes c.args.d.now _ _ _ _ (inv.bytes ++ take kept (new ++ rest)) (drop kept (take taken new)) (inv.bytes ++ take taken new) all most
+    replies_in_part g.I.Input.takes passes (declared_by c.args.d.now) _ _ _ _ (inv.bytes ++ take kept (new ++ rest)) (drop kept (take taken new)) (inv.bytes ++ take taken new) all most
     (kept_whole inv.bytes new rest kept taken below within)
-    (flush_failed passes c.args.d.now (GatheredPasses-joins g.O.Output.passes g.met.O.Output.joins) _ _ _ c.feed.new.self inv.bytes (take kept (new ++ rest)) c.in-Ok-feed.fed
+    (flush_failed passes (declared_by c.args.d.now) (GatheredPasses-joins g.O.Output.passes g.met.O.Output.joins) _ _ _ c.feed.new.self inv.bytes (take kept (new ++ rest)) c.in-Ok-feed.fed
     (λ e. c.in-Ok-feed.ensures.whole e _ inv.bytes inv.so_far) (λ e. c.in-Ok-feed.ensures.limit e _ inv.bytes inv.so_far) c.flush.ensures.passed)
 
 -- a byte after the last line that is answered
@@ -87,9 +88,9 @@ returns-in-PastLimit-clause-limit g c = λ _.
     let below : kept ≤ taken = grind (arith, common_steps) in
     let most : length (inv.bytes ++ take taken new) ≤ most_bytes + 1 = omega (arith, length_taken inv.bytes new taken within) in
     let at_once : length (take kept (new ++ rest)) + length (drop kept (take taken new)) ≤ most_at_once = omega (arith, kept_size new rest kept taken below within) in
-    replies_up_to_line g.I.Input.takes passes c.args.d.now _ _ _ _ inv.bytes (take kept (new ++ rest)) (drop kept (take taken new)) (inv.bytes ++ take taken new) all most at_once
+    replies_up_to_line g.I.Input.takes passes (declared_by c.args.d.now) _ _ _ _ inv.bytes (take kept (new ++ rest)) (drop kept (take taken new)) (inv.bytes ++ take taken new) all most at_once
     (kept_whole inv.bytes new rest kept taken below within)
-    (LimitSoFar-still passes c.args.d.now (GatheredPasses-joins g.O.Output.passes g.met.O.Output.joins) _ _ _ inv.bytes (take kept (new ++ rest))
+    (LimitSoFar-still passes (declared_by c.args.d.now) (GatheredPasses-joins g.O.Output.passes g.met.O.Output.joins) _ _ _ inv.bytes (take kept (new ++ rest))
     (c.in-Ok-feed.ensures.limit c.in-PastLimit.is _ inv.bytes inv.so_far) c.flush.ensures.passed)
 
 -- a byte after the last one that is answered
@@ -107,9 +108,9 @@ returns-then-kept-taken-clause-limit g c = λ _.
     let below : kept ≤ taken = grind (arith, common_steps) in
     let short : length (inv.bytes ++ take kept (new ++ rest)) ≡ most_bytes = length_kept inv.bytes new rest kept (omega arith) ∙ grind (arith, common_steps) in
     let long : length (inv.bytes ++ take taken new) ≡ most_bytes + 1 = length_taken inv.bytes new taken within ∙ grind (arith, common_steps) in
-    replies_up_to_byte g.I.Input.takes passes c.args.d.now _ _ _ _ c.feed.new.self (inv.bytes ++ take kept (new ++ rest)) (drop kept (take taken new)) (inv.bytes ++ take taken new) all
+    replies_up_to_byte g.I.Input.takes passes (declared_by c.args.d.now) _ _ _ _ c.feed.new.self (inv.bytes ++ take kept (new ++ rest)) (drop kept (take taken new)) (inv.bytes ++ take taken new) all
     (kept_whole inv.bytes new rest kept taken below within) short long
-    (SoFar-still passes c.args.d.now (GatheredPasses-joins g.O.Output.passes g.met.O.Output.joins) _ _ _ c.feed.new.self (inv.bytes ++ take kept (new ++ rest))
+    (SoFar-still passes (declared_by c.args.d.now) (GatheredPasses-joins g.O.Output.passes g.met.O.Output.joins) _ _ _ c.feed.new.self (inv.bytes ++ take kept (new ++ rest))
     (c.in-Ok-feed.ensures.whole c.in-Whole.is _ inv.bytes inv.so_far) c.flush.ensures.passed)
 
 pub loop-taken-preserved : goal.loop-taken-preserved
@@ -128,8 +129,8 @@ loop-taken-preserved g c =
     record {
       bytes = inv.bytes ++ take taken new;
       taken = all;
-      so_far = subst (SoFar passes c.args.d.now _ _ _) (kept_all inv.bytes new rest kept taken same within)
-          (SoFar-still passes c.args.d.now (GatheredPasses-joins g.O.Output.passes g.met.O.Output.joins) _ _ _ c.feed.new.self (inv.bytes ++ take kept (new ++ rest))
+      so_far = subst (SoFar passes (declared_by c.args.d.now) _ _ _) (kept_all inv.bytes new rest kept taken same within)
+          (SoFar-still passes (declared_by c.args.d.now) (GatheredPasses-joins g.O.Output.passes g.met.O.Output.joins) _ _ _ c.feed.new.self (inv.bytes ++ take kept (new ++ rest))
           (c.in-Ok-feed.ensures.whole c.in-Whole.is _ inv.bytes inv.so_far) c.flush.ensures.passed);
       count = length_taken inv.bytes new taken within ∙ ap (λ n. n + taken) inv.count;
       bound = grind (arith, common_steps);
@@ -159,7 +160,7 @@ returns-in-Ok-flush-2-clause-ok g c =
       taken = taken_no_more g.I.Input.takes g.met.I.Input.joins _ _ _ inv.bytes inv.taken
           (subst (λ (l : List ℕ). g.I.Input.takes c.loop-taken.input l c.take.new.self) nothing c.in-Ok.ensures.taken.1);
       within = record { lines = inv.so_far.few; bytes = omega (arith, inv.count, inv.bound) };
-      passed = PassesAll-still (GatheredPasses g.O.Output.passes) c.args.d.now (GatheredPasses-joins g.O.Output.passes g.met.O.Output.joins) _ _ _ c.end.new.self.counts inv.bytes
+      passed = PassesAll-still (GatheredPasses g.O.Output.passes) (declared_by c.args.d.now) (GatheredPasses-joins g.O.Output.passes g.met.O.Output.joins) _ _ _ c.end.new.self.counts inv.bytes
           (c.in-Ok-end.ensures.ok _ inv.bytes inv.so_far) c.flush-2.ensures.passed;
     }
 
@@ -172,7 +173,7 @@ returns-clause-write g c = λ _.
       taken = taken_no_more g.I.Input.takes g.met.I.Input.joins _ _ _ inv.bytes inv.taken
           (subst (λ (l : List ℕ). g.I.Input.takes c.loop-taken.input l c.take.new.self) nothing c.in-Ok.ensures.taken.1);
       most = omega (arith, inv.count, inv.bound);
-      passed = PassesAll-front (GatheredPasses g.O.Output.passes) c.args.d.now _ _ c.end.new.self.counts inv.bytes inv.so_far.few
-          (PassesAll-still (GatheredPasses g.O.Output.passes) c.args.d.now (GatheredPasses-joins g.O.Output.passes g.met.O.Output.joins) _ _ _ c.end.new.self.counts inv.bytes
+      passed = PassesAll-front (GatheredPasses g.O.Output.passes) (declared_by c.args.d.now) _ _ c.end.new.self.counts inv.bytes inv.so_far.few
+          (PassesAll-still (GatheredPasses g.O.Output.passes) (declared_by c.args.d.now) (GatheredPasses-joins g.O.Output.passes g.met.O.Output.joins) _ _ _ c.end.new.self.counts inv.bytes
           (c.in-Ok-end.ensures.ok _ inv.bytes inv.so_far) c.flush-2.ensures.passed);
     }

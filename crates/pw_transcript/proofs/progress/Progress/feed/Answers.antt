@@ -1,5 +1,6 @@
 use Rattle.std.proofs.Common.{◌<◌, ℕ, List, [], ◌∷◌, ◌++◌, length, refl, sym, ap, ◌∙◌, subst, append-nil, arith}
 use Rattle.std.proofs.lemmas.Grind.{common_steps}
+use Rattle.pw_decl.specs.Fields.{declared_by}
 use Rattle.pw_transcript.specs.declared.progress.Progress.{Progress}
 use Rattle.pw_transcript.specs.Limits.{most_lines}
 use Rattle.pw_transcript.specs.Steps.Running.{SoFar, FrontSoFar}
@@ -10,7 +11,7 @@ pub loop-rest-init : goal.loop-rest-init
 loop-rest-init g c = record {
   done = [];
   whole = refl;
-  so_far = λ first before s. subst (SoFar g.O.Output.passes c.args.d.now first _ _) (sym (append-nil before)) s;
+  so_far = λ first before s. subst (SoFar g.O.Output.passes (declared_by c.args.d.now) first _ _) (sym (append-nil before)) s;
   running = c.requires.running;
 }
 
@@ -19,7 +20,7 @@ pub returns-then-self-eq-MOST_LINES-clause-limit : goal.returns-then-self-eq-MOS
 returns-then-self-eq-MOST_LINES-clause-limit g c = λ _ first before s.
     let inv = c.loop-rest.invariant in
     let some : 0 < length c.loop-rest.rest.now = grind (arith, common_steps) in
-    SoFar-limit g.O.Output.passes c.args.d.now first _ c.loop-rest.self before c.args.bytes.now inv.done c.loop-rest.rest.now (inv.so_far first before s)
+    SoFar-limit g.O.Output.passes (declared_by c.args.d.now) first _ c.loop-rest.self before c.args.bytes.now inv.done c.loop-rest.rest.now (inv.so_far first before s)
     c.if-self-eq-MOST_LINES.true inv.whole some
 
 -- the rest has no line feed
@@ -27,8 +28,8 @@ pub returns-in_default-clause-whole : goal.returns-in_default-clause-whole
 returns-in_default-clause-whole g c = λ _ first before s.
     let inv = c.loop-rest.invariant in
     let more : c.loop-rest.self.counts.lines < most_lines = grind (arith, common_steps, inv.running.lines) in
-    subst (SoFar g.O.Output.passes c.args.d.now first _ _) (before_rest before c.args.bytes.now inv.done c.loop-rest.rest.now inv.whole)
-    (SoFar-held g.O.Output.passes c.args.d.now first _ c.loop-rest.self _ (before ++ inv.done) c.loop-rest.rest.now (inv.so_far first before s)
+    subst (SoFar g.O.Output.passes (declared_by c.args.d.now) first _ _) (before_rest before c.args.bytes.now inv.done c.loop-rest.rest.now inv.whole)
+    (SoFar-held g.O.Output.passes (declared_by c.args.d.now) first _ c.loop-rest.self _ (before ++ inv.done) c.loop-rest.rest.now (inv.so_far first before s)
     c.in_default.ensures.none refl refl c.extend.ensures more)
 
 pub returns-in-Err-clause-err : goal.returns-in-Err-clause-err
@@ -39,12 +40,12 @@ returns-in-Err-clause-err g c = λ first before s.
     let more : c.loop-rest.self.counts.lines < most_lines = grind (arith, common_steps, inv.running.lines) in
     let with_piece : Progress g.row.B.Denot =
     record { workbench = c.loop-rest.self.workbench; counts = c.loop-rest.self.counts; line = c.extend-in-loop-rest.new.self } in
-    let held = SoFar-held g.O.Output.passes c.args.d.now first _ c.loop-rest.self with_piece (before ++ inv.done) piece (inv.so_far first before s)
+    let held = SoFar-held g.O.Output.passes (declared_by c.args.d.now) first _ c.loop-rest.self with_piece (before ++ inv.done) piece (inv.so_far first before s)
     c.in-Some.ensures.some.1 refl refl c.extend-in-loop-rest.ensures more in
-    subst (FrontSoFar g.O.Output.passes c.args.d.now first _)
+    subst (FrontSoFar g.O.Output.passes (declared_by c.args.d.now) first _)
     (ap (λ (text : List ℕ). text ++ after) (before_line before inv.done piece)
     ∙ before_rest before c.args.bytes.now (inv.done ++ (piece ++ 10 ∷ [])) after (line_done c.args.bytes.now inv.done c.loop-rest.rest.now piece after inv.whole c.in-Some.ensures.some.0))
-    (FrontSoFar-more g.O.Output.passes c.args.d.now first _ _ after (c.in-Err.ensures.err first _ held))
+    (FrontSoFar-more g.O.Output.passes (declared_by c.args.d.now) first _ _ after (c.in-Err.ensures.err first _ held))
 
 pub loop-rest-preserved : goal.loop-rest-preserved
 loop-rest-preserved g c =
@@ -58,8 +59,8 @@ loop-rest-preserved g c =
       done = inv.done ++ (piece ++ 10 ∷ []);
       whole = line_done c.args.bytes.now inv.done c.loop-rest.rest.now piece after inv.whole c.in-Some.ensures.some.0;
       so_far = λ first before s.
-          let held = SoFar-held g.O.Output.passes c.args.d.now first _ c.loop-rest.self with_piece (before ++ inv.done) piece (inv.so_far first before s)
+          let held = SoFar-held g.O.Output.passes (declared_by c.args.d.now) first _ c.loop-rest.self with_piece (before ++ inv.done) piece (inv.so_far first before s)
           c.in-Some.ensures.some.1 refl refl c.extend-in-loop-rest.ensures more in
-          subst (SoFar g.O.Output.passes c.args.d.now first _ _) (before_line before inv.done piece) (c.in-Ok.ensures.ok first _ held);
+          subst (SoFar g.O.Output.passes (declared_by c.args.d.now) first _ _) (before_line before inv.done piece) (c.in-Ok.ensures.ok first _ held);
       running = c.in-Ok.ensures.running;
     }

@@ -1,0 +1,64 @@
+-- The parameters of a compound: names and kinds in turn.
+use Rattle.std.proofs.Common.{◌≡◌, ◌↔◌, ℕ, sym, true, false, List, [], ◌∷◌, ◌++◌, Option, None, Some, Bool, ◌&&◌, append_assoc}
+use Rattle.std.proofs.lemmas.Bool.{false≢true}
+use Rattle.pw_info.specs.Name.{is_name}
+use Rattle.pw_decl.specs.Steps.Forms.{are_parameters}
+use Rattle.std.specs.Prelude.{IfSome, IfNone, is_some}
+use Rattle.pw_info.specs.declared.kind.Kind.{Kind}
+use Rattle.pw_decl.specs.Declaration.{Declared, NamesKind, NameKinds}
+
+-- ---- words that name kinds
+
+-- each of the words names a kind
+abbrev pub HaveKinds : Declared → List (List ℕ) → Type 0
+HaveKinds d words = (kinds : List Kind) × NameKinds d words kinds
+
+-- where the first names a kind, all do where the others do
+pub have_kinds-cons : (d : Declared) (word : List ℕ) (words : List (List ℕ)) (kind : Kind) → NamesKind d word kind →
+    HaveKinds d (word ∷ words) ↔ HaveKinds d words
+have_kinds-cons d word words kind named = (rest_named, λ rest. (kind ∷ rest.0, (named, rest.1)))
+  where
+    rest_named : HaveKinds d (word ∷ words) → HaveKinds d words
+    rest_named ([], all) = absurd all
+    rest_named (first ∷ kinds, all) = (kinds, all.1)
+
+-- where the first names no kind, not all do
+pub have_kinds-not : (d : Declared) (word : List ℕ) (words : List (List ℕ)) → ((kind : Kind) → NamesKind d word kind → ⊥) → HaveKinds d (word ∷ words) → ⊥
+have_kinds-not d word words none ([], all) = all
+have_kinds-not d word words none (first ∷ kinds, all) = none first all.0
+
+-- the kinds so far and those that are named next are the kinds of all
+pub chosen_more : (d : Declared) (word : List ℕ) (words all : List (List ℕ)) (kind : Kind) (kinds more : List Kind) → NamesKind d word kind →
+    more ≡ kinds ++ kind ∷ [] → ((rest : List Kind) → NameKinds d (word ∷ words) rest → NameKinds d all (kinds ++ rest)) →
+    (rest : List Kind) → NameKinds d words rest → NameKinds d all (more ++ rest)
+chosen_more d word words all kind kinds more named is chosen rest others =
+    rw (is, append_assoc kinds (kind ∷ []) rest) (chosen (kind ∷ rest) (named, others))
+
+-- the names so far and those that are left are all, also with one more
+pub names_more : (all names more rest : List (List ℕ)) (word name : List ℕ) → all ≡ names ++ word ∷ rest → more ≡ names ++ name ∷ [] → name ≡ word →
+    all ≡ more ++ rest
+names_more all names more rest word name is added same = rw (added, append_assoc names (name ∷ []) rest, same) is
+
+-- ---- words that are names and kinds in turn
+
+and_right : (a b : Bool) → (a && b) ≡ true → b ≡ true
+and_right true b both = both
+and_right false b both = absurd (false≢true both)
+
+pub parameters_rest : (name kind : List ℕ) (words : List (List ℕ)) → are_parameters (name ∷ kind ∷ words) ≡ true → are_parameters words ≡ true
+parameters_rest name kind words all = and_right (is_name name) (are_parameters words) all
+
+-- ---- what a clause says of a value that is there, and of none
+
+pub at_some : {X : Type 0} (o : Option X) {P : X → Type 0} → is_some o ≡ true → IfSome o P → (x : X) × P x
+at_some None there p = absurd (cc)
+at_some (Some x) there p = (x, p)
+
+pub at_none : {X : Type 0} (o : Option X) {P : Type 0} → is_some o ≡ false → IfNone o P → P
+at_none None absent p = p
+at_none (Some x) absent p = absurd (cc)
+
+-- what is not there, is none
+pub none_where : {X : Type 0} (o p : Option X) → is_some o ≡ false → o ≡ p → p ≡ None
+none_where None p absent is = sym is
+none_where (Some x) p absent is = absurd (cc)

@@ -1,0 +1,18 @@
+use Rattle.std.proofs.Common.{◌≡◌, ◌+◌, ◌≤◌, ◌++◌, true, length, take, is_some}
+use Rattle.std.specs.List.{list_all, filter_map}
+use Rattle.pw_procs.specs.Place.{place_of_name}
+use Rattle.pw_procs.specs.Shapes.{most_cells}
+use Rattle.pw_decl.proofs.compound_line.place_arguments.Given as goal
+
+-- the places so far and those of the words that are left are the places of all words
+abbrev pub invariant-loop-word : goal.invariant-loop-word
+invariant-loop-word g l = record {
+  room : length l.places ≡ most_cells;
+  most : l.count ≤ most_cells;
+  counted : l.count + length l.words ≡ length l.fn.words;
+  placed : filter_map (place_of_name l.names) l.fn.words ≡ take l.count l.places ++ filter_map (place_of_name l.names) l.words;
+  known : list_all (λ word. is_some (place_of_name l.names word)) l.words ≡ true;
+}
+
+abbrev pub decreases-loop-word : goal.decreases-loop-word
+decreases-loop-word g l = length l.words

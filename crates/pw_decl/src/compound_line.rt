@@ -1,0 +1,346 @@
+//! The lines that begin, fill and end a compound.
+ghost use Rattle.std.specs.Prelude.{◌≡◌, ◌≢◌, ◌↔◌, ◌≤◌, ◌+◌, ◌<◌, ℕ, List, [], All, None, true, length, min, is_some, IsTrue, IfOk, IfErr, IfNone, IfSome, OnOk, OnErr};
+ghost use Rattle.std.specs.List.{list_all, list_any, filter_map, IsDistinct};
+ghost use Rattle.std.specs.Str.{bytes_eq};
+ghost use Rattle.pw_info.specs.declared.kind.Kind.{Kind as KindOfCell};
+ghost use Rattle.pw_procs.specs.Arguments.{cells_of};
+ghost use Rattle.pw_procs.specs.Place.{place_of_name};
+ghost use Rattle.pw_procs.specs.Shapes.{most_cells};
+ghost use Rattle.pw_decl.specs.Compound.{kinds_at, sum_of_sizes, no_size, size_of_local, IsTooLarge};
+ghost use Rattle.pw_decl.specs.Declaration.{Inside, Begin, Local, Call, IsCallable, Takes, Makes, NameKinds, with_call, with_local, parameter_kinds, parameter_names};
+ghost use Rattle.pw_decl.specs.Limits.{most_inner_cells, most_parameters};
+ghost use Rattle.pw_decl.specs.Fields.{declared_by};
+ghost use Rattle.pw_decl.specs.Steps.Standing.{outside, inside};
+ghost use Rattle.pw_decl.specs.Kept.{size_of};
+ghost use Rattle.pw_decl.specs.Steps.Opened.{IsBegun, IsGrown, IsOpen, open_of};
+ghost use Rattle.pw_decl.specs.Steps.Forms.{are_parameters};
+ghost use Rattle.pw_decl.specs.WellDeclared.{IsSmall};
+ghost use Rattle.pw_decl.specs.Steps.SentenceFaults.{IsFaultless, IsToldOf};
+
+use crate::compound::{Compound, OpenCompound, Size};
+use crate::decl_fault::DeclFaultKind;
+use crate::declaration::Declaration;
+use crate::step::{Callable, Step};
+use pw_info::{Kind, Words, read_name};
+use pw_procs::{Arguments, NameTable};
+use std::alloc::{AllocError, Allocator};
+
+const MOST_PARAMETERS: usize = 8;
+
+const MOST_ARGUMENTS: usize = 9;
+
+const MOST_INSTANCES: u32 = 256;
+
+const MOST_INNER_CELLS: u32 = 256;
+
+// Whether the word is one of the names of parameters.
+fn names_parameter(word: &[u8], mut parameters: Words<'_>) -> bool
+    ensures { result ≡ list_any (bytes_eq word.now) (parameter_names parameters.entry) }
+{
+    while let Some(name) = parameters.next() {
+        let Some(_) = parameters.next() else {
+            return false;
+        };
+        if word == name {
+            return true;
+        }
+    }
+    false
+}
+
+// Whether no two parameters have one name. A line has few: each is looked for among those after it, with no memory.
+fn parameters_differ(mut parameters: Words<'_>) -> bool
+    ensures { IsTrue result ↔ IsDistinct bytes_eq (parameter_names parameters.entry) }
+{
+    while let Some(name) = parameters.next() {
+        let Some(_) = parameters.next() else {
+            return true;
+        };
+        if names_parameter(name, parameters.again()) {
+            return false;
+        }
+    }
+    true
+}
+
+// Whether each parameter is of a kind that is there.
+fn have_kinds<A: Allocator + Copy>(
+    declaration: &Declaration<'_, A>,
+    mut parameters: Words<'_>,
+) -> bool
+    ensures { IsTrue result ↔ ((kinds : List KindOfCell)
+        × NameKinds (declared_by declaration.now) (parameter_kinds parameters.entry) kinds) }
+{
+    while let Some(_) = parameters.next() {
+        let Some(word) = parameters.next() else {
+            return true;
+        };
+        if declaration.kind(word).is_none() {
+            return false;
+        }
+    }
+    true
+}
+
+// How many parameters there are, counted no further than to one too many.
+fn count_parameters(mut parameters: Words<'_>) -> usize
+    ensures { result ≡ min (length (parameter_names parameters.entry)) (most_parameters + 1) }
+{
+    let mut count = 0;
+    while count <= MOST_PARAMETERS && parameters.next().is_some() && parameters.next().is_some() {
+        count += 1;
+    }
+    count
+}
+
+// Begins a compound. The names of its parameters differ, and their kinds are there.
+fn begun_with<A: Allocator + Copy>(
+    alloc: A,
+    declaration: &Declaration<'_, A>,
+    name: &str,
+    mut parameters: Words<'_>,
+) -> Result<OpenCompound<A>, AllocError>
+    requires named { are_parameters parameters ≡ true }
+    requires distinct { IsDistinct bytes_eq (parameter_names parameters) }
+    requires known { (kinds : List KindOfCell)
+        × NameKinds (declared_by declaration.now) (parameter_kinds parameters) kinds }
+    ensures begun { IfOk result (λ opened.
+        IsBegun (declared_by declaration.now) name.now parameters.entry opened) }
+{
+    let mut opened = OpenCompound {
+        name: String::from_str(alloc, name)?,
+        names: NameTable::new(alloc),
+        kinds: Vec::new(alloc),
+        compound: Compound {
+            parameters: Vec::new(alloc),
+            steps: Vec::new(alloc),
+            size: Size {
+                instances: 0,
+                inner_cells: 0,
+            },
+        },
+    };
+    while let Some(word) = parameters.next() {
+        let (Some(name), Some(kind)) = (read_name(word), parameters.next()) else {
+            unreachable!("the words are names and kinds in turn");
+        };
+        let Some(kind) = declaration.kind(kind) else {
+            unreachable!("the kinds are there");
+        };
+        opened.names.add(name)?;
+        opened.kinds.push(kind)?;
+        opened.compound.parameters.push(kind)?;
+    }
+    Ok(opened)
+}
+
+/// Begins a compound of this name, with these parameters, which are names and kinds in turn.
+pub(crate) fn begin_compound<A: Allocator + Copy>(
+    alloc: A,
+    declaration: &Declaration<'_, A>,
+    name: &str,
+    parameters: Words<'_>,
+) -> Result<OpenCompound<A>, DeclFaultKind>
+    requires named { are_parameters parameters ≡ true }
+    ensures ok { IfOk result (λ opened. Makes (outside declaration.now)
+        (Begin name.now parameters.entry) (inside declaration.now opened)) }
+    ensures kept { IfOk result (λ opened. IsOpen (declared_by declaration.now) opened) }
+    ensures none { OnOk result (IsFaultless (outside declaration.now)
+        (Begin name.now parameters.entry)) }
+    ensures err { IfErr result (IsToldOf (outside declaration.now)
+        (Begin name.now parameters.entry)) }
+{
+    if declaration.callable(name.as_bytes()).is_some() || !parameters_differ(parameters.again()) {
+        return Err(DeclFaultKind::DuplicateName);
+    }
+    if !have_kinds(declaration, parameters.again()) {
+        return Err(DeclFaultKind::UnknownName);
+    }
+    if parameters.is_empty() {
+        return Err(DeclFaultKind::WrongArguments);
+    }
+    if declaration.is_full() || count_parameters(parameters.again()) > MOST_PARAMETERS {
+        return Err(DeclFaultKind::Limit);
+    }
+    match begun_with(alloc, declaration, name, parameters) {
+        Ok(opened) => Ok(opened),
+        Err(_) => Err(DeclFaultKind::Memory),
+    }
+}
+
+// Whether so much and so much more is more than an expansion may have.
+fn outgrows(size: Size, more: Size) -> bool
+    requires small { IsSmall (size_of size) × IsSmall (size_of more) }
+    ensures { IsTrue result ↔ IsTooLarge (sum_of_sizes (size_of size) (size_of more)) }
+{
+    size.instances + more.instances > MOST_INSTANCES
+        || size.inner_cells + more.inner_cells > MOST_INNER_CELLS
+}
+
+// Adds a private cell, for which there is room.
+fn add_local<A: Allocator + Copy>(
+    opened: &mut OpenCompound<A>,
+    name: &str,
+    kind: Kind,
+) -> Result<(), AllocError>
+    requires fresh { place_of_name opened.old.names name.now ≡ None }
+    requires room { opened.old.compound.size.inner_cells < most_inner_cells }
+    ensures ok { OnOk result (IsGrown opened.old (with_local
+        (open_of opened.old) name.now kind) size_of_local opened.new) }
+    ensures err { OnErr result (IsGrown opened.old (open_of opened.old) no_size opened.new) }
+{
+    opened.kinds.reserve(1)?;
+    opened.compound.steps.reserve(1)?;
+    opened.names.add(name)?;
+    opened.kinds.push(kind).unwrap();
+    opened.compound.steps.push(Step::Local(kind)).unwrap();
+    opened.compound.size.inner_cells += 1;
+    Ok(())
+}
+
+/// Declares a private cell of this name and of the kind of that name.
+pub(crate) fn declare_local<A: Allocator + Copy>(
+    declaration: &Declaration<'_, A>,
+    opened: &mut OpenCompound<A>,
+    name: &str,
+    kind: &[u8],
+) -> Result<(), DeclFaultKind>
+    requires kept { IsOpen (declared_by declaration.now) opened.old }
+    ensures kept { IsOpen (declared_by declaration.now) opened.new }
+    ensures ok { OnOk result (Makes (inside declaration.now opened.old) (Local name.now kind.now)
+        (inside declaration.now opened.new)) }
+    ensures none { OnOk result (IsFaultless (inside declaration.now opened.old)
+        (Local name.now kind.now)) }
+    ensures err { IfErr result (IsToldOf (inside declaration.now opened.old)
+        (Local name.now kind.now)) }
+{
+    if opened.names.find(name.as_bytes()).is_some() {
+        return Err(DeclFaultKind::DuplicateName);
+    }
+    let Some(kind) = declaration.kind(kind) else {
+        return Err(DeclFaultKind::UnknownName);
+    };
+    if opened.compound.size.inner_cells >= MOST_INNER_CELLS {
+        return Err(DeclFaultKind::Limit);
+    }
+    match add_local(opened, name, kind) {
+        Ok(()) => Ok(()),
+        Err(_) => Err(DeclFaultKind::Memory),
+    }
+}
+
+// Whether each word names a cell of the compound.
+fn are_cells<A: Allocator + Copy>(names: &NameTable<A>, mut words: Words<'_>) -> bool
+    ensures { result ≡ list_all (λ word. is_some (place_of_name names.now word)) words.entry }
+{
+    while let Some(word) = words.next() {
+        if names.find(word).is_none() {
+            return false;
+        }
+    }
+    true
+}
+
+// The places of the cells that the words name; None where there are more than nine.
+fn place_arguments<A: Allocator + Copy>(
+    names: &NameTable<A>,
+    mut words: Words<'_>,
+) -> Option<Arguments>
+    requires few { length names.now ≤ 264 }
+    requires some { words ≢ [] }
+    requires known { list_all (λ word. is_some (place_of_name names.now word)) words ≡ true }
+    ensures none { IfNone result (most_cells < length words.entry) }
+    ensures some { IfSome result (λ arguments.
+        cells_of arguments ≡ filter_map (place_of_name names.now) words.entry) }
+{
+    let mut places = [0; MOST_ARGUMENTS];
+    let mut count = 0;
+    while let Some(word) = words.next() {
+        let Some(place) = names.find(word) else {
+            unreachable!("each word names a cell");
+        };
+        if count >= MOST_ARGUMENTS {
+            return None;
+        }
+        places[count] = place as u32;
+        count += 1;
+    }
+    Arguments::of(&places[..count])
+}
+
+// Whether the callable, which is there, accepts the cells at these places, which are there.
+fn accepts_at<A: Allocator + Copy>(
+    declaration: &Declaration<'_, A>,
+    callable: Callable,
+    kinds: &[Kind],
+    arguments: Arguments,
+) -> bool
+    requires there { IsCallable (declared_by declaration.now) callable }
+    requires places { All (λ place. place < length kinds.now) (cells_of arguments) }
+    ensures { IsTrue result ↔ Takes (declared_by declaration.now) callable (kinds_at kinds.now
+        (cells_of arguments)) }
+{
+    let places = arguments.cells();
+    let mut given = [Kind::Interval; MOST_ARGUMENTS];
+    for number in 0..places.len() {
+        given[number] = kinds[places[number] as usize];
+    }
+    declaration.accepts(callable, &given[..places.len()])
+}
+
+// Adds a call, for which there is room.
+fn add_call<A: Allocator + Copy>(
+    opened: &mut OpenCompound<A>,
+    callable: Callable,
+    arguments: Arguments,
+    size: Size,
+) -> Result<(), AllocError>
+    requires small { IsSmall (size_of opened.old.compound.size) × IsSmall (size_of size) }
+    ensures ok { OnOk result (IsGrown opened.old (with_call (open_of opened.old) callable
+        (cells_of arguments)) (size_of size) opened.new) }
+    ensures err { OnErr result (IsGrown opened.old (open_of opened.old) no_size opened.new) }
+{
+    opened.compound.steps.push(Step::Call(callable, arguments))?;
+    opened.compound.size.instances += size.instances;
+    opened.compound.size.inner_cells += size.inner_cells;
+    Ok(())
+}
+
+/// Declares a call of the callable of this name over the cells of those names, which are one or more.
+pub(crate) fn declare_call<A: Allocator + Copy>(
+    declaration: &Declaration<'_, A>,
+    opened: &mut OpenCompound<A>,
+    callable: &[u8],
+    arguments: Words<'_>,
+) -> Result<(), DeclFaultKind>
+    requires kept { IsOpen (declared_by declaration.now) opened.old }
+    requires some { arguments ≢ [] }
+    ensures kept { IsOpen (declared_by declaration.now) opened.new }
+    ensures ok { OnOk result (Makes (inside declaration.now opened.old)
+        (Call callable.now arguments.entry) (inside declaration.now opened.new)) }
+    ensures none { OnOk result (IsFaultless (inside declaration.now opened.old)
+        (Call callable.now arguments.entry)) }
+    ensures err { IfErr result (IsToldOf (inside declaration.now opened.old)
+        (Call callable.now arguments.entry)) }
+{
+    let Some(callable) = declaration.callable(callable) else {
+        return Err(DeclFaultKind::UnknownName);
+    };
+    if !are_cells(&opened.names, arguments.again()) {
+        return Err(DeclFaultKind::UnknownName);
+    }
+    let Some(arguments) = place_arguments(&opened.names, arguments) else {
+        return Err(DeclFaultKind::WrongArguments);
+    };
+    if !accepts_at(declaration, callable, &opened.kinds, arguments) {
+        return Err(DeclFaultKind::WrongArguments);
+    }
+    let size = declaration.size(callable);
+    if outgrows(opened.compound.size, size) {
+        return Err(DeclFaultKind::Limit);
+    }
+    match add_call(opened, callable, arguments, size) {
+        Ok(()) => Ok(()),
+        Err(_) => Err(DeclFaultKind::Memory),
+    }
+}

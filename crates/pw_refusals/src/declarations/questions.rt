@@ -1,0 +1,138 @@
+//! Questions to a declaration, each answered by one value.
+
+use crate::procedures::{OverRegistry, SOUND, over_procedures};
+use crate::texts::joined;
+use pw_decl::{Callable, Declaration, Step, read_declaration};
+use pw_info::{Kind, KindNames};
+use pw_procs::Registry;
+use std::alloc::Global;
+use std::test::Fail;
+
+/// What is asked of a declaration. What has a number is looked up by its name, and the name by the number again.
+#[derive(Clone, Copy, Debug)]
+pub enum Question<'a> {
+    /// The number of the user of this name.
+    User(&'a str),
+    /// The number of the premise of this name.
+    Premise(&'a str),
+    /// The number of the user that the premise of this name belongs to.
+    Owner(&'a str),
+    /// The number of the cell of this name.
+    Cell(&'a str),
+    /// The kind of the cell of this name.
+    KindOf(&'a str),
+    /// The place of the member of this name in the set of this number.
+    Place(u8, &'a str),
+    /// What may be called by this name.
+    Callable(&'a str),
+    /// Whether what may be called by this name takes cells of these kinds.
+    Accepts(&'a str, &'a [Kind]),
+    /// The line of this number, from 0, of the compound of this name.
+    Step(&'a str, usize),
+}
+
+/// What is answered.
+#[derive(Clone, Copy, Debug, PartialEq, Eq)]
+pub enum Answer {
+    Number(u32),
+    Kind(Kind),
+    Callable(Callable),
+    Accepts(bool),
+    Step(Step),
+}
+
+fn user(declaration: &Declaration<'_>, name: &str) -> Option<Answer> {
+    let number = declaration.user(name.as_bytes())?;
+    (declaration.user_name(number) == name).then_some(Answer::Number(u32::from(number)))
+}
+
+fn premise(declaration: &Declaration<'_>, name: &str) -> Option<Answer> {
+    let number = declaration.premise(name.as_bytes())?;
+    (declaration.premise_name(number) == name).then_some(Answer::Number(u32::from(number)))
+}
+
+fn owner(declaration: &Declaration<'_>, name: &str) -> Option<Answer> {
+    let number = declaration.premise(name.as_bytes())?;
+    let owner = declaration.owner(number)?;
+    Some(Answer::Number(u32::from(owner)))
+}
+
+fn cell(declaration: &Declaration<'_>, name: &str) -> Option<Answer> {
+    let number = declaration.cell(name.as_bytes())?;
+    (declaration.cell_name(number) == name).then_some(Answer::Number(number))
+}
+
+fn kind_of(declaration: &Declaration<'_>, name: &str) -> Option<Answer> {
+    let number = declaration.cell(name.as_bytes())?;
+    Some(Answer::Kind(declaration.cell_kind(number)))
+}
+
+#[tactic(auto, using(std::proofs::lemmas::Option::slice_get_within))]
+fn place(declaration: &Declaration<'_>, set: u8, name: &str) -> Option<Answer> {
+    let place = declaration.place(set, name.as_bytes())?;
+    (declaration.member(set, place) == name).then_some(Answer::Number(u32::from(place)))
+}
+
+fn callable(declaration: &Declaration<'_>, name: &str) -> Option<Answer> {
+    let callable = declaration.callable(name.as_bytes())?;
+    Some(Answer::Callable(callable))
+}
+
+fn accepts(declaration: &Declaration<'_>, name: &str, kinds: &[Kind]) -> Option<Answer> {
+    let callable = declaration.callable(name.as_bytes())?;
+    Some(Answer::Accepts(declaration.accepts(callable, kinds)))
+}
+
+fn step(declaration: &Declaration<'_>, name: &str, line: usize) -> Option<Answer> {
+    let Callable::Compound(number) = declaration.callable(name.as_bytes())? else {
+        return None;
+    };
+    let step = declaration.steps(number).get(line)?;
+    Some(Answer::Step(*step))
+}
+
+// A declaration is read, and asked.
+#[derive(Drop)]
+struct Asking<'a> {
+    alloc: Global,
+    text: &'a str,
+    question: Question<'a>,
+}
+
+impl OverRegistry for Asking<'_> {
+    type Answer = Result<Option<Answer>, Fail>;
+
+    fn over(self, registry: &Registry) -> Result<Option<Answer>, Fail> {
+        let declaration = read_declaration(self.alloc, self.text.as_bytes(), registry)?;
+        Ok(match self.question {
+            Question::User(name) => user(&declaration, name),
+            Question::Premise(name) => premise(&declaration, name),
+            Question::Owner(name) => owner(&declaration, name),
+            Question::Cell(name) => cell(&declaration, name),
+            Question::KindOf(name) => kind_of(&declaration, name),
+            Question::Place(set, name) => place(&declaration, set, name),
+            Question::Callable(name) => callable(&declaration, name),
+            Question::Accepts(name, kinds) => accepts(&declaration, name, kinds),
+            Question::Step(name, line) => step(&declaration, name, line),
+        })
+    }
+}
+
+/// What a declaration of these lines, the last of which is not ended, answers.
+pub fn asked(
+    alloc: Global,
+    lines: &[&str],
+    question: Question<'_>,
+) -> Result<Option<Answer>, Fail> {
+    let text = joined(alloc, lines)?;
+    let text = text.as_str();
+    over_procedures(
+        alloc,
+        SOUND,
+        Asking {
+            alloc,
+            text,
+            question,
+        },
+    )?
+}
