@@ -1,5 +1,6 @@
 //! The lines that begin, fill and end a compound.
-ghost use Rattle.std.specs.Prelude.{◌≡◌, ◌≢◌, ◌↔◌, ◌≤◌, ◌+◌, ◌<◌, ℕ, List, [], All, None, true, length, min, is_some, IsTrue, IfOk, IfErr, IfNone, IfSome, OnOk, OnErr};
+ghost use Rattle.std.specs.Prelude.{◌≡◌, ◌≢◌, ◌↔◌, ◌≤◌, ◌+◌, ◌<◌, ℕ, List, [], All, None};
+ghost use Rattle.std.specs.Prelude.{true, length, min, is_some, IsTrue, IfOk, IfErr, IfNone, IfSome, OnOk, OnErr};
 ghost use Rattle.std.specs.List.{list_all, list_any, filter_map, IsDistinct};
 ghost use Rattle.std.specs.Str.{bytes_eq};
 ghost use Rattle.pw_info.specs.declared.kind.Kind.{Kind as KindOfCell};
@@ -7,7 +8,8 @@ ghost use Rattle.pw_procs.specs.Arguments.{cells_of};
 ghost use Rattle.pw_procs.specs.Place.{place_of_name};
 ghost use Rattle.pw_procs.specs.Shapes.{most_cells};
 ghost use Rattle.pw_decl.specs.Compound.{kinds_at, sum_of_sizes, no_size, size_of_local, IsTooLarge};
-ghost use Rattle.pw_decl.specs.Declaration.{Inside, Begin, Local, Call, IsCallable, Takes, Makes, NameKinds, with_call, with_local, parameter_kinds, parameter_names};
+ghost use Rattle.pw_decl.specs.Declaration.{Inside, Begin, Local, Call, IsCallable, Takes};
+ghost use Rattle.pw_decl.specs.Declaration.{Makes, NameKinds, with_call, with_local, parameter_kinds, parameter_names};
 ghost use Rattle.pw_decl.specs.Limits.{most_inner_cells, most_parameters};
 ghost use Rattle.pw_decl.specs.Fields.{declared_by};
 ghost use Rattle.pw_decl.specs.Steps.Standing.{outside, inside};
