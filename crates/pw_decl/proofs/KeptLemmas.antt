@@ -26,7 +26,8 @@ pub holds_at : {A B : Type 0} (P : B → Type 0) (f : A → B) (xs : List A) (n 
 holds_at P f xs n x all there read =
     subst P (get-map f xs n x there read) (all n (f x) (let same = length-map xs f in omega arith))
 
-some_is : {A : Type 0} (x y : A) → Some x ≡ Some y → x ≡ y
+-- what two such hold is one
+pub some_is : {A : Type 0} (x y : A) → Some x ≡ Some y → x ≡ y
 some_is x y e = cc
 
 -- the procedure at a place accepts the kinds

@@ -4,6 +4,11 @@ pub mod Decided
 pub mod DeclarationLines
 pub mod DeclarationSteps
 pub mod DeclaredLemmas
+pub mod ExpansionFits
+pub mod ExpansionLemmas
+pub mod FlatKept
+pub mod FlatLemmas
+pub mod FlatteningLemmas
 pub mod KeptLemmas
 pub mod LineFaults
 pub mod LineLaw

@@ -1,7 +1,9 @@
 pub mod Compound
 pub mod Declaration
+pub mod Expansion
 pub mod Faults
 pub mod Fields
+pub mod Flat
 pub mod Kept
 pub mod Limits
 pub mod Prelude

@@ -9,7 +9,7 @@ ghost use Rattle.pw_procs.specs.Place.{place_of_name};
 ghost use Rattle.pw_procs.specs.Shapes.{most_cells};
 ghost use Rattle.pw_decl.specs.Compound.{kinds_at, sum_of_sizes, no_size, size_of_local, IsTooLarge};
 ghost use Rattle.pw_decl.specs.Declaration.{Inside, Begin, Local, Call, IsCallable, Takes};
-ghost use Rattle.pw_decl.specs.Declaration.{Makes, NameKinds, with_call, with_local, parameter_kinds, parameter_names};
+ghost use Rattle.pw_decl.specs.Declaration.{Makes, NameKinds, with_call, with_compound, with_local, parameter_kinds, parameter_names};
 ghost use Rattle.pw_decl.specs.Limits.{most_inner_cells, most_parameters};
 ghost use Rattle.pw_decl.specs.Fields.{declared_by};
 ghost use Rattle.pw_decl.specs.Steps.Standing.{outside, inside};
@@ -22,6 +22,7 @@ ghost use Rattle.pw_decl.specs.Steps.SentenceFaults.{IsFaultless, IsToldOf};
 use crate::compound::{Compound, OpenCompound, Size};
 use crate::decl_fault::DeclFaultKind;
 use crate::declaration::Declaration;
+use crate::flattening::flatten;
 use crate::step::{Callable, Step};
 use pw_info::{Kind, Words, read_name};
 use pw_procs::{Arguments, NameTable};
@@ -270,26 +271,6 @@ fn place_arguments<A: Allocator + Copy>(
     Arguments::of(&places[..count])
 }
 
-// Whether the callable, which is there, accepts the cells at these places, which are there.
-fn accepts_at<A: Allocator + Copy>(
-    declaration: &Declaration<'_, A>,
-    callable: Callable,
-    kinds: &[Kind],
-    arguments: Arguments,
-) -> bool
-    requires there { IsCallable (declared_by declaration.now) callable }
-    requires places { All (λ place. place < length kinds.now) (cells_of arguments) }
-    ensures { IsTrue result ↔ Takes (declared_by declaration.now) callable (kinds_at kinds.now
-        (cells_of arguments)) }
-{
-    let places = arguments.cells();
-    let mut given = [Kind::Interval; MOST_ARGUMENTS];
-    for number in 0..places.len() {
-        given[number] = kinds[places[number] as usize];
-    }
-    declaration.accepts(callable, &given[..places.len()])
-}
-
 // Adds a call, for which there is room.
 fn add_call<A: Allocator + Copy>(
     opened: &mut OpenCompound<A>,
@@ -334,7 +315,7 @@ pub(crate) fn declare_call<A: Allocator + Copy>(
     let Some(arguments) = place_arguments(&opened.names, arguments) else {
         return Err(DeclFaultKind::WrongArguments);
     };
-    if !accepts_at(declaration, callable, &opened.kinds, arguments) {
+    if !declaration.accepts_at(callable, &opened.kinds, arguments) {
         return Err(DeclFaultKind::WrongArguments);
     }
     let size = declaration.size(callable);
@@ -345,4 +326,19 @@ pub(crate) fn declare_call<A: Allocator + Copy>(
         Ok(()) => Ok(()),
         Err(_) => Err(DeclFaultKind::Memory),
     }
+}
+
+/// Ends an open compound. It fails only for want of memory, and then nothing changes.
+pub(crate) fn end_compound<A: Allocator + Copy>(
+    alloc: A,
+    declaration: &mut Declaration<'_, A>,
+    opened: OpenCompound<A>,
+) -> Result<(), AllocError>
+    requires { IsOpen (declared_by declaration.old) opened }
+    ensures ok { OnOk result ((declared_by declaration.new) ≡ with_compound
+        (declared_by declaration.old) (open_of opened).name (open_of opened).compound) }
+    ensures err { OnErr result ((declared_by declaration.new) ≡ (declared_by declaration.old)) }
+{
+    let flattened = flatten(alloc, declaration, &opened)?;
+    declaration.add_compound(opened, flattened)
 }

@@ -1,27 +1,33 @@
 //! What a declaration declares: users, premises, cells, set kinds and compounds, by name and by number.
-ghost use Rattle.std.specs.Prelude.{◌≡◌, ◌↔◌, ℕ, ◌+◌, ◌-◌, None, Some, ◌<◌, ◌≤◌, IsTrue, length, is_some, slice_get, Contains, IfSome, IfNone, OnOk, OnErr};
+ghost use Rattle.std.specs.Prelude.{◌≡◌, ◌↔◌, ℕ, ◌+◌, ◌-◌, All, None, Some, ◌<◌, ◌≤◌, IsTrue, length, is_some, slice_get, Contains, IfSome, IfNone, OnOk, OnErr};
 ghost use Rattle.pw_kinds.specs.Limits.{most_members};
 ghost use Rattle.pw_kinds.specs.Places.{IsSize};
 ghost use Rattle.pw_info.specs.declared.kind.Kind.{Kind as KindOfCell};
 ghost use Rattle.pw_info.specs.SetNames.{AreNames, IsNamed};
+ghost use Rattle.pw_procs.specs.Arguments.{cells_of};
 ghost use Rattle.pw_procs.specs.Place.{place_of_name};
 ghost use Rattle.pw_procs.specs.Registry.{procedures_in};
-ghost use Rattle.pw_decl.specs.Compound.{size_of_callable, sizes_of};
+ghost use Rattle.pw_decl.specs.declared.step.Callable.TheVariants as callables;
+ghost use Rattle.pw_decl.specs.Compound.{kinds_at, size_of_callable, sizes_of};
 ghost use Rattle.pw_decl.specs.Declaration.{nothing_declared, owner_of, kind_at, kind_names, members_of, NamesKind, callable_named, IsCallable, Takes};
 ghost use Rattle.pw_decl.specs.Declaration.{with_user, with_premise, with_cell, with_set, with_compound};
-ghost use Rattle.pw_decl.specs.Limits.{most_users, most_premises, most_cells, most_sets, most_compounds};
+ghost use Rattle.pw_decl.specs.Limits.{most_users, most_premises, most_cells, most_sets, most_compounds, most_inner_cells};
 ghost use Rattle.pw_decl.specs.Prelude.{prelude_compounds};
+ghost use Rattle.pw_decl.specs.Expansion.{inner_kinds_of};
 ghost use Rattle.pw_decl.specs.Fields.{declared_by, StepsAre};
-ghost use Rattle.pw_decl.specs.Kept.{size_of, steps_of};
+ghost use Rattle.pw_decl.specs.Flat.{AreCallsOf, IsFlattened};
+ghost use Rattle.pw_decl.specs.Kept.{compound_of, size_of, steps_of};
 ghost use Rattle.pw_decl.specs.Steps.Opened.{IsOpen, open_of};
 ghost use Rattle.pw_decl.specs.WellDeclared.{IsSmall, IsWellDeclared};
 
 use crate::built_in_sets::{BUILT_IN_SETS, built_in_kind, built_in_member, built_in_place};
 use crate::compound::{Compound, OpenCompound, Size};
+use crate::flat_call::{FlatCall, MOST_CELLS};
+use crate::flattened::Flattened;
 use crate::prelude::PRELUDE_COMPOUNDS;
 use crate::step::{Callable, Step};
 use pw_info::{Kind, KindNames, SetKind};
-use pw_procs::{NameTable, Registry, are_equal_kinds};
+use pw_procs::{Arguments, NameTable, Registry, are_equal_kinds};
 use std::alloc::{AllocError, Allocator, Global};
 
 mod holding;
@@ -46,6 +52,7 @@ impl<'r, A: Allocator + Copy> Declaration<'r, A> {
             sets: Vec::new(alloc),
             compound_names: NameTable::new(alloc),
             compounds: Vec::new(alloc),
+            flattened: Vec::new(alloc),
         }
     }
 
@@ -131,12 +138,47 @@ impl<'r, A: Allocator + Copy> Declaration<'r, A> {
         }
     }
 
+    /// Whether the callable, which is there, takes the cells at these places, which are there, of cells of these kinds.
+    pub fn accepts_at(&self, callable: Callable, kinds: &[Kind], places: Arguments) -> bool
+        requires there { IsCallable (declared_by self.now) callable }
+        requires places { All (λ place. place < length kinds.now) (cells_of places) }
+        ensures { IsTrue result ↔ Takes (declared_by self.now) callable (kinds_at kinds.now
+            (cells_of places)) }
+    {
+        let places = places.cells();
+        let mut given = [Kind::Interval; MOST_CELLS];
+        for number in 0..places.len() {
+            given[number] = kinds[places[number] as usize];
+        }
+        self.accepts(callable, &given[..places.len()])
+    }
+
     /// The lines of the compound of this number.
     pub fn steps(&self, compound: u8) -> &[Step]
         requires { compound < length (declared_by self.now).compounds }
         ensures { StepsAre (declared_by self.now) compound (steps_of result.now) }
     {
         &self.compounds[usize::from(compound)].steps
+    }
+
+    /// What the compound of this number becomes, as calls of procedures over places: its parameters from 0, and after them
+    /// its inner cells.
+    pub fn flat_calls(&self, compound: u8) -> &[FlatCall]
+        requires { compound < length (declared_by self.now).compounds }
+        ensures { AreCallsOf (declared_by self.now).compounds compound result.now }
+    {
+        &self.flattened[usize::from(compound)].calls
+    }
+
+    /// The kinds of the inner cells of what the compound of this number becomes, at most 256, in the order in which they
+    /// are made.
+    pub fn inner_kinds(&self, compound: u8) -> &[Kind]
+        requires { compound < length (declared_by self.now).compounds }
+        ensures kinds { result.now ≡ inner_kinds_of (declared_by self.now).compounds
+            (callables.Compound compound) }
+        ensures most { length result.now ≤ most_inner_cells }
+    {
+        &self.flattened[usize::from(compound)].inner
     }
 
     /// What the callable, which is there, expands to.
@@ -329,16 +371,24 @@ impl<'r, A: Allocator + Copy> Declaration<'r, A> {
         Ok(())
     }
 
-    /// Adds an open compound, which ends. It fails only for want of memory, and then nothing changes.
-    pub(crate) fn add_compound(&mut self, opened: OpenCompound<A>) -> Result<(), AllocError>
-        requires { IsOpen (declared_by self.old) opened }
+    /// Adds an open compound, which ends, with what it becomes. It fails only for want of memory, and then nothing changes.
+    pub(crate) fn add_compound(
+        &mut self,
+        opened: OpenCompound<A>,
+        flattened: Flattened<A>,
+    ) -> Result<(), AllocError>
+        requires kept { IsOpen (declared_by self.old) opened }
+        requires flat { IsFlattened (declared_by self.old).compounds
+            (compound_of opened.compound) flattened }
         ensures ok { OnOk result ((declared_by self.new) ≡ with_compound (declared_by self.old)
             (open_of opened).name (open_of opened).compound) }
         ensures err { OnErr result ((declared_by self.new) ≡ (declared_by self.old)) }
     {
         self.compounds.reserve(1)?;
+        self.flattened.reserve(1)?;
         self.compound_names.add(opened.name.as_str())?;
         self.compounds.push(opened.compound).unwrap();
+        self.flattened.push(flattened).unwrap();
         Ok(())
     }
 }

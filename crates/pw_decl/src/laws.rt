@@ -1,8 +1,13 @@
-//! Laws of the definition of a declaration: each text spells one declaration or has one first fault, and never both.
-ghost use Rattle.std.specs.Prelude.{◌≡◌, ◌↔◌, ◌⊎◌, ℕ, List, Some};
+//! Laws of the definitions: each text spells one declaration or has one first fault, and never both; and what callables
+//! become on cells does not depend on what the cells are.
+ghost use Rattle.std.specs.Prelude.{◌≡◌, ◌↔◌, ◌⊎◌, ◌<◌, ℕ, List, [], Some, Bool, IsTrue, All, map, length};
+ghost use Rattle.pw_info.specs.declared.kind.Kind.{Kind as KindOfCell};
 ghost use Rattle.pw_procs.specs.Procedure.{Procedure};
+ghost use Rattle.pw_decl.specs.declared.step.Callable.{Callable};
 ghost use Rattle.pw_decl.specs.declared.decl_fault.DeclFaultKind.{DeclFaultKind as FaultKind};
-ghost use Rattle.pw_decl.specs.Declaration.{Declared, SoFar, DeclarationSentence, IsSentenceAt};
+ghost use Rattle.pw_decl.specs.Compound.{Compound, AreCompoundsAfter, size_of_callable, sizes_of};
+ghost use Rattle.pw_decl.specs.Expansion.{expansion_of, inner_kinds_of, renamed, at_place, on_places, SpeaksOf, FitsCells, IsOfInnerKinds, HasSize};
+ghost use Rattle.pw_decl.specs.Declaration.{Declared, Takes, SoFar, DeclarationSentence, IsSentenceAt};
 ghost use Rattle.pw_decl.specs.Steps.Forms.{sentence_at};
 ghost use Rattle.pw_decl.specs.Faults.{HasAFault, LeadsOn, Declares, SpellsDeclaration, SpellsOne, IsFirstFault, HasAFirstFault};
 ghost use Rattle.pw_decl.specs.WellDeclared.{IsWellDeclared, IsWellSoFar};
@@ -48,4 +53,44 @@ pub fn well_declared()
         → Declares so_far line after → IsWellSoFar after }
     ensures text { (ps : List Procedure) (text : List ℕ) (d : Declared)
         → SpellsDeclaration ps text d → IsWellDeclared d }
+{}
+
+/// Other names of cells change nothing but the names: expanding on cells that are named anew gives the instances, named anew.
+/// The names of inner cells matter only for those that there are.
+pub fn expansion_under_other_names<C, D>()
+    ensures { (name : C → D) (compounds : List Compound) (callable : Callable) (cells : List C)
+        (inner : ℕ → C) (others : ℕ → D)
+        → ((j : ℕ) → j < length (inner_kinds_of compounds callable) → others j ≡ name (inner j))
+        → expansion_of compounds callable (map name cells) others
+        ≡ map (renamed name) (expansion_of compounds callable cells inner) }
+{}
+
+/// What a callable becomes on cells is what it becomes on places, with the cells in them.
+pub fn expansion_on_places<C>()
+    ensures { (compounds : List Compound) (callable : Callable) (cells : List C) (inner : ℕ → C)
+        → expansion_of compounds callable cells inner ≡ map (renamed (at_place cells inner))
+        (on_places (expansion_of compounds callable) (length cells)) }
+{}
+
+/// Instances read and write only the cells on which a callable is expanded, and its inner cells.
+pub fn expansion_stays_on_its_cells<C>()
+    ensures { (here : C → Bool) (compounds : List Compound) (callable : Callable) (cells : List C)
+        (inner : ℕ → C) → All (λ cell. IsTrue (here cell)) cells
+        → ((j : ℕ) → j < length (inner_kinds_of compounds callable) → IsTrue (here (inner j)))
+        → All (SpeaksOf (λ cell. IsTrue (here cell)))
+        (expansion_of compounds callable cells inner) }
+{}
+
+/// Where a callable takes the kinds of the cells, the procedure of each instance accepts the kinds of its cells, and there are
+/// as many instances and inner cells as the callable's size says.
+pub fn expansion_fits<C>()
+    ensures fits { (d : Declared) (kind : C → KindOfCell) (callable : Callable) (cells : List C)
+        (inner : ℕ → C) → AreCompoundsAfter d.procedures [] d.compounds
+        → Takes d callable (map kind cells)
+        → IsOfInnerKinds kind inner (inner_kinds_of d.compounds callable)
+        → All (FitsCells d.procedures kind) (expansion_of d.compounds callable cells inner) }
+    ensures size { (d : Declared) (kind : C → KindOfCell) (callable : Callable) (cells : List C)
+        (inner : ℕ → C) → AreCompoundsAfter d.procedures [] d.compounds
+        → Takes d callable (map kind cells) → HasSize (size_of_callable (sizes_of d.compounds) callable)
+        (expansion_of d.compounds callable cells inner) (inner_kinds_of d.compounds callable) }
 {}

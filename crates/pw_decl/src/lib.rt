@@ -6,6 +6,9 @@ mod compound;
 mod compound_line;
 mod decl_fault;
 mod declaration;
+mod flat_call;
+mod flattened;
+mod flattening;
 pub mod laws;
 mod line;
 mod prelude;
@@ -17,5 +20,6 @@ mod text;
 
 pub use decl_fault::{DeclFault, DeclFaultKind};
 pub use declaration::Declaration;
+pub use flat_call::{FlatCall, place_cells};
 pub use step::{Callable, Step};
 pub use text::read_declaration;

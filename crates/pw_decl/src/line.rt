@@ -12,7 +12,7 @@ ghost use Rattle.pw_decl.specs.Steps.Forms.{inner_in, outer_in};
 ghost use Rattle.pw_decl.specs.Steps.SentenceFaults.{HasGoodParts, IsFaultless, IsToldOf, IsToldOfLine};
 
 use crate::compound::OpenCompound;
-use crate::compound_line::{begin_compound, declare_call, declare_local};
+use crate::compound_line::{begin_compound, declare_call, declare_local, end_compound};
 use crate::decl_fault::DeclFaultKind;
 use crate::declaration::Declaration;
 use crate::sentence::{InnerSentence, OuterSentence, is_header, read_inner, read_outer};
@@ -162,6 +162,7 @@ fn declare_outside<A: Allocator + Copy>(
 
 // Declares what a sentence inside a compound says, and answers where the next line stands.
 fn declare_inside<A: Allocator + Copy>(
+    alloc: A,
     declaration: &mut Declaration<'_, A>,
     mut opened: OpenCompound<A>,
     sentence: InnerSentence<'_>,
@@ -183,7 +184,7 @@ fn declare_inside<A: Allocator + Copy>(
             arguments,
         } => { declare_call(declaration, &mut opened, callable, arguments)? }
         InnerSentence::End => {
-            return match declaration.add_compound(opened) {
+            return match end_compound(alloc, declaration, opened) {
                 Ok(()) => Ok(Place::Outside),
                 Err(_) => Err(DeclFaultKind::Memory),
             };
@@ -228,7 +229,7 @@ fn declare_line<'r, A: Allocator + Copy>(
             let Some(sentence) = read_inner(line) else {
                 return Err(DeclFaultKind::Syntax);
             };
-            declare_inside(&mut declaration, opened, sentence)?
+            declare_inside(alloc, &mut declaration, opened, sentence)?
         }
     };
     Ok(SoFar { declaration, place })

@@ -33,7 +33,9 @@ impl Arguments {
 
     /// The numbers of the cells, in order.
     pub fn cells(&self) -> &[u32]
-        ensures { result.now ≡ cells_of self.now }
+        ensures cells { result.now ≡ cells_of self.now }
+        ensures some { 1 ≤ length result.now }
+        ensures most { length result.now ≤ most_cells }
     {
         &self.held[..self.count]
     }

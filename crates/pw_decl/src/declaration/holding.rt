@@ -1,12 +1,15 @@
 //! What a declaration holds.
 ghost use Rattle.std.proofs.Props.{props};
 ghost use Rattle.pw_decl.specs.Props.{named_prop};
-ghost use Rattle.std.specs.Prelude.{◌≡◌};
+ghost use Rattle.std.specs.Prelude.{◌≡◌, []};
 ghost use Rattle.pw_decl.specs.Compound.{sizes_of};
+ghost use Rattle.pw_decl.specs.Expansion.{inner_after};
+ghost use Rattle.pw_decl.specs.Flat.{calls_kept, calls_of, inner_kept};
 ghost use Rattle.pw_decl.specs.Kept.{compounds_of, declared_from, sizes_kept};
 ghost use Rattle.pw_decl.specs.WellDeclared.{IsWellDeclared};
 
 use crate::compound::Compound;
+use crate::flattened::Flattened;
 use pw_info::Kind;
 use pw_procs::{NameTable, Registry};
 use std::alloc::{Allocator, Global};
@@ -30,7 +33,11 @@ pub struct Declaration<'r, A: Allocator = Global> {
     pub(super) sets: Vec<NameTable<A>, A>,
     pub(super) compound_names: NameTable<A>,
     pub(super) compounds: Vec<Compound<A>, A>,
+    // What each compound becomes.
+    pub(super) flattened: Vec<Flattened<A>, A>,
     ghost well: { IsWellDeclared (declared_from registry.now users premises owners.items cells kinds.items
         set_names sets.items compound_names compounds.items) } by { Prim.hlevel (props, named_prop) },
     ghost sized: { sizes_kept compounds.items ≡ sizes_of (compounds_of compounds.items) },
+    ghost calls: { calls_kept flattened.items ≡ calls_of (compounds_of compounds.items) },
+    ghost inner: { inner_kept flattened.items ≡ inner_after [] (compounds_of compounds.items) },
 }

@@ -1,7 +1,7 @@
 use Rattle.std.proofs.Common.{◌≡◌, length, take}
 use Rattle.pw_procs.specs.Shapes.{most_cells}
 use Rattle.pw_decl.specs.Compound.{kinds_at}
-use Rattle.pw_decl.proofs.compound_line.accepts_at.Given as goal
+use Rattle.pw_decl.proofs.declaration.holding.Declaration.accepts_at.Given as goal
 
 -- the kinds at the places so far are put down
 abbrev pub invariant-loop-number : goal.invariant-loop-number

@@ -1,0 +1,47 @@
+//! What compounds are kept as: calls of procedures over places.
+ghost use Rattle.std.specs.Prelude.{◌≡◌, ◌+◌, ◌≤◌, All, map};
+ghost use Rattle.pw_procs.specs.Arguments.{cells_of};
+ghost use Rattle.pw_decl.specs.Expansion.{at_place};
+
+use pw_procs::Arguments;
+
+pub(crate) const MOST_CELLS: usize = 9;
+
+/// A procedure over the places of what a compound becomes: its parameters from 0, and after them its inner cells, in the
+/// order in which they are made. The procedure writes the last place and reads the others.
+#[derive(Clone, Copy, Debug, PartialEq, Eq)]
+pub struct FlatCall {
+    /// The number of the procedure in the registry.
+    pub procedure: u8,
+    /// The places, one to nine.
+    pub places: Arguments,
+}
+
+// The cell at a place: one of these cells, and past their end an inner cell, of which the first has the number `first`.
+fn cell_at(cells: &[u32], first: u32, place: u32) -> u32
+    requires { first + place ≤ 4294967295 }
+    ensures { result ≡ at_place cells.now (λ j. first + j) place }
+{
+    if (place as usize) < cells.len() {
+        cells[place as usize]
+    } else {
+        first + (place - cells.len() as u32)
+    }
+}
+
+/// The cells at these places: a place stands for one of these cells, and past their end for an inner cell, of which the
+/// first has the number `first`.
+pub fn place_cells(places: Arguments, cells: &[u32], first: u32) -> Arguments
+    requires { All (λ place. first + place ≤ 4294967295) (cells_of places) }
+    ensures { cells_of result ≡ map (at_place cells.now (λ j. first + j)) (cells_of places) }
+{
+    let places = places.cells();
+    let mut placed = [0; MOST_CELLS];
+    for number in 0..places.len() {
+        placed[number] = cell_at(cells, first, places[number]);
+    }
+    let Some(placed) = Arguments::of(&placed[..places.len()]) else {
+        unreachable!("there are as many as places");
+    };
+    placed
+}
