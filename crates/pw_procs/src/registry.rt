@@ -103,6 +103,11 @@ impl<A: Allocator + Copy> Registry<A> {
         }
     }
 
+    /// The allocator on which its procedures are kept.
+    pub fn allocator(&self) -> Global {
+        *self.entries.allocator()
+    }
+
     /// How many procedures there are.
     pub fn len(&self) -> usize
         ensures { result ≡ length (procedures_in self.now) }

@@ -1,0 +1,82 @@
+-- What an attachment appends, one after another.
+use Rattle.std.proofs.Common.{◌≡◌, ℕ, ◌+◌, ◌<◌, List, [], ◌∷◌, ◌++◌, length, map, take, get_or, refl, sym, ap, ◌∙◌, arith, length-take, append-nil}
+use Rattle.std.proofs.lemmas.List.{map-append, append_assoc, take_more, map_push, length-map, take-map}
+use Rattle.std.proofs.Math.ListN.{get_or-map}
+use Rattle.pw_info.specs.declared.kind.Kind.{Kind}
+use Rattle.pw_premises.specs.Premises.{Premises}
+use Rattle.pw_procs.specs.Arguments.{cells_of}
+use Rattle.pw_decl.specs.declared.flat_call.FlatCall.{FlatCall}
+use Rattle.pw_decl.specs.Expansion.{Instance, instance_on, renamed}
+use Rattle.pw_decl.specs.Flat.{instances_of}
+use Rattle.pw_network.specs.declared.inner_cell.InnerCell.{InnerCell as InnerKept}
+use Rattle.pw_network.specs.declared.instance.Instance.{Instance as InstanceKept}
+use Rattle.pw_network.specs.Kept.{attached_of, inner_of}
+use Rattle.pw_network.specs.Network.{InnerCell, Attached, attached_at, inner_cells_from}
+
+-- ---- inner cells
+
+inner_push : (line number : ℕ) (kinds : List Kind) (kind : Kind) (at : ℕ) → number + length kinds ≡ at →
+    inner_cells_from line number (kinds ++ kind ∷ []) ≡ inner_cells_from line number kinds ++ record { line = line; number = at; kind = kind } ∷ []
+inner_push line number [] kind at is = let same : number ≡ at = omega arith in ap (λ n. record { line = line; number = n; kind = kind } ∷ []) same
+inner_push line number (k ∷ kinds) kind at is =
+    ap (λ cells. record { line = line; number = number; kind = k } ∷ cells) (inner_push line (number + 1) kinds kind at (omega arith))
+
+-- one more inner cell
+pub inner_more : (line : ℕ) (old : List InnerCell) (before after : List InnerKept) (kinds : List Kind) (i : ℕ) (x : InnerKept) →
+    i < length kinds → after ≡ before ++ x ∷ [] → x.line ≡ line → x.number ≡ i → x.kind ≡ get_or kinds i x.kind →
+    map inner_of before ≡ old ++ inner_cells_from line 0 (take i kinds) →
+    map inner_of after ≡ old ++ inner_cells_from line 0 (take (i + 1) kinds)
+inner_more line old before after kinds i x there pushed lines numbers kind so_far =
+    ap (map inner_of) pushed ∙ map_push inner_of before x
+    ∙ ap (λ xs. xs ++ inner_of x ∷ []) so_far
+    ∙ append_assoc old (inner_cells_from line 0 (take i kinds)) (inner_of x ∷ [])
+    ∙ ap (λ xs. old ++ xs) (
+    (λ j. inner_cells_from line 0 (take i kinds) ++ record { line = lines j; number = numbers j; kind = x.kind } ∷ [])
+    ∙ sym (inner_push line 0 (take i kinds) x.kind i (omega (arith, length-take i kinds)))
+    ∙ ap (λ k. inner_cells_from line 0 (take i kinds ++ k ∷ [])) kind
+    ∙ ap (inner_cells_from line 0) (sym (take_more kinds i x.kind there)))
+
+-- ---- instances
+
+-- a procedure put between cells of other names is the renamed instance
+pub instance_on_renamed : {C D : Type 0} (number : ℕ) (name : C → D) (cells : List C) →
+    instance_on number (map name cells) ≡ map (renamed name) (instance_on number cells)
+instance_on_renamed number name [] = refl
+instance_on_renamed number name (cell ∷ cells) =
+    let long = length-map cells name in
+    let inputs = ap (λ n. take n (map name (cell ∷ cells))) long ∙ take-map name (length cells) (cell ∷ cells) in
+    let output = ap (λ n. get_or (map name (cell ∷ cells)) n (name cell)) long ∙ get_or-map name (cell ∷ cells) (length cells) cell in
+    λ i. record { procedure = number; inputs = inputs i; output = output i } ∷ []
+
+instances_push : (calls : List FlatCall) (call : FlatCall) →
+    instances_of (calls ++ call ∷ []) ≡ instances_of calls ++ instance_on call.procedure (cells_of call.places)
+instances_push [] call = append-nil (instance_on call.procedure (cells_of call.places))
+instances_push (first ∷ calls) call =
+    ap (λ xs. instance_on first.procedure (cells_of first.places) ++ xs) (instances_push calls call)
+    ∙ sym (append_assoc (instance_on first.procedure (cells_of first.places)) (instances_of calls) (instance_on call.procedure (cells_of call.places)))
+
+-- the instance of one more call
+pub instances_more : (line : ℕ) (support : Premises) (name : ℕ → ℕ) (old : List Attached) (before after : List InstanceKept)
+    (calls : List FlatCall) (i : ℕ) (call : FlatCall) (placed : List ℕ) (x : InstanceKept) →
+    i < length calls → call ≡ get_or calls i call → after ≡ before ++ x ∷ [] →
+    placed ≡ map name (cells_of call.places) → instance_on call.procedure placed ≡ (attached_of x).instance ∷ [] →
+    x.line ≡ line → x.support ≡ support →
+    map attached_of before ≡ old ++ map (attached_at line support) (map (renamed name) (instances_of (take i calls))) →
+    map attached_of after ≡ old ++ map (attached_at line support) (map (renamed name) (instances_of (take (i + 1) calls)))
+instances_more line support name old before after calls i call placed x there read pushed at made lines supports so_far =
+    let become : List (Instance ℕ) → List Attached = λ instances. map (attached_at line support) (map (renamed name) instances) in
+    let own = instance_on call.procedure (cells_of call.places) in
+    let one : become own ≡ attached_of x ∷ [] =
+    ap (map (attached_at line support)) (sym (instance_on_renamed call.procedure name (cells_of call.places))
+    ∙ ap (instance_on call.procedure) (sym at) ∙ made)
+    ∙ (λ j. record { instance = (attached_of x).instance; line = sym lines j; support = sym supports j } ∷ []) in
+    ap (map attached_of) pushed ∙ map_push attached_of before x
+    ∙ ap (λ xs. xs ++ attached_of x ∷ []) so_far
+    ∙ append_assoc old (become (instances_of (take i calls))) (attached_of x ∷ [])
+    ∙ ap (λ xs. old ++ xs) (
+    ap (λ xs. become (instances_of (take i calls)) ++ xs) (sym one)
+    ∙ sym (ap (map (attached_at line support)) (map-append (renamed name) (instances_of (take i calls)) own)
+    ∙ map-append (attached_at line support) (map (renamed name) (instances_of (take i calls))) (map (renamed name) own))
+    ∙ ap become (sym (instances_push (take i calls) call)
+    ∙ ap (λ c. instances_of (take i calls ++ c ∷ [])) read
+    ∙ ap instances_of (sym (take_more calls i call there))))

@@ -1,0 +1,6 @@
+pub mod AttachedCalls
+pub mod AttachedCells
+pub mod CellLemmas
+pub mod NameLemmas
+pub mod ReaderLemmas
+pub mod WellNetworks

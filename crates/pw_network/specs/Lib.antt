@@ -1,0 +1,6 @@
+pub mod Fields
+pub mod Kept
+pub mod Limits
+pub mod Names
+pub mod Network
+pub mod Readers

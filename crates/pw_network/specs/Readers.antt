@@ -1,0 +1,17 @@
+-- Which instances read a cell.
+use Rattle.std.specs.Prelude.{ℕ, ◌-◌, Bool, false, List, length, map, nat_eq, filter, slice_index_or}
+use Rattle.std.specs.List.{list_any, range_with_len}
+use Rattle.pw_network.specs.Network.{Attached, Network}
+
+-- the instance has the cell among its inputs
+abbrev pub reads : ℕ → Attached → Bool
+reads cell attached = list_any (nat_eq cell) attached.instance.inputs
+
+-- the numbers of the instances that do, of those whose numbers are from this one on, rising
+abbrev pub readers_from : List Attached → ℕ → ℕ → List ℕ
+readers_from attached cell number =
+    filter (λ n. slice_index_or (map (reads cell) attached) n false) (range_with_len number (length attached - number))
+
+-- the numbers of all that do, rising
+abbrev pub readers_of : Network → ℕ → List ℕ
+readers_of network cell = readers_from network.attached cell 0

@@ -1,0 +1,54 @@
+//! The lists of a network grow, where there is room.
+ghost use Rattle.std.specs.Prelude.{◌≡◌, ◌+◌, ◌≤◌, ◌++◌, All, length, map, vec_len, vec_capacity};
+ghost use Rattle.pw_procs.specs.Arguments.{cells_of};
+ghost use Rattle.pw_decl.specs.Expansion.{at_place, renamed};
+ghost use Rattle.pw_decl.specs.Flat.{instances_of};
+ghost use Rattle.pw_network.specs.Kept.{attached_of, inner_of};
+ghost use Rattle.pw_network.specs.Network.{attached_at, inner_cells_from};
+
+use crate::inner_cell::InnerCell;
+use crate::instance::Instance;
+use pw_decl::{FlatCall, place_cells};
+use pw_info::Kind;
+use pw_premises::PremiseSet;
+use std::alloc::{Allocator, Global};
+
+// Appends the instances of calls: a place stands for one of these cells, and past their end for an inner cell, of which the
+// first has the number `first`.
+pub(crate) fn append_instances<A: Allocator>(
+    alloc: Global,
+    instances: &mut Vec<Instance, A>,
+    calls: &[FlatCall],
+    cells: &[u32],
+    first: u32,
+    line: u32,
+    support: PremiseSet,
+)
+    requires room { vec_len instances.old + length calls.now ≤ vec_capacity instances.old }
+    requires numbers { All (λ call. All (λ place. first + place ≤ 4294967295)
+        (cells_of call.places)) calls.now }
+    ensures { map attached_of instances.new.items ≡ map attached_of instances.old.items
+        ++ map (attached_at line support)
+        (map (renamed (at_place cells.now (λ j. first + j))) (instances_of calls.now)) }
+{
+    for call in calls {
+        let placed = place_cells(call.places, cells, first);
+        let _ = instances.push(Instance::new(alloc, call.procedure, placed, support, line));
+    }
+}
+
+// Appends inner cells of these kinds, numbered from 0.
+pub(crate) fn append_inner<A: Allocator>(inner: &mut Vec<InnerCell, A>, kinds: &[Kind], line: u32)
+    requires room { vec_len inner.old + length kinds.now ≤ vec_capacity inner.old }
+    requires few { length kinds.now ≤ 65535 }
+    ensures { map inner_of inner.new.items
+        ≡ map inner_of inner.old.items ++ inner_cells_from line 0 kinds.now }
+{
+    for (number, kind) in kinds.iter().enumerate() {
+        let _ = inner.push(InnerCell {
+            line,
+            number: number as u16,
+            kind: *kind,
+        });
+    }
+}

@@ -1,0 +1,13 @@
+//! Inner cells, as they are kept.
+
+use pw_info::Kind;
+
+/// A cell that an attachment made for itself.
+#[derive(Clone, Copy, Debug)]
+pub(crate) struct InnerCell {
+    // The line of the attachment.
+    pub(crate) line: u32,
+    // Its number among the inner cells of the attachment, from 0.
+    pub(crate) number: u16,
+    pub(crate) kind: Kind,
+}

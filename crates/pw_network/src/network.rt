@@ -1,0 +1,217 @@
+//! What is attached to the cells of a declaration: instances of procedures, between its cells and inner ones.
+ghost use Rattle.std.specs.Prelude.{◌≡◌, ◌<◌, ◌≤◌, length, map, IfOk, IfErr, OnOk, OnErr};
+ghost use Rattle.pw_procs.specs.Arguments.{cells_of};
+ghost use Rattle.pw_decl.specs.declared.step.Callable.TheVariants as callables;
+ghost use Rattle.pw_decl.specs.Expansion.{inner_kinds_of};
+ghost use Rattle.pw_decl.specs.Fields.{declared_by};
+ghost use Rattle.pw_decl.specs.Flat.{AreCallsOf};
+ghost use Rattle.pw_decl.specs.Limits.{most_inner_cells};
+ghost use Rattle.pw_decl.specs.Declaration.{IsCallable};
+ghost use Rattle.pw_network.specs.declared.network_fault.NetworkFault.TheVariants as faults;
+ghost use Rattle.pw_network.specs.Fields.{network_by};
+ghost use Rattle.pw_network.specs.Kept.{attached_of};
+ghost use Rattle.pw_network.specs.Limits.{most_lines};
+ghost use Rattle.pw_network.specs.Network.{bare, cells_in, kind_in, origin_in, with_attached};
+ghost use Rattle.pw_network.specs.Network.{AreDeclared, InstancesFit, InstancesStay, MayAttach, TakesCells};
+ghost use Rattle.pw_network.specs.Readers.{readers_of};
+
+use crate::attaching::{append_inner, append_instances};
+use crate::instance::Instance;
+use crate::network_fault::NetworkFault;
+use crate::readers::Readers;
+use pw_decl::{Callable, Declaration, FlatCall};
+use pw_info::Kind;
+use pw_premises::PremiseSet;
+use pw_procs::Arguments;
+use std::alloc::{AllocError, Allocator, Global};
+
+mod holding;
+
+pub use holding::Network;
+
+impl<'d, 'r, A: Allocator + Copy> Network<'d, 'r, A> {
+    /// The cells of the declaration, and nothing attached. It may fail for want of memory.
+    pub fn new(
+        alloc: A,
+        declaration: &'d Declaration<'r, A>,
+    ) -> Result<Network<'d, 'r, A>, AllocError>
+        ensures bare { IfOk result (λ network. network_by network ≡ bare (declared_by declaration.now)) }
+    {
+        declaration.limits();
+        Ok(Network {
+            declaration,
+            inner: Vec::new(alloc),
+            instances: Vec::new(alloc),
+            last_line: 0,
+        })
+    }
+
+    /// The declaration whose cells it has.
+    pub fn declaration(&self) -> &'d Declaration<'r, A>
+        ensures { declared_by result.now ≡ (network_by self.now).declared }
+    {
+        self.declaration
+    }
+
+    /// The instances, in the order in which they were attached. Each reads and writes cells that are there, of kinds that
+    /// its procedure accepts.
+    pub fn instances(&self) -> &[Instance]
+        ensures instances { map attached_of result.now ≡ (network_by self.now).attached }
+        ensures here { InstancesStay (network_by self.now) }
+        ensures fits { InstancesFit (network_by self.now) }
+    {
+        &self.instances
+    }
+
+    /// The number of cells, the declared ones and the inner ones.
+    pub fn cells(&self) -> u32
+        ensures { result ≡ cells_in (network_by self.now) }
+    {
+        self.declaration.cells() + self.inner.len() as u32
+    }
+
+    /// The kind of the cell of this number.
+    pub fn kind(&self, cell: u32) -> Kind
+        requires { cell < cells_in (network_by self.now) }
+        ensures { result ≡ kind_in (network_by self.now) cell }
+    {
+        let declared = self.declaration.cells();
+        if cell < declared {
+            return self.declaration.cell_kind(cell);
+        }
+        self.inner[(cell - declared) as usize].kind
+    }
+
+    /// Of an inner cell the line of its attachment and its number there, from 0; none of a declared cell.
+    pub fn inner(&self, cell: u32) -> Option<(u32, u16)>
+        requires { cell < cells_in (network_by self.now) }
+        ensures { result ≡ origin_in (network_by self.now) cell }
+    {
+        let declared = self.declaration.cells();
+        if cell < declared {
+            return None;
+        }
+        let inner = self.inner[(cell - declared) as usize];
+        Some((inner.line, inner.number))
+    }
+
+    /// The line of the last attachment, 0 before the first.
+    pub fn last_line(&self) -> u32
+        ensures line { result ≡ (network_by self.now).last_line }
+        ensures most { result ≤ most_lines }
+    {
+        self.last_line
+    }
+
+    /// The numbers of the instances that read the cell, rising.
+    pub fn readers(&self, cell: u32) -> Readers<'_>
+        ensures { result ≡ readers_of (network_by self.now) cell }
+    {
+        Readers::new(&self.instances, cell)
+    }
+
+    /// Attaches a callable, which is there, to declared cells under these premises, at a line after the last: its instances,
+    /// and its inner cells, whose numbers come next. It fails where the callable does not take these cells, or else for want
+    /// of memory, and then nothing changes.
+    pub fn attach(
+        &mut self,
+        line: u32,
+        callable: Callable,
+        cells: Arguments,
+        support: PremiseSet,
+    ) -> Result<(), NetworkFault>
+        requires there { IsCallable (network_by self.old).declared callable }
+        requires cells { AreDeclared (network_by self.old) (cells_of cells) }
+        requires next { (network_by self.old).last_line < line }
+        requires most { line ≤ most_lines }
+        ensures ok { OnOk result (network_by self.new
+            ≡ with_attached (network_by self.old) line callable (cells_of cells) support) }
+        ensures takes { OnOk result (TakesCells (network_by self.old) callable (cells_of cells)) }
+        ensures wrong { IfErr result (λ fault. fault ≡ faults.WrongArguments
+            → TakesCells (network_by self.old) callable (cells_of cells) → ⊥) }
+        ensures memory { IfErr result (λ fault. fault ≡ faults.Memory
+            → TakesCells (network_by self.old) callable (cells_of cells)) }
+        ensures err { OnErr result (network_by self.new ≡ network_by self.old) }
+    {
+        let declaration = self.declaration;
+        if !declaration.accepts_at(callable, declaration.kinds(), cells) {
+            return Err(NetworkFault::WrongArguments);
+        }
+        let attached = match callable {
+            Callable::Stored(procedure) => self.attach_procedure(line, procedure, cells, support),
+            Callable::Compound(compound) => {
+                let calls = declaration.flat_calls(compound);
+                let kinds = declaration.inner_kinds(compound);
+                self.attach_compound(line, compound, calls, kinds, cells, support)
+            }
+        };
+        match attached {
+            Ok(()) => Ok(()),
+            Err(_) => Err(NetworkFault::Memory),
+        }
+    }
+
+    // Attaches a procedure. It fails only for want of memory, and then nothing changes.
+    fn attach_procedure(
+        &mut self,
+        line: u32,
+        procedure: u8,
+        cells: Arguments,
+        support: PremiseSet,
+    ) -> Result<(), AllocError>
+        requires { MayAttach (network_by self.old) line (callables.Stored procedure)
+            (cells_of cells) }
+        ensures ok { OnOk result (network_by self.new
+            ≡ with_attached (network_by self.old) line (callables.Stored procedure)
+            (cells_of cells) support) }
+        ensures err { OnErr result (network_by self.new ≡ network_by self.old) }
+    {
+        self.instances.reserve(1)?;
+        let alloc = self.declaration.registry().allocator();
+        let instance = Instance::new(alloc, procedure, cells, support, line);
+        self.instances.push(instance).unwrap();
+        self.last_line = line;
+        Ok(())
+    }
+
+    // Attaches a compound, of which these are the calls and the kinds of the inner cells. It fails only for want of memory,
+    // and then nothing changes.
+    fn attach_compound(
+        &mut self,
+        line: u32,
+        compound: u8,
+        calls: &[FlatCall],
+        kinds: &[Kind],
+        cells: Arguments,
+        support: PremiseSet,
+    ) -> Result<(), AllocError>
+        requires may { MayAttach (network_by self.old) line (callables.Compound compound)
+            (cells_of cells) }
+        requires calls { AreCallsOf (network_by self.old).declared.compounds compound calls.now }
+        requires kinds { kinds.now
+            ≡ inner_kinds_of (network_by self.old).declared.compounds
+            (callables.Compound compound) }
+        requires few { length kinds.now ≤ most_inner_cells }
+        ensures ok { OnOk result (network_by self.new
+            ≡ with_attached (network_by self.old) line (callables.Compound compound)
+            (cells_of cells) support) }
+        ensures err { OnErr result (network_by self.new ≡ network_by self.old) }
+    {
+        let first = self.cells();
+        self.inner.reserve(kinds.len())?;
+        self.instances.reserve(calls.len())?;
+        let alloc = self.declaration.registry().allocator();
+        append_instances(
+            alloc,
+            &mut self.instances,
+            calls,
+            cells.cells(),
+            first,
+            line,
+            support,
+        );
+        append_inner(&mut self.inner, kinds, line);
+        self.last_line = line;
+        Ok(())
+    }
+}
