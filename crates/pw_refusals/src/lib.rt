@@ -106,6 +106,8 @@ mod ends;
 #[cfg(test)]
 mod facts;
 #[cfg(test)]
+mod networks;
+#[cfg(test)]
 mod procedures;
 #[cfg(test)]
 mod refusals;

@@ -1,0 +1,56 @@
+//! A network with each growth of memory refused in turn.
+
+use super::attaching::MANY;
+use super::{Attachment, at_line, attached, attached_in};
+use crate::Refusing;
+use pw_network::NetworkFault;
+use std::alloc::{AllocError, Global};
+use std::test::Fail;
+
+// The lines of the text but those that begin so.
+fn without(alloc: Global, text: &str, beginning: &str) -> Result<String, AllocError> {
+    let mut left = String::new(alloc);
+    for line in text.lines() {
+        if !line.starts_with(beginning) {
+            left.push_str(line)?;
+            left.push('\n')?;
+        }
+    }
+    Ok(left)
+}
+
+// What is attached at four lines: enough for the lists of a network to grow several times.
+fn attachments<'a>() -> [Attachment<'a>; 4] {
+    [
+        at_line(1, "adder", &["x", "y", "t"]),
+        at_line(2, "conditional", &["e", "x", "y", "t"]),
+        at_line(3, "deeper", &["x", "y"]),
+        at_line(4, "deeper", &["y", "t"]),
+    ]
+}
+
+#[test]
+fn an_attachment_is_whole_or_memory_is_told(rt: HostRuntime) -> Result<(), Fail> {
+    let alloc = rt.alloc();
+    let whole = attached(alloc, MANY, &attachments())?;
+    let mut met = 0u32;
+    for at in 1..100u64 {
+        let (ample, refusing) = (Refusing::nth(alloc, 0), Refusing::nth(alloc, at));
+        let shown = attached_in(alloc, &ample, &refusing, MANY, &attachments())?;
+        let Some((line, fault)) = shown.fault else {
+            assert!(rt; refusing.calls() < at, "at {at}");
+            assert_eq!(rt; shown.instances, whole.instances, "at {at}");
+            break;
+        };
+        let beginning = format!(in alloc; "{line}:")?;
+        let left = without(alloc, whole.instances.as_str(), beginning.as_str())?;
+        assert_eq!(rt;
+            (fault, shown.instances),
+            (NetworkFault::Memory, left),
+            "at {at}"
+        );
+        met = met.saturating_add(1);
+    }
+    assert!(rt; met >= 4, "{met} growths were refused");
+    Ok(())
+}
