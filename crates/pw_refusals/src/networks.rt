@@ -156,12 +156,24 @@ fn readers_of<A: Allocator + Copy>(
     Ok(text)
 }
 
+// The kinds of all cells of a network.
+fn kinds_of<A: Allocator + Copy>(
+    alloc: Global,
+    network: &Network<'_, '_, A>,
+) -> Result<Vec<Kind>, AllocError> {
+    let mut kinds = Vec::new(alloc);
+    for cell in 0..network.cells() {
+        kinds.push(network.kind(cell))?;
+    }
+    Ok(kinds)
+}
+
 /// What a network shows.
 #[derive(Debug, Drop)]
 pub struct Shown {
     pub instances: String,
     pub readers: String,
-    pub cells: u32,
+    pub kinds: Vec<Kind>,
     pub last_line: u32,
     // The last refusal, and its line.
     pub fault: Option<(u32, NetworkFault)>,
@@ -204,7 +216,7 @@ fn attach_all<A: Allocator + Copy>(
     Ok(Shown {
         instances: instances_of(alloc, &network)?,
         readers: readers_of(alloc, &network)?,
-        cells: network.cells(),
+        kinds: kinds_of(alloc, &network)?,
         last_line: network.last_line(),
         fault,
     })

@@ -12,7 +12,14 @@ const BUILDING: &str =
     "workbench 1\nuser ann\nuser bob\npremise shadow of ann\npremise super of bob\n\
 cell h interval\ncell bs interval\ncell s interval\ncell p interval\ncell hh interval\n";
 
-// Cells of many kinds, and compounds of compounds.
+// Cells of each kind.
+const GENERAL: &str =
+    "workbench 1\n# general\nuser ann\nuser bob\npremise a\npremise b\npremise c\n\
+premise mine of bob\nset color red green blue\ncell x interval\ncell y interval\ncell t interval\ncell k exact\n\
+cell m exact\ncell e bool\ncell g color\ncell w color\ncell q sign\n\
+compound apart p interval q interval\nlocal d interval\ncopy p d\ncopy q d\nend\n";
+
+// Compounds of compounds.
 pub const MANY: &str =
     "workbench 1\ncell x interval\ncell y interval\ncell t interval\ncell e bool\ncell f bool\n\
 compound apart p interval q interval\nlocal d interval\ncopy p d\ncopy q d\nend\n\
@@ -58,17 +65,32 @@ fn product_under_a_premise(rt: HostRuntime) -> Result<(), Fail> {
 
 #[test]
 fn conditional_has_a_cell_of_its_own(rt: HostRuntime) -> Result<(), Fail> {
+    let conditional = [at_line(7, "conditional", &["e", "x", "y", "t"])];
     gives(
         &rt,
-        MANY,
-        &[at_line(7, "conditional", &["e", "x", "y", "t"])],
+        GENERAL,
+        &conditional,
         &[
             "7: inverter e -> 7.0",
             "7: switch e x -> t",
             "7: switch 7.0 y -> t",
         ],
-        &["x: 1", "y: 2", "t:", "e: 0 1", "f:", "7.0: 2"],
-    )
+        &[
+            "x: 1", "y: 2", "t:", "k:", "m:", "e: 0 1", "g:", "w:", "q:", "7.0: 2",
+        ],
+    )?;
+    let shown = attached(rt.alloc(), GENERAL, &conditional)?;
+    assert_eq!(rt; shown.kinds.len(), 10);
+    assert_eq!(rt;
+        shown.kinds.get(9),
+        shown.kinds.get(5),
+        "of kind bool, as e is"
+    );
+    let short = [at_line(7, "conditional", &["e", "x", "y"])];
+    let shown = attached(rt.alloc(), GENERAL, &short)?;
+    assert_eq!(rt; shown.fault, Some((7, NetworkFault::WrongArguments)));
+    assert_eq!(rt; (shown.kinds.len(), shown.instances.as_str()), (9, ""));
+    Ok(())
 }
 
 #[test]
@@ -172,7 +194,7 @@ fn wrong_arguments_attach_nothing(rt: HostRuntime) -> Result<(), Fail> {
             "{callable}"
         );
         assert_eq!(rt; shown.instances.as_str(), "1: copy x -> y\n");
-        assert_eq!(rt; (shown.cells, shown.last_line), (5, 1));
+        assert_eq!(rt; (shown.kinds.len(), shown.last_line), (5, 1));
     }
     Ok(())
 }
@@ -194,13 +216,13 @@ fn largest_expansions(rt: HostRuntime) -> Result<(), Fail> {
     locals.push_str("end\n")?;
     let shown = attached(alloc, &calls, &[at_line(1, "wide", &["x", "y"])])?;
     assert_eq!(rt; shown.instances, "1: copy x -> y\n".repeat(alloc, 256)?);
-    assert_eq!(rt; shown.cells, 2);
+    assert_eq!(rt; shown.kinds.len(), 2);
     let twice = [
         at_line(1, "wide", &["x", "y"]),
         at_line(1_000_000, "wide", &["y", "x"]),
     ];
     let shown = attached(alloc, &locals, &twice)?;
-    assert_eq!(rt; (shown.cells, shown.last_line), (514, 1_000_000));
+    assert_eq!(rt; (shown.kinds.len(), shown.last_line), (514, 1_000_000));
     assert!(rt; shown.instances.is_empty());
     assert!(rt; shown.readers.ends_with("1000000.254:\n1000000.255:\n"));
     Ok(())
