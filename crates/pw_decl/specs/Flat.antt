@@ -34,7 +34,7 @@ calls_kept flattened = map (λ kept. instances_of kept.calls.items) flattened
 abbrev pub inner_kept : {A : Type 0} → List (Flattened A) → List (List Kind)
 inner_kept flattened = map (λ kept. kept.inner.items) flattened
 
--- this is what lines become after these compounds, where their compound has so many parameters
+-- this is what a compound after these becomes, on its places
 pub record IsFlattened {A : Type 0} (compounds : List Compound) (compound : Compound) (kept : Flattened A) : Type 0 where
   pub calls : instances_of kept.calls.items
       ≡ on_places (expand_steps (inner_after [] compounds) (expand_after [] [] compounds) compound.steps) (length compound.parameters)
