@@ -1,5 +1,6 @@
 //! What a declaration declares: users, premises, cells, set kinds and compounds, by name and by number.
-ghost use Rattle.std.specs.Prelude.{◌≡◌, ◌↔◌, ℕ, ◌+◌, ◌-◌, All, None, Some, ◌<◌, ◌≤◌, IsTrue, length, is_some, slice_get, Contains, IfSome, IfNone, OnOk, OnErr};
+ghost use Rattle.std.specs.Prelude.{◌≡◌, ◌↔◌, ℕ, ◌+◌, ◌-◌, All, None, Some, ◌<◌, ◌≤◌, IsTrue};
+ghost use Rattle.std.specs.Prelude.{length, is_some, slice_get, Contains, IfSome, IfNone, OnOk, OnErr};
 ghost use Rattle.pw_kinds.specs.Limits.{most_members};
 ghost use Rattle.pw_kinds.specs.Places.{IsSize};
 ghost use Rattle.pw_info.specs.declared.kind.Kind.{Kind as KindOfCell};
