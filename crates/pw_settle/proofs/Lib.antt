@@ -1,0 +1,10 @@
+pub mod Membership
+pub mod RoundLemmas
+pub mod RoundsFall
+pub mod FixpointLemmas
+pub mod Renaming
+pub mod MergedTells
+pub mod PassLemmas
+pub mod Propagators
+pub mod PlacedInstances
+pub mod SettledValues

@@ -1,0 +1,11 @@
+-- The code of what is settled, by which a proof tells its values apart.
+use Rattle.std.specs.Prelude.{refl}
+use Rattle.std.specs.FinSet.{code}
+use Rattle.std.specs.Coded.{Coded, code_by, coded×, coded_ℕ, coded_list}
+use Rattle.pw_info.specs.declared.info.Info.{Info}
+use Rattle.pw_settle.specs.Settled.{Settled}
+
+-- it is stored as the list of informations and the worldview
+abbrev pub settled_code : Coded Info → Coded Settled
+settled_code info =
+    code_by _ (coded× (coded_list info) (code coded_ℕ)) (λ s. (s.infos, s.worldview)) (λ p. record { infos = p.0; worldview = p.1 }) (λ _. refl)
