@@ -1,6 +1,6 @@
 -- From the form of a line to what the line declares, or to its first fault.
-use Rattle.std.proofs.Common.{◌≡◌, ℕ, ◌<◌, ◌≤◌, true, false, List, length, Some, None, Result, Ok, Err, IfErr, inl, inr, sym, refl, subst, ◌∙◌, arith}
-use Rattle.std.specs.Prelude.{IsErrAnd}
+use Rattle.std.proofs.Common.{◌≡◌, ℕ, ◌<◌, ◌≤◌, true, false, List, length, Some, None, Result, Ok, Err, IfOk, IfErr, inl, inr, sym, refl, subst, ◌∙◌, arith}
+use Rattle.std.specs.Prelude.{OnOk}
 use Rattle.std.specs.List.{list_all}
 use Rattle.std.proofs.lemmas.Bool.{false≢true}
 use Rattle.pw_decl.specs.declared.decl_fault.DeclFaultKind.{DeclFaultKind}
@@ -113,17 +113,24 @@ pub no_sentence : (so_far at : SoFar) (line : List ℕ) → so_far ≡ at → le
 no_sentence so_far at line is short spoken none =
     subst (λ (x : SoFar). IsToldOfLine x line Syntax) (sym is) (told_unformed at line short spoken (sym none))
 
-pub sentence_declares : (so_far at after : SoFar) (line : List ℕ) (s : DeclarationSentence) → so_far ≡ at → length line ≤ most_line_bytes → is_idle line ≡ false →
+sentence_declares : (so_far at after : SoFar) (line : List ℕ) (s : DeclarationSentence) → so_far ≡ at → length line ≤ most_line_bytes → is_idle line ≡ false →
     list_all is_allowed line ≡ true → Some s ≡ sentence_at at (words_of line) → IsFaultless at s → Makes at s after → Declares so_far line after
 sentence_declares so_far at after line s is short spoken allowed formed none makes =
     subst (λ (x : SoFar). Declares x line after) (sym is) (declared at line s short spoken allowed (sym formed) after none makes)
 
-pub sentence_faulty : (so_far at : SoFar) (line : List ℕ) (s : DeclarationSentence) (why : DeclFaultKind) → so_far ≡ at → length line ≤ most_line_bytes → is_idle line ≡ false →
+sentence_faulty : (so_far at : SoFar) (line : List ℕ) (s : DeclarationSentence) (why : DeclFaultKind) → so_far ≡ at → length line ≤ most_line_bytes → is_idle line ≡ false →
     list_all is_allowed line ≡ true → Some s ≡ sentence_at at (words_of line) → IsToldOf at s why → IsToldOfLine so_far line why
 sentence_faulty so_far at line s why is short spoken allowed formed told =
     subst (λ (x : SoFar). IsToldOfLine x line why) (sym is) (faulty at line s short spoken allowed (sym formed) why told)
 
--- what holds of the error of a call holds of what `?` gives back
-pub told_on_error : {T : Type 0} (P : DeclFaultKind → Type 0) (r : Result T DeclFaultKind) (why : DeclFaultKind) → IsErrAnd r (λ given. given ≡ why) → P why → IfErr r P
-told_on_error P (Ok x) why is told = tt
-told_on_error P (Err given) why is told = subst P (sym is) told
+-- what is answered of a sentence holds of its line: where the next line stands, or the fault
+module _ {P : Type 0} (so_far at : SoFar) (line : List ℕ) (s : DeclarationSentence) (is : so_far ≡ at) (short : length line ≤ most_line_bytes) (spoken : is_idle line ≡ false) where
+  pub answer_declares : (next : P → SoFar) (r : Result P DeclFaultKind) → list_all is_allowed line ≡ true → Some s ≡ sentence_at at (words_of line) →
+      OnOk r (IsFaultless at s) → IfOk r (λ p. Makes at s (next p)) → IfOk r (λ p. Declares so_far line (next p))
+  answer_declares next (Ok p) allowed formed none makes = sentence_declares so_far at (next p) line s is short spoken allowed formed none makes
+  answer_declares next (Err why) allowed formed none makes = tt
+
+  pub answer_faulty : (r : Result P DeclFaultKind) → list_all is_allowed line ≡ true → Some s ≡ sentence_at at (words_of line) →
+      IfErr r (IsToldOf at s) → IfErr r (IsToldOfLine so_far line)
+  answer_faulty (Ok p) allowed formed told = tt
+  answer_faulty (Err why) allowed formed told = sentence_faulty so_far at line s why is short spoken allowed formed told

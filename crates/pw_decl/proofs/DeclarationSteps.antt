@@ -1,5 +1,6 @@
 -- Going over the lines of a declaration.
 use Rattle.std.proofs.Common.{◌≡◌, ℕ, ◌+◌, ◌≤◌, eqb, List, [], ◌∷◌, ◌++◌, length, ◌⊎◌, inl, inr, sym, refl, ap, subst, ◌∙◌, arith, append_assoc, append-nil, length-append, Result, Ok, Err, IfOk, IfErr}
+use Rattle.std.specs.Prelude.{OnOk, IsErrAnd}
 use Rattle.std.specs.List.{onto_first}
 use Rattle.std.proofs.lemmas.Bool.{cases_Bool}
 use Rattle.pw_info.specs.Lines.{lines_of}
@@ -120,13 +121,18 @@ module _ (start : SoFar) (lines left : List (List ℕ)) (count : ℕ) (s : SoFar
 -- ---- what a call gives back
 
 -- what holds of what is given back, by what holds of it already
-pub ok_to : {D E : Type 0} (P Q : D → Type 0) → ((d : D) → P d → Q d) → (r : Result D E) → IfOk r P → IfOk r Q
-ok_to P Q more (Ok d) h = more d h
-ok_to P Q more (Err e) h = tt
+pub done_to : {D E : Type 0} (P Q : Type 0) → (P → Q) → (r : Result D E) → OnOk r P → OnOk r Q
+done_to P Q more (Ok d) h = more h
+done_to P Q more (Err e) h = tt
 
 pub err_to : {D E : Type 0} (P Q : E → Type 0) → ((e : E) → P e → Q e) → (r : Result D E) → IfErr r P → IfErr r Q
 err_to P Q more (Ok d) h = tt
 err_to P Q more (Err e) h = more e h
+
+-- what holds of an error holds of what `?` gives back
+pub given_back : {D E : Type 0} (P : Result D E → Type 0) (r : Result D E) (why : E) → IsErrAnd r (λ given. given ≡ why) → P (Err why) → P r
+given_back P (Ok d) why is h = absurd is
+given_back P (Err given) why is h = subst (λ e. P (Err e)) (sym is) h
 
 -- what is told after the last line
 pub told_at_end : (start : SoFar) (lines left : List (List ℕ)) (count : ℕ) (s : SoFar) (r : IsReadUpTo start lines left count s) (fault : DeclFault) →
@@ -173,6 +179,10 @@ module _ (ps : List Procedure) (text : List ℕ) (short : length text ≤ most_t
 
   pub text_spells : (known d : Declared) → PreludeDeclares ps known → Leads (BeforeHeader known) (lines_of text) (Outside d) → SpellsDeclaration ps text d
   text_spells known d prelude leads = record { short = short; known = known; prelude = prelude; leads = leads }
+
+-- over these procedures, as where nothing is declared over them
+pub over : (P : List Procedure → Type 0) (d : Declared) (ps : List Procedure) → d ≡ nothing_declared ps → P d.procedures → P ps
+over P d ps nothing h = subst P (ap (λ (x : Declared). x.procedures) nothing) h
 
 -- ---- the other way round
 

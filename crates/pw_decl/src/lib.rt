@@ -11,10 +11,10 @@ mod flattened;
 mod flattening;
 pub mod laws;
 mod line;
+mod place;
 mod prelude;
 mod sentence;
 mod set_line;
-mod so_far;
 mod step;
 mod text;
 

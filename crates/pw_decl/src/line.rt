@@ -7,7 +7,7 @@ ghost use Rattle.pw_decl.specs.Faults.{Declares};
 ghost use Rattle.pw_decl.specs.Limits.{most_line_bytes};
 ghost use Rattle.pw_decl.specs.Fields.{declared_by};
 ghost use Rattle.pw_decl.specs.Steps.Opened.{IsOpen, IsWellPlaced, open_of};
-ghost use Rattle.pw_decl.specs.Steps.Standing.{outside, inside, IsWellKept, placed, so_far_of};
+ghost use Rattle.pw_decl.specs.Steps.Standing.{outside, inside, placed};
 ghost use Rattle.pw_decl.specs.Steps.Forms.{inner_in, outer_in};
 ghost use Rattle.pw_decl.specs.Steps.SentenceFaults.{HasGoodParts, IsFaultless, IsToldOf, IsToldOfLine};
 
@@ -15,9 +15,9 @@ use crate::compound::OpenCompound;
 use crate::compound_line::{begin_compound, declare_call, declare_local, end_compound};
 use crate::decl_fault::DeclFaultKind;
 use crate::declaration::Declaration;
+use crate::place::Place;
 use crate::sentence::{InnerSentence, OuterSentence, is_header, read_inner, read_outer};
 use crate::set_line::declare_set;
-use crate::so_far::{Place, SoFar};
 use pw_info::{allows_all, idles};
 use std::alloc::Allocator;
 
@@ -193,70 +193,67 @@ fn declare_inside<A: Allocator + Copy>(
     Ok(Place::Inside(opened))
 }
 
-// Declares what a line says that is not idle.
-fn declare_line<'r, A: Allocator + Copy>(
+// Declares what a line says that is not idle, and answers where the next line stands.
+fn declare_line<A: Allocator + Copy>(
     alloc: A,
-    so_far: SoFar<'r, A>,
+    declaration: &mut Declaration<'_, A>,
+    place: Place<A>,
     line: &[u8],
-) -> Result<SoFar<'r, A>, DeclFaultKind>
-    requires kept { IsWellKept so_far }
+) -> Result<Place<A>, DeclFaultKind>
+    requires kept { IsWellPlaced (declared_by declaration.old) place }
     requires spoken { is_idle line.now ≡ false }
     requires allowed { list_all is_allowed line.now ≡ true }
     requires short { length line.now ≤ most_line_bytes }
-    ensures ok { IfOk result (λ after.
-        Declares (so_far_of so_far.entry) line.now (so_far_of after)) }
-    ensures kept { IfOk result (λ after. IsWellKept after) }
-    ensures err { IfErr result (IsToldOfLine (so_far_of so_far.entry) line.now) }
+    ensures ok { IfOk result (λ next. Declares (placed (declared_by declaration.old) place) line.now
+        (placed (declared_by declaration.new) next)) }
+    ensures kept { IfOk result (λ next. IsWellPlaced (declared_by declaration.new) next) }
+    ensures err { IfErr result (IsToldOfLine (placed (declared_by declaration.old) place) line.now) }
 {
-    let SoFar {
-        mut declaration,
-        place,
-    } = so_far;
-    let place = match place {
+    match place {
         Place::BeforeHeader => {
             if !is_header(line) {
                 return Err(DeclFaultKind::Syntax);
             }
-            Place::Outside
+            Ok(Place::Outside)
         }
         Place::Outside => {
             let Some(sentence) = read_outer(line) else {
                 return Err(DeclFaultKind::Syntax);
             };
-            declare_outside(alloc, &mut declaration, sentence)?
+            declare_outside(alloc, declaration, sentence)
         }
         Place::Inside(opened) => {
             let Some(sentence) = read_inner(line) else {
                 return Err(DeclFaultKind::Syntax);
             };
-            declare_inside(alloc, &mut declaration, opened, sentence)?
+            declare_inside(alloc, declaration, opened, sentence)
         }
-    };
-    Ok(SoFar { declaration, place })
+    }
 }
 
-/// Reads one line of a declaration: what it declares is added to what was declared so far.
+/// Reads one line of a declaration: what it declares is added, and the answer is where the next line stands.
 ///
 /// An error is the first fault of the line, or want of memory.
-pub(crate) fn read_declaration_line<'r, A: Allocator + Copy>(
+pub(crate) fn read_declaration_line<A: Allocator + Copy>(
     alloc: A,
-    so_far: SoFar<'r, A>,
+    declaration: &mut Declaration<'_, A>,
+    place: Place<A>,
     line: &[u8],
-) -> Result<SoFar<'r, A>, DeclFaultKind>
-    requires kept { IsWellKept so_far }
-    ensures ok { IfOk result (λ after.
-        Declares (so_far_of so_far.entry) line.now (so_far_of after)) }
-    ensures kept { IfOk result (λ after. IsWellKept after) }
-    ensures err { IfErr result (IsToldOfLine (so_far_of so_far.entry) line.now) }
+) -> Result<Place<A>, DeclFaultKind>
+    requires kept { IsWellPlaced (declared_by declaration.old) place }
+    ensures ok { IfOk result (λ next. Declares (placed (declared_by declaration.old) place) line.now
+        (placed (declared_by declaration.new) next)) }
+    ensures kept { IfOk result (λ next. IsWellPlaced (declared_by declaration.new) next) }
+    ensures err { IfErr result (IsToldOfLine (placed (declared_by declaration.old) place) line.now) }
 {
     if line.len() > MOST_LINE_BYTES {
         return Err(DeclFaultKind::Limit);
     }
     if idles(line) {
-        return Ok(so_far);
+        return Ok(place);
     }
     if !allows_all(line) {
         return Err(DeclFaultKind::Syntax);
     }
-    declare_line(alloc, so_far, line)
+    declare_line(alloc, declaration, place, line)
 }

@@ -1,41 +1,38 @@
 //! Reading the text of a declaration, line after line.
-ghost use Rattle.std.specs.Prelude.{◌≡◌, ◌<◌, ◌≤◌, ◌+◌, ◌⊎◌, ℕ, length, IfOk, IfErr};
+ghost use Rattle.std.specs.Prelude.{◌≡◌, ◌<◌, ◌≤◌, ◌+◌, ◌⊎◌, ℕ, length, IfOk, IfErr, OnOk};
 ghost use Rattle.pw_info.specs.Lines.{lines_of};
 ghost use Rattle.pw_procs.specs.Registry.{procedures_in};
 ghost use Rattle.pw_decl.specs.declared.decl_fault.DeclFaultKind.{DeclFaultKind as FaultKind};
 ghost use Rattle.pw_decl.specs.declared.decl_fault.DeclFaultKind.TheVariants.{Memory};
-ghost use Rattle.pw_decl.specs.Declaration.{Declared, Outside};
+ghost use Rattle.pw_decl.specs.Declaration.{Declared, Outside, nothing_declared};
 ghost use Rattle.pw_decl.specs.Faults.{Leads, PreludeDeclares, SpellsDeclaration, IsUnfinished, IsFirstFault, IsFaultOfPrelude, IsClearUpTo};
 ghost use Rattle.pw_decl.specs.Faults.{IsClearInPrelude, IsToldAmong, HasNoFaultUpTo, IsTold, IsReadAs, IsFaultAt};
 ghost use Rattle.pw_decl.specs.Limits.{most_text_bytes};
 ghost use Rattle.pw_decl.specs.Fields.{declared_by};
-ghost use Rattle.pw_decl.specs.Steps.Standing.{IsWellKept, so_far_of};
+ghost use Rattle.pw_decl.specs.Steps.Opened.{IsWellPlaced};
+ghost use Rattle.pw_decl.specs.Steps.Standing.{placed};
 
 use crate::decl_fault::{DeclFault, DeclFaultKind};
 use crate::declaration::Declaration;
 use crate::line::read_declaration_line;
+use crate::place::Place;
 use crate::prelude::prelude;
-use crate::so_far::{Place, SoFar};
 use pw_info::TextLines;
 use pw_procs::Registry;
 use std::alloc::Allocator;
 
 const MOST_TEXT_BYTES: usize = 1_048_576;
 
-// What is declared after the last line.
-fn finish<'r, A: Allocator + Copy>(
-    so_far: SoFar<'r, A>,
-    lines: u32,
-) -> Result<Declaration<'r, A>, DeclFault>
+// Whether a declaration may end where the line after the last stands, after so many lines.
+fn finish<A: Allocator + Copy>(place: Place<A>, lines: u32) -> Result<(), DeclFault>
     requires { lines < 4294967295 }
-    ensures ok { IfOk result (λ declaration.
-        so_far_of so_far.entry ≡ Outside (declared_by declaration)) }
-    ensures err { IfErr result (λ fault.
-        IsUnfinished (so_far_of so_far.entry) fault.why × (fault.line ≡ lines + 1)) }
+    ensures ok { (d : Declared) → OnOk result (placed d place ≡ Outside d) }
+    ensures err { (d : Declared) → IfErr result (λ fault.
+        IsUnfinished (placed d place) fault.why × (fault.line ≡ lines + 1)) }
 {
-    let why = match so_far.place {
+    let why = match place {
         Place::BeforeHeader => DeclFaultKind::Syntax,
-        Place::Outside => return Ok(so_far.declaration),
+        Place::Outside => return Ok(()),
         Place::Inside(_) => DeclFaultKind::MissingEnd,
     };
     Err(DeclFault {
@@ -44,53 +41,74 @@ fn finish<'r, A: Allocator + Copy>(
     })
 }
 
-// Reads the lines of a text that is not too long, after what was declared so far.
-fn read_lines<'r, A: Allocator + Copy>(
+// Reads the lines of a text that is not too long, to its end: what they declare is added.
+fn read_lines<A: Allocator + Copy>(
     alloc: A,
-    mut so_far: SoFar<'r, A>,
+    declaration: &mut Declaration<'_, A>,
+    mut place: Place<A>,
     text: &[u8],
-) -> Result<Declaration<'r, A>, DeclFault>
-    requires kept { IsWellKept so_far }
+) -> Result<(), DeclFault>
+    requires kept { IsWellPlaced (declared_by declaration.old) place }
     requires short { length text.now ≤ most_text_bytes }
-    ensures ok { IfOk result (λ declaration.
-        Leads (so_far_of so_far.entry) (lines_of text.now) (Outside (declared_by declaration))) }
+    ensures ok { OnOk result (Leads (placed (declared_by declaration.old) place) (lines_of text.now)
+        (Outside (declared_by declaration.new))) }
     ensures err { IfErr result (λ fault.
-        IsToldAmong (so_far_of so_far.entry) (lines_of text.now) fault) }
-    ensures memory { IfErr result (λ fault.
-        fault.why ≡ Memory → IsClearUpTo (so_far_of so_far.entry) (lines_of text.now) fault.line) }
+        IsToldAmong (placed (declared_by declaration.old) place) (lines_of text.now) fault) }
+    ensures memory { IfErr result (λ fault. fault.why ≡ Memory
+        → IsClearUpTo (placed (declared_by declaration.old) place) (lines_of text.now) fault.line) }
 {
     let mut count = 0u32;
     let mut lines = TextLines::new(text);
     while let Some(line) = lines.next() {
         count += 1;
-        so_far = match read_declaration_line(alloc, so_far, line) {
+        place = match read_declaration_line(alloc, declaration, place, line) {
             Ok(next) => next,
             Err(why) => return Err(DeclFault { line: count, why }),
         };
     }
-    finish(so_far, count)
+    finish(place, count)
 }
 
-// Reads the compounds that every declaration has.
-fn read_prelude<'r, A: Allocator + Copy>(
+// Reads the compounds that every declaration has, where nothing is declared.
+fn read_prelude<A: Allocator + Copy>(
     alloc: A,
-    registry: &'r Registry,
-) -> Result<Declaration<'r, A>, DeclFaultKind>
-    ensures ok { IfOk result (λ declaration.
-        PreludeDeclares (procedures_in registry.entry.now) (declared_by declaration)) }
+    declaration: &mut Declaration<'_, A>,
+) -> Result<(), DeclFaultKind>
+    requires nothing { declared_by declaration.old ≡ nothing_declared
+        (declared_by declaration.old).procedures }
+    ensures ok { OnOk result (PreludeDeclares (declared_by declaration.old).procedures
+        (declared_by declaration.new)) }
     ensures err { IfErr result (λ why.
-        (why ≡ Memory) ⊎ IsFaultOfPrelude (procedures_in registry.entry.now) why) }
+        (why ≡ Memory) ⊎ IsFaultOfPrelude (declared_by declaration.old).procedures why) }
     ensures memory { IfErr result (λ why.
-        why ≡ Memory → IsClearInPrelude (procedures_in registry.entry.now)) }
+        why ≡ Memory → IsClearInPrelude (declared_by declaration.old).procedures) }
 {
-    let nothing = SoFar {
-        declaration: Declaration::new(alloc, registry),
-        place: Place::Outside,
-    };
-    match read_lines(alloc, nothing, prelude()) {
-        Ok(declaration) => Ok(declaration),
+    match read_lines(alloc, declaration, Place::Outside, prelude()) {
+        Ok(()) => Ok(()),
         Err(fault) => Err(fault.why),
     }
+}
+
+// Reads a text that is not too long, where nothing is declared: what every declaration has, and then its lines.
+fn read_text<A: Allocator + Copy>(
+    alloc: A,
+    declaration: &mut Declaration<'_, A>,
+    text: &[u8],
+) -> Result<(), DeclFault>
+    requires nothing { declared_by declaration.old ≡ nothing_declared
+        (declared_by declaration.old).procedures }
+    requires short { length text.now ≤ most_text_bytes }
+    ensures ok { OnOk result (SpellsDeclaration (declared_by declaration.old).procedures text.now
+        (declared_by declaration.new)) }
+    ensures err { IfErr result (λ fault.
+        IsTold (declared_by declaration.old).procedures text.now fault) }
+    ensures memory { IfErr result (λ fault. fault.why ≡ Memory
+        → HasNoFaultUpTo (declared_by declaration.old).procedures text.now fault.line) }
+{
+    if let Err(why) = read_prelude(alloc, declaration) {
+        return Err(DeclFault { line: 0, why });
+    }
+    read_lines(alloc, declaration, Place::BeforeHeader, text)
 }
 
 /// Reads a declaration over a registry, whose procedures its compounds call.
@@ -124,13 +142,7 @@ pub fn read_declaration<'r, A: Allocator + Copy>(
             why: DeclFaultKind::Limit,
         });
     }
-    let known = match read_prelude(alloc, registry) {
-        Ok(known) => known,
-        Err(why) => return Err(DeclFault { line: 0, why }),
-    };
-    let start = SoFar {
-        declaration: known,
-        place: Place::BeforeHeader,
-    };
-    read_lines(alloc, start, text)
+    let mut declaration = Declaration::new(alloc, registry);
+    read_text(alloc, &mut declaration, text)?;
+    Ok(declaration)
 }

@@ -2,8 +2,8 @@
 use Rattle.std.specs.Prelude.{◌≡◌, ℕ, List}
 use Rattle.std.specs.String.{string_bytes}
 use Rattle.pw_decl.specs.declared.compound.OpenCompound.{OpenCompound as OpenCompoundKept}
-use Rattle.pw_decl.specs.declared.so_far.Place.{Place}
-use Rattle.pw_decl.specs.declared.so_far.Place.TheVariants as places
+use Rattle.pw_decl.specs.declared.place.Place.{Place}
+use Rattle.pw_decl.specs.declared.place.Place.TheVariants as places
 use Rattle.pw_decl.specs.Compound.{cell_kinds, Size, no_size, sum_of_sizes, size_of_steps, sizes_of}
 use Rattle.pw_decl.specs.Declaration.{Declared, OpenCompound, NameKinds, begun, parameter_kinds, parameter_names}
 use Rattle.pw_decl.specs.Kept.{compound_of, size_of, steps_of}

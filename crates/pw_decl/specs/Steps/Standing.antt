@@ -1,12 +1,11 @@
 -- What was declared so far, as the code keeps it.
 use Rattle.pw_decl.specs.declared.compound.OpenCompound.{OpenCompound as OpenCompoundKept}
 use Rattle.pw_decl.specs.declared.declaration.holding.Declaration.{Declaration}
-use Rattle.pw_decl.specs.declared.so_far.Place.{Place}
-use Rattle.pw_decl.specs.declared.so_far.Place.TheVariants as places
-use Rattle.pw_decl.specs.declared.so_far.SoFar.{SoFar as SoFarKept}
+use Rattle.pw_decl.specs.declared.place.Place.{Place}
+use Rattle.pw_decl.specs.declared.place.Place.TheVariants as places
 use Rattle.pw_decl.specs.Declaration.{Declared, SoFar, BeforeHeader, Outside, Inside}
 use Rattle.pw_decl.specs.Fields.{declared_by}
-use Rattle.pw_decl.specs.Steps.Opened.{IsWellPlaced, open_of}
+use Rattle.pw_decl.specs.Steps.Opened.{open_of}
 
 -- what was declared so far, by what is declared and where the line stands
 abbrev pub placed : {A : Type 0} → Declared → Place A → SoFar
@@ -14,16 +13,9 @@ placed d places.BeforeHeader = BeforeHeader d
 placed d places.Outside = Outside d
 placed d (places.Inside opened) = Inside d (open_of opened)
 
-abbrev pub so_far_of : {A : _} {X : Type 0} {F : X → Type 0} {C : _} → SoFarKept A X F C → SoFar
-so_far_of s = placed (declared_by s.declaration) s.place
-
 -- outside a compound, and inside an open one, after what a declaration declares
 abbrev pub outside : {A : _} {X : Type 0} {F : X → Type 0} {C : _} → Declaration A X F C → SoFar
 outside declaration = Outside (declared_by declaration)
 
 abbrev pub inside : {A : Type 0} {X : Type 0} {F : X → Type 0} {C : _} → Declaration A X F C → OpenCompoundKept A → SoFar
 inside declaration opened = Inside (declared_by declaration) (open_of opened)
-
--- where the line stands is well kept
-abbrev pub IsWellKept : {A : _} {X : Type 0} {F : X → Type 0} {C : _} → SoFarKept A X F C → Type 0
-IsWellKept s = IsWellPlaced (declared_by s.declaration) s.place

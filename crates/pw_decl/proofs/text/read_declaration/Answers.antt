@@ -1,43 +1,56 @@
-use Rattle.std.proofs.Common.{refl, arith}
+use Rattle.std.proofs.Common.{◌≡◌, Ok}
+use Rattle.std.specs.Prelude.{IfErr}
 use Rattle.pw_procs.specs.Registry.{procedures_in}
+use Rattle.pw_decl.specs.declared.decl_fault.DeclFaultKind.TheVariants.{Memory}
+use Rattle.pw_decl.specs.Faults.{SpellsDeclaration, IsTold, HasNoFaultUpTo, IsReadAs, IsFaultAt}
 use Rattle.pw_decl.specs.Fields.{declared_by}
-use Rattle.pw_decl.proofs.DeclarationSteps.{ok_to, err_to, told_of_prelude, told_of_text, clear_in_text, text_spells, told_only, told_first, only_declaration, only_fault}
+use Rattle.pw_decl.proofs.DeclarationSteps.{given_back, over, told_only, told_first, only_declaration, only_fault}
 use Rattle.pw_decl.proofs.text.read_declaration.Goals as goal
 
-pub returns-in-Err-clause-only_ok : goal.returns-in-Err-clause-only_ok
-returns-in-Err-clause-only_ok g c =
-    let ps = procedures_in c.args.registry.now in
-    told_only ps c.args.text.now (record { line = 0; why = c.in-Err.why })
-    (told_of_prelude ps c.args.text.now (omega arith) (record { line = 0; why = c.in-Err.why }) refl c.in-Err.ensures.err)
+-- a fault is told
 
-pub returns-in-Err-clause-only_fault : goal.returns-in-Err-clause-only_fault
-returns-in-Err-clause-only_fault g c =
+pub returns-in_err-read_text-clause-err : goal.returns-in_err-read_text-clause-err
+returns-in_err-read_text-clause-err g c =
     let ps = procedures_in c.args.registry.now in
-    told_first ps c.args.text.now (record { line = 0; why = c.in-Err.why })
-    (told_of_prelude ps c.args.text.now (omega arith) (record { line = 0; why = c.in-Err.why }) refl c.in-Err.ensures.err)
+    let fault = c.in_err-read_text.field-0.0 in
+    given_back (λ r. IfErr r (IsTold ps c.args.text.now)) c.from_residual.result fault c.from_residual.ensures.1
+    (over (λ ps. IsTold ps c.args.text.now fault) (declared_by c.new-declaration.result) ps c.new-declaration.ensures c.in_err-read_text.ensures.err)
+
+pub returns-in_err-read_text-clause-memory : goal.returns-in_err-read_text-clause-memory
+returns-in_err-read_text-clause-memory g c =
+    let ps = procedures_in c.args.registry.now in
+    let fault = c.in_err-read_text.field-0.0 in
+    given_back (λ r. IfErr r (λ fault. fault.why ≡ Memory → HasNoFaultUpTo ps c.args.text.now fault.line)) c.from_residual.result fault c.from_residual.ensures.1
+    (λ memory. over (λ ps. HasNoFaultUpTo ps c.args.text.now fault.line) (declared_by c.new-declaration.result) ps c.new-declaration.ensures
+    (c.in_err-read_text.ensures.memory memory))
+
+pub returns-in_err-read_text-clause-only_ok : goal.returns-in_err-read_text-clause-only_ok
+returns-in_err-read_text-clause-only_ok g c = λ d spells.
+    let ps = procedures_in c.args.registry.now in
+    let fault = c.in_err-read_text.field-0.0 in
+    given_back (IsReadAs d) c.from_residual.result fault c.from_residual.ensures.1
+    (told_only ps c.args.text.now fault
+    (over (λ ps. IsTold ps c.args.text.now fault) (declared_by c.new-declaration.result) ps c.new-declaration.ensures c.in_err-read_text.ensures.err) d spells)
+
+pub returns-in_err-read_text-clause-only_fault : goal.returns-in_err-read_text-clause-only_fault
+returns-in_err-read_text-clause-only_fault g c = λ line why first.
+    let ps = procedures_in c.args.registry.now in
+    let fault = c.in_err-read_text.field-0.0 in
+    given_back (IsFaultAt line why) c.from_residual.result fault c.from_residual.ensures.1
+    (told_first ps c.args.text.now fault
+    (over (λ ps. IsTold ps c.args.text.now fault) (declared_by c.new-declaration.result) ps c.new-declaration.ensures c.in_err-read_text.ensures.err) line why first)
+
+-- a declaration is read
 
 pub returns-clause-ok : goal.returns-clause-ok
 returns-clause-ok g c =
-    ok_to _ _
-    (λ d leads. text_spells (procedures_in c.args.registry.now) c.args.text.now (omega arith) (declared_by c.in-Ok.known) (declared_by d) c.in-Ok.ensures.ok leads)
-    c.read_lines.result c.read_lines.ensures.ok
-
-pub returns-clause-err : goal.returns-clause-err
-returns-clause-err g c =
-    err_to _ _
-    (λ fault told. told_of_text (procedures_in c.args.registry.now) c.args.text.now (omega arith) (declared_by c.in-Ok.known) fault c.in-Ok.ensures.ok told)
-    c.read_lines.result c.read_lines.ensures.err
-
-pub returns-clause-memory : goal.returns-clause-memory
-returns-clause-memory g c =
-    err_to _ _
-    (λ fault clear memory. clear_in_text (procedures_in c.args.registry.now) c.args.text.now (omega arith) (declared_by c.in-Ok.known) fault.line c.in-Ok.ensures.ok (clear memory))
-    c.read_lines.result c.read_lines.ensures.memory
+    over (λ ps. SpellsDeclaration ps c.args.text.now (declared_by c.read_text.new.declaration)) (declared_by c.new-declaration.result) (procedures_in c.args.registry.now)
+    c.new-declaration.ensures c.in_ok-read_text.ensures.ok
 
 pub returns-clause-only_ok : goal.returns-clause-only_ok
 returns-clause-only_ok g c =
-    only_declaration (procedures_in c.args.registry.now) c.args.text.now c.read_lines.result (returns-clause-ok g c) (returns-clause-err g c)
+    only_declaration (procedures_in c.args.registry.now) c.args.text.now (Ok c.read_text.new.declaration) (returns-clause-ok g c) tt
 
 pub returns-clause-only_fault : goal.returns-clause-only_fault
 returns-clause-only_fault g c =
-    only_fault (procedures_in c.args.registry.now) c.args.text.now c.read_lines.result (returns-clause-ok g c) (returns-clause-err g c)
+    only_fault (procedures_in c.args.registry.now) c.args.text.now (Ok c.read_text.new.declaration) (returns-clause-ok g c) tt
