@@ -1,5 +1,5 @@
 -- The parameters of a compound: names and kinds in turn.
-use Rattle.std.proofs.Common.{◌≡◌, ◌↔◌, ℕ, sym, true, false, List, [], ◌∷◌, ◌++◌, Option, None, Some, Bool, ◌&&◌, append_assoc}
+use Rattle.std.proofs.Common.{◌≡◌, ◌↔◌, ℕ, sym, ap, ◌∙◌, true, false, List, [], ◌∷◌, ◌++◌, Option, None, Some, Bool, ◌&&◌, append_assoc}
 use Rattle.std.proofs.lemmas.Bool.{false≢true}
 use Rattle.pw_info.specs.Name.{is_name}
 use Rattle.pw_decl.specs.Steps.Forms.{are_parameters}
@@ -38,6 +38,10 @@ chosen_more d word words all kind kinds more named is chosen rest others =
 pub names_more : (all names more rest : List (List ℕ)) (word name : List ℕ) → all ≡ names ++ word ∷ rest → more ≡ names ++ name ∷ [] → name ≡ word →
     all ≡ more ++ rest
 names_more all names more rest word name is added same = rw (added, append_assoc names (name ∷ []) rest, same) is
+
+-- two lists that are the same stay so with one more
+pub both_more : (olds twins news others : List Kind) (kind : Kind) → olds ≡ twins → news ≡ olds ++ kind ∷ [] → others ≡ twins ++ kind ∷ [] → news ≡ others
+both_more olds twins news others kind same more more' = more ∙ ap (λ (kinds : List Kind). kinds ++ kind ∷ []) same ∙ sym more'
 
 -- ---- words that are names and kinds in turn
 

@@ -1,6 +1,6 @@
 //! What a declaration declares: users, premises, cells, set kinds and compounds, by name and by number.
-ghost use Rattle.std.specs.Prelude.{◌≡◌, ◌↔◌, ℕ, ◌+◌, ◌-◌, All, None, Some, ◌<◌, ◌≤◌, IsTrue};
-ghost use Rattle.std.specs.Prelude.{length, is_some, slice_get, Contains, IfSome, IfNone, OnOk, OnErr};
+ghost use Rattle.std.specs.Prelude.{◌≡◌, ◌↔◌, ℕ, ◌+◌, ◌-◌, ◌++◌, ◌∷◌, [], All, None, Some, ◌<◌, ◌≤◌, IsTrue};
+ghost use Rattle.std.specs.Prelude.{length, vec_len, vec_capacity, is_some, slice_get, Contains, IfSome, IfNone, OnOk, OnErr};
 ghost use Rattle.pw_kinds.specs.Limits.{most_members};
 ghost use Rattle.pw_kinds.specs.Places.{IsSize};
 ghost use Rattle.pw_info.specs.declared.kind.Kind.{Kind as KindOfCell};
@@ -385,9 +385,13 @@ impl<'r, A: Allocator + Copy> Declaration<'r, A> {
             (open_of opened).name (open_of opened).compound) }
         ensures err { OnErr result ((declared_by self.new) ≡ (declared_by self.old)) }
     {
-        self.compounds.reserve(1)?;
-        self.flattened.reserve(1)?;
-        self.compound_names.add(opened.name.as_str())?;
+        let name = opened.name.as_str();
+        add_compound_name(
+            &mut self.compound_names,
+            name,
+            &mut self.compounds,
+            &mut self.flattened,
+        )?;
         self.compounds.push(opened.compound).unwrap();
         self.flattened.push(flattened).unwrap();
         Ok(())
@@ -415,6 +419,27 @@ impl<A: Allocator + Copy> KindNames for Declaration<'_, A> {
         }
         place_in(&sets[declared], name)
     }
+}
+
+// Adds the name of a compound, and makes room for the compound and for what it becomes. Where it fails, no name is added.
+fn add_compound_name<A: Allocator + Copy>(
+    names: &mut NameTable<A>,
+    name: &str,
+    compounds: &mut Vec<Compound<A>, A>,
+    flattened: &mut Vec<Flattened<A>, A>,
+) -> Result<(), AllocError>
+    requires { place_of_name names.old name.now ≡ None }
+    ensures ok { OnOk result (names.new ≡ names.old ++ name.now ∷ []) }
+    ensures err { OnErr result (names.new ≡ names.old) }
+    ensures compounds { compounds.new.items ≡ compounds.old.items }
+    ensures flattened { flattened.new.items ≡ flattened.old.items }
+    ensures room { OnOk result (vec_len compounds.new < vec_capacity compounds.new) }
+    ensures room_flattened { OnOk result (vec_len flattened.new < vec_capacity flattened.new) }
+{
+    compounds.reserve(1)?;
+    flattened.reserve(1)?;
+    names.add(name)?;
+    Ok(())
 }
 
 // The place of the name in a list of at most 64 names.

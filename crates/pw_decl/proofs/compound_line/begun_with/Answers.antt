@@ -1,9 +1,7 @@
-use Rattle.std.proofs.Common.{List, [], ◌∷◌, ◌++◌, sym, ap, ◌∙◌}
-use Rattle.pw_info.specs.declared.kind.Kind.{Kind}
 use Rattle.pw_decl.specs.Declaration.{parameter_kinds, parameter_names}
 use Rattle.pw_decl.specs.Fields.{declared_by}
 use Rattle.pw_decl.proofs.MemberLemmas.{is_new}
-use Rattle.pw_decl.proofs.ParameterLemmas.{have_kinds-cons, have_kinds-not, chosen_more, names_more, parameters_rest}
+use Rattle.pw_decl.proofs.ParameterLemmas.{have_kinds-cons, have_kinds-not, both_more, chosen_more, names_more, parameters_rest}
 use Rattle.pw_decl.proofs.compound_line.begun_with.Goals as goal
 
 pub unreachable-requires-in_default-kind : goal.unreachable-requires-in_default-kind
@@ -35,7 +33,8 @@ loop-word-preserved g c =
       known = (have_kinds-cons d kind (parameter_kinds rest) c.in-Some-kind.kind this).0 known;
       chosen = chosen_more d kind (parameter_kinds rest) (parameter_kinds c.args.parameters) c.in-Some-kind.kind
           c.loop-word.opened.compound.parameters.items c.push-in-Some.new.self.items this c.in_ok-push-2.ensures.items chosen;
-      kinds = c.in_ok-push.ensures.items ∙ ap (λ (x : List Kind). x ++ c.in-Some-kind.kind ∷ []) c.loop-word.invariant.kinds ∙ sym c.in_ok-push-2.ensures.items;
+      kinds = both_more c.loop-word.opened.kinds.items c.loop-word.opened.compound.parameters.items c.push.new.self.items c.push-in-Some.new.self.items
+          c.in-Some-kind.kind c.loop-word.invariant.kinds c.in_ok-push.ensures.items c.in_ok-push-2.ensures.items;
       name = c.loop-word.invariant.name;
       steps = c.loop-word.invariant.steps;
       size = c.loop-word.invariant.size;

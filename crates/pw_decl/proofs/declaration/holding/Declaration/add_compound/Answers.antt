@@ -11,16 +11,16 @@ use Rattle.pw_decl.proofs.FlatKept.{calls_kept_push, inner_kept_push}
 use Rattle.pw_decl.proofs.KeptLemmas.{not_compound}
 use Rattle.pw_decl.proofs.declaration.holding.Declaration.add_compound.Goals as goal
 
-pub add-requires : goal.add-requires
-add-requires g c =
+pub add_compound_name-requires : goal.add_compound_name-requires
+add_compound_name-requires g c =
     let none : place_of_name c.args.self.now.compound_names (string_bytes c.args.opened.name) ≡ None = not_compound _ _ c.requires.kept.well.fresh in
-    rw c.as_str.ensures.value none
+    rw c.as_str-name.ensures.value none
 
 pub invariant_of-self-2-clause-well : goal.invariant_of-self-2-clause-well
 invariant_of-self-2-clause-well g c =
     let pushed : c.push.new.self.items ≡ c.args.self.now.compounds.items ++ c.args.opened.compound ∷ [] = search rules in
-    rw (c.in_ok-add.ensures.ok, pushed, map_push compound_of c.args.self.now.compounds.items c.args.opened.compound)
-    (well_with_compound (declared_by c.args.self.now) c.as_str.result.now (compound_of c.args.opened.compound) c.args.self.now.well c.requires.kept.well.room c.requires.kept.well.parameters c.requires.kept.well.steps c.requires.kept.well.small)
+    rw (c.in_ok-add_compound_name.ensures.ok, pushed, map_push compound_of c.args.self.now.compounds.items c.args.opened.compound)
+    (well_with_compound (declared_by c.args.self.now) c.as_str-name.result.now (compound_of c.args.opened.compound) c.args.self.now.well c.requires.kept.well.room c.requires.kept.well.parameters c.requires.kept.well.steps c.requires.kept.well.small)
 
 pub invariant_of-self-2-clause-sized : goal.invariant_of-self-2-clause-sized
 invariant_of-self-2-clause-sized g c =
