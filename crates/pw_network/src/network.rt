@@ -10,7 +10,7 @@ ghost use Rattle.pw_decl.specs.Declaration.{IsCallable};
 ghost use Rattle.pw_network.specs.declared.network_fault.NetworkFault.TheVariants as faults;
 ghost use Rattle.pw_network.specs.Fields.{network_by};
 ghost use Rattle.pw_network.specs.Kept.{attached_of};
-ghost use Rattle.pw_network.specs.Limits.{most_lines};
+ghost use Rattle.pw_network.specs.Limits.{most_cells_in, most_lines};
 ghost use Rattle.pw_network.specs.Network.{bare, cells_in, kind_in, origin_in, with_attached};
 ghost use Rattle.pw_network.specs.Network.{AreDeclared, InstancesFit, InstancesStay, MayAttach, TakesCells};
 ghost use Rattle.pw_network.specs.Readers.{readers_of};
@@ -65,7 +65,8 @@ impl<'d, 'r, A: Allocator + Copy> Network<'d, 'r, A> {
 
     /// The number of cells, the declared ones and the inner ones.
     pub fn cells(&self) -> u32
-        ensures { result ≡ cells_in (network_by self.now) }
+        ensures count { result ≡ cells_in (network_by self.now) }
+        ensures most { result ≤ most_cells_in }
     {
         self.declaration.cells() + self.inner.len() as u32
     }

@@ -17,7 +17,7 @@ use std::alloc::{AllocError, Allocator, Global};
 use std::test::Fail;
 
 // The names of the procedures of `over_procedures`, by their numbers.
-const PROCEDURES: [&str; 8] = [
+const PROCEDURES: [&str; 9] = [
     "adder",
     "subtractor",
     "multiplier",
@@ -26,6 +26,7 @@ const PROCEDURES: [&str; 8] = [
     "switch",
     "copy",
     "at_most",
+    "light",
 ];
 
 /// What a test attaches: a callable to declared cells, by their names, at a line and under premises.

@@ -1,8 +1,17 @@
 //! A registry of procedures for tests. It is made in one function, which what holds a boxed closure may not leave, and
 //! lent to what a test does with it.
 
-use pw_procs::{Meaning, Registry, add_of_table, bodies};
-use std::alloc::Global;
+ghost use Rattle.std.specs.Prelude.{◌≡◌, ◌∷◌, [], map, IfOk};
+ghost use Rattle.pw_info.specs.Information.{kind_of};
+ghost use Rattle.pw_procs.specs.Rules.{AreRules, HaveTheSameValues, value_of_rules};
+
+use pw_info::{Info, Kind, SetKind};
+use pw_kinds::Interval;
+use pw_procs::bodies::{self, by_rules};
+use pw_procs::{
+    Body, Meaning, Registry, Rule, add_by_rules, add_of_table, add_rule, copied, members_of_mask,
+};
+use std::alloc::{AllocError, Global};
 use std::test::Fail;
 
 /// What a test does over a registry.
@@ -24,8 +33,53 @@ macro_rules! add_procedures {
     };
 }
 
-/// What comes of it over the procedures that each declaration calls, `copy` and `at_most`. The adder has the first of the
-/// names, and `at_most` the second.
+// The set that `light` answers in: the first that a declaration declares, with three members.
+fn light_set() -> SetKind
+    ensures number { result.number ≡ 2 }
+    ensures size { result.size ≡ 3 }
+{
+    SetKind { number: 2, size: 3 }
+}
+
+// The numbers from one to another.
+fn from_to(lo: i64, hi: i64) -> Info
+    ensures { kind_of result ≡ Kind.Interval }
+{
+    Info::of_interval(Interval::new(lo, hi).unwrap_or(Interval::empty()))
+}
+
+// The rules of a light by a number: the first member up to 9, the first or the second from 5 to 20.
+fn light_rules(alloc: Global, light: SetKind) -> Result<Vec<Rule>, AllocError>
+    ensures { IfOk result (λ made. AreRules (Kind.Interval ∷ []) (Kind.Members light) made.items) }
+{
+    let mut rules = Vec::new(alloc);
+    add_rule(
+        alloc,
+        &mut rules,
+        from_to(0, 9),
+        members_of_mask(light, 0b001),
+    )?;
+    add_rule(
+        alloc,
+        &mut rules,
+        from_to(5, 20),
+        members_of_mask(light, 0b011),
+    )?;
+    Ok(rules)
+}
+
+// A copy of the rules, for the body to own.
+fn table_of(alloc: Global, rules: &[Rule], output: Kind) -> Result<Vec<Rule>, AllocError>
+    requires { AreRules (Kind.Interval ∷ []) output rules.now }
+    ensures rules { IfOk result (λ table. AreRules (Kind.Interval ∷ []) output table.items) }
+    ensures value { IfOk result (λ table. HaveTheSameValues rules.now table.items) }
+{
+    let table = copied(alloc, rules)?;
+    Ok(table)
+}
+
+/// What comes of it over the procedures that each declaration calls, `copy`, `at_most` and a procedure of the test's own,
+/// `light`. The adder has the first of the names, and `at_most` the second.
 pub fn over_procedures<T: OverRegistry + Drop>(
     alloc: Global,
     names: [&str; 2],
@@ -43,6 +97,26 @@ pub fn over_procedures<T: OverRegistry + Drop>(
         "copy", Copy copy;
         names[1], AtMost at_most;
     }
+    let set = light_set();
+    let output = Kind::Members(set);
+    let rules = light_rules(alloc, set)?;
+    let table = table_of(alloc, &rules, output)?;
+    let body: Body = Box::new(
+        alloc,
+        move |inputs: &[Info]| -> Info
+            requires kinds { map kind_of inputs.now ≡ Kind.Interval ∷ [] }
+            requires rules { AreRules (Kind.Interval ∷ []) output table.items }
+            ensures { result ≡ value_of_rules output table.items inputs.now }
+        { by_rules(output, &table, inputs) },
+    )?;
+    add_by_rules(
+        alloc,
+        &mut list,
+        "light",
+        (Kind::Interval, output),
+        rules,
+        body,
+    )?;
     match Registry::new(alloc, list) {
         Ok(registry) => Ok(task.over(&registry)),
         Err(_) => Err("no registry".into()),

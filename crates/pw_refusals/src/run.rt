@@ -1,5 +1,6 @@
 //! Tests of `run`: what is written for what is read.
 
+mod attachments;
 mod failing_ends;
 mod limits;
 mod pace;

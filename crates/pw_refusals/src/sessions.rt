@@ -23,10 +23,11 @@ cell x interval
 cell y interval
 ";
 
-// A declaration is read, and a transcript is answered over it. The run's own growths are those of `memory`.
+// A declaration is read, and a transcript is answered over it. The growths of the declaration are those of `reading`, and
+// the run's own are those of `memory`.
 #[derive(Drop)]
 struct Running<'a, A: Allocator, I, O> {
-    alloc: Global,
+    reading: A,
     memory: A,
     declaration: &'a str,
     input: &'a mut I,
@@ -38,13 +39,15 @@ impl<A: Allocator + Copy, I: Input, O: Output> OverRegistry for Running<'_, A, I
 
     fn over(self, registry: &Registry) -> Result<Result<Lines, RunFault>, Fail> {
         let Running {
-            alloc,
+            reading,
             memory,
             declaration,
             input,
             output,
         } = self;
-        let world = read_declaration(alloc, declaration.as_bytes(), registry)?;
+        let Ok(world) = read_declaration(reading, declaration.as_bytes(), registry) else {
+            return Err("no declaration".into());
+        };
         if input.failed() || input.ended() || output.failed() {
             return Err("an end does not work".into());
         }
@@ -52,9 +55,11 @@ impl<A: Allocator + Copy, I: Input, O: Output> OverRegistry for Running<'_, A, I
     }
 }
 
-/// What a run over the declaration of this text comes to. Its own growths are those of `memory`.
+/// What a run over the declaration of this text comes to. Its own growths are those of `memory`, and those of the declaration
+/// are those of `reading`.
 pub fn run_over<A: Allocator + Copy, I: Input, O: Output>(
     alloc: Global,
+    reading: A,
     memory: A,
     declaration: &str,
     input: &mut I,
@@ -64,7 +69,7 @@ pub fn run_over<A: Allocator + Copy, I: Input, O: Output>(
         alloc,
         SOUND,
         Running {
-            alloc,
+            reading,
             memory,
             declaration,
             input,
@@ -73,16 +78,18 @@ pub fn run_over<A: Allocator + Copy, I: Input, O: Output>(
     )?
 }
 
-/// What a run over the declaration of this text came to, and what it wrote. Its own growths are those of `memory`.
+/// What a run over the declaration of this text came to, and what it wrote. Its own growths are those of `memory`, and those
+/// of the declaration are those of `reading`.
 pub fn outcome<A: Allocator + Copy>(
     alloc: Global,
+    reading: A,
     memory: A,
     declaration: &str,
     transcript: &str,
 ) -> Result<(Result<Lines, RunFault>, String), Fail> {
     let mut input = Reading::new(transcript.as_bytes());
     let mut output = Writing::new(Vec::new(alloc));
-    let answer = run_over(alloc, memory, declaration, &mut input, &mut output)?;
+    let answer = run_over(alloc, reading, memory, declaration, &mut input, &mut output)?;
     Ok((answer, String::from_utf8(output.into_writer())?))
 }
 
@@ -116,7 +123,7 @@ fn answers_text<R: Abort + AllocGlobal>(
     transcript: &str,
     wanted: &str,
 ) -> Result<(), Fail> {
-    let (answer, got) = outcome(rt.alloc(), rt.alloc(), declaration, transcript)?;
+    let (answer, got) = outcome(rt.alloc(), rt.alloc(), rt.alloc(), declaration, transcript)?;
     assert!(rt;
         answer.is_ok() && got.as_str() == wanted,
         "{answer:?}\ndeclaration:\n{declaration}\ntranscript:\n{transcript}\nexpected:\n{wanted}\ngot:\n{got}"

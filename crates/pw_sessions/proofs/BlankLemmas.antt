@@ -15,22 +15,26 @@ unrefused Blank = Blank
 unrefused (Refused refusal) = Blank
 unrefused (Says command) = Says command
 
+-- such a line leaves the same entries
 entries_of-unrefused : (number : ℕ) (reading : LineReading) → entries_of number (unrefused reading) ≡ entries_of number reading
 entries_of-unrefused number Blank = refl
 entries_of-unrefused number (Refused refusal) = refl
 entries_of-unrefused number (Says command) = refl
 
+-- and so do lines
 entries_from-unrefused : (number : ℕ) (readings : List LineReading) → entries_from number (map unrefused readings) ≡ entries_from number readings
 entries_from-unrefused number [] = refl
 entries_from-unrefused number (reading ∷ readings) =
     ap (λ (es : List Entry). es ++ entries_from (number + 1) (map unrefused readings)) (entries_of-unrefused number reading)
     ∙ ap (λ es. entries_of number reading ++ es) (entries_from-unrefused (number + 1) readings)
 
+-- such a line leaves the same beliefs
 believed_after-unrefused : (user : ℕ) (beliefs : Premises) (reading : LineReading) → believed_after user beliefs (unrefused reading) ≡ believed_after user beliefs reading
 believed_after-unrefused user beliefs Blank = refl
 believed_after-unrefused user beliefs (Refused refusal) = refl
 believed_after-unrefused user beliefs (Says command) = refl
 
+-- and so do lines
 beliefs-unrefused : (user : ℕ) (beliefs : Premises) (readings : List LineReading) →
     fold (believed_after user) beliefs (map unrefused readings) ≡ fold (believed_after user) beliefs readings
 beliefs-unrefused user beliefs [] = refl
@@ -39,6 +43,7 @@ beliefs-unrefused user beliefs (reading ∷ readings) =
     ∙ beliefs-unrefused user (believed_after user beliefs reading) readings
 
 module _ (d : Declared) where
+  -- such lines before leave a line its reply
   reply_to-unrefused : (before : List LineReading) (reading : LineReading) → reply_to d (map unrefused before) reading ≡ reply_to d before reading
   reply_to-unrefused before Blank = refl
   reply_to-unrefused before (Refused refusal) = refl
@@ -56,6 +61,7 @@ module _ (d : Declared) where
       (replies_after-alike (before ++ reading ∷ []) (other ++ reading ∷ []) after
       (map_push unrefused before reading ∙ ap (λ (rs : List LineReading). rs ++ unrefused reading ∷ []) e ∙ sym (map_push unrefused other reading)))
 
+  -- so a refused line counts as a blank one
   pub refused_is_blank : (before after : List LineReading) (refusal : Refusal) → replies_after d (before ++ Refused refusal ∷ []) after ≡ replies_after d (before ++ Blank ∷ []) after
   refused_is_blank before after refusal =
       replies_after-alike (before ++ Refused refusal ∷ []) (before ++ Blank ∷ []) after

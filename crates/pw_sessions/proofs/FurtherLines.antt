@@ -10,6 +10,7 @@ use Rattle.pw_sessions.specs.Answer.{reply_to, replies_after, replies_of}
 
 -- ---- entries
 
+-- lines from a number on leave the same entries with one more line, and its own
 entries_from-snoc : (number : ℕ) (readings : List LineReading) (reading : LineReading) →
     entries_from number (readings ++ reading ∷ []) ≡ entries_from number readings ++ entries_of (number + length readings) reading
 entries_from-snoc number [] reading = append-nil (entries_of number reading) ∙ ap (λ n. entries_of n reading) (omega arith)
@@ -35,6 +36,7 @@ beliefs_at-snoc d user readings reading = fold-append (believed_after user) (all
 
 -- ---- replies
 
+-- so it is after lines before
 replies_after-snoc : (d : Declared) (before readings : List LineReading) (reading : LineReading) →
     replies_after d before (readings ++ reading ∷ []) ≡ replies_after d before readings ++ reply_to d (before ++ readings) reading ∷ []
 replies_after-snoc d before [] reading = ap (λ (rs : List LineReading). reply_to d rs reading ∷ []) (sym (append-nil before))
@@ -48,6 +50,7 @@ pub replies_of-snoc : (d : Declared) (readings : List LineReading) (reading : Li
     replies_of d (readings ++ reading ∷ []) ≡ replies_of d readings ++ reply_to d readings reading ∷ []
 replies_of-snoc d readings reading = replies_after-snoc d [] readings reading
 
+-- there is a reply, or none, for each line
 length-replies_after : (d : Declared) (before readings : List LineReading) → length (replies_after d before readings) ≡ length readings
 length-replies_after d before [] = refl
 length-replies_after d before (first ∷ readings) = ap suc (length-replies_after d (before ++ first ∷ []) readings)

@@ -1,9 +1,11 @@
 pub mod Answer
 pub mod Beliefs
 pub mod Carrying
+pub mod CellNames
 pub mod Entries
+pub mod Fields
 pub mod LineReading
 pub mod NamesDeclared
+pub mod Steps
 pub mod TakesMemory
 pub mod Workbench
-pub mod WorkbenchCode

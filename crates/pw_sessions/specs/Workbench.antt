@@ -1,18 +1,24 @@
--- What is there between two lines: what was told of each cell, and what each user believes now.
-use Rattle.std.specs.Prelude.{◌≡◌, ℕ, ◌<◌, List, [], ◌∷◌, ◌++◌, length, Some, slice_index_or}
+-- What is there between two lines: the network, what was told of each of its cells, and what each user believes now.
+use Rattle.std.specs.Prelude.{◌≡◌, ℕ, ◌<◌, List, [], ◌∷◌, ◌++◌, All, fold, length, Some, slice_index_or}
 use Rattle.std.specs.FinSet.{empty}
 use Rattle.pw_premises.specs.Premises.{Premises}
 use Rattle.pw_cells.specs.Cells.{Store, kinds_of, told_in}
-use Rattle.pw_decl.specs.Declaration.{Declared, kind_at}
+use Rattle.pw_decl.specs.Declaration.{Declared}
+use Rattle.pw_network.specs.Names.{name_in}
+use Rattle.pw_network.specs.Network.{Network, bare, cells_in, with_attached}
+use Rattle.pw_settle.specs.Fixpoint.{told_of}
+use Rattle.pw_settle.specs.Values.{kinds_in}
 use Rattle.pw_sessions.specs.declared.command.Command.{Command}
 use Rattle.pw_sessions.specs.declared.reply.Reply.{Reply}
-use Rattle.pw_sessions.specs.LineReading.{LineReading}
-use Rattle.pw_sessions.specs.Entries.{entries_before}
+use Rattle.pw_sessions.specs.Answer.{reply_to, sources_after, visible_in}
 use Rattle.pw_sessions.specs.Beliefs.{beliefs_at}
-use Rattle.pw_sessions.specs.Answer.{value_in, visible_in, reply_to}
+use Rattle.pw_sessions.specs.CellNames.{named_cells}
+use Rattle.pw_sessions.specs.Entries.{Entry, Told, Attached, FitsDeclared, entries_before}
+use Rattle.pw_sessions.specs.LineReading.{LineReading}
 use Rattle.pw_sessions.specs.TakesMemory.{MayBecome}
 
 pub record Workbench : Type 0 where
+  pub network : Network
   -- what was told
   pub store : Store
   -- of each user, by number
@@ -21,17 +27,35 @@ pub record Workbench : Type 0 where
 abbrev pub beliefs_in : Workbench → ℕ → Premises
 beliefs_in workbench user = slice_index_or workbench.beliefs user empty
 
--- it is set up for the declaration: each user has beliefs, and its cells are there with their kinds
+-- the network with what an entry attaches
+abbrev pub with_entry : Network → Entry → Network
+with_entry network (Told line cell fact) = network
+with_entry network (Attached line callable cells support) = with_attached network line callable cells support
+
+-- the network that entries make: the declared cells, and what they attach, in order
+abbrev pub network_after : Declared → List Entry → Network
+network_after d entries = fold with_entry (bare d) entries
+
+-- the store was told what the entries tell: of each cell, in every worldview, what those tell of it by its name that are
+-- visible there
+abbrev pub WasTold : Declared → List Entry → Network → Store → Type 0
+WasTold d entries network store =
+    (cell : ℕ) (w : Premises) → cell < cells_in network →
+    told_in store cell w ≡ told_of (named_cells d entries) (sources_after d (visible_in entries w)) (name_in network cell)
+
+-- it is set up for the declaration: each user has beliefs, and the store has the cells of the network, with their kinds
 pub record IsSetUpFor (d : Declared) (workbench : Workbench) : Type 0 where
   pub users : length workbench.beliefs ≡ length d.users
-  pub kinds : kinds_of workbench.store ≡ d.kinds
+  pub declared : workbench.network.declared ≡ d
+  pub kinds : kinds_of workbench.store ≡ kinds_in workbench.network
 
--- it is what lines that read so leave: every worldview is told of every cell what the entries that are visible in it tell,
--- and each user believes what own lines made of the beliefs
+-- it is what lines that read so leave: the network is what their entries attach, the store was told what they tell, and each
+-- user believes what own lines made of the beliefs
 pub record IsLeftBy (d : Declared) (readings : List LineReading) (workbench : Workbench) : Type 0 where
   pub set_up : IsSetUpFor d workbench
-  pub told : (cell : ℕ) (w : Premises) → cell < length d.cells →
-      told_in workbench.store cell w ≡ value_in (kind_at d cell) (visible_in (entries_before readings) w) cell
+  pub fit : All (FitsDeclared d) (entries_before readings)
+  pub network : workbench.network ≡ network_after d (entries_before readings)
+  pub told : WasTold d (entries_before readings) workbench.network workbench.store
   pub beliefs : (user : ℕ) → user < length d.users → beliefs_in workbench user ≡ beliefs_at d user readings
 
 -- after lines that read so, the command was carried out: its line came to a reading, this is the reply that a line of this

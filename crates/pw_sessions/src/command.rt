@@ -1,9 +1,11 @@
 //! What users ask for.
 
+use pw_decl::Callable;
 use pw_facts::Fact;
 use pw_premises::PremiseSet;
+use pw_procs::Arguments;
 
-/// What a line of a transcript asks for. Users, cells and premises go by their numbers in the declaration.
+/// What a line of a transcript asks for. Users, cells, callables and premises go by their numbers in the declaration.
 ///
 /// What a user believes is a worldview: premises are brought in and kicked out, and nothing that was told is lost (Radul
 /// and Sussman, *The Art of the Propagator*, on dependencies for alternate worldviews). That each user has one of their
@@ -11,11 +13,31 @@ use pw_premises::PremiseSet;
 #[derive(Clone, Copy, Debug, PartialEq, Eq)]
 pub enum Command {
     /// A fact for a cell; it rests on the premises that the line names.
-    Tell { user: u8, cell: u32, fact: Fact },
+    Tell {
+        user: u8,
+        cell: u32,
+        fact: Fact,
+    },
+    /// A callable between cells, by an attachment that rests on the premises that the line names.
+    Attach {
+        user: u8,
+        callable: Callable,
+        cells: Arguments,
+        support: PremiseSet,
+    },
     /// Premises that the user believes from now on.
-    Believe { user: u8, premises: PremiseSet },
+    Believe {
+        user: u8,
+        premises: PremiseSet,
+    },
     /// Premises that the user believes no longer.
-    Doubt { user: u8, premises: PremiseSet },
+    Doubt {
+        user: u8,
+        premises: PremiseSet,
+    },
     /// What is known of a cell under what the user believes.
-    Ask { user: u8, cell: u32 },
+    Ask {
+        user: u8,
+        cell: u32,
+    },
 }

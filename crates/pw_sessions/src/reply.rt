@@ -4,8 +4,8 @@ use pw_info::Info;
 use thiserror::Error;
 
 /// Why a line is refused. A line that several of these apply to is refused for the first of them, in the order
-/// line too long, syntax, unknown user, unknown command, unknown cell, wrong information, unknown premise,
-/// not your premise, memory.
+/// line too long, syntax, unknown user, unknown command, unknown cell, unknown procedure, wrong
+/// information, wrong arguments, unknown premise, not your premise, memory.
 #[derive(Clone, Copy, Debug, PartialEq, Eq, Error)]
 pub enum Refusal {
     /// A byte that is no blank and not visible ASCII, one word alone, or words that do not fit the command's form.
@@ -20,6 +20,12 @@ pub enum Refusal {
     /// A cell that is not declared.
     #[error("unknown cell")]
     UnknownCell,
+    /// An attachment of what is neither a procedure nor a compound.
+    #[error("unknown procedure")]
+    UnknownProcedure,
+    /// An attachment to cells of kinds, or to a number of cells, that the callable does not take.
+    #[error("wrong arguments")]
+    WrongArguments,
     /// A premise that is not declared.
     #[error("unknown premise")]
     UnknownPremise,

@@ -1,95 +1,171 @@
-//! What the lines so far left: what they told of each cell, and what each user believes.
+//! What the lines so far left: the network, what they told of each of its cells, and what each user believes.
 
-ghost use Rattle.std.specs.Prelude.{◌≡◌, ◌<◌, ◌≤◌, [], length, map, replicate, slice_set, IfOk};
-ghost use Rattle.pw_cells.specs.Cells.{new_cell};
+ghost use Rattle.std.specs.Prelude.{◌≡◌, ◌<◌, ◌≤◌, [], List, length, map, slice_set, IfOk, OnOk, OnErr};
+ghost use Rattle.pw_decl.specs.Declaration.{Declared, IsCallable};
+ghost use Rattle.pw_decl.specs.Expansion.{inner_kinds_of};
 ghost use Rattle.pw_decl.specs.Fields.{declared_by};
-ghost use Rattle.pw_sessions.specs.Beliefs.{premises_below};
+ghost use Rattle.pw_decl.specs.Limits.{most_inner_cells};
+ghost use Rattle.pw_network.specs.Fields.{network_by};
+ghost use Rattle.pw_network.specs.Kept.{attached_of};
+ghost use Rattle.pw_network.specs.Network.{MayAttach, bare};
+ghost use Rattle.pw_procs.specs.Arguments.{cells_of};
 ghost use Rattle.pw_sessions.specs.Carrying.{CanBeCarriedOut, CarriesOut};
+ghost use Rattle.pw_sessions.specs.Fields.{workbench_by};
+ghost use Rattle.pw_sessions.specs.LineReading.{LineReading};
+ghost use Rattle.pw_sessions.specs.Steps.{AnswersAsk, IsAsBefore, IsAttached, StoreFits, is_written};
 ghost use Rattle.pw_sessions.specs.Workbench.{IsLeftBy, beliefs_in};
 
 use crate::command::Command;
 use crate::reply::{Refusal, Reply};
 use pw_cells::CellStore;
-use pw_decl::Declaration;
+use pw_decl::{Callable, Declaration};
 use pw_info::Kind;
+use pw_network::{Instance, Network};
 use pw_premises::PremiseSet;
-use std::alloc::{AllocError, Allocator, Global};
-use std::marker::Model;
+use pw_procs::Arguments;
+use pw_settle::settle;
+use std::alloc::{AllocError, Allocator};
 
-/// What earlier lines left: the facts that were told, and what each user believes now. Users and cells go by their
-/// numbers, from 0.
-#[derive(Drop)]
-pub struct Workbench<A: Allocator = Global> {
-    store: CellStore<A>,
-    beliefs: Vec<PremiseSet, A>,
+// The most inner cells that an attachment makes.
+const MOST_INNER_CELLS: u32 = 256;
+
+mod holding;
+
+pub use holding::Workbench;
+
+// Whether an instance that is visible in the worldview writes the cell.
+fn is_written_by(instances: &[Instance], cell: u32, worldview: &PremiseSet) -> bool
+    ensures { result ≡ is_written (map attached_of instances.now) cell worldview.now }
+{
+    instances.iter().any(|instance| instance.output == cell
+        && instance.support.is_subset(worldview))
 }
 
-impl<A: Allocator> Model for Workbench<A> {
-    ghost use Rattle.pw_info.specs.contracts.kind.Kind as kinds;
-    ghost use Rattle.pw_facts.specs.contracts.fact.Fact as facts;
-    ghost use Rattle.pw_sessions.specs.Workbench.{Workbench};
-    ghost use Rattle.pw_sessions.specs.WorkbenchCode.{workbench_code};
-
-    ghost Value = { Workbench };
-
-    ghost coded = { workbench_code kinds.the_row.coded facts.the_row.coded };
-
-    ghost view = { λ a. record { store = a.store; beliefs = a.beliefs.items } };
+// The kinds of the inner cells that the callable makes.
+fn inner_kinds<'a, A: Allocator + Copy>(
+    declaration: &'a Declaration<'_, A>,
+    callable: Callable,
+) -> &'a [Kind]
+    requires { IsCallable (declared_by declaration.now) callable }
+    ensures kinds { result.now ≡ inner_kinds_of (declared_by declaration.now).compounds callable }
+    ensures most { length result.now ≤ most_inner_cells }
+{
+    match callable {
+        Callable::Stored(_) => &[],
+        Callable::Compound(compound) => declaration.inner_kinds(compound),
+    }
 }
 
-impl<A: Allocator + Copy> Workbench<A> {
-    // Cells of these kinds of which nothing was told, and users who believe the premises below `premises` each.
-    fn fresh(alloc: A, kinds: &[Kind], users: u8, premises: u8) -> Result<Workbench<A>, AllocError>
-        requires cells { length kinds.now ≤ 1024 }
-        requires in_range { premises ≤ 64 }
-        ensures cells { IfOk result (λ workbench. workbench.store.cells ≡ map new_cell kinds.now) }
-        ensures beliefs { IfOk result (λ workbench.
-            workbench.beliefs ≡ replicate users (premises_below premises)) }
+impl<'d, 'r, A: Allocator + Copy> Workbench<'d, 'r, A> {
+    /// What is there before the first line, from a new network of the declaration: nothing was told of its cells, and each
+    /// user believes every premise. It fails only for want of memory.
+    pub fn new(
+        alloc: A,
+        declaration: &'d Declaration<'r, A>,
+        network: Network<'d, 'r, A>,
+    ) -> Result<Workbench<'d, 'r, A>, AllocError>
+        requires { network_by network ≡ bare (declared_by declaration.now) }
+        ensures { IfOk result (λ workbench.
+            IsLeftBy (declared_by declaration.now) [] (workbench_by workbench)) }
     {
         let mut store = CellStore::new(alloc);
-        store.add_cells(kinds)?;
-        let beliefs = Vec::from_elem(alloc, PremiseSet::first(premises), usize::from(users))?;
-        Ok(Workbench { store, beliefs })
-    }
-
-    /// What is there before the first line: of no cell of the declaration anything was told, and each user believes every
-    /// premise. It fails only for want of memory.
-    pub fn new<D: Allocator + Copy>(
-        alloc: A,
-        declaration: &Declaration<'_, D>,
-    ) -> Result<Workbench<A>, AllocError>
-        ensures { IfOk result (λ workbench. IsLeftBy (declared_by declaration.now) [] workbench) }
-    {
-        let d = declaration;
-        Workbench::fresh(alloc, d.kinds(), d.users(), d.premises())
+        store.add_cells(declaration.kinds())?;
+        let premises = PremiseSet::first(declaration.premises());
+        let beliefs = Vec::from_elem(alloc, premises, usize::from(declaration.users()))?;
+        Ok(Workbench {
+            network,
+            store,
+            beliefs,
+        })
     }
 
     // What the user, who is there, believes now.
     fn beliefs_of(&self, user: u8) -> PremiseSet
-        requires { user < length self.now.beliefs }
-        ensures { result ≡ beliefs_in self.now user }
+        requires { user < length (workbench_by self.now).beliefs }
+        ensures { result ≡ beliefs_in (workbench_by self.now) user }
     {
         self.beliefs[usize::from(user)]
     }
 
     // From now on the user, who is there, believes just these premises.
     fn set_beliefs(&mut self, user: u8, premises: PremiseSet)
-        requires { user < length self.old.beliefs }
-        ensures { self.new ≡ record self.old { beliefs = slice_set self.old.beliefs user premises } }
+        requires { user < length (workbench_by self.old).beliefs }
+        ensures { workbench_by self.new ≡ record (workbench_by self.old) {
+          beliefs = slice_set (workbench_by self.old).beliefs user premises;
+        } }
     {
         self.beliefs[usize::from(user)] = premises;
     }
 
-    /// Carries out a command whose user and cell are there; what it tells is of its cell's kind. The reply is the answer to
-    /// it from what the lines before it left, or `Refused(Memory)` where memory is refused to a tell, and then nothing
-    /// changes.
-    pub fn carry_out(&mut self, command: &Command) -> Reply
-        requires { CanBeCarriedOut self.old command.now }
-        ensures { CarriesOut self.old command.now self.new result }
+    // Attaches a callable. It fails only for want of memory, and then nothing changes.
+    fn attach(
+        &mut self,
+        line: u32,
+        callable: Callable,
+        cells: Arguments,
+        support: PremiseSet,
+    ) -> Result<(), AllocError>
+        requires may { MayAttach (workbench_by self.old).network line callable
+            (cells_of cells) }
+        requires fits { StoreFits (workbench_by self.old) }
+        ensures ok { OnOk result (IsAttached (workbench_by self.old) line callable
+            (cells_of cells) support (workbench_by self.new)) }
+        ensures err { OnErr result (IsAsBefore (workbench_by self.old) (workbench_by self.new)) }
+    {
+        self.store.reserve(MOST_INNER_CELLS)?;
+        let Ok(()) = self.network.attach(line, callable, cells, support) else {
+            return Err(AllocError);
+        };
+        let kinds = inner_kinds(self.network.declaration(), callable);
+        let Ok(_) = self.store.add_cells(kinds) else {
+            unreachable!("there is room for the inner cells of an attachment");
+        };
+        Ok(())
+    }
+
+    // What is known of the declared cell under what the user, who is there, believes.
+    fn ask(&mut self, user: u8, cell: u32) -> Reply
+        requires fits { StoreFits (workbench_by self.old) }
+        requires user { user < length (workbench_by self.old).beliefs }
+        requires cell { cell < length (workbench_by self.old).network.declared.cells }
+        ensures answer { (d : Declared) (before : List LineReading)
+            → IsLeftBy d before (workbench_by self.old)
+            → AnswersAsk (workbench_by self.old) user cell result }
+        ensures stays { workbench_by self.new ≡ workbench_by self.old }
+    {
+        let beliefs = self.beliefs_of(user);
+        if !is_written_by(self.network.instances(), cell, &beliefs) {
+            return Reply::Value(self.store.told(cell, &beliefs));
+        }
+        let alloc = *self.beliefs.allocator();
+        match settle(alloc, &self.network, &mut self.store, &beliefs) {
+            Ok(settled) => Reply::Value(settled.value(cell).info),
+            Err(_) => Reply::Refused(Refusal::Memory),
+        }
+    }
+
+    /// Carries out a command at a line after all lines before it. What it names is declared. The reply is the answer to it
+    /// from what the lines before it left, or `Refused(Memory)` where memory is refused to a tell, to an attach, or to an ask
+    /// of a cell that an instance writes whose premises are all believed; and then nothing changes.
+    pub fn command(&mut self, line: u32, command: &Command) -> Reply
+        requires { CanBeCarriedOut (workbench_by self.old) line command.now }
+        ensures { CarriesOut (workbench_by self.old) line command.now (workbench_by self.new)
+            result }
     {
         match *command {
             Command::Tell { cell, fact, .. } => {
                 let Ok(()) = self.store.tell(cell, fact) else {
+                    return Reply::Refused(Refusal::Memory);
+                };
+                Reply::Done
+            }
+            Command::Attach {
+                callable,
+                cells,
+                support,
+                ..
+            } => {
+                let Ok(()) = self.attach(line, callable, cells, support) else {
                     return Reply::Refused(Refusal::Memory);
                 };
                 Reply::Done
@@ -102,9 +178,7 @@ impl<A: Allocator + Copy> Workbench<A> {
                 self.set_beliefs(user, self.beliefs_of(user).difference(premises));
                 Reply::Done
             }
-            Command::Ask { user, cell } => {
-                Reply::Value(self.store.told(cell, &self.beliefs_of(user)))
-            }
+            Command::Ask { user, cell } => self.ask(user, cell),
         }
     }
 }

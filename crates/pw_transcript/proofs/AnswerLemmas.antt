@@ -1,10 +1,10 @@
 -- What a line that is held, or too long to be held, comes to.
-use Rattle.std.proofs.Common.{◌≡◌, ℕ, ◌<◌, nat_le, true, false, List, [], ◌∷◌, ◌++◌, length, Option, Some, None, refl, sym, ap, ◌∙◌, subst, inl, inr, arith}
-use Rattle.std.specs.Prelude.{is_some}
+use Rattle.std.proofs.Common.{◌≡◌, ℕ, ◌+◌, ◌<◌, ◌≤◌, nat_le, true, false, List, [], ◌∷◌, ◌++◌, length, Option, Some, None, refl, sym, ap, ◌∙◌, subst, inl, inr, length-append, arith}
+use Rattle.std.specs.Prelude.{fold, is_some}
 use Rattle.std.proofs.lemmas.Bool.{cases_Bool, leb-false}
 use Rattle.pw_info.specs.declared.kind.Kind.TheVariants as kinds
 use Rattle.pw_info.specs.SetNames.{IsNamed}
-use Rattle.pw_decl.specs.Declaration.{Declared, kind_at, members_of}
+use Rattle.pw_decl.specs.Declaration.{Declared, members_of}
 use Rattle.pw_decl.specs.WellDeclared.{IsWellDeclared}
 use Rattle.pw_sessions.specs.declared.command.Command.{Command}
 use Rattle.pw_sessions.specs.declared.command.Command.TheVariants as commands
@@ -12,18 +12,23 @@ use Rattle.pw_sessions.specs.declared.reply.Reply.{Reply}
 use Rattle.pw_sessions.specs.declared.reply.Reply.TheVariants as reply
 use Rattle.pw_sessions.specs.declared.reply.Refusal.{Refusal}
 use Rattle.pw_sessions.specs.declared.reply.Refusal.TheVariants as refusal
-use Rattle.pw_sessions.specs.Answer.{answer_to, reply_to, user_of, visible_in}
+use Rattle.pw_sessions.specs.Answer.{answer_to, reply_to, sources_after, user_of, visible_in}
 use Rattle.pw_sessions.specs.Beliefs.{beliefs_at}
 use Rattle.pw_sessions.specs.Carrying.{CanBeCarriedOut, CarriesOut}
 use Rattle.pw_premises.specs.Premises.{Premises}
-use Rattle.pw_sessions.specs.Entries.{Entry, entries_before}
+use Rattle.pw_procs.specs.Arguments.{cells_of}
+use Rattle.pw_network.specs.Names.{DeclaredCell}
+use Rattle.pw_network.specs.Network.{Network, bare, with_attached}
+use Rattle.pw_sessions.specs.CellNames.{named_cells, names_after}
+use Rattle.pw_sessions.specs.Entries.{Entry, entries_before, entries_from}
 use Rattle.pw_sessions.specs.LineReading.{LineReading, Blank, Refused, Says}
 use Rattle.pw_sessions.specs.NamesDeclared.{IsDeclared}
 use Rattle.pw_sessions.specs.TakesMemory.{MayBecome}
-use Rattle.pw_sessions.specs.Workbench.{Workbench, IsLeftBy, IsCarriedOut}
-use Rattle.pw_sessions.proofs.EntryLemmas.{kind-value_in}
-use Rattle.pw_sessions.proofs.WorkbenchLemmas.{can_carry_out, left_same}
+use Rattle.pw_sessions.specs.Workbench.{Workbench, IsLeftBy, IsSetUpFor, IsCarriedOut, with_entry}
+use Rattle.pw_settle.proofs.FixpointLemmas.{kind-fixpoint}
+use Rattle.pw_sessions.proofs.WorkbenchLemmas.{left_same}
 use Rattle.pw_transcript.specs.FromScratch.{ComesTo}
+use Rattle.pw_transcript.specs.Limits.{most_lines}
 use Rattle.pw_transcript.specs.Reading.{Reads}
 use Rattle.pw_info.specs.Passing.{PassesPart}
 use Rattle.pw_transcript.specs.ReplyText.{IsReplyNamed, text_of_reply, text_if_any}
@@ -42,13 +47,45 @@ held_some held line e = elim (cases_Bool (nat_le (length line) 1024)) [
   | inr long ↦ let some : Some held ≡ None = rw long at e in absurd (cc)
 ]
 
--- a reading that is blank or refused leaves what was there
-module _ (d : Declared) where
+-- with one line more the next number is the next line's
+one_more : (before : List LineReading) (reading : LineReading) (number : ℕ) → length before + 1 ≡ number → length (before ++ reading ∷ []) + 1 ≡ number + 1
+one_more before reading number next = omega (arith, length-append before (reading ∷ []), next)
+
+-- ---- the line of the last attachment
+
+-- lines of which the first has this number attach at their own numbers
+last_line_from : (number : ℕ) (readings : List LineReading) (network : Network) → network.last_line < number →
+    (fold with_entry network (entries_from number readings)).last_line < number + length readings
+last_line_from number [] network before = omega arith
+last_line_from number (Blank ∷ readings) network before = let h = last_line_from (number + 1) readings network (omega arith) in omega arith
+last_line_from number (Refused r ∷ readings) network before = let h = last_line_from (number + 1) readings network (omega arith) in omega arith
+last_line_from number (Says (commands.Tell user cell fact) ∷ readings) network before =
+    let h = last_line_from (number + 1) readings network (omega arith) in omega arith
+last_line_from number (Says (commands.Attach user callable cells support) ∷ readings) network before =
+    let h = last_line_from (number + 1) readings (with_attached network number callable (cells_of cells) support) (omega arith) in omega arith
+last_line_from number (Says (commands.Believe user premises) ∷ readings) network before =
+    let h = last_line_from (number + 1) readings network (omega arith) in omega arith
+last_line_from number (Says (commands.Doubt user premises) ∷ readings) network before =
+    let h = last_line_from (number + 1) readings network (omega arith) in omega arith
+last_line_from number (Says (commands.Ask user cell) ∷ readings) network before =
+    let h = last_line_from (number + 1) readings network (omega arith) in omega arith
+
+-- the last attachment is at one of the lines
+last_line_before : (d : Declared) (readings : List LineReading) (workbench : Workbench) → IsLeftBy d readings workbench →
+    workbench.network.last_line < length readings + 1
+last_line_before d readings workbench left =
+    let h = last_line_from 1 readings (bare d) (omega arith) in
+    omega (arith, ap (λ (n : Network). n.last_line) left.network)
+
+-- ---- what a line comes to
+
+module _ (d : Declared) (well : IsWellDeclared d) where
+  -- a reading that is blank or refused leaves what was there
   left_blank : (before : List LineReading) (old : Workbench) → IsLeftBy d before old → IsLeftBy d (before ++ Blank ∷ []) old
-  left_blank before old left = left_same d before Blank old left (λ n. refl) (λ user beliefs. refl)
+  left_blank before old left = left_same d well.kinds before Blank old left (λ n. refl) (λ user beliefs. refl)
 
   left_refused : (before : List LineReading) (old : Workbench) (r : Refusal) → IsLeftBy d before old → IsLeftBy d (before ++ Refused r ∷ []) old
-  left_refused before old r left = left_same d before (Refused r) old left (λ n. refl) (λ user beliefs. refl)
+  left_refused before old r left = left_same d well.kinds before (Refused r) old left (λ n. refl) (λ user beliefs. refl)
 
   module _ (line : List ℕ) (before : List LineReading) (old : Workbench) (left : IsLeftBy d before old) where
     pub refused_long : None ≡ held_line line → RepliesToLine d before line old (Some (reply.Refused refusal.LineTooLong))
@@ -79,51 +116,66 @@ module _ (d : Declared) where
     came_to command reading reads (inl same) = inl (subst (Reads d line) (sym same) reads)
     came_to command reading reads (inr (refused, takes)) = inr (refused, command, takes, reads)
 
-    pub carried : (held : List ℕ) (new : Workbench) (command : Command) (answer : Reply) →
-        Reads d held (Says command) → CarriesOut old command new answer → Some held ≡ held_line line → RepliesToLine d before line new (Some answer)
-    carried held new command answer reads done e =
+    pub carried : (number : ℕ) (held : List ℕ) (new : Workbench) (command : Command) (answer : Reply) → length before + 1 ≡ number →
+        Reads d held (Says command) → CarriesOut old number command new answer → Some held ≡ held_line line → RepliesToLine d before line new (Some answer)
+    carried number held new command answer next reads done e =
         let here : Reads d line (Says command) = subst (λ (x : List ℕ). Reads d x (Says command)) (held_some held line e) reads in
-        let out : IsCarriedOut d before command new answer = done d before left (IsDeclared-from_Reads d line command here) in
+        let out : IsCarriedOut d before command new answer = done d before left next (IsDeclared-from_Reads d line command here) in
         record { reading = out.reading; comes = came_to command out.reading here out.became; left = out.left; answer_is = out.replied }
+
+  -- what the lines before left is left after a line that gets no reply, or is refused
+  pub still_left : (number : ℕ) (old : Workbench) → IsLeft d number old → IsLeft d (number + 1) old
+  still_left number old left = (left.0 ++ Blank ∷ [], one_more left.0 Blank number left.1, left_blank left.0 old left.2)
 
   -- ---- a command that a line says, after some lines
 
-  module _ (line : List ℕ) (old : Workbench) (left : IsLeft d old) where
-    pub can_be_carried_out : (command : Command) → IsWellDeclared d → Reads d line (Says command) → CanBeCarriedOut old command
-    can_be_carried_out command well reads = can_carry_out d old command well left.1.set_up (IsDeclared-from_Reads d line command reads)
+  module _ (line : List ℕ) (number : ℕ) (old : Workbench) (left : IsLeft d number old) where
+    -- the command of a line among those that a run answers
+    pub can_be_carried_out : (command : Command) → number ≤ most_lines → Reads d line (Says command) → CanBeCarriedOut old number command
+    can_be_carried_out command most reads =
+        let is : d ≡ old.network.declared = sym left.2.set_up.declared in
+        record {
+          set_up = subst (λ (e : Declared). IsSetUpFor e old) is left.2.set_up;
+          declared = subst (λ (e : Declared). IsDeclared e (Says command)) is (IsDeclared-from_Reads d line command reads);
+          next = omega (arith, last_line_before d left.0 old left.2, left.1);
+          most = most;
+        }
 
     -- what the command is answered with has its names
-    named_answer : (entries : List Entry) (beliefs : Premises) (command : Command) → IsWellDeclared d → IsDeclared d (Says command) →
+    named_answer : (entries : List Entry) (beliefs : Premises) (command : Command) → IsDeclared d (Says command) →
         IsReplyNamed d (answer_to d entries beliefs command)
-    named_answer entries beliefs (commands.Ask user cell) well named =
-        subst (IsNamed (members_of d)) (sym (kind-value_in (kind_at d cell) (visible_in entries beliefs) cell))
+    named_answer entries beliefs (commands.Ask user cell) named =
+        subst (IsNamed (members_of d))
+        (sym (kind-fixpoint (named_cells d (visible_in entries beliefs)) (names_after d (visible_in entries beliefs)) (sources_after d (visible_in entries beliefs)) (DeclaredCell cell)))
         (well.known cell kinds.Interval (omega (arith, named.1, well.kinds)))
-    named_answer entries beliefs (commands.Tell user cell fact) well named = tt
-    named_answer entries beliefs (commands.Believe user premises) well named = tt
-    named_answer entries beliefs (commands.Doubt user premises) well named = tt
+    named_answer entries beliefs (commands.Tell user cell fact) named = tt
+    named_answer entries beliefs (commands.Attach user callable cells support) named = tt
+    named_answer entries beliefs (commands.Believe user premises) named = tt
+    named_answer entries beliefs (commands.Doubt user premises) named = tt
 
-    named_outcome : (before : List LineReading) (command : Command) (reading : LineReading) (answer : Reply) → IsWellDeclared d → IsDeclared d (Says command) →
+    named_outcome : (before : List LineReading) (command : Command) (reading : LineReading) (answer : Reply) → IsDeclared d (Says command) →
         MayBecome d before command reading → reply_to d before reading ≡ Some answer → IsReplyNamed d answer
-    named_outcome before command reading answer well named (inl same) replied =
+    named_outcome before command reading answer named (inl same) replied =
         let e : Some (answer_to d (entries_before before) (beliefs_at d (user_of command) before) command) ≡ Some answer = ap (reply_to d before) (sym same) ∙ replied in
         let is : answer_to d (entries_before before) (beliefs_at d (user_of command) before) command ≡ answer = cc in
-        subst (IsReplyNamed d) is (named_answer (entries_before before) (beliefs_at d (user_of command) before) command well named)
-    named_outcome before command reading answer well named (inr (refused, takes)) replied =
+        subst (IsReplyNamed d) is (named_answer (entries_before before) (beliefs_at d (user_of command) before) command named)
+    named_outcome before command reading answer named (inr (refused, takes)) replied =
         let e : Some (reply.Refused refusal.Memory) ≡ Some answer = ap (reply_to d before) (sym refused) ∙ replied in
         let is : reply.Refused refusal.Memory ≡ answer = cc in
         subst (IsReplyNamed d) is tt
 
-    pub named_reply : (new : Workbench) (command : Command) (answer : Reply) → IsWellDeclared d → Reads d line (Says command) → CarriesOut old command new answer → IsReplyNamed d answer
-    named_reply new command answer well reads done =
+    pub named_reply : (new : Workbench) (command : Command) (answer : Reply) → Reads d line (Says command) → CarriesOut old number command new answer → IsReplyNamed d answer
+    named_reply new command answer reads done =
         let named = IsDeclared-from_Reads d line command reads in
-        let out : IsCarriedOut d left.0 command new answer = done d left.0 left.1 named in
-        named_outcome left.0 command out.reading answer well named out.became out.replied
+        let out : IsCarriedOut d left.0 command new answer = done d left.0 left.2 left.1 named in
+        named_outcome left.0 command out.reading answer named out.became out.replied
 
-    -- and some lines left what is there after it
-    pub carried_left : (new : Workbench) (command : Command) (answer : Reply) → Reads d line (Says command) → CarriesOut old command new answer → IsLeft d new
+    -- and the lines so far left what is there after it
+    pub carried_left : (new : Workbench) (command : Command) (answer : Reply) → Reads d line (Says command) → CarriesOut old number command new answer →
+        IsLeft d (number + 1) new
     carried_left new command answer reads done =
-        let out : IsCarriedOut d left.0 command new answer = done d left.0 left.1 (IsDeclared-from_Reads d line command reads) in
-        (left.0 ++ out.reading ∷ [], out.left)
+        let out : IsCarriedOut d left.0 command new answer = done d left.0 left.2 left.1 (IsDeclared-from_Reads d line command reads) in
+        (left.0 ++ out.reading ∷ [], one_more left.0 out.reading number left.1, out.left)
 
 -- ---- the reply is passed
 

@@ -1,4 +1,5 @@
 pub mod AnswerLemmas
+pub mod CellLists
 pub mod GatheringFacts
 pub mod HeldFacts
 pub mod PremiseLists

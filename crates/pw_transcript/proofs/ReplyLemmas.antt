@@ -1,16 +1,17 @@
 -- Texts and readings of one line more, and the names that a line says.
 use Rattle.std.proofs.Common.{◌≡◌, ℕ, suc, ◌+◌, ◌<◌, ◌≤◌, List, [], ◌∷◌, ◌++◌, length, Option, Some, None, Contains, refl, sym, ap, ◌∙◌, subst, inl, inr, append-nil, append_assoc, arith}
-use Rattle.std.specs.Prelude.{if◌then◌else◌, is_some}
+use Rattle.std.specs.Prelude.{All, if◌then◌else◌, is_some}
 use Rattle.pw_sessions.specs.declared.command.Command.{Command}
 use Rattle.pw_sessions.specs.declared.reply.Reply.{Reply}
 use Rattle.pw_sessions.specs.declared.reply.Refusal.TheVariants as refusal
 use Rattle.pw_decl.specs.Declaration.{Declared}
-use Rattle.pw_transcript.specs.Sentence.{Said, Tell, Believe, Doubt, Ask, Other}
+use Rattle.pw_transcript.specs.Sentence.{Said, Tell, Attach, Believe, Doubt, Ask, Other}
 use Rattle.pw_transcript.specs.Reading.{MeansFor, Reads}
 use Rattle.pw_sessions.specs.LineReading.{LineReading, Refused, Says}
 use Rattle.pw_sessions.specs.Answer.{user_of, reply_to, replies_of}
 use Rattle.pw_sessions.specs.NamesDeclared.{NamesDeclared, IsDeclared}
 use Rattle.pw_sessions.proofs.FurtherLines.{replies_of-snoc, length-replies_of}
+use Rattle.pw_decl.proofs.CompoundLaws.{places_below}
 use Rattle.pw_decl.proofs.Places.{place_of_name-lt}
 use Rattle.pw_transcript.specs.ReplyText.{text_if_any, text_from, text_of_replies}
 use Rattle.pw_transcript.specs.FromScratch.{ReadAs, ComesTo, FurtherLinesComeTo, LinesComeTo, count_of_replies}
@@ -122,6 +123,8 @@ module _ (d : Declared) where
   -- what a user means by what is said is declared
   MeansFor-cell : (user : ℕ) (said : Said) (command : Command) → MeansFor d user said command → (user_of command ≡ user) × NamesDeclared d command
   MeansFor-cell user (Tell cell_word info_word words) command (cell, info, at_cell, spells, is) = rw is (refl, (place_of_name-lt d.cells cell_word cell at_cell, spells.0))
+  MeansFor-cell user (Attach callable_word cell_words words) command (callable, cells, at, known, held, takes, is) =
+      rw is (refl, (subst (All (λ cell. cell < length d.cells)) (sym held.0) (places_below d.cells cell_words), takes))
   MeansFor-cell user (Believe words) command is = rw is (refl, tt)
   MeansFor-cell user (Doubt words) command is = rw is (refl, tt)
   MeansFor-cell user (Ask cell_word) command (cell, at_cell, is) = rw is (refl, place_of_name-lt d.cells cell_word cell at_cell)

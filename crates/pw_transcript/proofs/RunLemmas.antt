@@ -1,5 +1,5 @@
 -- How far the lines of a transcript are answered, from one piece of bytes to the next.
-use Rattle.std.proofs.Common.{◌≡◌, ◌≢◌, ℕ, ◌+◌, ◌<◌, ◌≤◌, Bool, true, false, eqb, nat_le, List, [], ◌∷◌, ◌++◌, length, Result, Ok, Err, OnOk, OnErr, refl, sym, ap, ◌∙◌, subst, inl, inr, append-nil, append_assoc, length-append, length-take-le, take, drop, arith}
+use Rattle.std.proofs.Common.{◌≡◌, ◌≢◌, ℕ, ◌+◌, ◌<◌, ◌≤◌, Bool, true, false, eqb, nat_le, List, [], ◌∷◌, ◌++◌, length, Result, Ok, Err, IfOk, OnOk, OnErr, refl, sym, ap, ◌∙◌, subst, inl, inr, append-nil, append_assoc, length-append, length-take-le, take, drop, arith}
 use Rattle.std.proofs.lemmas.List.{take-append-le, take-append-drop}
 use Rattle.std.specs.Prelude.{if◌then◌else◌}
 use Rattle.std.specs.List.{AllByRecursion}
@@ -10,7 +10,6 @@ use Rattle.pw_info.proofs.PassingFacts.{PassesPart-after, PassesPart-all}
 use Rattle.pw_transcript.specs.declared.gathered.Gathered.{Gathered}
 use Rattle.pw_transcript.specs.declared.progress.Fed.{Fed}
 use Rattle.pw_transcript.specs.declared.progress.Fed.TheVariants as feds
-use Rattle.pw_transcript.specs.declared.progress.Progress.{Progress}
 use Rattle.pw_transcript.specs.declared.transcript.Lines.{Lines}
 use Rattle.pw_info.specs.Bytes.{line_feed}
 use Rattle.pw_info.specs.Lines.{lines_of, HasNoEnd, text_of_lines, last_line}
@@ -20,10 +19,10 @@ use Rattle.pw_sessions.specs.LineReading.{LineReading}
 use Rattle.pw_sessions.specs.Answer.{reply_to, replies_of}
 use Rattle.pw_sessions.specs.Workbench.{IsLeftBy}
 use Rattle.pw_transcript.specs.ReplyText.{text_if_any, text_of_replies}
-use Rattle.pw_transcript.specs.FromScratch.{LinesComeTo, GetReplies, count_of_replies, PassesAll, PassesEnded, PassesFront, RepliesToEnded, RepliesUpToLimit, RepliesInPart}
+use Rattle.pw_transcript.specs.FromScratch.{LinesComeTo, GetReplies, count_of_replies, PassesAll, PassesEnded, PassesFront, RepliesToAll, RepliesToEnded, RepliesUpToLimit, RepliesInPart}
 use Rattle.pw_transcript.specs.Steps.Answering.{held_line, PassesReply, FailsInReply, PassesHeldReply, FailsInHeldReply}
 use Rattle.pw_transcript.specs.Steps.Gatherers.{output_of, held_of, GatheredPasses}
-use Rattle.pw_transcript.specs.Steps.Running.{SoFar, FrontSoFar, LimitSoFar}
+use Rattle.pw_transcript.specs.Steps.Running.{Progress, SoFar, FrontSoFar, LimitSoFar}
 use Rattle.pw_transcript.proofs.GatheringFacts.{gathered_part, gathered_whole}
 use Rattle.pw_info.proofs.LineLemmas.{lines_of_ended_lines, lines_of_text, text_held, text_ended, HasNoEnd-append, ended_more}
 use Rattle.pw_transcript.proofs.ReplyLemmas.{text_of_replies_of-snoc, count_of_replies_of-snoc, LinesComeTo-snoc, length-LinesComeTo, ReadAs-from_ComeTo}
@@ -59,6 +58,11 @@ on_err_holds (Err e) holds = holds
 pub on_ok_both : {T E P Q R : Type 0} (r : Result T E) → OnOk r P → OnOk r Q → (P → Q → R) → OnOk r R
 on_ok_both (Ok x) p q f = f p q
 on_ok_both (Err e) p q f = tt
+
+-- what an Ok has and what follows from it are had together
+pub if_ok_both : {T E Q : Type 0} (r : Result T E) (P R : T → Type 0) → IfOk r P → OnOk r Q → ((x : T) → P x → Q → R x) → IfOk r R
+if_ok_both (Ok x) P R p q f = f x p q
+if_ok_both (Err e) P R p q f = tt
 
 pub on_err_then : {T E P Q : Type 0} (r : Result T E) → OnErr r P → (P → Q) → OnErr r Q
 on_err_then (Ok x) p f = tt
@@ -256,9 +260,9 @@ module _ {O : Type 0} (passes : O → List ℕ → O → Type 0) (d : Declared) 
     PassesAll-still first now next counts bytes a q =
         record { replies = a.replies; get = a.get; passed = still first now next _ a.passed q; line_count = a.line_count; reply_count = a.reply_count }
 
-module _ {B O : Type 0} (passes : O → List ℕ → O → Type 0) (d : Declared) where
+module _ {O : Type 0} (passes : O → List ℕ → O → Type 0) (d : Declared) where
   -- before the first byte
-  pub SoFar-start : (first : O) (p : Progress B) → passes first [] first → IsLeftBy d [] p.workbench →
+  pub SoFar-start : (first : O) (p : Progress) → passes first [] first → IsLeftBy d [] p.workbench →
       p.line ≡ held_line [] → p.counts.lines ≡ 0 → p.counts.replies ≡ 0 → SoFar passes d first first p []
   SoFar-start first p none is empty no_lines no_replies =
       record {
@@ -277,8 +281,12 @@ module _ {B O : Type 0} (passes : O → List ℕ → O → Type 0) (d : Declared
         reply_count = no_replies;
       }
 
+  -- the lines so far are those before the next
+  lines_before : {first now : O} {p : Progress} {bytes : List ℕ} (s : SoFar passes d first now p bytes) → length s.readings + 1 ≡ p.counts.lines + 1
+  lines_before s = ap (λ n. n + 1) (sym (s.line_count ∙ length-LinesComeTo d s.ended s.readings s.come))
+
   -- a piece with no line feed
-  pub SoFar-held : (first now : O) (p p' : Progress B) (bytes piece : List ℕ) →
+  pub SoFar-held : (first now : O) (p p' : Progress) (bytes piece : List ℕ) →
       SoFar passes d first now p bytes → HasNoEnd piece → p'.workbench ≡ p.workbench → p'.counts ≡ p.counts →
       ((line : List ℕ) → p.line ≡ held_line line → p'.line ≡ held_line (line ++ piece)) → p.counts.lines < most_lines →
       SoFar passes d first now p' (bytes ++ piece)
@@ -303,12 +311,12 @@ module _ {B O : Type 0} (passes : O → List ℕ → O → Type 0) (d : Declared
 
   module _ (joins : (s t u : O) (xs ys : List ℕ) → passes s xs t → passes t ys u → passes s (xs ++ ys) u) where
     -- a line feed, and the reply to the line that it ends
-    pub SoFar-ended : (first now next : O) (p p' : Progress B) (replied : Bool) (bytes : List ℕ) → SoFar passes d first now p bytes →
+    pub SoFar-ended : (first now next : O) (p p' : Progress) (replied : Bool) (bytes : List ℕ) → SoFar passes d first now p bytes →
         PassesHeldReply passes d (p.counts.lines + 1) p.line p.workbench p'.workbench now next replied →
         p'.line ≡ held_line [] → p'.counts.lines ≡ p.counts.lines + 1 → p'.counts.replies ≡ p.counts.replies + (if replied then 1 else 0) →
         p.counts.lines < most_lines → SoFar passes d first next p' (bytes ++ line_feed ∷ [])
     SoFar-ended first now next p p' replied bytes s answers empty one_line one_reply more =
-        let a : PassesReply passes d (p.counts.lines + 1) s.readings s.last p'.workbench now next replied = answers s.readings s.last s.left s.held in
+        let a : PassesReply passes d (p.counts.lines + 1) s.readings s.last p'.workbench now next replied = answers s.readings s.last s.left (lines_before s) s.held in
         let whole = text_and_end s.ended s.last bytes s.whole in
         let no_end = ended_more s.ended s.last s.no_end s.unended in
         let lines : lines_of (bytes ++ 10 ∷ []) ≡ (s.ended ++ s.last ∷ []) ++ [] = all_lines (bytes ++ 10 ∷ []) (s.ended ++ s.last ∷ []) [] whole no_end tt in
@@ -334,11 +342,11 @@ module _ {B O : Type 0} (passes : O → List ℕ → O → Type 0) (d : Declared
         }
 
     -- a line feed, and a failure while the reply to the line that it ends was passed
-    pub SoFar-failed : (first now next : O) (p : Progress B) (bytes : List ℕ) → SoFar passes d first now p bytes →
+    pub SoFar-failed : (first now next : O) (p : Progress) (bytes : List ℕ) → SoFar passes d first now p bytes →
         FailsInHeldReply passes d (p.counts.lines + 1) p.line p.workbench now next →
         p.counts.lines < most_lines → FrontSoFar passes d first next (bytes ++ line_feed ∷ [])
     SoFar-failed first now next p bytes s fails more =
-        let f : FailsInReply passes d (p.counts.lines + 1) s.readings s.last now next = fails s.readings s.last s.left s.held in
+        let f : FailsInReply passes d (p.counts.lines + 1) s.readings s.last now next = fails s.readings s.last s.left (lines_before s) s.held in
         record {
           ended = s.ended ++ s.last ∷ [];
           rest = [];
@@ -353,7 +361,7 @@ module _ {B O : Type 0} (passes : O → List ℕ → O → Type 0) (d : Declared
         }
 
   -- the last line that a run answers has ended, and more comes
-  pub SoFar-limit : (first now : O) (p : Progress B) (before bytes done rest : List ℕ) → SoFar passes d first now p (before ++ done) →
+  pub SoFar-limit : (first now : O) (p : Progress) (before bytes done rest : List ℕ) → SoFar passes d first now p (before ++ done) →
       p.counts.lines ≡ most_lines → bytes ≡ done ++ rest → 0 < length rest → LimitSoFar passes d first now before bytes
   SoFar-limit first now p before bytes done rest s count parts some =
       let lines = all_lines (before ++ done) s.ended s.last s.whole s.no_end s.unended in
@@ -376,7 +384,7 @@ module _ {B O : Type 0} (passes : O → List ℕ → O → Type 0) (d : Declared
   -- ---- the end
 
   -- a text whose last line feed is its last byte, or an empty one
-  pub SoFar-all : (first now : O) (p : Progress B) (bytes : List ℕ) → SoFar passes d first now p bytes → p.line ≡ held_line [] →
+  pub SoFar-all : (first now : O) (p : Progress) (bytes : List ℕ) → SoFar passes d first now p bytes → p.line ≡ held_line [] →
       PassesAll passes d first now p.counts bytes
   SoFar-all first now p bytes s empty =
       let none : s.last ≡ [] = held_nothing s.last (sym s.held ∙ empty) in
@@ -391,7 +399,7 @@ module _ {B O : Type 0} (passes : O → List ℕ → O → Type 0) (d : Declared
       }
 
   -- a line feed after a last line that has none changes no line
-  lines_and_end : (first now : O) (p : Progress B) (bytes : List ℕ)
+  lines_and_end : (first now : O) (p : Progress) (bytes : List ℕ)
       (s : SoFar passes d first now p bytes) → 0 < length s.last → lines_of (bytes ++ 10 ∷ []) ≡ lines_of bytes
   lines_and_end first now p bytes s some =
       all_lines (bytes ++ 10 ∷ []) (s.ended ++ s.last ∷ []) [] (text_and_end s.ended s.last bytes s.whole) (ended_more s.ended s.last s.no_end s.unended) tt
@@ -400,21 +408,21 @@ module _ {B O : Type 0} (passes : O → List ℕ → O → Type 0) (d : Declared
       ∙ sym (all_lines bytes s.ended s.last s.whole s.no_end s.unended)
 
   -- where nothing has come of a line, all lines are answered
-  pub SoFar-empty : (first now : O) (p : Progress B) (bytes : List ℕ) (test : Bool) →
+  pub SoFar-empty : (first now : O) (p : Progress) (bytes : List ℕ) (test : Bool) →
       ((line : List ℕ) → p.line ≡ held_line line → test ≡ eqb (length line) 0) → test ≡ true →
       SoFar passes d first now p bytes → PassesAll passes d first now p.counts bytes
   SoFar-empty first now p bytes test tests nothing s =
       let none : s.last ≡ [] = empty_line s.last (sym (tests s.last s.held) ∙ nothing) in
       SoFar-all first now p bytes s (s.held ∙ ap held_line none)
 
-  unended_same : (first now : O) (p : Progress B) (bytes : List ℕ) (test : Bool) →
+  unended_same : (first now : O) (p : Progress) (bytes : List ℕ) (test : Bool) →
       ((line : List ℕ) → p.line ≡ held_line line → test ≡ eqb (length line) 0) → test ≡ false →
       SoFar passes d first now p bytes → lines_of (bytes ++ 10 ∷ []) ≡ lines_of bytes
   unended_same first now p bytes test tests more s =
       lines_and_end first now p bytes s (some_line s.last (sym (tests s.last s.held) ∙ more))
 
   -- where the last line is answered as one that has ended, all lines are answered
-  pub SoFar-last : (first now next : O) (p p' : Progress B) (bytes : List ℕ) (test : Bool) →
+  pub SoFar-last : (first now next : O) (p p' : Progress) (bytes : List ℕ) (test : Bool) →
       ((line : List ℕ) → p.line ≡ held_line line → test ≡ eqb (length line) 0) → test ≡ false →
       SoFar passes d first now p bytes → SoFar passes d first next p' (bytes ++ 10 ∷ []) → p'.line ≡ held_line [] →
       PassesAll passes d first next p'.counts bytes
@@ -422,7 +430,7 @@ module _ {B O : Type 0} (passes : O → List ℕ → O → Type 0) (d : Declared
       PassesAll-unended passes d first next p'.counts bytes (unended_same first now p bytes test tests more s)
       (SoFar-all first next p' (bytes ++ 10 ∷ []) t empty)
 
-  pub SoFar-last_front : (first now next : O) (p : Progress B) (bytes : List ℕ) (test : Bool) →
+  pub SoFar-last_front : (first now next : O) (p : Progress) (bytes : List ℕ) (test : Bool) →
       ((line : List ℕ) → p.line ≡ held_line line → test ≡ eqb (length line) 0) → test ≡ false →
       SoFar passes d first now p bytes → FrontSoFar passes d first next (bytes ++ 10 ∷ []) → PassesFront passes d first next bytes
   SoFar-last_front first now next p bytes test tests more s f =
@@ -432,7 +440,7 @@ module _ {B O : Type 0} (passes : O → List ℕ → O → Type 0) (d : Declared
   -- ---- what was passed whole, and a flush
 
   -- the lines that end in the bytes are answered
-  pub SoFar-ended_lines : (first now : O) (p : Progress B) (bytes : List ℕ) → SoFar passes d first now p bytes → PassesEnded passes d first now bytes
+  pub SoFar-ended_lines : (first now : O) (p : Progress) (bytes : List ℕ) → SoFar passes d first now p bytes → PassesEnded passes d first now bytes
   SoFar-ended_lines first now p bytes s =
       record {
         ended = s.ended;
@@ -444,7 +452,7 @@ module _ {B O : Type 0} (passes : O → List ℕ → O → Type 0) (d : Declared
       }
 
   -- what was passed whole is a front of it
-  pub SoFar-front : (first now : O) (p : Progress B) (bytes : List ℕ) → SoFar passes d first now p bytes → FrontSoFar passes d first now bytes
+  pub SoFar-front : (first now : O) (p : Progress) (bytes : List ℕ) → SoFar passes d first now p bytes → FrontSoFar passes d first now bytes
   SoFar-front first now p bytes s =
       record {
         ended = s.ended;
@@ -458,7 +466,7 @@ module _ {B O : Type 0} (passes : O → List ℕ → O → Type 0) (d : Declared
       }
 
   module _ (joins : (s t u : O) (xs ys : List ℕ) → passes s xs t → passes t ys u → passes s (xs ++ ys) u) where
-    pub SoFar-still : (first now next : O) (p : Progress B) (bytes : List ℕ) → SoFar passes d first now p bytes → passes now [] next → SoFar passes d first next p bytes
+    pub SoFar-still : (first now next : O) (p : Progress) (bytes : List ℕ) → SoFar passes d first now p bytes → passes now [] next → SoFar passes d first next p bytes
     SoFar-still first now next p bytes s q =
         record {
           ended = s.ended;
@@ -477,7 +485,7 @@ module _ {B O : Type 0} (passes : O → List ℕ → O → Type 0) (d : Declared
         }
 
     -- a flush that failed after bytes that were answered, whole or up to the limit
-    pub flush_failed : (first now next : O) (p : Progress B) (before bytes : List ℕ) (fed : Fed) →
+    pub flush_failed : (first now next : O) (p : Progress) (before bytes : List ℕ) (fed : Fed) →
         (fed ≡ feds.Whole → SoFar passes d first now p (before ++ bytes)) →
         (fed ≡ feds.PastLimit → LimitSoFar passes d first now before bytes) →
         passes now [] next → FrontSoFar passes d first next (before ++ bytes)
@@ -569,7 +577,7 @@ module _ {I O : Type 0} (takes : I → List ℕ → I → Type 0) (passes : O �
       }
 
   -- there is one byte more than a run answers
-  pub replies_up_to_byte : {B : Type 0} (i i' : I) (o o' : O) (p : Progress B) (bytes more all : List ℕ) →
+  pub replies_up_to_byte : (i i' : I) (o o' : O) (p : Progress) (bytes more all : List ℕ) →
       takes i all i' → bytes ++ more ≡ all → length bytes ≡ most_bytes → length all ≡ most_bytes + 1 → SoFar passes d o o' p bytes →
       RepliesUpToLimit takes passes d i i' o o'
   replies_up_to_byte i i' o o' p bytes more all taken whole short long s =
@@ -598,6 +606,19 @@ module _ {O : Type 0} (passes : O → List ℕ → O → Type 0) (d : Declared) 
         passed = gathered_whole passes name first last s t _ named at none left a.passed ends;
       }
 
+  -- and so of all lines
+  gathered_all : (counts : Lines) (bytes : List ℕ) → (output_of s).ghost_name ≡ name → (output_of s).now ≡ first → held_of s ≡ [] → held_of t ≡ [] →
+      PassesAll (GatheredPasses passes) d s t counts bytes → (name ≡ (output_of t).ghost_name → last ≡ (output_of t).now) →
+      PassesAll passes d first last counts bytes
+  gathered_all counts bytes named at none left a ends =
+      record {
+        replies = a.replies;
+        get = a.get;
+        passed = gathered_whole passes name first last s t _ named at none left a.passed ends;
+        line_count = a.line_count;
+        reply_count = a.reply_count;
+      }
+
   -- where nothing was held at first, of a front that was passed to it a front was passed to its output
   gathered_front : (bytes : List ℕ) → (output_of s).ghost_name ≡ name → (output_of s).now ≡ first → held_of s ≡ [] →
       PassesFront (GatheredPasses passes) d s t bytes → (name ≡ (output_of t).ghost_name → last ≡ (output_of t).now) →
@@ -615,6 +636,12 @@ module _ {O : Type 0} (passes : O → List ℕ → O → Type 0) (d : Declared) 
 
   -- the same of a whole run
   module _ {I : Type 0} (takes : I → List ℕ → I → Type 0) (i i' : I) where
+    pub gathered_to_all : (counts : Lines) → (output_of s).ghost_name ≡ name → (output_of s).now ≡ first → held_of s ≡ [] → held_of t ≡ [] →
+        RepliesToAll takes (GatheredPasses passes) d i i' s t counts → (name ≡ (output_of t).ghost_name → last ≡ (output_of t).now) →
+        RepliesToAll takes passes d i i' first last counts
+    gathered_to_all counts named at none left a ends =
+        record { bytes = a.bytes; taken = a.taken; within = a.within; passed = gathered_all counts a.bytes named at none left a.passed ends }
+
     pub gathered_to_ended : (output_of s).ghost_name ≡ name → (output_of s).now ≡ first → held_of s ≡ [] → held_of t ≡ [] →
         RepliesToEnded takes (GatheredPasses passes) d i i' s t → (name ≡ (output_of t).ghost_name → last ≡ (output_of t).now) →
         RepliesToEnded takes passes d i i' first last
@@ -632,6 +659,24 @@ module _ {O : Type 0} (passes : O → List ℕ → O → Type 0) (d : Declared) 
         RepliesInPart takes passes d i i' first last
     gathered_in_part named at none p ends =
         record { bytes = p.bytes; taken = p.taken; most = p.most; passed = gathered_front p.bytes named at none p.passed ends }
+
+-- where nothing was taken and nothing was passed, a front of no replies was
+pub nothing_in_part : {I O : Type 0} (takes : I → List ℕ → I → Type 0) (passes : O → List ℕ → O → Type 0) (d : Declared) (i : I) (o : O) →
+    takes i [] i → passes o [] o → RepliesInPart takes passes d i i o o
+nothing_in_part takes passes d i o taken none = record {
+  bytes = [];
+  taken = taken;
+  most = omega arith;
+  passed = record {
+    lines = [];
+    others = [];
+    replies = [];
+    first = refl;
+    few = omega arith;
+    get = record { readings = []; come = tt; plain = λ _. tt; replies_are = refl };
+    front = record { count = 0; within = omega arith; part = none };
+  };
+}
 
 module _ {I : Type 0} (takes : I → List ℕ → I → Type 0) (joins : (s t u : I) (xs ys : List ℕ) → takes s xs t → takes t ys u → takes s (xs ++ ys) u) where
   -- a take that failed takes nothing

@@ -1,11 +1,11 @@
 -- The relation of words and sentence, and the function, agree.
-use Rattle.std.proofs.Common.{◌≡◌, ◌≢◌, ℕ, true, false, List, [], ◌∷◌, Option, None, Some, refl, sym, ap, ◌∙◌, subst, inl, inr, rules}
+use Rattle.std.proofs.Common.{◌≡◌, ◌≢◌, ℕ, ◌<◌, true, false, List, [], ◌∷◌, ◌++◌, length, Option, None, Some, refl, sym, ap, ◌∙◌, subst, inl, inr, arith, rules}
 use Rattle.std.specs.Prelude.{option_map, codes}
 use Rattle.std.proofs.lemmas.Bool.{cases_Bool, false≢true}
 use Rattle.std.proofs.lemmas.Slice.Eq.{bytes_eq-Decides}
 use Rattle.std.specs.Str.{bytes_eq}
-use Rattle.pw_transcript.specs.Sentence.{Said, Tell, Believe, Doubt, Ask, Other, Sentence, NamesNoCommand, IsSaid, IsSentence}
-use Rattle.pw_transcript.specs.Steps.Forms.{tell_form, premises_form, ask_form, said_form, sentence_by, sentence_form}
+use Rattle.pw_transcript.specs.Sentence.{Said, Tell, Attach, Believe, Doubt, Ask, Other, Sentence, NamesNoCommand, IsUnder, AreNoUnder, IsSaid, IsSentence}
+use Rattle.pw_transcript.specs.Steps.Forms.{under_form, tell_form, before_under, from_under, attach_form, premises_form, ask_form, said_form, sentence_by, sentence_form}
 
 -- words that differ are found to differ
 differ : (a b : List ℕ) → a ≢ b → bytes_eq a b ≡ false
@@ -18,17 +18,68 @@ differ a b apart = elim (cases_Bool (bytes_eq a b)) [
 apart : (a b : List ℕ) → bytes_eq a b ≡ false → a ≢ b
 apart a b other same = false≢true (sym other ∙ (bytes_eq-Decides a b).1 same)
 
+-- ---- the cells of an attach, and what comes after them
+
+-- what stands before the first `under`, and what stands from it on, are all the words
+parts : (words : List (List ℕ)) → words ≡ before_under words ++ from_under words
+parts [] = refl
+parts (word ∷ words) = elim (cases_Bool (bytes_eq word (codes "under"))) [
+  | inl ends ↦ rw ends refl
+  | inr more ↦ rw more (ap (λ (l : List (List ℕ)). word ∷ l) (parts words))
+]
+
+-- before the first `under` there is none
+no_under : (words : List (List ℕ)) → AreNoUnder (before_under words)
+no_under [] = tt
+no_under (word ∷ words) = elim (cases_Bool (bytes_eq word (codes "under"))) [
+  | inl ends ↦ rw ends tt
+  | inr more ↦ rw more (apart word (codes "under") more, no_under words)
+]
+
+-- what begins with `under`, or is empty, has no word before it
+no_cell : (tail premises : List (List ℕ)) → IsUnder tail premises → (before_under tail ≡ []) × (from_under tail ≡ tail)
+no_cell tail [] is = rw is (refl, refl)
+no_cell tail (premise ∷ premises) is = rw is (refl, refl)
+
+-- words of which none is `under` stand before it
+cells_first : (cells tail premises : List (List ℕ)) → AreNoUnder cells → IsUnder tail premises →
+    (before_under (cells ++ tail) ≡ cells) × (from_under (cells ++ tail) ≡ tail)
+cells_first [] tail premises none under = no_cell tail premises under
+cells_first (cell ∷ cells) tail premises none under =
+    let rest = cells_first cells tail premises none.1 under in
+    rw (differ cell (codes "under") none.0) (ap (λ (l : List (List ℕ)). cell ∷ l) rest.0, rest.1)
+
+-- the end of a command gives its premises
+given_under : (tail premises : List (List ℕ)) → IsUnder tail premises → under_form tail ≡ Some premises
+given_under tail premises is = search rules
+
+-- and what gives premises is such an end
+found_under : (tail premises : List (List ℕ)) → under_form tail ≡ Some premises → IsUnder tail premises
+found_under tail premises is = search rules
+
+-- a callable, cells and such an end give an attach
+given_attach : (callable : List ℕ) (cells tail premises : List (List ℕ)) → 0 < length cells → AreNoUnder cells → IsUnder tail premises →
+    attach_form (callable ∷ cells ++ tail) ≡ Some (Attach callable cells premises)
+given_attach callable [] tail premises some none under = absurd (omega arith)
+given_attach callable (cell ∷ cells) tail premises some none under =
+    let rest = cells_first cells tail premises none.1 under in
+    rw (differ cell (codes "under") none.0)
+    (ap (λ (l : List (List ℕ)). option_map (Attach callable (cell ∷ l)) (under_form (from_under (cells ++ tail)))) rest.0
+    ∙ ap (λ (l : List (List ℕ)). option_map (Attach callable (cell ∷ cells)) (under_form l)) rest.1
+    ∙ ap (option_map (Attach callable (cell ∷ cells))) (given_under tail premises under))
+
 -- what stands after the user, as one list
 abbrev after_user : List (List ℕ) → Option Said
 after_user [] = None
 after_user (name ∷ rest) = said_form name rest
 
 other_form : (name : List ℕ) (rest : List (List ℕ)) → NamesNoCommand name → said_form name rest ≡ Some Other
-other_form name rest (no_tell, (no_believe, (no_doubt, (no_ask, none)))) =
-    rw (differ name (codes "tell") no_tell, differ name (codes "believe") no_believe, differ name (codes "doubt") no_doubt, differ name (codes "ask") no_ask) refl
+other_form name rest (no_tell, (no_attach, (no_believe, (no_doubt, (no_ask, none))))) =
+    rw (differ name (codes "tell") no_tell, differ name (codes "attach") no_attach, differ name (codes "believe") no_believe, differ name (codes "doubt") no_doubt, differ name (codes "ask") no_ask) refl
 
 given_said : (words : List (List ℕ)) (said : Said) → IsSaid words said → after_user words ≡ Some said
 given_said words (Tell cell info premises) is = search rules
+given_said words (Attach callable cells premises) (tail, is, some, none, under) = ap after_user is ∙ given_attach callable cells tail premises some none under
 given_said words (Believe premises) is = search rules
 given_said words (Doubt premises) is = search rules
 given_said words (Ask cell) is = search rules
@@ -46,6 +97,24 @@ given words sentence (rest, is, said) =
 found_tell : (rest : List (List ℕ)) (said : Said) → tell_form rest ≡ Some said → IsSaid (codes "tell" ∷ rest) said
 found_tell rest said is = search rules
 
+-- where there are premises, or none is wanted, the cells and the premises make an attach
+attached : (callable cell : List ℕ) (words : List (List ℕ)) (o : Option (List (List ℕ))) (said : Said) → bytes_eq cell (codes "under") ≡ false →
+    under_form (from_under words) ≡ o → option_map (Attach callable (cell ∷ before_under words)) o ≡ Some said → IsSaid (codes "attach" ∷ callable ∷ cell ∷ words) said
+attached callable cell words None said more under is = absurd (cc)
+attached callable cell words (Some premises) said more under is =
+    let same : Attach callable (cell ∷ before_under words) premises ≡ said = cc in
+    subst (IsSaid (codes "attach" ∷ callable ∷ cell ∷ words)) same
+    (from_under words, ap (λ (l : List (List ℕ)). codes "attach" ∷ callable ∷ cell ∷ l) (parts words), omega arith, (apart cell (codes "under") more, no_under words), found_under (from_under words) premises under)
+
+-- and what gives an attach is a callable, cells and such an end
+found_attach : (rest : List (List ℕ)) (said : Said) → attach_form rest ≡ Some said → IsSaid (codes "attach" ∷ rest) said
+found_attach [] said is = absurd (cc)
+found_attach (callable ∷ []) said is = absurd (cc)
+found_attach (callable ∷ cell ∷ words) said is = elim (cases_Bool (bytes_eq cell (codes "under"))) [
+  | inl ends ↦ let none : None ≡ Some said = rw ends at is in absurd (cc)
+  | inr more ↦ attached callable cell words (under_form (from_under words)) said more refl (rw more at is)
+]
+
 found_believe : (rest : List (List ℕ)) (said : Said) → premises_form Believe rest ≡ Some said → IsSaid (codes "believe" ∷ rest) said
 found_believe rest said is = search rules
 
@@ -62,17 +131,20 @@ named name word rest said same is = subst (λ (w : List ℕ). IsSaid (w ∷ rest
 found_said : (name : List ℕ) (rest : List (List ℕ)) (said : Said) → said_form name rest ≡ Some said → IsSaid (name ∷ rest) said
 found_said name rest said is = elim (cases_Bool (bytes_eq name (codes "tell"))) [
   | inl same ↦ named name (codes "tell") rest said same (found_tell rest said (rw same at is))
-  | inr no_tell ↦ elim (cases_Bool (bytes_eq name (codes "believe"))) [
-    | inl same ↦ named name (codes "believe") rest said same (found_believe rest said (rw (no_tell, same) at is))
-    | inr no_believe ↦ elim (cases_Bool (bytes_eq name (codes "doubt"))) [
-      | inl same ↦ named name (codes "doubt") rest said same (found_doubt rest said (rw (no_tell, no_believe, same) at is))
-      | inr no_doubt ↦ elim (cases_Bool (bytes_eq name (codes "ask"))) [
-        | inl same ↦ named name (codes "ask") rest said same (found_ask rest said (rw (no_tell, no_believe, no_doubt, same) at is))
-        | inr no_ask ↦
-            let other : Some Other ≡ Some said = rw (no_tell, no_believe, no_doubt, no_ask) at is in
-            let same : Other ≡ said = cc in
-            subst (IsSaid (name ∷ rest)) same
-            (name, rest, refl, (apart name (codes "tell") no_tell, (apart name (codes "believe") no_believe, (apart name (codes "doubt") no_doubt, (apart name (codes "ask") no_ask, tt)))))
+  | inr no_tell ↦ elim (cases_Bool (bytes_eq name (codes "attach"))) [
+    | inl same ↦ named name (codes "attach") rest said same (found_attach rest said (rw (no_tell, same) at is))
+    | inr no_attach ↦ elim (cases_Bool (bytes_eq name (codes "believe"))) [
+      | inl same ↦ named name (codes "believe") rest said same (found_believe rest said (rw (no_tell, no_attach, same) at is))
+      | inr no_believe ↦ elim (cases_Bool (bytes_eq name (codes "doubt"))) [
+        | inl same ↦ named name (codes "doubt") rest said same (found_doubt rest said (rw (no_tell, no_attach, no_believe, same) at is))
+        | inr no_doubt ↦ elim (cases_Bool (bytes_eq name (codes "ask"))) [
+          | inl same ↦ named name (codes "ask") rest said same (found_ask rest said (rw (no_tell, no_attach, no_believe, no_doubt, same) at is))
+          | inr no_ask ↦
+              let other : Some Other ≡ Some said = rw (no_tell, no_attach, no_believe, no_doubt, no_ask) at is in
+              let same : Other ≡ said = cc in
+              subst (IsSaid (name ∷ rest)) same
+              (name, rest, refl, (apart name (codes "tell") no_tell, (apart name (codes "attach") no_attach, (apart name (codes "believe") no_believe, (apart name (codes "doubt") no_doubt, (apart name (codes "ask") no_ask, tt))))))
+        ]
       ]
     ]
   ]

@@ -5,6 +5,11 @@ use Rattle.std.specs.FinSet.{from_list}
 use Rattle.pw_info.specs.declared.info.Info.{Info}
 use Rattle.pw_info.specs.Spelling.{SpellsInfo}
 use Rattle.pw_procs.specs.Place.{place_of_name}
+use Rattle.pw_procs.specs.declared.arguments.Arguments.{Arguments}
+use Rattle.pw_procs.specs.Arguments.{cells_of}
+use Rattle.pw_procs.specs.Shapes.{most_cells}
+use Rattle.pw_decl.specs.declared.step.Callable.{Callable}
+use Rattle.pw_decl.specs.Compound.{kinds_at}
 use Rattle.pw_sessions.specs.declared.command.Command.{Command}
 use Rattle.pw_sessions.specs.declared.command.Command.TheVariants as commands
 use Rattle.pw_sessions.specs.declared.reply.Refusal.{Refusal}
@@ -12,9 +17,9 @@ use Rattle.pw_sessions.specs.declared.reply.Refusal.TheVariants as refusal
 use Rattle.pw_sessions.specs.LineReading.{LineReading, Blank, Refused, Says}
 use Rattle.pw_premises.specs.Premises.{Premises}
 use Rattle.pw_info.specs.First.{IsFirstIn, HoldsOfNone}
-use Rattle.pw_decl.specs.Declaration.{Declared, owner_of, kind_at, members_of}
+use Rattle.pw_decl.specs.Declaration.{Declared, Takes, callable_named, owner_of, kind_at, members_of}
 use Rattle.pw_transcript.specs.Limits.{most_line_bytes}
-use Rattle.pw_transcript.specs.Sentence.{Said, Tell, Believe, Doubt, Ask, Other, Sentence, IsSentence}
+use Rattle.pw_transcript.specs.Sentence.{Said, Tell, Attach, Believe, Doubt, Ask, Other, Sentence, IsSentence}
 use Rattle.pw_info.specs.Words.{words_of, is_idle, is_allowed}
 
 -- ---- what the declaration says of names
@@ -31,13 +36,26 @@ abbrev pub may_use_at : Declared → ℕ → Option ℕ → Bool
 may_use_at d user None = true
 may_use_at d user (Some premise) = is_owner user (owner_of d premise)
 
--- the user may tell under the premise that the word names: it belongs to no user, or to this one
+-- the user may tell or attach under the premise that the word names: it belongs to no user, or to this one
 abbrev pub may_use : Declared → ℕ → List ℕ → Bool
 may_use d user word = may_use_at d user (place_of_name d.premises word)
 
 -- the premises that the words name
 abbrev pub premises_of : Declared → List (List ℕ) → Premises
 premises_of d words = from_list (filter_map (place_of_name d.premises) words)
+
+-- the word names a cell
+abbrev pub is_cell : Declared → List ℕ → Bool
+is_cell d word = is_some (place_of_name d.cells word)
+
+-- the cells that the words name
+abbrev pub cells_named : Declared → List (List ℕ) → List ℕ
+cells_named d words = filter_map (place_of_name d.cells) words
+
+-- the arguments are these cells. That the numbers are held in nine places is true of all arguments in the code: so there are
+-- no others with the same cells
+abbrev pub HoldsCells : Arguments → List ℕ → Type 0
+HoldsCells arguments cells = (cells_of arguments ≡ cells) × (length arguments.held ≡ most_cells)
 
 -- ---- sentences
 
@@ -46,6 +64,11 @@ abbrev pub MeansFor : Declared → ℕ → Said → Command → Type 0
 MeansFor d user (Tell cell_word info_word words) command =
     (cell : ℕ) × (info : Info) × (place_of_name d.cells cell_word ≡ Some cell) × SpellsInfo (members_of d) info_word (kind_at d cell) info
     × (command ≡ commands.Tell user cell (record { info = info; support = premises_of d words }))
+MeansFor d user (Attach callable_word cell_words words) command =
+    (callable : Callable) × (cells : Arguments) × (callable_named d callable_word ≡ Some callable)
+    × (list_all (is_cell d) cell_words ≡ true) × HoldsCells cells (cells_named d cell_words)
+    × Takes d callable (kinds_at d.kinds (cells_of cells))
+    × (command ≡ commands.Attach user callable cells (premises_of d words))
 MeansFor d user (Believe words) command = command ≡ commands.Believe user (premises_of d words)
 MeansFor d user (Doubt words) command = command ≡ commands.Doubt user (premises_of d words)
 MeansFor d user (Ask cell_word) command =
@@ -58,6 +81,7 @@ Means d sentence command = (user : ℕ) × (place_of_name d.users sentence.user 
 
 abbrev pub premise_words_of : Said → List (List ℕ)
 premise_words_of (Tell cell info premises) = premises
+premise_words_of (Attach callable cells premises) = premises
 premise_words_of (Believe premises) = premises
 premise_words_of (Doubt premises) = premises
 premise_words_of said = []
@@ -68,8 +92,14 @@ HasUnknownCommand said = ⊥
 
 abbrev pub HasUnknownCell : Declared → Said → Type 0
 HasUnknownCell d (Tell cell info premises) = place_of_name d.cells cell ≡ None
+HasUnknownCell d (Attach callable cells premises) = list_all (is_cell d) cells ≡ false
 HasUnknownCell d (Ask cell) = place_of_name d.cells cell ≡ None
 HasUnknownCell d said = ⊥
+
+-- the word names neither a procedure nor a compound
+abbrev pub HasUnknownProcedure : Declared → Said → Type 0
+HasUnknownProcedure d (Attach callable cells premises) = callable_named d callable ≡ None
+HasUnknownProcedure d said = ⊥
 
 -- the word spells no information of the cell's kind
 abbrev pub HasWrongInformation : Declared → Said → Type 0
@@ -78,12 +108,20 @@ HasWrongInformation d (Tell cell_word info_word premises) =
     × ((info : Info) → SpellsInfo (members_of d) info_word (kind_at d cell) info → ⊥)
 HasWrongInformation d said = ⊥
 
+-- the callable does not take cells of these kinds, or so many
+abbrev pub HasWrongArguments : Declared → Said → Type 0
+HasWrongArguments d (Attach callable_word cells premises) =
+    (callable : Callable) × (callable_named d callable_word ≡ Some callable)
+    × (Takes d callable (kinds_at d.kinds (cells_named d cells)) → ⊥)
+HasWrongArguments d said = ⊥
+
 abbrev pub HasUnknownPremise : Declared → Said → Type 0
 HasUnknownPremise d said = list_all (is_known d) (premise_words_of said) ≡ false
 
--- a tell by this user under a premise of another user
+-- a tell or an attach by this user under a premise of another user
 abbrev pub HasAnothersPremise : Declared → ℕ → Said → Type 0
 HasAnothersPremise d user (Tell cell info premises) = list_all (may_use d user) premises ≡ false
+HasAnothersPremise d user (Attach callable cells premises) = list_all (may_use d user) premises ≡ false
 HasAnothersPremise d user said = ⊥
 
 -- the condition of each refusal on a sentence
@@ -92,6 +130,8 @@ RefusalAppliesTo d sentence refusal.UnknownUser = place_of_name d.users sentence
 RefusalAppliesTo d sentence refusal.UnknownCommand = HasUnknownCommand sentence.said
 RefusalAppliesTo d sentence refusal.UnknownCell = HasUnknownCell d sentence.said
 RefusalAppliesTo d sentence refusal.WrongInformation = HasWrongInformation d sentence.said
+RefusalAppliesTo d sentence refusal.UnknownProcedure = HasUnknownProcedure d sentence.said
+RefusalAppliesTo d sentence refusal.WrongArguments = HasWrongArguments d sentence.said
 RefusalAppliesTo d sentence refusal.UnknownPremise = HasUnknownPremise d sentence.said
 RefusalAppliesTo d sentence refusal.NotYourPremise =
     (user : ℕ) × (place_of_name d.users sentence.user ≡ Some user) × HasAnothersPremise d user sentence.said
@@ -102,8 +142,8 @@ RefusalAppliesTo d sentence refusal.Memory = ⊥
 -- the refusals of a sentence, in the order in which they are tried
 abbrev pub sentence_refusals : List Refusal
 sentence_refusals =
-    refusal.UnknownUser ∷ refusal.UnknownCommand ∷ refusal.UnknownCell ∷ refusal.WrongInformation ∷ refusal.UnknownPremise
-    ∷ refusal.NotYourPremise ∷ []
+    refusal.UnknownUser ∷ refusal.UnknownCommand ∷ refusal.UnknownCell ∷ refusal.UnknownProcedure ∷ refusal.WrongInformation
+    ∷ refusal.WrongArguments ∷ refusal.UnknownPremise ∷ refusal.NotYourPremise ∷ []
 
 -- no refusal applies to the sentence
 abbrev pub IsUnrefused : Declared → Sentence → Type 0

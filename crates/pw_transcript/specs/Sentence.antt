@@ -1,10 +1,11 @@
 -- The form of a command line: who speaks, and the words of the command by what they are there for. No name is looked up.
-use Rattle.std.specs.Prelude.{◌≡◌, ◌≢◌, ℕ, ◌<◌, List, [], ◌∷◌, length, codes}
+use Rattle.std.specs.Prelude.{◌≡◌, ◌≢◌, ℕ, ◌<◌, List, [], ◌∷◌, ◌++◌, length, codes}
 use Rattle.std.specs.List.{AllByRecursion}
 
 -- what is said: the words of a command, by what they are there for
 pub data Said : Type 0 where
   Tell : (cell info : List ℕ) (premises : List (List ℕ)) → Said
+  Attach : (callable : List ℕ) (cells premises : List (List ℕ)) → Said
   Believe : (premises : List (List ℕ)) → Said
   Doubt : (premises : List (List ℕ)) → Said
   Ask : (cell : List ℕ) → Said
@@ -17,21 +18,28 @@ pub record Sentence : Type 0 where
 
 -- the words that name commands
 abbrev pub command_names : List (List ℕ)
-command_names = codes "tell" ∷ codes "believe" ∷ codes "doubt" ∷ codes "ask" ∷ []
+command_names = codes "tell" ∷ codes "attach" ∷ codes "believe" ∷ codes "doubt" ∷ codes "ask" ∷ []
 
 -- the word names no command
 abbrev pub NamesNoCommand : List ℕ → Type 0
 NamesNoCommand word = AllByRecursion (λ name. word ≢ name) command_names
 
--- the end of a tell: nothing where it has no premise, else the word `under` and the premises
+-- the end of a tell or of an attach: nothing where it has no premise, else the word `under` and the premises
 abbrev pub IsUnder : List (List ℕ) → List (List ℕ) → Type 0
 IsUnder tail [] = tail ≡ []
 IsUnder tail (premise ∷ premises) = tail ≡ codes "under" ∷ premise ∷ premises
+
+-- none of the words is `under`: the first that is one, after the callable, ends the cells of an attach
+abbrev pub AreNoUnder : List (List ℕ) → Type 0
+AreNoUnder words = AllByRecursion (λ word. word ≢ codes "under") words
 
 -- this is said by the words after the user; where the first of them names no command it is `Other`, whatever follows
 abbrev pub IsSaid : List (List ℕ) → Said → Type 0
 IsSaid words (Tell cell info premises) =
     (tail : List (List ℕ)) × (words ≡ codes "tell" ∷ cell ∷ info ∷ tail) × IsUnder tail premises
+IsSaid words (Attach callable cells premises) =
+    (tail : List (List ℕ)) × (words ≡ codes "attach" ∷ callable ∷ cells ++ tail) × (0 < length cells) × AreNoUnder cells
+    × IsUnder tail premises
 IsSaid words (Believe premises) = (words ≡ codes "believe" ∷ premises) × (0 < length premises)
 IsSaid words (Doubt premises) = (words ≡ codes "doubt" ∷ premises) × (0 < length premises)
 IsSaid words (Ask cell) = words ≡ codes "ask" ∷ cell ∷ []

@@ -1,5 +1,6 @@
 -- What only the steps of the code and their proofs speak of.
 pub mod Answering
+pub mod Fields
 pub mod Forms
 pub mod Gatherers
 pub mod Gathering

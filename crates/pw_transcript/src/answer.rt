@@ -1,8 +1,10 @@
 // The answer to one line.
 
-ghost use Rattle.std.specs.Prelude.{◌≡◌, true, false, IfSome, IfOk, OnOk, OnErr};
+ghost use Rattle.std.specs.Prelude.{◌≡◌, ◌+◌, ◌≤◌, true, false, IfSome, IfOk, OnOk, OnErr};
 ghost use Rattle.std.specs.Option.{option_copied};
 ghost use Rattle.pw_decl.specs.Fields.{declared_by};
+ghost use Rattle.pw_sessions.specs.Fields.{workbench_by};
+ghost use Rattle.pw_transcript.specs.Limits.{most_lines};
 ghost use Rattle.pw_transcript.specs.Steps.Answering.{IsLeft, RepliesToHeld, PassesHeldReply, FailsInHeldReply};
 ghost use Rattle.pw_transcript.specs.ReplyText.{IsReplyNamed};
 
@@ -13,17 +15,19 @@ use pw_info::{Failed, Output};
 use pw_sessions::{Refusal, Reply, Workbench};
 use std::alloc::Allocator;
 
-// The reply to a line, None where it gets none. The line is handed in where it has at most 1,024 bytes.
-fn reply_to_line<A: Allocator + Copy, B: Allocator + Copy>(
+// The reply to the line of this number, None where it gets none. The line is handed in where it has at most 1,024 bytes.
+fn reply_to_line<A: Allocator + Copy>(
     declaration: &Declaration<'_, A>,
+    number: u32,
     line: Option<&[u8]>,
-    workbench: &mut Workbench<B>,
+    workbench: &mut Workbench<'_, '_, A>,
 ) -> Option<Reply>
-    requires left { IsLeft (declared_by declaration.now) workbench.old }
+    requires left { IsLeft (declared_by declaration.now) number (workbench_by workbench.old) }
+    requires most { number ≤ most_lines }
     ensures named { IfSome result (λ reply. IsReplyNamed (declared_by declaration.now) reply) }
-    ensures reply { RepliesToHeld (declared_by declaration.now)
-        (option_copied line.entry) workbench.old workbench.new result }
-    ensures left { IsLeft (declared_by declaration.now) workbench.new }
+    ensures reply { RepliesToHeld (declared_by declaration.now) number (option_copied line.entry)
+        (workbench_by workbench.old) (workbench_by workbench.new) result }
+    ensures left { IsLeft (declared_by declaration.now) (number + 1) (workbench_by workbench.new) }
 {
     // Cells have kinds whose members are named.
     declaration.limits();
@@ -32,7 +36,7 @@ fn reply_to_line<A: Allocator + Copy, B: Allocator + Copy>(
     };
     match read_command(line, declaration) {
         Ok(None) => None,
-        Ok(Some(command)) => Some(workbench.carry_out(&command)),
+        Ok(Some(command)) => Some(workbench.command(number, &command)),
         Err(refusal) => Some(Reply::Refused(refusal)),
     }
 }
@@ -40,24 +44,26 @@ fn reply_to_line<A: Allocator + Copy, B: Allocator + Copy>(
 /// Answers a line of this number: its reply, if it gets one, is passed to the output. The line is handed in where it
 /// has at most 1,024 bytes. The answer is whether there was a reply; `Failed` where the output failed, and a front of
 /// the reply was passed then.
-pub(crate) fn answer_line<A: Allocator + Copy, B: Allocator + Copy, O: Output>(
+pub(crate) fn answer_line<A: Allocator + Copy, O: Output>(
     d: &Declaration<'_, A>,
     number: u32,
     line: Option<&[u8]>,
-    workbench: &mut Workbench<B>,
+    workbench: &mut Workbench<'_, '_, A>,
     output: &mut O,
 ) -> Result<bool, Failed>
-    requires left { IsLeft (declared_by d.now) workbench.old }
-    ensures ok { IfOk result (PassesHeldReply O.passes (declared_by d.now) number (option_copied line.entry)
-        workbench.old workbench.new output.old output.new) }
-    ensures err { OnErr result (FailsInHeldReply O.passes (declared_by d.now) number (option_copied line.entry)
-        workbench.old output.old output.new) }
+    requires left { IsLeft (declared_by d.now) number (workbench_by workbench.old) }
+    requires most { number ≤ most_lines }
+    ensures ok { IfOk result (PassesHeldReply O.passes (declared_by d.now) number
+        (option_copied line.entry) (workbench_by workbench.old) (workbench_by workbench.new)
+        output.old output.new) }
+    ensures err { OnErr result (FailsInHeldReply O.passes (declared_by d.now) number
+        (option_copied line.entry) (workbench_by workbench.old) output.old output.new) }
     ensures failed { OnErr result (O.has_failed output.new ≡ true) }
     ensures works { OnOk result (O.has_failed output.old ≡ false
         → O.has_failed output.new ≡ false) }
-    ensures left { IsLeft (declared_by d.now) workbench.new }
+    ensures left { IsLeft (declared_by d.now) (number + 1) (workbench_by workbench.new) }
 {
-    let Some(reply) = reply_to_line(d, line, workbench) else {
+    let Some(reply) = reply_to_line(d, number, line, workbench) else {
         return Ok(false);
     };
     match write_reply(number, &reply, d, output) {

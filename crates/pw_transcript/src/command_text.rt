@@ -1,25 +1,30 @@
 //! Reading a line of a transcript: its form first, then its names, in the order in which refusals are tried.
 
-ghost use Rattle.std.specs.Prelude.{◌≡◌, true, false, IfOk, IfErr, OnOk, OnErr};
+ghost use Rattle.std.specs.Prelude.{◌≡◌, ◌<◌, length, true, false, IfOk, IfErr, IfNone, IfSome, OnOk, OnErr};
 ghost use Rattle.std.specs.List.{list_all};
+ghost use Rattle.pw_procs.specs.Shapes.{most_cells};
 ghost use Rattle.pw_decl.specs.Fields.{declared_by};
 ghost use Rattle.pw_sessions.specs.LineReading.{LineReading};
-ghost use Rattle.pw_transcript.specs.Sentence.{Tell, Ask};
-ghost use Rattle.pw_transcript.specs.Steps.Forms.{said_in, sentence_in};
+ghost use Rattle.pw_transcript.specs.Sentence.{Tell, Attach, Ask};
+ghost use Rattle.pw_transcript.specs.Steps.Forms.{HasCells, before_under, said_in, sentence_in};
 ghost use Rattle.pw_transcript.specs.Steps.Resolving.{IsFree, IsRefusedFor};
 ghost use Rattle.pw_transcript.specs.Reading.{MeansFor};
 ghost use Rattle.pw_transcript.specs.Reading as spec;
 
-use crate::sentence::{Said, Sentence, read_sentence};
+use crate::sentence::{Said, Sentence, next_cell, read_sentence};
 use pw_decl::Declaration;
 use pw_facts::Fact;
 use pw_info::{Words, allows_all, idles, read_info};
 use pw_premises::PremiseSet;
+use pw_procs::Arguments;
 use pw_sessions::{Command, Refusal};
 use std::alloc::Allocator;
 
 /// How many bytes a line may have.
 pub const MOST_LINE_BYTES: usize = 1024;
+
+// How many cells a callable takes at most.
+const MOST_CELLS: usize = 9;
 
 // The premises that the words name, or the refusal of a word that names none.
 fn premise_set<A: Allocator + Copy>(
@@ -44,7 +49,7 @@ fn premise_set<A: Allocator + Copy>(
     Ok(set)
 }
 
-// Whether the user may tell under the premise that the word names.
+// Whether the user may tell or attach under the premise that the word names.
 fn may_use<A: Allocator + Copy>(declaration: &Declaration<'_, A>, user: u8, word: &[u8]) -> bool
     ensures { result ≡ spec.may_use (declared_by declaration.now) user word.now }
 {
@@ -57,7 +62,7 @@ fn may_use<A: Allocator + Copy>(declaration: &Declaration<'_, A>, user: u8, word
     owner == user
 }
 
-// Whether the user may tell under each premise that the words name.
+// Whether the user may tell or attach under each premise that the words name.
 fn may_use_all<A: Allocator + Copy>(
     declaration: &Declaration<'_, A>,
     user: u8,
@@ -104,6 +109,90 @@ fn resolve_tell<A: Allocator + Copy>(
     Ok(Command::Tell { user, cell, fact })
 }
 
+// Whether each word before `under` names a cell.
+fn are_cells<A: Allocator + Copy>(declaration: &Declaration<'_, A>, mut words: Words<'_>) -> bool
+    ensures { result ≡ list_all (spec.is_cell (declared_by declaration.now))
+        (before_under words.entry) }
+{
+    while let Some(word) = next_cell(&mut words) {
+        if declaration.cell(word).is_none() {
+            return false;
+        }
+    }
+    true
+}
+
+// The cells that the words before `under` name, each of which names one; None where there are more than nine.
+fn named_cells<A: Allocator + Copy>(
+    declaration: &Declaration<'_, A>,
+    mut words: Words<'_>,
+) -> Option<Arguments>
+    requires some { 0 < length (before_under words) }
+    requires known { list_all (spec.is_cell (declared_by declaration.now))
+        (before_under words) ≡ true }
+    ensures none { IfNone result (most_cells < length (before_under words.entry)) }
+    ensures some { IfSome result (λ cells. spec.HoldsCells cells
+        (spec.cells_named (declared_by declaration.now) (before_under words.entry))) }
+{
+    let mut cells = [0; MOST_CELLS];
+    let mut count = 0;
+    while let Some(word) = next_cell(&mut words) {
+        let Some(cell) = declaration.cell(word) else {
+            unreachable!("each word names a cell");
+        };
+        if count >= MOST_CELLS {
+            return None;
+        }
+        cells[count] = cell;
+        count += 1;
+    }
+    Arguments::of(&cells[..count])
+}
+
+// What a user attaches: a callable to the cells that the words before `under` name, under the premises of those after it.
+fn resolve_attach<A: Allocator + Copy>(
+    declaration: &Declaration<'_, A>,
+    user: u8,
+    callable: &[u8],
+    cells: Words<'_>,
+    under: Words<'_>,
+) -> Result<Command, Refusal>
+    requires some { 0 < length (before_under cells) }
+    ensures ok { IfOk result (λ command. MeansFor (declared_by declaration.now) user
+        (Attach callable.now (before_under cells.entry) under.entry) command) }
+    ensures none { OnOk result (IsFree (declared_by declaration.now) user
+        (Attach callable.now (before_under cells.entry) under.entry)) }
+    ensures err { IfErr result (λ refusal. IsRefusedFor (declared_by declaration.now) user
+        (Attach callable.now (before_under cells.entry) under.entry) refusal) }
+{
+    // A callable takes nine cells at most.
+    declaration.limits();
+    if !are_cells(declaration, cells.again()) {
+        return Err(Refusal::UnknownCell);
+    }
+    let Some(callable) = declaration.callable(callable) else {
+        return Err(Refusal::UnknownProcedure);
+    };
+    let Some(cells) = named_cells(declaration, cells) else {
+        return Err(Refusal::WrongArguments);
+    };
+    if !declaration.accepts_at(callable, declaration.kinds(), cells) {
+        return Err(Refusal::WrongArguments);
+    }
+    let Ok(support) = premise_set(declaration, under.again()) else {
+        return Err(Refusal::UnknownPremise);
+    };
+    if !may_use_all(declaration, user, under) {
+        return Err(Refusal::NotYourPremise);
+    }
+    Ok(Command::Attach {
+        user,
+        callable,
+        cells,
+        support,
+    })
+}
+
 // What a user asks for.
 fn resolve_ask<A: Allocator + Copy>(
     declaration: &Declaration<'_, A>,
@@ -128,6 +217,7 @@ fn resolve_said<A: Allocator + Copy>(
     user: u8,
     said: Said<'_>,
 ) -> Result<Command, Refusal>
+    requires cells { HasCells (said_in said) }
     ensures ok { IfOk result (λ command.
         MeansFor (declared_by declaration.now) user (said_in said.entry) command) }
     ensures none { OnOk result (IsFree (declared_by declaration.now) user (said_in said.entry)) }
@@ -140,6 +230,11 @@ fn resolve_said<A: Allocator + Copy>(
             info,
             premises,
         } => resolve_tell(declaration, user, cell, info, premises),
+        Said::Attach {
+            callable,
+            cells,
+            premises,
+        } => resolve_attach(declaration, user, callable, cells, premises),
         Said::Believe { premises } => match premise_set(declaration, premises) {
             Ok(premises) => Ok(Command::Believe { user, premises }),
             Err(refusal) => Err(refusal),
@@ -158,6 +253,7 @@ fn resolve<A: Allocator + Copy>(
     declaration: &Declaration<'_, A>,
     sentence: Sentence<'_>,
 ) -> Result<Command, Refusal>
+    requires cells { HasCells (said_in sentence.said) }
     ensures ok { IfOk result (λ command.
         spec.Means (declared_by declaration.now) (sentence_in sentence.entry) command) }
     ensures none { OnOk result (spec.IsUnrefused (declared_by declaration.now)

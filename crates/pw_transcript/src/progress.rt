@@ -3,8 +3,10 @@
 ghost use Rattle.std.specs.Prelude.{◌≡◌, ◌+◌, ◌<◌, ◌≤◌, [], ◌∷◌, true, false, IfOk, OnOk, OnErr, if◌then◌else◌};
 ghost use Rattle.pw_info.specs.Bytes.{line_feed};
 ghost use Rattle.pw_decl.specs.Fields.{declared_by};
+ghost use Rattle.pw_sessions.specs.Fields.{workbench_by};
 ghost use Rattle.pw_transcript.specs.Limits.{most_lines};
 ghost use Rattle.pw_transcript.specs.Steps.Answering.{held_line};
+ghost use Rattle.pw_transcript.specs.Steps.Fields.{progress_by};
 ghost use Rattle.pw_transcript.specs.Steps.Running.{IsRunning, GoesOn, FailsIn, StopsIn, Ends, FailsAtEnd};
 
 use crate::answer::answer_line;
@@ -48,19 +50,19 @@ impl Lines {
 
 /// What stands between two takes: what the lines so far left, how many there were, and what came of the next one.
 #[derive(Drop)]
-pub(crate) struct Progress<B: Allocator> {
-    workbench: Workbench<B>,
+pub(crate) struct Progress<'d, 'r, A: Allocator> {
+    workbench: Workbench<'d, 'r, A>,
     pub(crate) counts: Lines,
     line: LineBuffer,
 }
 
-impl<B: Allocator + Copy> Progress<B> {
+impl<'d, 'r, A: Allocator + Copy> Progress<'d, 'r, A> {
     /// Nothing has come.
-    pub(crate) fn new(workbench: Workbench<B>) -> Progress<B>
-        ensures workbench { result.workbench ≡ workbench }
-        ensures lines { result.counts.lines ≡ 0 }
-        ensures replies { result.counts.replies ≡ 0 }
-        ensures line { result.line ≡ held_line [] }
+    pub(crate) fn new(workbench: Workbench<'d, 'r, A>) -> Progress<'d, 'r, A>
+        ensures workbench { (progress_by result).workbench ≡ workbench_by workbench.entry }
+        ensures lines { (progress_by result).counts.lines ≡ 0 }
+        ensures replies { (progress_by result).counts.replies ≡ 0 }
+        ensures line { (progress_by result).line ≡ held_line [] }
     {
         Progress {
             workbench,
@@ -73,19 +75,15 @@ impl<B: Allocator + Copy> Progress<B> {
     }
 
     // Answers the line that has come, as one that has ended.
-    fn end_line<A: Allocator + Copy, O: Output>(
-        &mut self,
-        d: &Declaration<'_, A>,
-        output: &mut O,
-    ) -> Result<(), Failed>
-        requires running { IsRunning (declared_by d.now) self.old }
-        requires more { self.old.counts.lines < most_lines }
-        ensures ok { OnOk result (GoesOn O.passes (declared_by d.now) self.old output.old
-            (line_feed ∷ []) self.new output.new) }
-        ensures empty { OnOk result (self.new.line ≡ held_line []) }
-        ensures running { OnOk result (IsRunning (declared_by d.now) self.new) }
-        ensures err { OnErr result (FailsIn O.passes (declared_by d.now) self.old output.old
-            (line_feed ∷ []) output.new) }
+    fn end_line<O: Output>(&mut self, d: &Declaration<'_, A>, output: &mut O) -> Result<(), Failed>
+        requires running { IsRunning (declared_by d.now) (progress_by self.old) }
+        requires more { (progress_by self.old).counts.lines < most_lines }
+        ensures ok { OnOk result (GoesOn O.passes (declared_by d.now)
+            (progress_by self.old) output.old (line_feed ∷ []) (progress_by self.new) output.new) }
+        ensures empty { OnOk result ((progress_by self.new).line ≡ held_line []) }
+        ensures running { OnOk result (IsRunning (declared_by d.now) (progress_by self.new)) }
+        ensures err { OnErr result (FailsIn O.passes (declared_by d.now)
+            (progress_by self.old) output.old (line_feed ∷ []) output.new) }
         ensures failed { OnErr result (O.has_failed output.new ≡ true) }
     {
         let number = self.counts.lines + 1;
@@ -96,20 +94,20 @@ impl<B: Allocator + Copy> Progress<B> {
     }
 
     /// Answers the lines that end in the bytes, and holds the rest.
-    pub(crate) fn feed<A: Allocator + Copy, O: Output>(
+    pub(crate) fn feed<O: Output>(
         &mut self,
         d: &Declaration<'_, A>,
         bytes: &[u8],
         output: &mut O,
     ) -> Result<Fed, Failed>
-        requires running { IsRunning (declared_by d.now) self.old }
-        ensures whole { IfOk result (λ fed. fed ≡ Fed.Whole → GoesOn O.passes
-            (declared_by d.now) self.old output.old bytes.now self.new output.new) }
-        ensures limit { IfOk result (λ fed. fed ≡ Fed.PastLimit
-            → StopsIn O.passes (declared_by d.now) self.old output.old bytes.now output.new) }
-        ensures running { OnOk result (IsRunning (declared_by d.now) self.new) }
+        requires running { IsRunning (declared_by d.now) (progress_by self.old) }
+        ensures whole { IfOk result (λ fed. fed ≡ Fed.Whole → GoesOn O.passes (declared_by d.now)
+            (progress_by self.old) output.old bytes.now (progress_by self.new) output.new) }
+        ensures limit { IfOk result (λ fed. fed ≡ Fed.PastLimit → StopsIn O.passes (declared_by d.now)
+            (progress_by self.old) output.old bytes.now output.new) }
+        ensures running { OnOk result (IsRunning (declared_by d.now) (progress_by self.new)) }
         ensures err { OnErr result (FailsIn O.passes
-            (declared_by d.now) self.old output.old bytes.now output.new) }
+            (declared_by d.now) (progress_by self.old) output.old bytes.now output.new) }
         ensures failed { OnErr result (O.has_failed output.new ≡ true) }
     {
         let mut rest = bytes;
@@ -132,16 +130,16 @@ impl<B: Allocator + Copy> Progress<B> {
     }
 
     /// Answers the last line, which has no line feed after it, if one has come.
-    pub(crate) fn end<A: Allocator + Copy, O: Output>(
+    pub(crate) fn end<O: Output>(
         &mut self,
         d: &Declaration<'_, A>,
         output: &mut O,
     ) -> Result<(), Failed>
-        requires running { IsRunning (declared_by d.now) self.old }
-        ensures ok { OnOk result (Ends O.passes
-            (declared_by d.now) self.old output.old self.new output.new) }
+        requires running { IsRunning (declared_by d.now) (progress_by self.old) }
+        ensures ok { OnOk result (Ends O.passes (declared_by d.now)
+            (progress_by self.old) output.old (progress_by self.new) output.new) }
         ensures err { OnErr result (FailsAtEnd O.passes
-            (declared_by d.now) self.old output.old output.new) }
+            (declared_by d.now) (progress_by self.old) output.old output.new) }
         ensures failed { OnErr result (O.has_failed output.new ≡ true) }
     {
         if self.line.is_empty() {

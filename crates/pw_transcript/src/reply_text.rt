@@ -22,8 +22,10 @@ fn refusal_text(refusal: Refusal) -> &'static [u8]
         Refusal::UnknownCommand => b"3 unknown command",
         Refusal::UnknownCell => b"4 unknown cell",
         Refusal::UnknownPremise => b"5 unknown premise",
+        Refusal::UnknownProcedure => b"6 unknown procedure",
         Refusal::NotYourPremise => b"7 not your premise",
         Refusal::WrongInformation => b"8 wrong information",
+        Refusal::WrongArguments => b"9 wrong arguments",
         Refusal::LineTooLong => b"10 line too long",
         Refusal::Memory => b"11 memory",
     }

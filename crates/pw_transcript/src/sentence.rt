@@ -2,7 +2,9 @@
 
 ghost use Rattle.std.specs.Prelude.{◌≡◌, ◌<◌, [], None, Some, length, MatchOption, option_map};
 ghost use Rattle.pw_info.specs.Words.{words_of};
-ghost use Rattle.pw_transcript.specs.Steps.Forms.{under_form, tell_form, ask_form, said_form, sentence_form, said_in, sentence_in};
+ghost use Rattle.pw_transcript.specs.Steps.Forms.{TakesCell, before_under, from_under, under_form};
+ghost use Rattle.pw_transcript.specs.Steps.Forms.{tell_form, attach_form, ask_form, said_form, sentence_form};
+ghost use Rattle.pw_transcript.specs.Steps.Forms.{said_in, sentence_in};
 
 use pw_info::Words;
 
@@ -13,6 +15,14 @@ pub enum Said<'a> {
     Tell {
         cell: &'a [u8],
         info: &'a [u8],
+        premises: Words<'a>,
+    },
+    /// `attach CALLABLE CELL.. [under P..]`: the first `under` after the callable ends the cells, of which there is one at
+    /// least; with no `under` there is no premise.
+    Attach {
+        callable: &'a [u8],
+        // They stand at the first cell: `next_cell` stops at `under`.
+        cells: Words<'a>,
         premises: Words<'a>,
     },
     /// `believe P..`
@@ -40,7 +50,7 @@ pub struct Sentence<'a> {
     pub said: Said<'a>,
 }
 
-// The premises at the end of a tell.
+// The premises at the end of a tell or of an attach.
 fn read_under<'a>(mut tail: Words<'a>) -> Option<Words<'a>>
     ensures { MatchOption result (under_form tail.entry ≡ None) (λ premises.
         under_form tail.entry ≡ Some premises) }
@@ -68,6 +78,48 @@ fn read_tell<'a>(mut rest: Words<'a>) -> Option<Said<'a>>
     })
 }
 
+/// Takes the next word, if one comes before `under`.
+pub fn next_cell<'a>(words: &mut Words<'a>) -> Option<&'a [u8]>
+    ensures { MatchOption result
+        ((before_under words.old ≡ []) × (words.new ≡ from_under words.old))
+        (λ word. TakesCell words.old word.now words.new) }
+{
+    let mut after = words.again();
+    let Some(word) = after.next() else {
+        return None;
+    };
+    if word == b"under".as_slice() {
+        return None;
+    }
+    *words = after;
+    Some(word)
+}
+
+// What follows the cells: the words from the first `under` on.
+fn after_cells<'a>(mut words: Words<'a>) -> Words<'a>
+    ensures { result ≡ from_under words.entry }
+{
+    while let Some(_) = next_cell(&mut words) {}
+    words
+}
+
+// What follows `attach`.
+fn read_attach<'a>(mut rest: Words<'a>) -> Option<Said<'a>>
+    ensures { option_map said_in result ≡ attach_form rest.entry }
+{
+    let callable = rest.next()?;
+    let cells = rest.again();
+    let Some(_) = next_cell(&mut rest) else {
+        return None;
+    };
+    let premises = read_under(after_cells(rest))?;
+    Some(Said::Attach {
+        callable,
+        cells,
+        premises,
+    })
+}
+
 // What follows `ask`.
 fn read_ask<'a>(mut rest: Words<'a>) -> Option<Said<'a>>
     ensures { option_map said_in result ≡ ask_form rest.entry }
@@ -85,6 +137,8 @@ fn read_said<'a>(name: &[u8], rest: Words<'a>) -> Option<Said<'a>>
 {
     if name == b"tell".as_slice() {
         read_tell(rest)
+    } else if name == b"attach".as_slice() {
+        read_attach(rest)
     } else if name == b"believe".as_slice() {
         if rest.is_empty() {
             return None;

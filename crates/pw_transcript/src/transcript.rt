@@ -2,6 +2,7 @@
 
 ghost use Rattle.std.specs.Prelude.{◌≡◌, [], true, false, IfOk, OnOk, OnErr, IsErrOf};
 ghost use Rattle.pw_decl.specs.Fields.{declared_by};
+ghost use Rattle.pw_sessions.specs.Fields.{workbench_by};
 ghost use Rattle.pw_transcript.specs.FromScratch.{RepliesToAll, RepliesToEnded, RepliesUpToLimit, RepliesInPart};
 ghost use Rattle.pw_sessions.specs.Workbench.{IsLeftBy};
 ghost use Rattle.pw_transcript.specs.Steps.Gatherers.{output_of, held_of, GatheredPasses};
@@ -11,6 +12,7 @@ use crate::input::Input;
 use crate::progress::{Fed, Progress};
 use pw_decl::Declaration;
 use pw_info::Output;
+use pw_network::Network;
 use pw_sessions::Workbench;
 use std::alloc::Allocator;
 use thiserror::Error;
@@ -48,13 +50,13 @@ pub enum RunFault {
 }
 
 // Answers all lines of the input. It is taken chunk by chunk, and each chunk is answered before the next is taken.
-fn answer_all<A: Allocator + Copy, B: Allocator + Copy, I: Input, O: Output>(
-    workbench: Workbench<B>,
+fn answer_all<A: Allocator + Copy, I: Input, O: Output>(
+    workbench: Workbench<'_, '_, A>,
     d: &Declaration<'_, A>,
     input: &mut I,
     output: &mut Gathered<'_, O>,
 ) -> Result<Lines, RunFault>
-    requires start { IsLeftBy (declared_by d.now) [] workbench }
+    requires start { IsLeftBy (declared_by d.now) [] (workbench_by workbench) }
     requires empty { held_of output.old ≡ [] }
     ensures ok { IfOk result (RepliesToAll I.takes (GatheredPasses O.passes)
         (declared_by d.now) input.old input.new output.old output.new) }
@@ -123,17 +125,15 @@ fn answer_all<A: Allocator + Copy, B: Allocator + Copy, I: Input, O: Output>(
 /// and at most 65,536 past the limits. A failure ends it with
 /// - `Memory`, before anything is taken or written, if there is no memory for the cells and the users' beliefs,
 /// - `Read`, if the input failed: the replies to all lines that ended are written then,
-/// - `Write`, if the output failed: a front of the replies is written then,
+/// - `Write`, if the output failed, or had failed before: a front of the replies is written then,
 /// - `Limit`, at a byte after 1,000,000 ended lines, or at the 67,108,865th byte: the replies to all lines that end
 ///   before it are written then.
-pub fn run<A: Allocator + Copy, B: Allocator + Copy, I: Input, O: Output>(
-    alloc: B,
+pub fn run<A: Allocator + Copy, I: Input, O: Output>(
+    alloc: A,
     d: &Declaration<'_, A>,
     input: &mut I,
     output: &mut O,
 ) -> Result<Lines, RunFault>
-    requires input { (I.has_failed input.old ≡ false) × (I.has_ended input.old ≡ false) }
-    requires output { O.has_failed output.old ≡ false }
     ensures ok { IfOk result (RepliesToAll I.takes O.passes
         (declared_by d.now) input.old input.new output.old output.new) }
     ensures ended { OnOk result (I.has_ended input.new ≡ true) }
@@ -150,7 +150,13 @@ pub fn run<A: Allocator + Copy, B: Allocator + Copy, I: Input, O: Output>(
     ensures limit { IsErrOf result RunFault.Limit → RepliesUpToLimit I.takes O.passes
         (declared_by d.now) input.old input.new output.old output.new }
 {
-    let Ok(workbench) = Workbench::new(alloc, d) else {
+    if output.failed() {
+        return Err(RunFault::Write);
+    }
+    let Ok(network) = Network::new(alloc, d) else {
+        return Err(RunFault::Memory);
+    };
+    let Ok(workbench) = Workbench::new(alloc, d, network) else {
         return Err(RunFault::Memory);
     };
     let mut gathered = Gathered::new(output);

@@ -6,9 +6,10 @@ use crate::sessions::{answered, outcome, said};
 use crate::texts::ended;
 use pw_transcript::{Lines, RunFault};
 use std::alloc::Global;
+use std::process::Abort;
 use std::test::Fail;
 
-const LINES: [&str; 8] = [
+const TELLING: [&str; 8] = [
     "ann tell x 1..2 under a",
     "bob tell x 3..4 under b",
     "ann ask x",
@@ -19,9 +20,20 @@ const LINES: [&str; 8] = [
     "ann ask x",
 ];
 
+const ATTACHING: [&str; 8] = [
+    "ann tell x 1..2 under a",
+    "bob attach sum x x y",
+    "ann attach adder x x y under b",
+    "bob tell y 3..4",
+    "ann ask y",
+    "ann ask x",
+    "bob attach copy y x",
+    "bob ask x",
+];
+
 // The lines of the transcript, those that were refused made empty.
-fn blanked(alloc: Global, refused: [bool; 8]) -> Result<String, Fail> {
-    let mut lines = LINES;
+fn blanked(alloc: Global, lines: [&str; 8], refused: [bool; 8]) -> Result<String, Fail> {
+    let mut lines = lines;
     for (line, is_refused) in lines.iter_mut().zip(refused.iter()) {
         if *is_refused {
             *line = "";
@@ -48,14 +60,14 @@ fn without_refusals(alloc: Global, written: &str) -> Result<(String, [bool; 8]),
     Ok((rest, refused))
 }
 
-#[test]
-fn a_line_refused_for_memory_counts_as_blank(rt: HostRuntime) -> Result<(), Fail> {
-    let whole = blanked(rt.alloc(), [false; 8])?;
+// That lines that are refused for memory count as blank, whichever growth of a run over these lines is refused.
+fn refused_lines_are_blank<R: Abort + AllocGlobal>(rt: &R, lines: [&str; 8]) -> Result<(), Fail> {
+    let whole = blanked(rt.alloc(), lines, [false; 8])?;
     let mut lines_refused = 0u32;
     let mut faults = 0u32;
     for at in 1..100u64 {
-        let refusing = Refusing::nth(rt.alloc(), at);
-        let (answer, written) = outcome(rt.alloc(), &refusing, WORLD, whole.as_str())?;
+        let (ample, refusing) = (Refusing::nth(rt.alloc(), 0), Refusing::nth(rt.alloc(), at));
+        let (answer, written) = outcome(rt.alloc(), &ample, &refusing, WORLD, whole.as_str())?;
         if answer == Err(RunFault::Memory) {
             assert_eq!(rt; written.as_str(), "", "at {at}");
             faults = faults.saturating_add(1);
@@ -63,8 +75,8 @@ fn a_line_refused_for_memory_counts_as_blank(rt: HostRuntime) -> Result<(), Fail
         }
         assert!(rt; answer.is_ok(), "at {at}");
         let (rest, refused) = without_refusals(rt.alloc(), written.as_str())?;
-        let blank = blanked(rt.alloc(), refused)?;
-        let (_, ample) = outcome(rt.alloc(), rt.alloc(), WORLD, blank.as_str())?;
+        let blank = blanked(rt.alloc(), lines, refused)?;
+        let (_, ample) = outcome(rt.alloc(), rt.alloc(), rt.alloc(), WORLD, blank.as_str())?;
         assert_eq!(rt; rest.as_str(), ample.as_str(), "at {at}");
         if refused == [false; 8] {
             assert!(rt; refusing.calls() < at, "at {at}");
@@ -78,9 +90,22 @@ fn a_line_refused_for_memory_counts_as_blank(rt: HostRuntime) -> Result<(), Fail
 }
 
 #[test]
+fn a_tell_refused_for_memory_counts_as_blank(rt: HostRuntime) -> Result<(), Fail> {
+    refused_lines_are_blank(&rt, TELLING)
+}
+
+#[test]
+fn an_attachment_refused_for_memory_counts_as_blank(rt: HostRuntime) -> Result<(), Fail> {
+    refused_lines_are_blank(&rt, ATTACHING)
+}
+
+#[test]
 fn believing_doubting_and_asking_take_no_memory(rt: HostRuntime) -> Result<(), Fail> {
     // The first two growths are those of the cells and of the beliefs, in setting up.
-    let refusing = Refusing::all_from(rt.alloc(), 3);
+    let (ample, refusing) = (
+        Refusing::nth(rt.alloc(), 0),
+        Refusing::all_from(rt.alloc(), 3),
+    );
     let rows = [
         ("ann doubt b", "ok"),
         ("ann ask x", "nothing"),
@@ -91,7 +116,7 @@ fn believing_doubting_and_asking_take_no_memory(rt: HostRuntime) -> Result<(), F
     ];
     let transcript = said(rt.alloc(), &rows)?;
     let wanted = answered(rt.alloc(), &rows)?;
-    let (answer, written) = outcome(rt.alloc(), &refusing, WORLD, transcript.as_str())?;
+    let (answer, written) = outcome(rt.alloc(), &ample, &refusing, WORLD, transcript.as_str())?;
     assert_eq!(rt;
         answer,
         Ok(Lines {

@@ -12,7 +12,14 @@ fn a_failing_input_leaves_the_replies_to_ended_lines(rt: HostRuntime) -> Result<
     // It fails within the second line, and would give the rest of it afterwards.
     let mut input = Reading::new(Drip::new(transcript.as_str(), 16));
     let mut output = Writing::new(Vec::new(rt.alloc()));
-    let answer = run_over(rt.alloc(), rt.alloc(), WORLD, &mut input, &mut output)?;
+    let answer = run_over(
+        rt.alloc(),
+        rt.alloc(),
+        rt.alloc(),
+        WORLD,
+        &mut input,
+        &mut output,
+    )?;
     assert_eq!(rt; answer, Err(RunFault::Read));
     assert!(rt; input.failed() && !output.failed());
     assert_eq!(rt; input.reader().given, 16);
@@ -37,7 +44,14 @@ fn a_failing_output_gets_a_front_of_the_replies(rt: HostRuntime) -> Result<(), F
             text: Vec::new(rt.alloc()),
             breaks_at,
         });
-        let answer = run_over(rt.alloc(), rt.alloc(), WORLD, &mut input, &mut output)?;
+        let answer = run_over(
+            rt.alloc(),
+            rt.alloc(),
+            rt.alloc(),
+            WORLD,
+            &mut input,
+            &mut output,
+        )?;
         assert_eq!(rt; answer.is_ok(), breaks_at == wanted.len(), "at {breaks_at}");
         assert_eq!(rt; output.failed(), breaks_at < wanted.len(), "at {breaks_at}");
         assert_eq!(rt;
@@ -63,7 +77,14 @@ fn many_replies_are_passed_on_or_a_front(rt: HostRuntime) -> Result<(), Fail> {
             text: Vec::new(rt.alloc()),
             breaks_at,
         });
-        let answer = run_over(rt.alloc(), rt.alloc(), WORLD, &mut input, &mut output)?;
+        let answer = run_over(
+            rt.alloc(),
+            rt.alloc(),
+            rt.alloc(),
+            WORLD,
+            &mut input,
+            &mut output,
+        )?;
         assert_eq!(rt; answer.is_ok(), breaks_at >= wanted.len(), "at {breaks_at}");
         let front = &wanted[..breaks_at.min(wanted.len())];
         assert_eq!(rt;

@@ -34,7 +34,7 @@ fn outcome_over(
 ) -> Result<(Result<Lines, RunFault>, String, u64), Fail> {
     let mut input = Reading::new(repeated);
     let mut output = Writing::new(Vec::new(alloc));
-    let answer = run_over(alloc, alloc, WORLD, &mut input, &mut output)?;
+    let answer = run_over(alloc, alloc, alloc, WORLD, &mut input, &mut output)?;
     let left = input.into_reader().left;
     Ok((answer, String::from_utf8(output.into_writer())?, left))
 }

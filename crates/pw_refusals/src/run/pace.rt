@@ -23,7 +23,14 @@ fn takes_of_one_byte_give_the_same_replies(rt: HostRuntime) -> Result<(), Fail> 
     let wanted = answered(rt.alloc(), &rows)?;
     let mut input = Reading::new(Drip::new(transcript.as_str(), usize::MAX));
     let mut output = Writing::new(Vec::new(rt.alloc()));
-    let answer = run_over(rt.alloc(), rt.alloc(), WORLD, &mut input, &mut output)?;
+    let answer = run_over(
+        rt.alloc(),
+        rt.alloc(),
+        rt.alloc(),
+        WORLD,
+        &mut input,
+        &mut output,
+    )?;
     assert_eq!(rt;
         answer,
         Ok(Lines {
@@ -52,7 +59,14 @@ fn a_line_is_answered_before_the_next_is_taken(rt: HostRuntime) -> Result<(), Fa
         differs: &differs,
     });
     let mut output = Writing::new(Counting { written: &written });
-    let answer = run_over(rt.alloc(), rt.alloc(), WORLD, &mut input, &mut output)?;
+    let answer = run_over(
+        rt.alloc(),
+        rt.alloc(),
+        rt.alloc(),
+        WORLD,
+        &mut input,
+        &mut output,
+    )?;
     assert_eq!(rt;
         answer,
         Ok(Lines {

@@ -11,7 +11,6 @@ fn lines_are_refused_in_order(rt: HostRuntime) -> Result<(), Fail> {
         ("eve ask", "refused 1 syntax"),
         ("eve say", "refused 2 unknown user"),
         ("ann say x", "refused 3 unknown command"),
-        ("ann attach adder x y x", "refused 3 unknown command"),
         ("ann why", "refused 3 unknown command"),
         ("ann ask zz", "refused 4 unknown cell"),
         ("ann tell zz 9..3", "refused 4 unknown cell"),
@@ -29,6 +28,57 @@ fn lines_are_refused_in_order(rt: HostRuntime) -> Result<(), Fail> {
         ("ann ask \u{1}", "refused 1 syntax"),
     ] {
         answers(&rt, WORLD, &[(line, reply)])?;
+    }
+    Ok(())
+}
+
+// Attachments, each with its first refusal.
+const ATTACHMENTS: [(&str, &str); 24] = [
+    ("ann attach", "refused 1 syntax"),
+    ("ann attach adder", "refused 1 syntax"),
+    ("ann attach adder under a", "refused 1 syntax"),
+    ("ann attach under under a", "refused 1 syntax"),
+    ("ann attach adder x y x under", "refused 1 syntax"),
+    ("eve attach zz zz under zz", "refused 2 unknown user"),
+    ("ann attach adder x zz y", "refused 4 unknown cell"),
+    ("ann attach zz x zz", "refused 4 unknown cell"),
+    ("ann attach adder zz under zz", "refused 4 unknown cell"),
+    ("ann attach zz x y", "refused 6 unknown procedure"),
+    ("ann attach zz x y under zz", "refused 6 unknown procedure"),
+    ("ann attach under x y", "refused 6 unknown procedure"),
+    ("ann attach adder x y", "refused 9 wrong arguments"),
+    ("ann attach sum x y", "refused 9 wrong arguments"),
+    ("ann attach inverter x y", "refused 9 wrong arguments"),
+    (
+        "ann attach adder x y x y x y x y x y",
+        "refused 9 wrong arguments",
+    ),
+    ("ann attach adder x under mine", "refused 9 wrong arguments"),
+    ("ann attach adder x under zz", "refused 9 wrong arguments"),
+    (
+        "ann attach adder x y x under zz",
+        "refused 5 unknown premise",
+    ),
+    (
+        "ann attach adder x y x under mine zz",
+        "refused 5 unknown premise",
+    ),
+    (
+        "ann attach adder x y x under a under",
+        "refused 5 unknown premise",
+    ),
+    (
+        "ann attach adder x y x under mine",
+        "refused 7 not your premise",
+    ),
+    ("bob attach adder x y x under mine", "ok"),
+    ("ann attach sum x x x under a a", "ok"),
+];
+
+#[test]
+fn attachments_are_refused_in_order(rt: HostRuntime) -> Result<(), Fail> {
+    for row in ATTACHMENTS {
+        answers(&rt, WORLD, &[row])?;
     }
     Ok(())
 }

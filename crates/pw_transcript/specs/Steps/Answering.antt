@@ -1,5 +1,5 @@
 -- The answer to one line, as a step from what the lines before it left to what they leave with it.
-use Rattle.std.specs.Prelude.{◌≡◌, ℕ, nat_le, List, [], ◌∷◌, ◌++◌, length, Option, Some, None, is_some, Bool, if◌then◌else◌}
+use Rattle.std.specs.Prelude.{◌≡◌, ℕ, ◌+◌, nat_le, List, [], ◌∷◌, ◌++◌, length, Option, Some, None, is_some, Bool, if◌then◌else◌}
 use Rattle.pw_info.specs.Passing.{PassesPart}
 use Rattle.pw_sessions.specs.declared.reply.Reply.{Reply}
 use Rattle.pw_decl.specs.Declaration.{Declared}
@@ -14,9 +14,9 @@ use Rattle.pw_transcript.specs.FromScratch.{ComesTo}
 abbrev pub held_line : List ℕ → Option (List ℕ)
 held_line line = if nat_le (length line) most_line_bytes then Some line else None
 
--- some lines left it
-abbrev pub IsLeft : Declared → Workbench → Type 0
-IsLeft d workbench = (before : List LineReading) × IsLeftBy d before workbench
+-- the lines before the line of this number left it
+abbrev pub IsLeft : Declared → ℕ → Workbench → Type 0
+IsLeft d number workbench = (before : List LineReading) × (length before + 1 ≡ number) × IsLeftBy d before workbench
 
 -- After lines that came to these readings this line came to a reading, this is its reply if it gets one, and what is there
 -- now is what the lines leave with it.
@@ -26,10 +26,11 @@ pub record RepliesToLine (d : Declared) (before : List LineReading) (line : List
   pub left : IsLeftBy d (before ++ reading ∷ []) new
   pub answer_is : reply_to d before reading ≡ answer
 
--- whatever the lines before it, and whatever line is held so: the reply to it
-abbrev pub RepliesToHeld : Declared → Option (List ℕ) → Workbench → Workbench → Option Reply → Type 0
-RepliesToHeld d held old new answer =
-    (before : List LineReading) (line : List ℕ) → IsLeftBy d before old → held ≡ held_line line → RepliesToLine d before line new answer
+-- whatever the lines before that of this number, and whatever line is held so: the reply to it
+abbrev pub RepliesToHeld : Declared → ℕ → Option (List ℕ) → Workbench → Workbench → Option Reply → Type 0
+RepliesToHeld d number held old new answer =
+    (before : List LineReading) (line : List ℕ) → IsLeftBy d before old → length before + 1 ≡ number → held ≡ held_line line
+    → RepliesToLine d before line new answer
 
 module _ {O : Type 0} (passes : O → List ℕ → O → Type 0) (d : Declared) where
   -- the same, and the reply was passed if the line gets one
@@ -46,12 +47,14 @@ module _ {O : Type 0} (passes : O → List ℕ → O → Type 0) (d : Declared) 
     pub comes : ComesTo d before line reading
     pub part : PassesPart passes o o' (text_if_any d number (reply_to d before reading))
 
-  -- whatever the lines before it, and whatever line is held so: its reply was passed
+  -- whatever the lines before that of this number, and whatever line is held so: its reply was passed
   abbrev pub PassesHeldReply : ℕ → Option (List ℕ) → Workbench → Workbench → O → O → Bool → Type 0
   PassesHeldReply number held old new o o' replied =
-      (before : List LineReading) (line : List ℕ) → IsLeftBy d before old → held ≡ held_line line → PassesReply number before line new o o' replied
+      (before : List LineReading) (line : List ℕ) → IsLeftBy d before old → length before + 1 ≡ number → held ≡ held_line line
+      → PassesReply number before line new o o' replied
 
-  -- whatever the lines before it, and whatever line is held so: the output failed while its reply was passed
+  -- whatever the lines before that of this number, and whatever line is held so: the output failed while its reply was passed
   abbrev pub FailsInHeldReply : ℕ → Option (List ℕ) → Workbench → O → O → Type 0
   FailsInHeldReply number held old o o' =
-      (before : List LineReading) (line : List ℕ) → IsLeftBy d before old → held ≡ held_line line → FailsInReply number before line o o'
+      (before : List LineReading) (line : List ℕ) → IsLeftBy d before old → length before + 1 ≡ number → held ≡ held_line line
+      → FailsInReply number before line o o'

@@ -1,12 +1,12 @@
 -- The sentence that the words of a line form, as a function.
-use Rattle.std.specs.Prelude.{ℕ, List, [], ◌∷◌, Option, None, Some, option_map, codes, if◌then◌else◌}
+use Rattle.std.specs.Prelude.{◌≡◌, ℕ, ◌<◌, List, [], ◌∷◌, length, Option, None, Some, option_map, codes, if◌then◌else◌}
 use Rattle.std.specs.Str.{bytes_eq}
 use Rattle.pw_transcript.specs.declared.sentence.Said.{Said as Spelled}
 use Rattle.pw_transcript.specs.declared.sentence.Said.TheVariants as spelled
 use Rattle.pw_transcript.specs.declared.sentence.Sentence.{Sentence as SentenceSpelled}
-use Rattle.pw_transcript.specs.Sentence.{Said, Tell, Believe, Doubt, Ask, Other, Sentence}
+use Rattle.pw_transcript.specs.Sentence.{Said, Tell, Attach, Believe, Doubt, Ask, Other, Sentence}
 
--- the premises at the end of a tell
+-- the premises at the end of a tell or of an attach
 abbrev pub under_form : List (List ℕ) → Option (List (List ℕ))
 under_form [] = Some []
 under_form (word ∷ []) = None
@@ -16,6 +16,30 @@ under_form (word ∷ premise ∷ premises) = if bytes_eq word (codes "under") th
 abbrev pub tell_form : List (List ℕ) → Option Said
 tell_form (cell ∷ info ∷ tail) = option_map (Tell cell info) (under_form tail)
 tell_form rest = None
+
+-- the words before the first `under`
+abbrev pub before_under : List (List ℕ) → List (List ℕ)
+before_under [] = []
+before_under (word ∷ words) = if bytes_eq word (codes "under") then [] else word ∷ before_under words
+
+-- the words from the first `under` on
+abbrev pub from_under : List (List ℕ) → List (List ℕ)
+from_under [] = []
+from_under (word ∷ words) = if bytes_eq word (codes "under") then word ∷ words else from_under words
+
+-- the first of the words is a cell of an attach, and these are left: both what comes before the first `under` and what comes
+-- from it on are found in them
+pub record TakesCell (words : List (List ℕ)) (cell : List ℕ) (left : List (List ℕ)) : Type 0 where
+  pub first : words ≡ cell ∷ left
+  pub cells : before_under words ≡ cell ∷ before_under left
+  pub rest : from_under words ≡ from_under left
+
+-- what stands after `attach`: a cell at least before the first `under`
+abbrev pub attach_form : List (List ℕ) → Option Said
+attach_form (callable ∷ cell ∷ rest) =
+    if bytes_eq cell (codes "under") then None
+    else option_map (Attach callable (cell ∷ before_under rest)) (under_form (from_under rest))
+attach_form rest = None
 
 -- what stands after `believe` and after `doubt`: a premise at least
 abbrev pub premises_form : (List (List ℕ) → Said) → List (List ℕ) → Option Said
@@ -31,10 +55,11 @@ ask_form rest = None
 abbrev pub said_form : List ℕ → List (List ℕ) → Option Said
 said_form name rest =
     if bytes_eq name (codes "tell") then tell_form rest
+    else (if bytes_eq name (codes "attach") then attach_form rest
     else (if bytes_eq name (codes "believe") then premises_form Believe rest
     else (if bytes_eq name (codes "doubt") then premises_form Doubt rest
     else (if bytes_eq name (codes "ask") then ask_form rest
-    else Some Other)))
+    else Some Other))))
 
 abbrev pub sentence_by : List ℕ → Said → Sentence
 sentence_by user said = record { user = user; said = said }
@@ -47,10 +72,16 @@ sentence_form words = None
 -- what the references spell
 abbrev pub said_in : Spelled → Said
 said_in (spelled.Tell cell info premises) = Tell cell.now info.now premises
+said_in (spelled.Attach callable cells premises) = Attach callable.now (before_under cells) premises
 said_in (spelled.Believe premises) = Believe premises
 said_in (spelled.Doubt premises) = Doubt premises
 said_in (spelled.Ask cell) = Ask cell.now
 said_in spelled.Other = Other
+
+-- an attach is of a cell at least
+abbrev pub HasCells : Said → Type 0
+HasCells (Attach callable cells premises) = 0 < length cells
+HasCells said = Unit {0}
 
 abbrev pub sentence_in : SentenceSpelled → Sentence
 sentence_in sentence = sentence_by sentence.user.now (said_in sentence.said)

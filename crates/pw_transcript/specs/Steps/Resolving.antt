@@ -5,13 +5,15 @@ use Rattle.pw_decl.specs.Declaration.{Declared}
 use Rattle.pw_sessions.specs.declared.reply.Refusal.{Refusal}
 use Rattle.pw_sessions.specs.declared.reply.Refusal.TheVariants as refusal
 use Rattle.pw_transcript.specs.Sentence.{Said}
-use Rattle.pw_transcript.specs.Reading.{HasUnknownCommand, HasUnknownCell, HasWrongInformation, HasUnknownPremise, HasAnothersPremise}
+use Rattle.pw_transcript.specs.Reading.{HasUnknownCommand, HasUnknownCell, HasUnknownProcedure, HasWrongInformation, HasWrongArguments, HasUnknownPremise, HasAnothersPremise}
 
 -- the condition of each refusal on what this user says
 abbrev pub RefusalAppliesToSaid : Declared → ℕ → Said → Refusal → Type 0
 RefusalAppliesToSaid d user said refusal.UnknownCommand = HasUnknownCommand said
 RefusalAppliesToSaid d user said refusal.UnknownCell = HasUnknownCell d said
 RefusalAppliesToSaid d user said refusal.WrongInformation = HasWrongInformation d said
+RefusalAppliesToSaid d user said refusal.UnknownProcedure = HasUnknownProcedure d said
+RefusalAppliesToSaid d user said refusal.WrongArguments = HasWrongArguments d said
 RefusalAppliesToSaid d user said refusal.UnknownPremise = HasUnknownPremise d said
 RefusalAppliesToSaid d user said refusal.NotYourPremise = HasAnothersPremise d user said
 RefusalAppliesToSaid d user said refusal = ⊥
@@ -19,7 +21,8 @@ RefusalAppliesToSaid d user said refusal = ⊥
 -- the refusals of what is said, in the order in which they are tried
 abbrev pub said_refusals : List Refusal
 said_refusals =
-    refusal.UnknownCommand ∷ refusal.UnknownCell ∷ refusal.WrongInformation ∷ refusal.UnknownPremise ∷ refusal.NotYourPremise ∷ []
+    refusal.UnknownCommand ∷ refusal.UnknownCell ∷ refusal.UnknownProcedure ∷ refusal.WrongInformation ∷ refusal.WrongArguments
+    ∷ refusal.UnknownPremise ∷ refusal.NotYourPremise ∷ []
 
 -- no refusal applies to what this user says
 abbrev pub IsFree : Declared → ℕ → Said → Type 0

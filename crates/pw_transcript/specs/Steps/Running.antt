@@ -1,22 +1,29 @@
 -- How far the lines of a transcript are answered, when bytes come piece by piece.
-use Rattle.std.specs.Prelude.{◌≡◌, ℕ, ◌<◌, ◌≤◌, List, [], ◌++◌, length}
+use Rattle.std.specs.Prelude.{◌≡◌, ℕ, ◌+◌, ◌<◌, ◌≤◌, List, [], ◌++◌, length, Option}
 use Rattle.std.specs.List.{AllByRecursion}
 use Rattle.pw_info.specs.Passing.{PassesPart}
-use Rattle.pw_transcript.specs.declared.progress.Progress.{Progress}
+use Rattle.pw_transcript.specs.declared.transcript.Lines.{Lines}
 use Rattle.pw_info.specs.Lines.{lines_of, HasNoEnd, text_of_lines}
 use Rattle.pw_transcript.specs.Limits.{most_lines}
 use Rattle.pw_decl.specs.Declaration.{Declared}
 use Rattle.pw_sessions.specs.LineReading.{LineReading}
 use Rattle.pw_sessions.specs.Answer.{replies_of}
 use Rattle.pw_transcript.specs.Steps.Answering.{held_line, IsLeft}
-use Rattle.pw_sessions.specs.Workbench.{IsLeftBy}
+use Rattle.pw_sessions.specs.Workbench.{Workbench, IsLeftBy}
 use Rattle.pw_transcript.specs.ReplyText.{text_of_replies}
 use Rattle.pw_transcript.specs.FromScratch.{LinesComeTo, count_of_replies, PassesAll, PassesFront}
 
+-- what stands between two steps: what the lines so far left, how many lines and replies there were, and what is held of the
+-- next line
+pub record Progress : Type 0 where
+  pub workbench : Workbench
+  pub counts : Lines
+  pub line : Option (List ℕ)
+
 -- What is true between two steps, whatever came: some lines left what is there, and after the last line that a run
 -- answers nothing has come.
-pub record IsRunning {B : Type 0} (d : Declared) (p : Progress B) : Type 0 where
-  pub left : IsLeft d p.workbench
+pub record IsRunning (d : Declared) (p : Progress) : Type 0 where
+  pub left : IsLeft d (p.counts.lines + 1) p.workbench
   pub lines : p.counts.lines ≤ most_lines
   pub replies : p.counts.replies ≤ p.counts.lines
   pub last : p.counts.lines ≡ most_lines → p.line ≡ held_line []
@@ -47,12 +54,11 @@ module _ {O : Type 0} (passes : O → List ℕ → O → Type 0) (d : Declared) 
     pub come : LinesComeTo d ended readings
     pub passed : passes first (text_of_replies d (replies_of d readings)) now
 
-module _ {B O : Type 0} (passes : O → List ℕ → O → Type 0) (d : Declared) where
   -- ---- how far it has come, from the first byte on
 
   -- These bytes came, and the replies to the lines that ended in them were passed, and nothing else. What those lines
   -- leave is kept, and what came of the next one is held.
-  pub record SoFar (first now : O) (p : Progress B) (bytes : List ℕ) : Type 0 where
+  pub record SoFar (first now : O) (p : Progress) (bytes : List ℕ) : Type 0 where
     pub ended : List (List ℕ)
     pub last : List ℕ
     pub readings : List LineReading
@@ -70,26 +76,26 @@ module _ {B O : Type 0} (passes : O → List ℕ → O → Type 0) (d : Declared
   -- ---- one step, whatever came before it
 
   -- these bytes take the run from one state to another
-  abbrev pub GoesOn : Progress B → O → List ℕ → Progress B → O → Type 0
+  abbrev pub GoesOn : Progress → O → List ℕ → Progress → O → Type 0
   GoesOn old o bytes new o' =
       (first : O) (before : List ℕ) → SoFar first o old before → SoFar first o' new (before ++ bytes)
 
   -- the output failed in these bytes
-  abbrev pub FailsIn : Progress B → O → List ℕ → O → Type 0
+  abbrev pub FailsIn : Progress → O → List ℕ → O → Type 0
   FailsIn old o bytes o' =
-      (first : O) (before : List ℕ) → SoFar first o old before → FrontSoFar passes d first o' (before ++ bytes)
+      (first : O) (before : List ℕ) → SoFar first o old before → FrontSoFar first o' (before ++ bytes)
 
   -- these bytes go past the last line that a run answers
-  abbrev pub StopsIn : Progress B → O → List ℕ → O → Type 0
+  abbrev pub StopsIn : Progress → O → List ℕ → O → Type 0
   StopsIn old o bytes o' =
-      (first : O) (before : List ℕ) → SoFar first o old before → LimitSoFar passes d first o' before bytes
+      (first : O) (before : List ℕ) → SoFar first o old before → LimitSoFar first o' before bytes
 
   -- no more bytes come, and all lines are answered
-  abbrev pub Ends : Progress B → O → Progress B → O → Type 0
+  abbrev pub Ends : Progress → O → Progress → O → Type 0
   Ends old o new o' =
       (first : O) (bytes : List ℕ) → SoFar first o old bytes → PassesAll passes d first o' new.counts bytes
 
   -- no more bytes come, and the output failed in the last line
-  abbrev pub FailsAtEnd : Progress B → O → O → Type 0
+  abbrev pub FailsAtEnd : Progress → O → O → Type 0
   FailsAtEnd old o o' =
       (first : O) (bytes : List ℕ) → SoFar first o old bytes → PassesFront passes d first o' bytes

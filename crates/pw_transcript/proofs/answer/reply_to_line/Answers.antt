@@ -2,42 +2,55 @@ use Rattle.std.proofs.Common.{Option, Ok, sym, ap, ◌∙◌, subst}
 use Rattle.std.specs.Option.{option_copied}
 use Rattle.pw_decl.specs.Fields.{declared_by}
 use Rattle.pw_sessions.specs.declared.command.Command.{Command}
+use Rattle.pw_sessions.specs.Fields.{workbench_by}
 use Rattle.pw_sessions.specs.LineReading.{Blank, Says}
 use Rattle.pw_transcript.specs.Reading.{Reads, reading_of}
-use Rattle.pw_transcript.proofs.AnswerLemmas.{refused_long, refused, blank, carried, carried_left, can_be_carried_out, named_reply}
+use Rattle.pw_transcript.proofs.AnswerLemmas.{refused_long, refused, blank, carried, carried_left, still_left, can_be_carried_out, named_reply}
 use Rattle.pw_transcript.proofs.answer.reply_to_line.Goals as goal
 
 pub returns-in_default-clause-reply : goal.returns-in_default-clause-reply
-returns-in_default-clause-reply g c = λ before line left e.
-    refused_long (declared_by c.args.declaration.now) line before c.args.workbench.now left (sym (ap option_copied c.in_default.is) ∙ e)
+returns-in_default-clause-reply g c = λ before line left next e.
+    refused_long (declared_by c.args.declaration.now) c.limits.ensures line before (workbench_by c.args.workbench.now) left (sym (ap option_copied c.in_default.is) ∙ e)
+
+pub returns-in_default-clause-left : goal.returns-in_default-clause-left
+returns-in_default-clause-left g c =
+    still_left (declared_by c.args.declaration.now) c.limits.ensures c.args.number (workbench_by c.args.workbench.now) c.requires.left
 
 pub returns-in-Ok-None-clause-reply : goal.returns-in-Ok-None-clause-reply
-returns-in-Ok-None-clause-reply g c = λ before line left e.
+returns-in-Ok-None-clause-reply g c = λ before line left next e.
     let reads : Reads (declared_by c.args.declaration.now) c.in-Some.line.now Blank =
     subst (λ (o : Option Command). Reads (declared_by c.args.declaration.now) c.in-Some.line.now (reading_of (Ok o))) c.in-Ok-None.field-0-is c.in-Ok-None.ensures.reads in
-    blank (declared_by c.args.declaration.now) line before c.args.workbench.now left c.in-Some.line.now reads (sym (ap option_copied c.in-Some.is) ∙ e)
+    blank (declared_by c.args.declaration.now) c.limits.ensures line before (workbench_by c.args.workbench.now) left c.in-Some.line.now reads (sym (ap option_copied c.in-Some.is) ∙ e)
 
-pub carry_out-requires : goal.carry_out-requires
-carry_out-requires g c =
+pub returns-in-Ok-None-clause-left : goal.returns-in-Ok-None-clause-left
+returns-in-Ok-None-clause-left g c =
+    still_left (declared_by c.args.declaration.now) c.limits.ensures c.args.number (workbench_by c.args.workbench.now) c.requires.left
+
+pub command-requires : goal.command-requires
+command-requires g c =
     let reads : Reads (declared_by c.args.declaration.now) c.in-Some.line.now (Says c.in-Ok-Some.command) = subst (λ (o : Option Command). Reads (declared_by c.args.declaration.now) c.in-Some.line.now (reading_of (Ok o))) c.in-Ok-Some.field-0-is c.in-Ok-Some.ensures.reads in
-    can_be_carried_out (declared_by c.args.declaration.now) c.in-Some.line.now c.args.workbench.now c.requires.left c.in-Ok-Some.command c.limits.ensures reads
+    can_be_carried_out (declared_by c.args.declaration.now) c.limits.ensures c.in-Some.line.now c.args.number (workbench_by c.args.workbench.now) c.requires.left c.in-Ok-Some.command c.requires.most reads
 
 pub returns-in-Ok-Some-clause-reply : goal.returns-in-Ok-Some-clause-reply
-returns-in-Ok-Some-clause-reply g c = λ before line left e.
+returns-in-Ok-Some-clause-reply g c = λ before line left next e.
     let reads : Reads (declared_by c.args.declaration.now) c.in-Some.line.now (Says c.in-Ok-Some.command) = subst (λ (o : Option Command). Reads (declared_by c.args.declaration.now) c.in-Some.line.now (reading_of (Ok o))) c.in-Ok-Some.field-0-is c.in-Ok-Some.ensures.reads in
-    carried (declared_by c.args.declaration.now) line before c.args.workbench.now left c.in-Some.line.now c.carry_out.new.self c.in-Ok-Some.command c.carry_out.result
-    reads c.carry_out.ensures (sym (ap option_copied c.in-Some.is) ∙ e)
+    carried (declared_by c.args.declaration.now) c.limits.ensures line before (workbench_by c.args.workbench.now) left c.args.number c.in-Some.line.now (workbench_by c.command.new.self) c.in-Ok-Some.command c.command.result
+    next reads c.command.ensures (sym (ap option_copied c.in-Some.is) ∙ e)
 
 pub returns-in-Ok-Some-clause-named : goal.returns-in-Ok-Some-clause-named
 returns-in-Ok-Some-clause-named g c =
     let reads : Reads (declared_by c.args.declaration.now) c.in-Some.line.now (Says c.in-Ok-Some.command) = subst (λ (o : Option Command). Reads (declared_by c.args.declaration.now) c.in-Some.line.now (reading_of (Ok o))) c.in-Ok-Some.field-0-is c.in-Ok-Some.ensures.reads in
-    named_reply (declared_by c.args.declaration.now) c.in-Some.line.now c.args.workbench.now c.requires.left c.carry_out.new.self c.in-Ok-Some.command c.carry_out.result c.limits.ensures reads c.carry_out.ensures
+    named_reply (declared_by c.args.declaration.now) c.limits.ensures c.in-Some.line.now c.args.number (workbench_by c.args.workbench.now) c.requires.left (workbench_by c.command.new.self) c.in-Ok-Some.command c.command.result reads c.command.ensures
 
 pub returns-in-Ok-Some-clause-left : goal.returns-in-Ok-Some-clause-left
 returns-in-Ok-Some-clause-left g c =
     let reads : Reads (declared_by c.args.declaration.now) c.in-Some.line.now (Says c.in-Ok-Some.command) = subst (λ (o : Option Command). Reads (declared_by c.args.declaration.now) c.in-Some.line.now (reading_of (Ok o))) c.in-Ok-Some.field-0-is c.in-Ok-Some.ensures.reads in
-    carried_left (declared_by c.args.declaration.now) c.in-Some.line.now c.args.workbench.now c.requires.left c.carry_out.new.self c.in-Ok-Some.command c.carry_out.result reads c.carry_out.ensures
+    carried_left (declared_by c.args.declaration.now) c.limits.ensures c.in-Some.line.now c.args.number (workbench_by c.args.workbench.now) c.requires.left (workbench_by c.command.new.self) c.in-Ok-Some.command c.command.result reads c.command.ensures
 
 pub returns-in-Err-clause-reply : goal.returns-in-Err-clause-reply
-returns-in-Err-clause-reply g c = λ before line left e.
-    refused (declared_by c.args.declaration.now) line before c.args.workbench.now left c.in-Some.line.now c.in-Err.refusal c.in-Err.ensures.reads (sym (ap option_copied c.in-Some.is) ∙ e)
+returns-in-Err-clause-reply g c = λ before line left next e.
+    refused (declared_by c.args.declaration.now) c.limits.ensures line before (workbench_by c.args.workbench.now) left c.in-Some.line.now c.in-Err.refusal c.in-Err.ensures.reads (sym (ap option_copied c.in-Some.is) ∙ e)
+
+pub returns-in-Err-clause-left : goal.returns-in-Err-clause-left
+returns-in-Err-clause-left g c =
+    still_left (declared_by c.args.declaration.now) c.limits.ensures c.args.number (workbench_by c.args.workbench.now) c.requires.left

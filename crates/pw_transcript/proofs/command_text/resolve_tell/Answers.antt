@@ -17,12 +17,15 @@ returns-in_default-read_info-clause-err g c =
       λ h. h,
       inr (
         not_none _ _ c.in-Some.ensures.number,
-        inl (
-          refl,
-          (
-            c.in-Some.cell,
-            sym c.in-Some.ensures.number,
-            subst (λ (k : Kind). (info : Info) → SpellsInfo (members_of (declared_by c.args.declaration.now)) c.args.info.now k info → ⊥) c.cell_kind.ensures.kind none,
+        inr (
+          λ h. h,
+          inl (
+            refl,
+            (
+              c.in-Some.cell,
+              sym c.in-Some.ensures.number,
+              subst (λ (k : Kind). (info : Info) → SpellsInfo (members_of (declared_by c.args.declaration.now)) c.args.info.now k info → ⊥) c.cell_kind.ensures.kind none,
+            ),
           ),
         ),
       ),

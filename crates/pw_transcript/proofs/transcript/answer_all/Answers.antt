@@ -1,6 +1,7 @@
 use Rattle.std.proofs.Common.{◌≡◌, ◌+◌, ◌≤◌, ℕ, List, [], ◌++◌, length, take, drop, refl, sym, ap, ◌∙◌, subst, arith}
 use Rattle.std.proofs.lemmas.Grind.{common_steps}
 use Rattle.pw_decl.specs.Fields.{declared_by}
+use Rattle.pw_transcript.specs.Steps.Fields.{progress_by}
 use Rattle.pw_transcript.specs.Limits.{most_bytes, most_at_once}
 use Rattle.pw_sessions.specs.Workbench.{IsLeftBy}
 use Rattle.pw_transcript.specs.Steps.Gatherers.{GatheredPasses, GatheredPasses-none, GatheredPasses-joins}
@@ -14,13 +15,13 @@ loop-taken-init g c =
     record {
       bytes = [];
       taken = g.met.I.Input.none c.args.input.now;
-      so_far = SoFar-start (GatheredPasses g.O.Output.passes) (declared_by c.args.d.now) c.args.output.now c.new-progress.result
+      so_far = SoFar-start (GatheredPasses g.O.Output.passes) (declared_by c.args.d.now) c.args.output.now (progress_by c.new-progress.result)
           (GatheredPasses-none g.O.Output.passes g.met.O.Output.none c.args.output.now) (subst (IsLeftBy (declared_by c.args.d.now) []) (sym new.workbench) c.requires.start) new.line new.lines new.replies;
       count = refl;
       bound = omega arith;
       passed_on = c.requires.empty;
       running = record {
-        left = ([], subst (IsLeftBy (declared_by c.args.d.now) []) (sym new.workbench) c.requires.start);
+        left = ([], omega (arith, new.lines), subst (IsLeftBy (declared_by c.args.d.now) []) (sym new.workbench) c.requires.start);
         lines = omega (arith, new.lines);
         replies = omega (arith, new.lines, new.replies);
         last = λ _. new.line;
@@ -35,7 +36,7 @@ returns-in-Err-clause-read g c = λ _.
       bytes = inv.bytes;
       taken = taken_no_more g.I.Input.takes g.met.I.Input.joins _ _ _ inv.bytes inv.taken c.in-Err.ensures.taken;
       within = record { lines = inv.so_far.few; bytes = omega (arith, inv.count, inv.bound) };
-      passed = SoFar-ended_lines (GatheredPasses g.O.Output.passes) (declared_by c.args.d.now) _ _ c.loop-taken.progress inv.bytes inv.so_far;
+      passed = SoFar-ended_lines (GatheredPasses g.O.Output.passes) (declared_by c.args.d.now) _ _ (progress_by c.loop-taken.progress) inv.bytes inv.so_far;
     }
 
 -- a chunk
@@ -70,7 +71,7 @@ returns-in-Err-flush-clause-write g c = λ _.
     let most : length (inv.bytes ++ take taken new) ≤ most_bytes + 1 = omega (arith, length_taken inv.bytes new taken within) in
     replies_in_part g.I.Input.takes passes (declared_by c.args.d.now) _ _ _ _ (inv.bytes ++ take kept (new ++ rest)) (drop kept (take taken new)) (inv.bytes ++ take taken new) all most
     (kept_whole inv.bytes new rest kept taken below within)
-    (flush_failed passes (declared_by c.args.d.now) (GatheredPasses-joins g.O.Output.passes g.met.O.Output.joins) _ _ _ c.feed.new.self inv.bytes (take kept (new ++ rest)) c.in-Ok-feed.fed
+    (flush_failed passes (declared_by c.args.d.now) (GatheredPasses-joins g.O.Output.passes g.met.O.Output.joins) _ _ _ (progress_by c.feed.new.self) inv.bytes (take kept (new ++ rest)) c.in-Ok-feed.fed
     (λ e. c.in-Ok-feed.ensures.whole e _ inv.bytes inv.so_far) (λ e. c.in-Ok-feed.ensures.limit e _ inv.bytes inv.so_far) c.flush.ensures.passed)
 
 -- a byte after the last line that is answered
@@ -108,9 +109,9 @@ returns-then-kept-taken-clause-limit g c = λ _.
     let below : kept ≤ taken = grind (arith, common_steps) in
     let short : length (inv.bytes ++ take kept (new ++ rest)) ≡ most_bytes = length_kept inv.bytes new rest kept (omega arith) ∙ grind (arith, common_steps) in
     let long : length (inv.bytes ++ take taken new) ≡ most_bytes + 1 = length_taken inv.bytes new taken within ∙ grind (arith, common_steps) in
-    replies_up_to_byte g.I.Input.takes passes (declared_by c.args.d.now) _ _ _ _ c.feed.new.self (inv.bytes ++ take kept (new ++ rest)) (drop kept (take taken new)) (inv.bytes ++ take taken new) all
+    replies_up_to_byte g.I.Input.takes passes (declared_by c.args.d.now) _ _ _ _ (progress_by c.feed.new.self) (inv.bytes ++ take kept (new ++ rest)) (drop kept (take taken new)) (inv.bytes ++ take taken new) all
     (kept_whole inv.bytes new rest kept taken below within) short long
-    (SoFar-still passes (declared_by c.args.d.now) (GatheredPasses-joins g.O.Output.passes g.met.O.Output.joins) _ _ _ c.feed.new.self (inv.bytes ++ take kept (new ++ rest))
+    (SoFar-still passes (declared_by c.args.d.now) (GatheredPasses-joins g.O.Output.passes g.met.O.Output.joins) _ _ _ (progress_by c.feed.new.self) (inv.bytes ++ take kept (new ++ rest))
     (c.in-Ok-feed.ensures.whole c.in-Whole.is _ inv.bytes inv.so_far) c.flush.ensures.passed)
 
 pub loop-taken-preserved : goal.loop-taken-preserved
@@ -130,7 +131,7 @@ loop-taken-preserved g c =
       bytes = inv.bytes ++ take taken new;
       taken = all;
       so_far = subst (SoFar passes (declared_by c.args.d.now) _ _ _) (kept_all inv.bytes new rest kept taken same within)
-          (SoFar-still passes (declared_by c.args.d.now) (GatheredPasses-joins g.O.Output.passes g.met.O.Output.joins) _ _ _ c.feed.new.self (inv.bytes ++ take kept (new ++ rest))
+          (SoFar-still passes (declared_by c.args.d.now) (GatheredPasses-joins g.O.Output.passes g.met.O.Output.joins) _ _ _ (progress_by c.feed.new.self) (inv.bytes ++ take kept (new ++ rest))
           (c.in-Ok-feed.ensures.whole c.in-Whole.is _ inv.bytes inv.so_far) c.flush.ensures.passed);
       count = length_taken inv.bytes new taken within ∙ ap (λ n. n + taken) inv.count;
       bound = grind (arith, common_steps);

@@ -1,5 +1,6 @@
 use Rattle.std.proofs.Common.{◌≡◌, ◌≤◌, ◌+◌, ◌-◌, ℕ, List, [], length}
 use Rattle.pw_decl.specs.Fields.{declared_by}
+use Rattle.pw_transcript.specs.Steps.Fields.{progress_by}
 use Rattle.pw_transcript.specs.Limits.{most_bytes}
 use Rattle.pw_transcript.specs.Steps.Gatherers.{held_of, GatheredPasses}
 use Rattle.pw_transcript.specs.Steps.Running.{IsRunning, SoFar}
@@ -10,11 +11,11 @@ abbrev pub invariant-loop-taken : goal.invariant-loop-taken
 invariant-loop-taken g l = record {
   bytes : List ℕ;
   taken : g.I.Input.takes l.fn.input bytes l.input;
-  so_far : SoFar (GatheredPasses g.O.Output.passes) (declared_by l.d) l.fn.output l.output l.progress bytes;
+  so_far : SoFar (GatheredPasses g.O.Output.passes) (declared_by l.d) l.fn.output l.output (progress_by l.progress) bytes;
   count : length bytes ≡ l.total;
   bound : l.total ≤ most_bytes;
   passed_on : held_of l.output ≡ [];
-  running : IsRunning (declared_by l.d) l.progress;
+  running : IsRunning (declared_by l.d) (progress_by l.progress);
 }
 
 abbrev pub decreases-loop-taken : goal.decreases-loop-taken

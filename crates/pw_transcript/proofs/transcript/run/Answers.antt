@@ -1,6 +1,11 @@
 use Rattle.std.proofs.Common.{rules}
-use Rattle.pw_transcript.proofs.RunLemmas.{gathered_to_ended, gathered_in_part, gathered_up_to_limit}
+use Rattle.pw_decl.specs.Fields.{declared_by}
+use Rattle.pw_transcript.proofs.RunLemmas.{if_ok_both, gathered_to_all, gathered_to_ended, gathered_in_part, gathered_up_to_limit, nothing_in_part}
 use Rattle.pw_transcript.proofs.transcript.run.Goals as goal
+
+pub returns-clause-ok : goal.returns-clause-ok
+returns-clause-ok g c =
+    if_ok_both c.answer_all.result _ _ c.answer_all.ensures.ok c.answer_all.ensures.passed_on (λ counts all rest. search (rules, gathered_to_all))
 
 pub returns-clause-read : goal.returns-clause-read
 returns-clause-read g c = λ e.
@@ -18,3 +23,11 @@ returns-clause-limit g c = λ e.
     let limit = c.answer_all.ensures.limit e in
     let rest = c.answer_all.ensures.limit_passed_on e in
     search (rules, gathered_up_to_limit)
+
+pub returns-then-failed-clause-write : goal.returns-then-failed-clause-write
+returns-then-failed-clause-write g c = λ e.
+    nothing_in_part g.I.Input.takes g.O.Output.passes (declared_by c.args.d.now) c.args.input.now c.args.output.now
+    (g.met.I.Input.none c.args.input.now) (g.met.O.Output.none c.args.output.now)
+
+pub returns-clause-works : goal.returns-clause-works
+returns-clause-works g c = search rules

@@ -1,9 +1,9 @@
 use Rattle.std.proofs.Common.{◌<◌, ℕ, List, [], ◌∷◌, ◌++◌, length, refl, sym, ap, ◌∙◌, subst, append-nil, arith}
 use Rattle.std.proofs.lemmas.Grind.{common_steps}
 use Rattle.pw_decl.specs.Fields.{declared_by}
-use Rattle.pw_transcript.specs.declared.progress.Progress.{Progress}
+use Rattle.pw_transcript.specs.Steps.Fields.{progress_by}
 use Rattle.pw_transcript.specs.Limits.{most_lines}
-use Rattle.pw_transcript.specs.Steps.Running.{SoFar, FrontSoFar}
+use Rattle.pw_transcript.specs.Steps.Running.{Progress, SoFar, FrontSoFar}
 use Rattle.pw_transcript.proofs.RunLemmas.{SoFar-held, SoFar-limit, FrontSoFar-more, before_rest, line_done, before_line}
 use Rattle.pw_transcript.proofs.progress.Progress.feed.Goals as goal
 
@@ -20,7 +20,7 @@ pub returns-then-self-eq-MOST_LINES-clause-limit : goal.returns-then-self-eq-MOS
 returns-then-self-eq-MOST_LINES-clause-limit g c = λ _ first before s.
     let inv = c.loop-rest.invariant in
     let some : 0 < length c.loop-rest.rest.now = grind (arith, common_steps) in
-    SoFar-limit g.O.Output.passes (declared_by c.args.d.now) first _ c.loop-rest.self before c.args.bytes.now inv.done c.loop-rest.rest.now (inv.so_far first before s)
+    SoFar-limit g.O.Output.passes (declared_by c.args.d.now) first _ (progress_by c.loop-rest.self) before c.args.bytes.now inv.done c.loop-rest.rest.now (inv.so_far first before s)
     c.if-self-eq-MOST_LINES.true inv.whole some
 
 -- the rest has no line feed
@@ -29,7 +29,7 @@ returns-in_default-clause-whole g c = λ _ first before s.
     let inv = c.loop-rest.invariant in
     let more : c.loop-rest.self.counts.lines < most_lines = grind (arith, common_steps, inv.running.lines) in
     subst (SoFar g.O.Output.passes (declared_by c.args.d.now) first _ _) (before_rest before c.args.bytes.now inv.done c.loop-rest.rest.now inv.whole)
-    (SoFar-held g.O.Output.passes (declared_by c.args.d.now) first _ c.loop-rest.self _ (before ++ inv.done) c.loop-rest.rest.now (inv.so_far first before s)
+    (SoFar-held g.O.Output.passes (declared_by c.args.d.now) first _ (progress_by c.loop-rest.self) _ (before ++ inv.done) c.loop-rest.rest.now (inv.so_far first before s)
     c.in_default.ensures.none refl refl c.extend.ensures more)
 
 pub returns-in-Err-clause-err : goal.returns-in-Err-clause-err
@@ -38,9 +38,8 @@ returns-in-Err-clause-err g c = λ first before s.
     let piece = c.in-Some.piece.now in
     let after = c.in-Some.after.now in
     let more : c.loop-rest.self.counts.lines < most_lines = grind (arith, common_steps, inv.running.lines) in
-    let with_piece : Progress g.row.B.Denot =
-    record { workbench = c.loop-rest.self.workbench; counts = c.loop-rest.self.counts; line = c.extend-in-loop-rest.new.self } in
-    let held = SoFar-held g.O.Output.passes (declared_by c.args.d.now) first _ c.loop-rest.self with_piece (before ++ inv.done) piece (inv.so_far first before s)
+    let with_piece : Progress = record (progress_by c.loop-rest.self) { line = c.extend-in-loop-rest.new.self } in
+    let held = SoFar-held g.O.Output.passes (declared_by c.args.d.now) first _ (progress_by c.loop-rest.self) with_piece (before ++ inv.done) piece (inv.so_far first before s)
     c.in-Some.ensures.some.1 refl refl c.extend-in-loop-rest.ensures more in
     subst (FrontSoFar g.O.Output.passes (declared_by c.args.d.now) first _)
     (ap (λ (text : List ℕ). text ++ after) (before_line before inv.done piece)
@@ -53,13 +52,12 @@ loop-rest-preserved g c =
     let piece = c.in-Some.piece.now in
     let after = c.in-Some.after.now in
     let more : c.loop-rest.self.counts.lines < most_lines = grind (arith, common_steps, inv.running.lines) in
-    let with_piece : Progress g.row.B.Denot =
-    record { workbench = c.loop-rest.self.workbench; counts = c.loop-rest.self.counts; line = c.extend-in-loop-rest.new.self } in
+    let with_piece : Progress = record (progress_by c.loop-rest.self) { line = c.extend-in-loop-rest.new.self } in
     record {
       done = inv.done ++ (piece ++ 10 ∷ []);
       whole = line_done c.args.bytes.now inv.done c.loop-rest.rest.now piece after inv.whole c.in-Some.ensures.some.0;
       so_far = λ first before s.
-          let held = SoFar-held g.O.Output.passes (declared_by c.args.d.now) first _ c.loop-rest.self with_piece (before ++ inv.done) piece (inv.so_far first before s)
+          let held = SoFar-held g.O.Output.passes (declared_by c.args.d.now) first _ (progress_by c.loop-rest.self) with_piece (before ++ inv.done) piece (inv.so_far first before s)
           c.in-Some.ensures.some.1 refl refl c.extend-in-loop-rest.ensures more in
           subst (SoFar g.O.Output.passes (declared_by c.args.d.now) first _ _) (before_line before inv.done piece) (c.in-Ok.ensures.ok first _ held);
       running = c.in-Ok.ensures.running;

@@ -13,7 +13,7 @@ returns-clause-ok g c =
     compound_attached (declared_by c.args.self.now.declaration.now) c.args.self.now.inner.items c.reserve.new.self.items c.append_inner.new.inner.items
     c.args.self.now.instances.items c.reserve-2.new.self.items c.append_instances.new.instances.items
     c.args.self.now.last_line c.args.line c.args.compound c.args.calls.now c.args.kinds.now (cells_of c.args.cells) c.args.support
-    c.args.self.now.well c.requires.calls c.requires.may c.requires.kinds c.requires.few c.cells-first.result c.cells-first.ensures
+    c.args.self.now.well c.requires.calls c.requires.may c.requires.kinds c.requires.few c.cells-first.result c.cells-first.ensures.count
     c.reserve.ensures.items c.append_inner.ensures c.reserve-2.ensures.items (rw c.cells.ensures.cells at c.append_instances.ensures)
 
 pub invariant_of-self-2 : goal.invariant_of-self-2
@@ -22,7 +22,7 @@ invariant_of-self-2 g c =
     let after = compound_attached (declared_by c.args.self.now.declaration.now) c.args.self.now.inner.items c.reserve.new.self.items c.append_inner.new.inner.items
     c.args.self.now.instances.items c.reserve-2.new.self.items c.append_instances.new.instances.items
     c.args.self.now.last_line c.args.line c.args.compound c.args.calls.now c.args.kinds.now (cells_of c.args.cells) c.args.support
-    c.args.self.now.well c.requires.calls c.requires.may c.requires.kinds c.requires.few c.cells-first.result c.cells-first.ensures
+    c.args.self.now.well c.requires.calls c.requires.may c.requires.kinds c.requires.few c.cells-first.result c.cells-first.ensures.count
     c.reserve.ensures.items c.append_inner.ensures c.reserve-2.ensures.items (rw c.cells.ensures.cells at c.append_instances.ensures) in
     record {
       well = subst IsWellNetwork (sym after)

@@ -1,0 +1,42 @@
+-- What the steps of carrying out a command make of a workbench.
+use Rattle.std.specs.Prelude.{◌≡◌, ◌⊎◌, ℕ, Bool, true, ◌&&◌, List, ◌++◌, map, nat_eq}
+use Rattle.std.specs.List.{list_any}
+use Rattle.std.specs.FinSet.{is_subset}
+use Rattle.pw_premises.specs.Premises.{Premises}
+use Rattle.pw_cells.specs.Cells.{kinds_of, new_cell}
+use Rattle.pw_decl.specs.declared.step.Callable.{Callable}
+use Rattle.pw_decl.specs.Expansion.{inner_kinds_of}
+use Rattle.pw_network.specs.Network.{Attached, with_attached}
+use Rattle.pw_settle.specs.Values.{kinds_in, value_in}
+use Rattle.pw_sessions.specs.declared.reply.Reply.{Reply}
+use Rattle.pw_sessions.specs.declared.reply.Reply.TheVariants as reply
+use Rattle.pw_sessions.specs.declared.reply.Refusal.TheVariants as refusal
+use Rattle.pw_sessions.specs.Workbench.{Workbench, beliefs_in}
+
+-- the store has the cells of the network, with their kinds
+abbrev pub StoreFits : Workbench → Type 0
+StoreFits workbench = kinds_of workbench.store ≡ kinds_in workbench.network
+
+-- an instance that is visible in the worldview writes the cell
+abbrev pub is_written : List Attached → ℕ → Premises → Bool
+is_written attached cell worldview =
+    list_any (λ (a : Attached). nat_eq a.instance.output cell && is_subset a.support worldview) attached
+
+-- a callable was attached, and its inner cells added, of which nothing was told
+pub record IsAttached (old : Workbench) (line : ℕ) (callable : Callable) (cells : List ℕ) (support : Premises) (new : Workbench) : Type 0 where
+  pub network : new.network ≡ with_attached old.network line callable cells support
+  pub cells_are : new.store.cells ≡ old.store.cells ++ map new_cell (inner_kinds_of old.network.declared.compounds callable)
+  pub beliefs : new.beliefs ≡ old.beliefs
+
+-- the same network, facts and beliefs; only the room for cells may differ
+pub record IsAsBefore (old new : Workbench) : Type 0 where
+  pub network : new.network ≡ old.network
+  pub cells_are : new.store.cells ≡ old.store.cells
+  pub beliefs : new.beliefs ≡ old.beliefs
+
+-- an ask of the cell by the user was answered: with what settles in the network under what the user believes; or, where a
+-- visible instance writes the cell, with want of memory
+abbrev pub AnswersAsk : Workbench → ℕ → ℕ → Reply → Type 0
+AnswersAsk workbench user cell answer =
+    (answer ≡ reply.Value (value_in workbench.network workbench.store (beliefs_in workbench user) cell))
+    ⊎ ((answer ≡ reply.Refused refusal.Memory) × (is_written workbench.network.attached cell (beliefs_in workbench user) ≡ true))
