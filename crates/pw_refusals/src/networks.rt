@@ -18,6 +18,7 @@ use std::test::Fail;
 
 // The names of the procedures of `over_procedures`, by their numbers.
 const PROCEDURES: [&str; 9] = [
+    "light",
     "adder",
     "subtractor",
     "multiplier",
@@ -26,7 +27,6 @@ const PROCEDURES: [&str; 9] = [
     "switch",
     "copy",
     "at_most",
-    "light",
 ];
 
 /// What a test attaches: a callable to declared cells, by their names, at a line and under premises.

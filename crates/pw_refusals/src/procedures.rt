@@ -1,9 +1,10 @@
 //! A registry of procedures for tests. It is made in one function, which what holds a boxed closure may not leave, and
 //! lent to what a test does with it.
 
-ghost use Rattle.std.specs.Prelude.{◌≡◌, ◌∷◌, [], map, IfOk};
+ghost use Rattle.std.specs.Prelude.{◌≡◌, ◌∷◌, [], List, map, IfOk};
 ghost use Rattle.pw_info.specs.Information.{kind_of};
-ghost use Rattle.pw_procs.specs.Rules.{AreRules, HaveTheSameValues, value_of_rules};
+ghost use Rattle.pw_info.specs.declared.info.Info.{Info as Information};
+ghost use Rattle.pw_procs.specs.Rules.{AreRules, value_of_rules};
 
 use pw_info::{Info, Kind, SetKind};
 use pw_kinds::Interval;
@@ -72,7 +73,8 @@ fn light_rules(alloc: Global, light: SetKind) -> Result<Vec<Rule>, AllocError>
 fn table_of(alloc: Global, rules: &[Rule], output: Kind) -> Result<Vec<Rule>, AllocError>
     requires { AreRules (Kind.Interval ∷ []) output rules.now }
     ensures rules { IfOk result (λ table. AreRules (Kind.Interval ∷ []) output table.items) }
-    ensures value { IfOk result (λ table. HaveTheSameValues rules.now table.items) }
+    ensures value { IfOk result (λ table. (inputs : List Information)
+        → value_of_rules output table.items inputs ≡ value_of_rules output rules.now inputs) }
 {
     let table = copied(alloc, rules)?;
     Ok(table)
@@ -86,17 +88,6 @@ pub fn over_procedures<T: OverRegistry + Drop>(
     task: T,
 ) -> Result<T::Answer, Fail> {
     let mut list = Vec::new(alloc);
-    add_procedures! {
-        alloc, &mut list,
-        names[0], Adder adder;
-        "subtractor", Subtractor subtractor;
-        "multiplier", Multiplier multiplier;
-        "divider", Divider divider;
-        "inverter", Inverter inverter;
-        "switch", Switch switch;
-        "copy", Copy copy;
-        names[1], AtMost at_most;
-    }
     let set = light_set();
     let output = Kind::Members(set);
     let rules = light_rules(alloc, set)?;
@@ -117,6 +108,17 @@ pub fn over_procedures<T: OverRegistry + Drop>(
         rules,
         body,
     )?;
+    add_procedures! {
+        alloc, &mut list,
+        names[0], Adder adder;
+        "subtractor", Subtractor subtractor;
+        "multiplier", Multiplier multiplier;
+        "divider", Divider divider;
+        "inverter", Inverter inverter;
+        "switch", Switch switch;
+        "copy", Copy copy;
+        names[1], AtMost at_most;
+    }
     match Registry::new(alloc, list) {
         Ok(registry) => Ok(task.over(&registry)),
         Err(_) => Err("no registry".into()),

@@ -169,8 +169,8 @@ const BOOL: Kind = Kind::Members(SetKind { number: 0, size: 2 });
 #[test]
 fn reads_callables_back(rt: HostRuntime) -> Result<(), Fail> {
     for (name, callable) in [
-        ("adder", Some(Callable::Stored(0))),
-        ("at_most", Some(Callable::Stored(7))),
+        ("adder", Some(Callable::Stored(1))),
+        ("at_most", Some(Callable::Stored(8))),
         ("sum", Some(Callable::Compound(0))),
         ("product", Some(Callable::Compound(1))),
         ("conditional", Some(Callable::Compound(2))),
@@ -220,7 +220,7 @@ fn reads_lines_of_compounds_back(rt: HostRuntime) -> Result<(), Fail> {
     let rows = [
         (
             Question::Step("twice", 0),
-            call(Callable::Stored(0), &[0, 0, 1]),
+            call(Callable::Stored(1), &[0, 0, 1]),
         ),
         (Question::Step("twice", 1), None),
         (
@@ -233,7 +233,7 @@ fn reads_lines_of_compounds_back(rt: HostRuntime) -> Result<(), Fail> {
         ),
         (
             Question::Step("less", 2),
-            call(Callable::Stored(7), &[3, 1, 2]),
+            call(Callable::Stored(8), &[3, 1, 2]),
         ),
         (Question::Step("less", 3), None),
     ];
@@ -245,23 +245,23 @@ fn reads_lines_of_built_in_compounds_back(rt: HostRuntime) -> Result<(), Fail> {
     let rows = [
         (
             Question::Step("sum", 0),
-            call(Callable::Stored(0), &[0, 1, 2]),
+            call(Callable::Stored(1), &[0, 1, 2]),
         ),
         (
             Question::Step("sum", 1),
-            call(Callable::Stored(1), &[2, 0, 1]),
+            call(Callable::Stored(2), &[2, 0, 1]),
         ),
         (
             Question::Step("sum", 2),
-            call(Callable::Stored(1), &[2, 1, 0]),
+            call(Callable::Stored(2), &[2, 1, 0]),
         ),
         (
             Question::Step("product", 0),
-            call(Callable::Stored(2), &[0, 1, 2]),
+            call(Callable::Stored(3), &[0, 1, 2]),
         ),
         (
             Question::Step("product", 2),
-            call(Callable::Stored(3), &[2, 1, 0]),
+            call(Callable::Stored(4), &[2, 1, 0]),
         ),
         (
             Question::Step("conditional", 0),
@@ -269,15 +269,15 @@ fn reads_lines_of_built_in_compounds_back(rt: HostRuntime) -> Result<(), Fail> {
         ),
         (
             Question::Step("conditional", 1),
-            call(Callable::Stored(4), &[0, 4]),
+            call(Callable::Stored(5), &[0, 4]),
         ),
         (
             Question::Step("conditional", 2),
-            call(Callable::Stored(5), &[0, 1, 3]),
+            call(Callable::Stored(6), &[0, 1, 3]),
         ),
         (
             Question::Step("conditional", 3),
-            call(Callable::Stored(5), &[4, 2, 3]),
+            call(Callable::Stored(6), &[4, 2, 3]),
         ),
         (Question::Step("conditional", 4), None),
     ];
