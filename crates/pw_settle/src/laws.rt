@@ -10,15 +10,18 @@ ghost use Rattle.pw_settle.specs.Fixpoint.{AreOver, AreNamesOf, fixpoint, round,
 
 /// A round leaves the fixpoint as it is: nothing more follows.
 pub fn round_leaves_the_fixpoint<C>()
-    ensures stays { (cells : Cells C) (over : List C) (sources : List (Source C)) → AreOver cells over sources
-        → (c : C) → round cells sources (fixpoint cells over sources) c ≡ fixpoint cells over sources c }
+    ensures stays { (cells : Cells C) (over : List C) (sources : List (Source C))
+        → AreOver cells over sources
+        → (c : C)
+        → round cells sources (fixpoint cells over sources) c ≡ fixpoint cells over sources c }
     ensures kinds { (cells : Cells C) (over : List C) (sources : List (Source C))
         → AreOfTheirKinds cells (fixpoint cells over sources) }
 {}
 
 /// It is the least informed such: whatever a round leaves as it is says at each cell at least as much.
 pub fn fixpoint_is_least_informed<C>()
-    ensures { (cells : Cells C) (over : List C) (sources : List (Source C)) → All (Fits cells) sources
+    ensures { (cells : Cells C) (over : List C) (sources : List (Source C))
+        → All (Fits cells) sources
         → (known : C → Info) → AreOfTheirKinds cells known
         → ((c : C) → round cells sources known c ≡ known c)
         → (c : C) → Implies (known c) (fixpoint cells over sources c) }
@@ -27,24 +30,29 @@ pub fn fixpoint_is_least_informed<C>()
 /// The same without rounds: the fixpoint says of each cell what each source says of it, and whatever does so says at each cell
 /// at least what the fixpoint says.
 pub fn fixpoint_says_what_sources_say<C>()
-    ensures says { (cells : Cells C) (over : List C) (sources : List (Source C)) → AreOver cells over sources
+    ensures says { (cells : Cells C) (over : List C) (sources : List (Source C))
+        → AreOver cells over sources
         → All (IsImplied (fixpoint cells over sources)) sources }
-    ensures least { (cells : Cells C) (over : List C) (sources : List (Source C)) → All (Fits cells) sources
+    ensures least { (cells : Cells C) (over : List C) (sources : List (Source C))
+        → All (Fits cells) sources
         → (known : C → Info) → AreOfTheirKinds cells known → All (IsImplied known) sources
         → (c : C) → Implies (known c) (fixpoint cells over sources c) }
 {}
 
 /// From more sources at least as much follows, at each cell.
 pub fn more_sources_say_more<C>()
-    ensures { (cells : Cells C) (over wider : List C) (sources more : List (Source C)) → All (Fits cells) sources
+    ensures { (cells : Cells C) (over wider : List C) (sources more : List (Source C))
+        → All (Fits cells) sources
         → AreOver cells wider more → All (Contains more) sources
         → (c : C) → Implies (fixpoint cells wider more c) (fixpoint cells over sources c) }
 {}
 
 /// Over how many cells the sources are does not matter, where these are all that they inform.
 pub fn further_cells_change_nothing<C>()
-    ensures { (cells : Cells C) (over wider : List C) (sources : List (Source C)) → AreOver cells over sources
-        → AreOver cells wider sources → (c : C) → fixpoint cells over sources c ≡ fixpoint cells wider sources c }
+    ensures { (cells : Cells C) (over wider : List C) (sources : List (Source C))
+        → AreOver cells over sources
+        → AreOver cells wider sources → (c : C)
+        → fixpoint cells over sources c ≡ fixpoint cells wider sources c }
 {}
 
 /// Names of cells do not matter: what follows from the sources over other names is what follows from them, by other names.
@@ -58,14 +66,17 @@ pub fn names_do_not_matter<C, D>()
 
 /// What was told of a cell may be merged beforehand.
 pub fn tells_may_be_merged<C>()
-    ensures { (cells : Cells C) (over : List C) (sources : List (Source C)) → AreOver cells over sources
+    ensures { (cells : Cells C) (over : List C) (sources : List (Source C))
+        → AreOver cells over sources
         → (told : C → Info) → ((c : C) → Contains over c → told c ≡ told_of cells sources c)
-        → (c : C) → fixpoint cells over (told_in_one over told sources) c ≡ fixpoint cells over sources c }
+        → (c : C)
+        → fixpoint cells over (told_in_one over told sources) c ≡ fixpoint cells over sources c }
 {}
 
 /// Of a cell that no propagator writes, what follows is what is told.
 pub fn unwritten_cells_have_what_is_told<C>()
-    ensures { (cells : Cells C) (over : List C) (sources : List (Source C)) → AreOver cells over sources
+    ensures { (cells : Cells C) (over : List C) (sources : List (Source C))
+        → AreOver cells over sources
         → (c : C) → All (λ source. cell_of source ≡ c → is_propagator source ≡ true → ⊥) sources
         → fixpoint cells over sources c ≡ told_of cells sources c }
 {}
