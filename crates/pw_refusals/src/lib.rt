@@ -1,5 +1,6 @@
-//! For tests alone: an allocator that refuses the growths that a test chooses, and the tests that need it or cross crates:
-//! helpers first (`texts`, `procedures`, `sessions`, `ends`, `facts`), then a folder for each thing tested.
+//! For tests alone: an allocator that refuses the growths that a test chooses, a host that uses the workbench as a library, and
+//! the tests that need the allocator or cross crates: helpers first (`texts`, `procedures`, `sessions`, `ends`, `facts`), then a
+//! folder for each thing tested.
 #![tactic(auto)]
 
 ghost use Rattle.std.specs.Prelude.{◌≡◌, ℕ, ◌<◌, ◌≤◌, ◌^◌, ◌↔◌, IsTrue};
@@ -7,6 +8,10 @@ ghost use Rattle.pw_refusals.specs.Refused.{IsRefused};
 
 use std::alloc::{AllocError, Allocator};
 use std::cell::Cell;
+
+mod host;
+
+pub use host::{Matter, asked_by_two};
 
 /// An allocator that passes each call on to the one it holds, but refuses some growths.
 ///

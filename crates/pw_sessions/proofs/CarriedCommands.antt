@@ -108,6 +108,19 @@ module _ (d : Declared) (well : IsWellDeclared d) (readings : List LineReading) 
         replied = refl;
       }
 
+  -- ---- a question for beliefs
+
+  -- what the user believes
+  pub carried_beliefs : (user : ℕ) (premises : Premises) → user < length d.users → premises ≡ beliefs_in old user →
+      IsCarriedOut d readings (commands.Beliefs user) old (reply.Believes premises)
+  carried_beliefs user premises there is =
+      record {
+        reading = Says (commands.Beliefs user);
+        became = inl refl;
+        left = left_same d well.kinds readings (Says (commands.Beliefs user)) old left (λ n. refl) (λ u beliefs. refl);
+        replied = ap (λ (p : Premises). Some (reply.Believes p)) (sym (is ∙ left.beliefs user there));
+      }
+
   -- ---- an ask
 
   -- what settles under what the user believes is what follows from the visible entries

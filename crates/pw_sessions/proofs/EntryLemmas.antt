@@ -177,3 +177,4 @@ answer-visible d entries beliefs (commands.Tell user cell fact) = refl
 answer-visible d entries beliefs (commands.Attach user callable cells support) = refl
 answer-visible d entries beliefs (commands.Believe user premises) = refl
 answer-visible d entries beliefs (commands.Doubt user premises) = refl
+answer-visible d entries beliefs (commands.Beliefs user) = refl

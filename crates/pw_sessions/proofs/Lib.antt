@@ -1,5 +1,7 @@
 pub mod AskedCells
 pub mod BlankLemmas
+pub mod BlankLines
+pub mod BlankedLines
 pub mod CarriedCommands
 pub mod EntriesRise
 pub mod EntryLemmas

@@ -1,16 +1,12 @@
--- The next line comes after the lines of all attachments, so its command can be carried out.
+-- The next line comes after the lines of all attachments.
 use Rattle.std.proofs.Common.{◌≡◌, ℕ, ◌+◌, ◌<◌, ◌≤◌, List, [], ◌∷◌, All, fold, length, sym, subst, arith}
 use Rattle.std.proofs.lemmas.List.Elements.{All-cons, All-nil, All-head, All-tail}
 use Rattle.pw_decl.specs.Declaration.{Declared}
-use Rattle.pw_network.specs.Limits.{most_lines}
 use Rattle.pw_network.specs.Network.{Network, bare, with_attached}
-use Rattle.pw_sessions.specs.declared.command.Command.{Command}
 use Rattle.pw_sessions.specs.declared.command.Command.TheVariants as commands
-use Rattle.pw_sessions.specs.Carrying.{CanBeCarriedOut}
 use Rattle.pw_sessions.specs.Entries.{Entry, Told, Attached, entries_before, entries_from, line_of}
 use Rattle.pw_sessions.specs.LineReading.{LineReading, Says}
-use Rattle.pw_sessions.specs.NamesDeclared.{IsDeclared}
-use Rattle.pw_sessions.specs.Workbench.{Workbench, IsLeftBy, IsSetUpFor, with_entry}
+use Rattle.pw_sessions.specs.Workbench.{Workbench, IsLeftBy, with_entry}
 
 -- the entries of lines are of lines that came
 entries_below : (number next : ℕ) (readings : List LineReading) → number + length readings ≡ next → All (λ entry. line_of entry < next) (entries_from number readings)
@@ -40,14 +36,3 @@ pub next_left : (d : Declared) (readings : List LineReading) (bench : Workbench)
 next_left d readings bench left =
     subst (λ (n : Network). n.last_line < length readings + 1) (sym left.network)
     (last_below (bare d) (entries_before readings) (length readings + 1) (omega arith) (entries_below 1 (length readings + 1) readings (omega arith)))
-
--- a command whose user and names are declared can be carried out at a line after it
-pub can_carry_out : (d : Declared) (bench : Workbench) (line : ℕ) (command : Command) → IsSetUpFor d bench → IsDeclared d (Says command) →
-    bench.network.last_line < line → line ≤ most_lines → CanBeCarriedOut bench line command
-can_carry_out d bench line command fits named next most =
-    record {
-      set_up = subst (λ (e : Declared). IsSetUpFor e bench) (sym fits.declared) fits;
-      declared = subst (λ (e : Declared). IsDeclared e (Says command)) (sym fits.declared) named;
-      next = next;
-      most = most;
-    }

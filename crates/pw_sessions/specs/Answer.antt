@@ -52,9 +52,10 @@ abbrev pub IsWritten : Declared → List Entry → ℕ → Type 0
 IsWritten d entries cell = Contains (map cell_of (filter is_propagator (sources_after d entries))) (DeclaredCell cell)
 
 -- the answer to a command, where these entries were made and this is what its user believes: to an ask the value of the cell
--- from the visible entries alone, to every other command `ok`
+-- from the visible entries alone, to `beliefs` what the user believes, to every other command `ok`
 abbrev pub answer_to : Declared → List Entry → Premises → Command → Reply
 answer_to d entries beliefs (commands.Ask user cell) = reply.Value (value_in d (visible_in entries beliefs) cell)
+answer_to d entries beliefs (commands.Beliefs user) = reply.Believes beliefs
 answer_to d entries beliefs command = reply.Done
 
 abbrev pub user_of : Command → ℕ
@@ -62,6 +63,7 @@ user_of (commands.Tell user cell fact) = user
 user_of (commands.Attach user callable cells support) = user
 user_of (commands.Believe user premises) = user
 user_of (commands.Doubt user premises) = user
+user_of (commands.Beliefs user) = user
 user_of (commands.Ask user cell) = user
 
 -- the reply to a line that reads so, after lines that read so; a blank line gets none

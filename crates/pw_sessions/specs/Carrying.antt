@@ -1,22 +1,41 @@
 -- Which commands can be carried out, and what that comes to whatever the declaration and the lines before.
-use Rattle.std.specs.Prelude.{◌≡◌, ℕ, ◌+◌, ◌<◌, ◌≤◌, List, length}
+use Rattle.std.specs.Prelude.{◌≡◌, ℕ, ◌+◌, ◌<◌, ◌≤◌, List, [], ◌∷◌, ◌++◌, length}
 use Rattle.pw_decl.specs.Declaration.{Declared}
 use Rattle.pw_network.specs.Limits.{most_lines}
 use Rattle.pw_sessions.specs.declared.command.Command.{Command}
 use Rattle.pw_sessions.specs.declared.reply.Reply.{Reply}
-use Rattle.pw_sessions.specs.LineReading.{LineReading, Says}
+use Rattle.pw_sessions.specs.Answer.{answer_to, user_of}
+use Rattle.pw_sessions.specs.Beliefs.{beliefs_at}
+use Rattle.pw_sessions.specs.Entries.{entries_before}
+use Rattle.pw_sessions.specs.LineReading.{LineReading, Says, and_blank_lines}
 use Rattle.pw_sessions.specs.NamesDeclared.{IsDeclared}
-use Rattle.pw_sessions.specs.Workbench.{Workbench, IsLeftBy, IsSetUpFor, IsCarriedOut}
+use Rattle.pw_sessions.specs.Workbench.{Workbench, IsLeftBy, IsCarriedOut}
 
--- the command can be carried out at this line: what it names is declared, and the line comes after those of all attachments
+-- the command can be carried out at this line: it comes after all lines that left the workbench, and what the command names is
+-- declared
 pub record CanBeCarriedOut (workbench : Workbench) (line : ℕ) (command : Command) : Type 0 where
-  pub set_up : IsSetUpFor workbench.network.declared workbench
-  pub declared : IsDeclared workbench.network.declared (Says command)
-  pub next : workbench.network.last_line < line
+  pub declared : Declared
+  pub before : List LineReading
+  pub left : IsLeftBy declared before workbench
+  pub next : length before < line
   pub most : line ≤ most_lines
+  pub names : IsDeclared declared (Says command)
 
 -- whatever was declared, and however the lines before read that left this: a command whose names are declared was carried out
+-- at its line, with so many blank lines since the last
 abbrev pub CarriesOut : Workbench → ℕ → Command → Workbench → Reply → Type 0
 CarriesOut old line command new reply =
-    (d : Declared) (before : List LineReading) → IsLeftBy d before old → length before + 1 ≡ line → IsDeclared d (Says command)
-    → IsCarriedOut d before command new reply
+    (d : Declared) (before : List LineReading) (blanks : ℕ) → IsLeftBy d before old → length before + blanks + 1 ≡ line
+    → IsDeclared d (Says command) → IsCarriedOut d (and_blank_lines before blanks) command new reply
+
+-- the command was answered, and its line is among those that left what is there now
+pub record IsAnswered (d : Declared) (before : List LineReading) (command : Command) (new : Workbench) (reply : Reply) : Type 0 where
+  pub left : IsLeftBy d (before ++ Says command ∷ []) new
+  pub answer : reply ≡ answer_to d (entries_before before) (beliefs_at d (user_of command) before) command
+
+-- some lines left the workbench, and the user is declared
+pub record IsUserOf (workbench : Workbench) (user : ℕ) : Type 0 where
+  pub declared : Declared
+  pub before : List LineReading
+  pub left : IsLeftBy declared before workbench
+  pub there : user < length declared.users

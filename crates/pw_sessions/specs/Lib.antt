@@ -1,5 +1,6 @@
 pub mod Answer
 pub mod Beliefs
+pub mod Blanking
 pub mod Carrying
 pub mod CellNames
 pub mod Entries

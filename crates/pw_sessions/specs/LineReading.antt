@@ -1,4 +1,5 @@
 -- How a line of a transcript reads, once its bytes are forgotten.
+use Rattle.std.specs.Prelude.{ℕ, List, ◌++◌, replicate}
 use Rattle.pw_sessions.specs.declared.command.Command.{Command}
 use Rattle.pw_sessions.specs.declared.reply.Refusal.{Refusal}
 
@@ -7,3 +8,7 @@ pub data LineReading : Type 0 where
   Blank : LineReading
   Refused : Refusal → LineReading
   Says : Command → LineReading
+
+-- lines, and so many blank ones after them
+abbrev pub and_blank_lines : List LineReading → ℕ → List LineReading
+and_blank_lines readings blanks = readings ++ replicate blanks Blank

@@ -1,17 +1,35 @@
--- What the steps of carrying out a command make of a workbench.
-use Rattle.std.specs.Prelude.{◌≡◌, ◌⊎◌, ℕ, Bool, true, ◌&&◌, List, ◌++◌, map, nat_eq}
+-- What the steps of carrying out a command ask of a workbench, and what they make of it.
+use Rattle.std.specs.Prelude.{◌≡◌, ◌⊎◌, ℕ, ◌+◌, ◌<◌, ◌≤◌, Bool, true, ◌&&◌, List, ◌++◌, length, map, nat_eq}
 use Rattle.std.specs.List.{list_any}
 use Rattle.std.specs.FinSet.{is_subset}
 use Rattle.pw_premises.specs.Premises.{Premises}
 use Rattle.pw_cells.specs.Cells.{kinds_of, new_cell}
 use Rattle.pw_decl.specs.declared.step.Callable.{Callable}
+use Rattle.pw_decl.specs.Declaration.{Declared}
 use Rattle.pw_decl.specs.Expansion.{inner_kinds_of}
+use Rattle.pw_network.specs.Limits.{most_lines}
 use Rattle.pw_network.specs.Network.{Attached, with_attached}
 use Rattle.pw_settle.specs.Values.{kinds_in, value_in}
+use Rattle.pw_sessions.specs.declared.command.Command.{Command}
 use Rattle.pw_sessions.specs.declared.reply.Reply.{Reply}
 use Rattle.pw_sessions.specs.declared.reply.Reply.TheVariants as reply
 use Rattle.pw_sessions.specs.declared.reply.Refusal.TheVariants as refusal
-use Rattle.pw_sessions.specs.Workbench.{Workbench, beliefs_in}
+use Rattle.pw_sessions.specs.LineReading.{LineReading, Says}
+use Rattle.pw_sessions.specs.NamesDeclared.{IsDeclared}
+use Rattle.pw_sessions.specs.Workbench.{Workbench, IsLeftBy, IsSetUpFor, IsCarriedOut, beliefs_in}
+
+-- the workbench can carry out the command: what it names is declared, and the line comes after those of all attachments
+pub record CanCarryOut (workbench : Workbench) (line : ℕ) (command : Command) : Type 0 where
+  pub set_up : IsSetUpFor workbench.network.declared workbench
+  pub declared : IsDeclared workbench.network.declared (Says command)
+  pub next : workbench.network.last_line < line
+  pub most : line ≤ most_lines
+
+-- whatever was declared, and however the lines before read, of which this is the next: the command was carried out
+abbrev pub CarriesOutNext : Workbench → ℕ → Command → Workbench → Reply → Type 0
+CarriesOutNext old line command new reply =
+    (d : Declared) (before : List LineReading) → IsLeftBy d before old → length before + 1 ≡ line → IsDeclared d (Says command)
+    → IsCarriedOut d before command new reply
 
 -- the store has the cells of the network, with their kinds
 abbrev pub StoreFits : Workbench → Type 0

@@ -35,6 +35,10 @@ pub enum Command {
         user: u8,
         premises: PremiseSet,
     },
+    /// Which premises the user believes.
+    Beliefs {
+        user: u8,
+    },
     /// What is known of a cell under what the user believes.
     Ask {
         user: u8,

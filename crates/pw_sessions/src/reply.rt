@@ -1,6 +1,7 @@
 //! What a line is answered with.
 
 use pw_info::Info;
+use pw_premises::PremiseSet;
 use thiserror::Error;
 
 /// Why a line is refused. A line that several of these apply to is refused for the first of them, in the order
@@ -50,6 +51,8 @@ pub enum Reply {
     Done,
     /// What is known of the cell that was asked for.
     Value(Info),
+    /// The premises that the user believes.
+    Believes(PremiseSet),
     /// The line was refused, and changed nothing.
     Refused(Refusal),
 }

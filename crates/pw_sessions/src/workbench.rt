@@ -9,10 +9,12 @@ ghost use Rattle.pw_network.specs.Fields.{network_by};
 ghost use Rattle.pw_network.specs.Kept.{attached_of};
 ghost use Rattle.pw_network.specs.Network.{MayAttach, bare};
 ghost use Rattle.pw_procs.specs.Arguments.{cells_of};
-ghost use Rattle.pw_sessions.specs.Carrying.{CanBeCarriedOut, CarriesOut};
+ghost use Rattle.pw_sessions.specs.Beliefs.{beliefs_at};
+ghost use Rattle.pw_sessions.specs.Carrying.{CanBeCarriedOut, CarriesOut, IsUserOf};
 ghost use Rattle.pw_sessions.specs.Fields.{workbench_by};
 ghost use Rattle.pw_sessions.specs.LineReading.{LineReading};
-ghost use Rattle.pw_sessions.specs.Steps.{AnswersAsk, IsAsBefore, IsAttached, StoreFits, is_written};
+ghost use Rattle.pw_sessions.specs.Steps.{AnswersAsk, CanCarryOut, CarriesOutNext, IsAsBefore, IsAttached};
+ghost use Rattle.pw_sessions.specs.Steps.{StoreFits, is_written};
 ghost use Rattle.pw_sessions.specs.Workbench.{IsLeftBy, beliefs_in};
 
 use crate::command::Command;
@@ -144,12 +146,10 @@ impl<'d, 'r, A: Allocator + Copy> Workbench<'d, 'r, A> {
         }
     }
 
-    /// Carries out a command at a line after all lines before it. What it names is declared. The reply is the answer to it
-    /// from what the lines before it left, or `Refused(Memory)` where memory is refused to a tell, to an attach, or to an ask
-    /// of a cell that an instance writes whose premises are all believed; and then nothing changes.
-    pub fn command(&mut self, line: u32, command: &Command) -> Reply
-        requires { CanBeCarriedOut (workbench_by self.old) line command.now }
-        ensures { CarriesOut (workbench_by self.old) line command.now (workbench_by self.new)
+    // Carries out a command at the line after the last, blank ones among them.
+    fn carry_out(&mut self, line: u32, command: &Command) -> Reply
+        requires { CanCarryOut (workbench_by self.old) line command.now }
+        ensures { CarriesOutNext (workbench_by self.old) line command.now (workbench_by self.new)
             result }
     {
         match *command {
@@ -178,7 +178,32 @@ impl<'d, 'r, A: Allocator + Copy> Workbench<'d, 'r, A> {
                 self.set_beliefs(user, self.beliefs_of(user).difference(premises));
                 Reply::Done
             }
+            Command::Beliefs { user } => Reply::Believes(self.beliefs_of(user)),
             Command::Ask { user, cell } => self.ask(user, cell),
         }
+    }
+
+    /// Carries out a command at a line, from 1 to 1,000,000, that comes after every line given before; the lines in between
+    /// count as blank. What it names is declared: its user, its cells, its callable, which takes them, and a fact is of the
+    /// kind of its cell.
+    ///
+    /// The reply is the answer to the command from what the lines before it left, or `Refused(Memory)` where memory is refused
+    /// to a tell, to an attach, or to an ask of a cell that an instance writes whose premises are all believed; and then
+    /// nothing changes. Commands on beliefs are never refused.
+    pub fn command(&mut self, line: u32, command: &Command) -> Reply
+        requires { CanBeCarriedOut (workbench_by self.old) line command.now }
+        ensures { CarriesOut (workbench_by self.old) line command.now (workbench_by self.new)
+            result }
+    {
+        self.carry_out(line, command)
+    }
+
+    /// The premises that the user believes now.
+    pub fn beliefs(&self, user: u8) -> PremiseSet
+        requires { IsUserOf (workbench_by self.now) user }
+        ensures { (d : Declared) (before : List LineReading) → IsLeftBy d before (workbench_by self.now)
+            → result ≡ beliefs_at d user before }
+    {
+        self.beliefs_of(user)
     }
 }

@@ -1,6 +1,6 @@
 -- What a line that is held, or too long to be held, comes to.
-use Rattle.std.proofs.Common.{◌≡◌, ℕ, ◌+◌, ◌<◌, ◌≤◌, nat_le, true, false, List, [], ◌∷◌, ◌++◌, length, Option, Some, None, refl, sym, ap, ◌∙◌, subst, inl, inr, length-append, arith}
-use Rattle.std.specs.Prelude.{fold, is_some}
+use Rattle.std.proofs.Common.{◌≡◌, ℕ, ◌+◌, ◌<◌, ◌≤◌, nat_le, true, false, List, [], ◌∷◌, ◌++◌, length, Option, Some, None, refl, sym, ap, ◌∙◌, subst, inl, inr, append-nil, length-append, arith}
+use Rattle.std.specs.Prelude.{is_some}
 use Rattle.std.proofs.lemmas.Bool.{cases_Bool, leb-false}
 use Rattle.pw_info.specs.declared.kind.Kind.TheVariants as kinds
 use Rattle.pw_info.specs.SetNames.{IsNamed}
@@ -16,15 +16,13 @@ use Rattle.pw_sessions.specs.Answer.{answer_to, reply_to, sources_after, user_of
 use Rattle.pw_sessions.specs.Beliefs.{beliefs_at}
 use Rattle.pw_sessions.specs.Carrying.{CanBeCarriedOut, CarriesOut}
 use Rattle.pw_premises.specs.Premises.{Premises}
-use Rattle.pw_procs.specs.Arguments.{cells_of}
 use Rattle.pw_network.specs.Names.{DeclaredCell}
-use Rattle.pw_network.specs.Network.{Network, bare, with_attached}
 use Rattle.pw_sessions.specs.CellNames.{named_cells, names_after}
-use Rattle.pw_sessions.specs.Entries.{Entry, entries_before, entries_from}
+use Rattle.pw_sessions.specs.Entries.{Entry, entries_before}
 use Rattle.pw_sessions.specs.LineReading.{LineReading, Blank, Refused, Says}
 use Rattle.pw_sessions.specs.NamesDeclared.{IsDeclared}
 use Rattle.pw_sessions.specs.TakesMemory.{MayBecome}
-use Rattle.pw_sessions.specs.Workbench.{Workbench, IsLeftBy, IsSetUpFor, IsCarriedOut, with_entry}
+use Rattle.pw_sessions.specs.Workbench.{Workbench, IsLeftBy, IsCarriedOut}
 use Rattle.pw_settle.proofs.FixpointLemmas.{kind-fixpoint}
 use Rattle.pw_sessions.proofs.WorkbenchLemmas.{left_same}
 use Rattle.pw_transcript.specs.FromScratch.{ComesTo}
@@ -51,31 +49,12 @@ held_some held line e = elim (cases_Bool (nat_le (length line) 1024)) [
 one_more : (before : List LineReading) (reading : LineReading) (number : ℕ) → length before + 1 ≡ number → length (before ++ reading ∷ []) + 1 ≡ number + 1
 one_more before reading number next = omega (arith, length-append before (reading ∷ []), next)
 
--- ---- the line of the last attachment
-
--- lines of which the first has this number attach at their own numbers
-last_line_from : (number : ℕ) (readings : List LineReading) (network : Network) → network.last_line < number →
-    (fold with_entry network (entries_from number readings)).last_line < number + length readings
-last_line_from number [] network before = omega arith
-last_line_from number (Blank ∷ readings) network before = let h = last_line_from (number + 1) readings network (omega arith) in omega arith
-last_line_from number (Refused r ∷ readings) network before = let h = last_line_from (number + 1) readings network (omega arith) in omega arith
-last_line_from number (Says (commands.Tell user cell fact) ∷ readings) network before =
-    let h = last_line_from (number + 1) readings network (omega arith) in omega arith
-last_line_from number (Says (commands.Attach user callable cells support) ∷ readings) network before =
-    let h = last_line_from (number + 1) readings (with_attached network number callable (cells_of cells) support) (omega arith) in omega arith
-last_line_from number (Says (commands.Believe user premises) ∷ readings) network before =
-    let h = last_line_from (number + 1) readings network (omega arith) in omega arith
-last_line_from number (Says (commands.Doubt user premises) ∷ readings) network before =
-    let h = last_line_from (number + 1) readings network (omega arith) in omega arith
-last_line_from number (Says (commands.Ask user cell) ∷ readings) network before =
-    let h = last_line_from (number + 1) readings network (omega arith) in omega arith
-
--- the last attachment is at one of the lines
-last_line_before : (d : Declared) (readings : List LineReading) (workbench : Workbench) → IsLeftBy d readings workbench →
-    workbench.network.last_line < length readings + 1
-last_line_before d readings workbench left =
-    let h = last_line_from 1 readings (bare d) (omega arith) in
-    omega (arith, ap (λ (n : Network). n.last_line) left.network)
+-- a command that is carried out at the next line, with no blank line before it
+at_once : (d : Declared) (before : List LineReading) (old : Workbench) (line : ℕ) (command : Command) (new : Workbench) (answer : Reply) →
+    CarriesOut old line command new answer → IsLeftBy d before old → length before + 1 ≡ line → IsDeclared d (Says command) →
+    IsCarriedOut d before command new answer
+at_once d before old line command new answer done left next named =
+    subst (λ (l : List LineReading). IsCarriedOut d l command new answer) (append-nil before) (done d before 0 left (omega (arith, next)) named)
 
 -- ---- what a line comes to
 
@@ -120,7 +99,7 @@ module _ (d : Declared) (well : IsWellDeclared d) where
         Reads d held (Says command) → CarriesOut old number command new answer → Some held ≡ held_line line → RepliesToLine d before line new (Some answer)
     carried number held new command answer next reads done e =
         let here : Reads d line (Says command) = subst (λ (x : List ℕ). Reads d x (Says command)) (held_some held line e) reads in
-        let out : IsCarriedOut d before command new answer = done d before left next (IsDeclared-from_Reads d line command here) in
+        let out = at_once d before old number command new answer done left next (IsDeclared-from_Reads d line command here) in
         record { reading = out.reading; comes = came_to command out.reading here out.became; left = out.left; answer_is = out.replied }
 
   -- what the lines before left is left after a line that gets no reply, or is refused
@@ -133,12 +112,13 @@ module _ (d : Declared) (well : IsWellDeclared d) where
     -- the command of a line among those that a run answers
     pub can_be_carried_out : (command : Command) → number ≤ most_lines → Reads d line (Says command) → CanBeCarriedOut old number command
     can_be_carried_out command most reads =
-        let is : d ≡ old.network.declared = sym left.2.set_up.declared in
         record {
-          set_up = subst (λ (e : Declared). IsSetUpFor e old) is left.2.set_up;
-          declared = subst (λ (e : Declared). IsDeclared e (Says command)) is (IsDeclared-from_Reads d line command reads);
-          next = omega (arith, last_line_before d left.0 old left.2, left.1);
+          declared = d;
+          before = left.0;
+          left = left.2;
+          next = omega (arith, left.1);
           most = most;
+          names = IsDeclared-from_Reads d line command reads;
         }
 
     -- what the command is answered with has its names
@@ -152,6 +132,7 @@ module _ (d : Declared) (well : IsWellDeclared d) where
     named_answer entries beliefs (commands.Attach user callable cells support) named = tt
     named_answer entries beliefs (commands.Believe user premises) named = tt
     named_answer entries beliefs (commands.Doubt user premises) named = tt
+    named_answer entries beliefs (commands.Beliefs user) named = tt
 
     named_outcome : (before : List LineReading) (command : Command) (reading : LineReading) (answer : Reply) → IsDeclared d (Says command) →
         MayBecome d before command reading → reply_to d before reading ≡ Some answer → IsReplyNamed d answer
@@ -167,14 +148,14 @@ module _ (d : Declared) (well : IsWellDeclared d) where
     pub named_reply : (new : Workbench) (command : Command) (answer : Reply) → Reads d line (Says command) → CarriesOut old number command new answer → IsReplyNamed d answer
     named_reply new command answer reads done =
         let named = IsDeclared-from_Reads d line command reads in
-        let out : IsCarriedOut d left.0 command new answer = done d left.0 left.2 left.1 named in
+        let out = at_once d left.0 old number command new answer done left.2 left.1 named in
         named_outcome left.0 command out.reading answer named out.became out.replied
 
     -- and the lines so far left what is there after it
     pub carried_left : (new : Workbench) (command : Command) (answer : Reply) → Reads d line (Says command) → CarriesOut old number command new answer →
         IsLeft d (number + 1) new
     carried_left new command answer reads done =
-        let out : IsCarriedOut d left.0 command new answer = done d left.0 left.2 left.1 (IsDeclared-from_Reads d line command reads) in
+        let out = at_once d left.0 old number command new answer done left.2 left.1 (IsDeclared-from_Reads d line command reads) in
         (left.0 ++ out.reading ∷ [], one_more left.0 out.reading number left.1, out.left)
 
 -- ---- the reply is passed

@@ -2,7 +2,9 @@ pub mod AnswerLemmas
 pub mod CellLists
 pub mod GatheringFacts
 pub mod HeldFacts
+pub mod IsolationLemmas
 pub mod PremiseLists
+pub mod PremiseTexts
 pub mod ReadingLemmas
 pub mod ReplyLemmas
 pub mod RunLemmas

@@ -16,7 +16,7 @@ use Rattle.pw_info.specs.First.{IsFirstIn, HoldsOfNone}
 use Rattle.pw_decl.specs.declared.step.Callable.{Callable}
 use Rattle.pw_decl.specs.Declaration.{Declared, kind_at, members_of}
 use Rattle.pw_decl.specs.WellDeclared.{IsWellDeclared}
-use Rattle.pw_transcript.specs.Sentence.{Said, Tell, Attach, Believe, Doubt, Ask, Other, Sentence}
+use Rattle.pw_transcript.specs.Sentence.{Said, Tell, Attach, Believe, Doubt, Beliefs, Ask, Other, Sentence}
 use Rattle.pw_transcript.specs.Steps.Forms.{sentence_form}
 use Rattle.pw_info.specs.Words.{words_of, is_idle, is_allowed}
 use Rattle.pw_transcript.specs.Reading.{premises_of, cells_named, MeansFor, Means, HasAnothersPremise, RefusalAppliesTo, IsRefusedWith, sentence_refusals, SaysSentence, RefusalAppliesToLine, RefusalApplies, line_refusals, Reads}
@@ -54,6 +54,7 @@ one_meaning_for d user (Attach callable cells premises) a b limits (f, x, at_f, 
     e ∙ ap (λ c. commands.Attach user c x (premises_of d premises)) same_callable ∙ ap (λ c. commands.Attach user f' c (premises_of d premises)) same_cells ∙ sym e'
 one_meaning_for d user (Believe premises) a b limits e e' = e ∙ sym e'
 one_meaning_for d user (Doubt premises) a b limits e e' = e ∙ sym e'
+one_meaning_for d user Beliefs a b limits e e' = e ∙ sym e'
 one_meaning_for d user (Ask cell) a b limits (c, at_c, e) (c', at_c', e') = e ∙ ap (λ x. commands.Ask user x) (one_place _ c c' at_c at_c') ∙ sym e'
 one_meaning_for d user Other a b limits p q = absurd p
 

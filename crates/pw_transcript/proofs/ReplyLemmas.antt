@@ -5,7 +5,7 @@ use Rattle.pw_sessions.specs.declared.command.Command.{Command}
 use Rattle.pw_sessions.specs.declared.reply.Reply.{Reply}
 use Rattle.pw_sessions.specs.declared.reply.Refusal.TheVariants as refusal
 use Rattle.pw_decl.specs.Declaration.{Declared}
-use Rattle.pw_transcript.specs.Sentence.{Said, Tell, Attach, Believe, Doubt, Ask, Other}
+use Rattle.pw_transcript.specs.Sentence.{Said, Tell, Attach, Believe, Doubt, Beliefs, Ask, Other}
 use Rattle.pw_transcript.specs.Reading.{MeansFor, Reads}
 use Rattle.pw_sessions.specs.LineReading.{LineReading, Refused, Says}
 use Rattle.pw_sessions.specs.Answer.{user_of, reply_to, replies_of}
@@ -127,6 +127,7 @@ module _ (d : Declared) where
       rw is (refl, (subst (All (λ cell. cell < length d.cells)) (sym held.0) (places_below d.cells cell_words), takes))
   MeansFor-cell user (Believe words) command is = rw is (refl, tt)
   MeansFor-cell user (Doubt words) command is = rw is (refl, tt)
+  MeansFor-cell user Beliefs command is = rw is (refl, tt)
   MeansFor-cell user (Ask cell_word) command (cell, at_cell, is) = rw is (refl, place_of_name-lt d.cells cell_word cell at_cell)
   MeansFor-cell user Other command means = absurd means
 

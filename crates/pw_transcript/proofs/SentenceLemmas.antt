@@ -4,8 +4,8 @@ use Rattle.std.specs.Prelude.{option_map, codes}
 use Rattle.std.proofs.lemmas.Bool.{cases_Bool, false≢true}
 use Rattle.std.proofs.lemmas.Slice.Eq.{bytes_eq-Decides}
 use Rattle.std.specs.Str.{bytes_eq}
-use Rattle.pw_transcript.specs.Sentence.{Said, Tell, Attach, Believe, Doubt, Ask, Other, Sentence, NamesNoCommand, IsUnder, AreNoUnder, IsSaid, IsSentence}
-use Rattle.pw_transcript.specs.Steps.Forms.{under_form, tell_form, before_under, from_under, attach_form, premises_form, ask_form, said_form, sentence_by, sentence_form}
+use Rattle.pw_transcript.specs.Sentence.{Said, Tell, Attach, Believe, Doubt, Beliefs, Ask, Other, Sentence, NamesNoCommand, IsUnder, AreNoUnder, IsSaid, IsSentence}
+use Rattle.pw_transcript.specs.Steps.Forms.{under_form, tell_form, before_under, from_under, attach_form, premises_form, beliefs_form, ask_form, said_form, sentence_by, sentence_form}
 
 -- words that differ are found to differ
 differ : (a b : List ℕ) → a ≢ b → bytes_eq a b ≡ false
@@ -74,14 +74,22 @@ after_user [] = None
 after_user (name ∷ rest) = said_form name rest
 
 other_form : (name : List ℕ) (rest : List (List ℕ)) → NamesNoCommand name → said_form name rest ≡ Some Other
-other_form name rest (no_tell, (no_attach, (no_believe, (no_doubt, (no_ask, none))))) =
-    rw (differ name (codes "tell") no_tell, differ name (codes "attach") no_attach, differ name (codes "believe") no_believe, differ name (codes "doubt") no_doubt, differ name (codes "ask") no_ask) refl
+other_form name rest (no_tell, (no_attach, (no_believe, (no_doubt, (no_beliefs, (no_ask, none)))))) =
+    rw (
+      differ name (codes "tell") no_tell,
+      differ name (codes "attach") no_attach,
+      differ name (codes "believe") no_believe,
+      differ name (codes "doubt") no_doubt,
+      differ name (codes "beliefs") no_beliefs,
+      differ name (codes "ask") no_ask,
+    ) refl
 
 given_said : (words : List (List ℕ)) (said : Said) → IsSaid words said → after_user words ≡ Some said
 given_said words (Tell cell info premises) is = search rules
 given_said words (Attach callable cells premises) (tail, is, some, none, under) = ap after_user is ∙ given_attach callable cells tail premises some none under
 given_said words (Believe premises) is = search rules
 given_said words (Doubt premises) is = search rules
+given_said words Beliefs is = search rules
 given_said words (Ask cell) is = search rules
 given_said words Other (word, rest, is, none) = ap after_user is ∙ other_form word rest none
 
@@ -121,6 +129,9 @@ found_believe rest said is = search rules
 found_doubt : (rest : List (List ℕ)) (said : Said) → premises_form Doubt rest ≡ Some said → IsSaid (codes "doubt" ∷ rest) said
 found_doubt rest said is = search rules
 
+found_beliefs : (rest : List (List ℕ)) (said : Said) → beliefs_form rest ≡ Some said → IsSaid (codes "beliefs" ∷ rest) said
+found_beliefs rest said is = search rules
+
 found_ask : (rest : List (List ℕ)) (said : Said) → ask_form rest ≡ Some said → IsSaid (codes "ask" ∷ rest) said
 found_ask rest said is = search rules
 
@@ -137,13 +148,30 @@ found_said name rest said is = elim (cases_Bool (bytes_eq name (codes "tell"))) 
       | inl same ↦ named name (codes "believe") rest said same (found_believe rest said (rw (no_tell, no_attach, same) at is))
       | inr no_believe ↦ elim (cases_Bool (bytes_eq name (codes "doubt"))) [
         | inl same ↦ named name (codes "doubt") rest said same (found_doubt rest said (rw (no_tell, no_attach, no_believe, same) at is))
-        | inr no_doubt ↦ elim (cases_Bool (bytes_eq name (codes "ask"))) [
-          | inl same ↦ named name (codes "ask") rest said same (found_ask rest said (rw (no_tell, no_attach, no_believe, no_doubt, same) at is))
-          | inr no_ask ↦
-              let other : Some Other ≡ Some said = rw (no_tell, no_attach, no_believe, no_doubt, no_ask) at is in
-              let same : Other ≡ said = cc in
-              subst (IsSaid (name ∷ rest)) same
-              (name, rest, refl, (apart name (codes "tell") no_tell, (apart name (codes "attach") no_attach, (apart name (codes "believe") no_believe, (apart name (codes "doubt") no_doubt, (apart name (codes "ask") no_ask, tt))))))
+        | inr no_doubt ↦ elim (cases_Bool (bytes_eq name (codes "beliefs"))) [
+          | inl same ↦ named name (codes "beliefs") rest said same (found_beliefs rest said (rw (no_tell, no_attach, no_believe, no_doubt, same) at is))
+          | inr no_beliefs ↦ elim (cases_Bool (bytes_eq name (codes "ask"))) [
+            | inl same ↦ named name (codes "ask") rest said same
+                (found_ask rest said (rw (no_tell, no_attach, no_believe, no_doubt, no_beliefs, same) at is))
+            | inr no_ask ↦
+                let other : Some Other ≡ Some said = rw (no_tell, no_attach, no_believe, no_doubt, no_beliefs, no_ask) at is in
+                let same : Other ≡ said = cc in
+                subst (IsSaid (name ∷ rest)) same (
+                  name,
+                  rest,
+                  refl,
+                  (
+                    apart name (codes "tell") no_tell,
+                    (
+                      apart name (codes "attach") no_attach,
+                      (
+                        apart name (codes "believe") no_believe,
+                        (apart name (codes "doubt") no_doubt, (apart name (codes "beliefs") no_beliefs, (apart name (codes "ask") no_ask, tt))),
+                      ),
+                    ),
+                  ),
+                )
+          ]
         ]
       ]
     ]

@@ -1,4 +1,5 @@
 pub mod FromScratch
+pub mod Isolation
 pub mod Limits
 pub mod Readers
 pub mod Reading

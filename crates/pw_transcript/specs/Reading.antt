@@ -19,7 +19,7 @@ use Rattle.pw_premises.specs.Premises.{Premises}
 use Rattle.pw_info.specs.First.{IsFirstIn, HoldsOfNone}
 use Rattle.pw_decl.specs.Declaration.{Declared, Takes, callable_named, owner_of, kind_at, members_of}
 use Rattle.pw_transcript.specs.Limits.{most_line_bytes}
-use Rattle.pw_transcript.specs.Sentence.{Said, Tell, Attach, Believe, Doubt, Ask, Other, Sentence, IsSentence}
+use Rattle.pw_transcript.specs.Sentence.{Said, Tell, Attach, Believe, Doubt, Beliefs, Ask, Other, Sentence, IsSentence}
 use Rattle.pw_info.specs.Words.{words_of, is_idle, is_allowed}
 
 -- ---- what the declaration says of names
@@ -71,6 +71,7 @@ MeansFor d user (Attach callable_word cell_words words) command =
     × (command ≡ commands.Attach user callable cells (premises_of d words))
 MeansFor d user (Believe words) command = command ≡ commands.Believe user (premises_of d words)
 MeansFor d user (Doubt words) command = command ≡ commands.Doubt user (premises_of d words)
+MeansFor d user Beliefs command = command ≡ commands.Beliefs user
 MeansFor d user (Ask cell_word) command =
     (cell : ℕ) × (place_of_name d.cells cell_word ≡ Some cell) × (command ≡ commands.Ask user cell)
 MeansFor d user Other command = ⊥

@@ -1,9 +1,13 @@
 -- How replies are written.
-use Rattle.std.specs.Prelude.{ℕ, ◌+◌, List, [], ◌∷◌, ◌++◌, Option, Some, None, codes}
+use Rattle.std.specs.Prelude.{ℕ, ◌+◌, List, [], ◌∷◌, ◌++◌, Option, Some, None, codes, filter, length, map}
+use Rattle.std.specs.FinSet.{contains}
 use Rattle.std.specs.Fmt.{decimal}
+use Rattle.std.specs.List.{flat_map, range_with_len}
+use Rattle.pw_info.specs.Bytes.{space}
 use Rattle.pw_info.specs.Information.{kind_of}
-use Rattle.pw_info.specs.SetNames.{IsNamed}
+use Rattle.pw_info.specs.SetNames.{IsNamed, name_at}
 use Rattle.pw_info.specs.Text.{text_of_info}
+use Rattle.pw_premises.specs.Premises.{Premises}
 use Rattle.pw_sessions.specs.declared.reply.Reply.{Reply}
 use Rattle.pw_sessions.specs.declared.reply.Reply.TheVariants as reply
 use Rattle.pw_sessions.specs.declared.reply.Refusal.{Refusal}
@@ -24,6 +28,19 @@ text_of_refusal refusal.WrongArguments = codes "9 wrong arguments"
 text_of_refusal refusal.LineTooLong = codes "10 line too long"
 text_of_refusal refusal.Memory = codes "11 memory"
 
+-- the names of the declared premises among these, in declared order
+abbrev pub premise_names : Declared → Premises → List (List ℕ)
+premise_names d premises = map (name_at d.premises) (filter (contains premises) (range_with_len 0 (length d.premises)))
+
+-- a name after a space
+abbrev pub after_space : List ℕ → List ℕ
+after_space name = space ∷ name
+
+-- names, each after a space; where there are none, `none` after a space
+abbrev pub text_of_names : List (List ℕ) → List ℕ
+text_of_names [] = codes " none"
+text_of_names (name ∷ names) = flat_map after_space (name ∷ names)
+
 -- if the reply is a value, every member of its kind has its name
 abbrev pub IsReplyNamed : Declared → Reply → Type 0
 IsReplyNamed d (reply.Value info) = IsNamed (members_of d) (kind_of info)
@@ -33,6 +50,7 @@ IsReplyNamed d reply = Unit {0}
 abbrev pub text_of_answer : Declared → Reply → List ℕ
 text_of_answer d reply.Done = codes "ok"
 text_of_answer d (reply.Value info) = text_of_info (members_of d) info
+text_of_answer d (reply.Believes premises) = codes "believes" ++ text_of_names (premise_names d premises)
 text_of_answer d (reply.Refused refusal) = codes "refused " ++ text_of_refusal refusal
 
 -- a reply as it is written: the number of its line, a colon and a space, what it says, and a line feed

@@ -8,6 +8,7 @@ pub data Said : Type 0 where
   Attach : (callable : List ℕ) (cells premises : List (List ℕ)) → Said
   Believe : (premises : List (List ℕ)) → Said
   Doubt : (premises : List (List ℕ)) → Said
+  Beliefs : Said
   Ask : (cell : List ℕ) → Said
   Other : Said
 
@@ -18,7 +19,8 @@ pub record Sentence : Type 0 where
 
 -- the words that name commands
 abbrev pub command_names : List (List ℕ)
-command_names = codes "tell" ∷ codes "attach" ∷ codes "believe" ∷ codes "doubt" ∷ codes "ask" ∷ []
+command_names =
+    codes "tell" ∷ codes "attach" ∷ codes "believe" ∷ codes "doubt" ∷ codes "beliefs" ∷ codes "ask" ∷ []
 
 -- the word names no command
 abbrev pub NamesNoCommand : List ℕ → Type 0
@@ -42,6 +44,7 @@ IsSaid words (Attach callable cells premises) =
     × IsUnder tail premises
 IsSaid words (Believe premises) = (words ≡ codes "believe" ∷ premises) × (0 < length premises)
 IsSaid words (Doubt premises) = (words ≡ codes "doubt" ∷ premises) × (0 < length premises)
+IsSaid words Beliefs = words ≡ codes "beliefs" ∷ []
 IsSaid words (Ask cell) = words ≡ codes "ask" ∷ cell ∷ []
 IsSaid words Other = (word : List ℕ) × (rest : List (List ℕ)) × (words ≡ word ∷ rest) × NamesNoCommand word
 

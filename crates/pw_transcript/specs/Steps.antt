@@ -4,5 +4,6 @@ pub mod Fields
 pub mod Forms
 pub mod Gatherers
 pub mod Gathering
+pub mod NamesWritten
 pub mod Resolving
 pub mod Running

@@ -243,6 +243,7 @@ fn resolve_said<A: Allocator + Copy>(
             Ok(premises) => Ok(Command::Doubt { user, premises }),
             Err(refusal) => Err(refusal),
         },
+        Said::Beliefs => Ok(Command::Beliefs { user }),
         Said::Ask { cell } => resolve_ask(declaration, user, cell),
         Said::Other => Err(Refusal::UnknownCommand),
     }

@@ -1,9 +1,14 @@
 //! Laws of lines and of inputs, each the contract of a function that does nothing: they hold of every line and reader.
 
-ghost use Rattle.std.specs.Prelude.{◌≡◌, ◌↔◌, ℕ, List, Some};
+ghost use Rattle.std.specs.Prelude.{◌≡◌, ◌↔◌, ◌+◌, ℕ, List, Contains, Option, Some, slice_get};
 ghost use Rattle.pw_decl.specs.Declaration.{Declared};
 ghost use Rattle.pw_decl.specs.WellDeclared.{IsWellDeclared};
+ghost use Rattle.pw_info.specs.Lines.{lines_of};
 ghost use Rattle.pw_sessions.specs.LineReading.{LineReading};
+ghost use Rattle.pw_sessions.specs.declared.reply.Refusal.{Refusal};
+ghost use Rattle.pw_sessions.specs.declared.reply.Reply.{Reply};
+ghost use Rattle.pw_transcript.specs.FromScratch.{GetReplies};
+ghost use Rattle.pw_transcript.specs.Isolation.{BeginsWith, IsReplyAt, RestsOn};
 ghost use Rattle.pw_transcript.specs.declared.input.Reading.{Reading};
 ghost use Rattle.pw_transcript.specs.Readers.{ReaderTakes, NothingRemains, IsAllOf};
 ghost use Rattle.pw_transcript.specs.Reading.{Reads};
@@ -29,4 +34,30 @@ pub fn one_sentence()
 pub fn whole_text_is_taken<R: Read>()
     ensures { (old new : Reading R) (bytes : List ℕ) → ReaderTakes R.remaining old bytes new
         → NothingRemains R.remaining new → IsAllOf R.remaining old bytes }
+{}
+
+/// Where memory was refused to no line, the replies of a run are, line by line, those from scratch.
+pub fn replies_are_from_scratch()
+    ensures { (d : Declared) (text : List ℕ) (replies : List (Option Reply)) (at : ℕ) (answer : Option Reply)
+        → GetReplies d (lines_of text) replies
+        → (Contains replies (Some (Reply.Refused Refusal.Memory)) → ⊥)
+        → slice_get replies at ≡ Some answer → IsReplyAt d text (at + 1) answer }
+{}
+
+/// Users do not disturb each other. The reply to a line is the reply to the line of that number in a text in which each
+/// earlier line is made empty but those that it rests on: its user's own lines that change beliefs, and the lines that tell
+/// or attach under premises that the user then believes. What comes after the line does not matter.
+pub fn isolation()
+    ensures { (d : Declared) (number : ℕ) (text blanked : List ℕ) (lines : List (List ℕ))
+        (answer other : Option Reply) → IsWellDeclared d
+        → RestsOn d text number lines → BeginsWith blanked lines
+        → IsReplyAt d text number answer → IsReplyAt d blanked number other → answer ≡ other }
+{}
+
+/// Two texts that agree in a line and in what its reply rests on, at the same numbers, get equal replies there.
+pub fn agreeing_texts()
+    ensures { (d : Declared) (number : ℕ) (text other : List ℕ) (lines : List (List ℕ))
+        (answer same : Option Reply) → IsWellDeclared d
+        → RestsOn d text number lines → RestsOn d other number lines
+        → IsReplyAt d text number answer → IsReplyAt d other number same → answer ≡ same }
 {}

@@ -4,11 +4,13 @@ ghost use Rattle.std.specs.Prelude.{◌≡◌, ◌++◌, codes};
 ghost use Rattle.std.specs.Fmt.{decimal};
 ghost use Rattle.pw_info.specs.Passing.{Writes};
 ghost use Rattle.pw_decl.specs.Fields.{declared_by};
-ghost use Rattle.pw_transcript.specs.ReplyText.{IsReplyNamed, text_of_refusal, text_of_answer, text_of_reply};
+ghost use Rattle.pw_transcript.specs.ReplyText.{IsReplyNamed, after_space, premise_names, text_of_names};
+ghost use Rattle.pw_transcript.specs.ReplyText.{text_of_refusal, text_of_answer, text_of_reply};
 
 use itoa::Buffer;
 use pw_decl::Declaration;
 use pw_info::{Failed, Output, put_all, write_info};
+use pw_premises::PremiseSet;
 use pw_sessions::{Refusal, Reply};
 use std::alloc::Allocator;
 
@@ -41,6 +43,50 @@ fn write_refusal<O: Output>(refusal: Refusal, output: &mut O) -> Result<(), Fail
     put_all(output, refusal_text(refusal))
 }
 
+// Writes a space and a name.
+fn write_after_space<O: Output>(name: &str, output: &mut O) -> Result<(), Failed>
+    ensures { Writes O.passes O.has_failed output.old output.new result (after_space name.now) }
+{
+    put_all(output, b" ")?;
+    put_all(output, name.as_bytes())
+}
+
+// Writes the names of the premises in declared order, each after a space, or that there are none.
+fn write_premises<A: Allocator + Copy, O: Output>(
+    premises: PremiseSet,
+    declaration: &Declaration<'_, A>,
+    output: &mut O,
+) -> Result<(), Failed>
+    ensures { Writes O.passes O.has_failed output.old output.new result
+        (text_of_names (premise_names (declared_by declaration.now) premises)) }
+{
+    let mut any = false;
+    for premise in 0..declaration.premises() {
+        if premises.contains(premise) {
+            write_after_space(declaration.premise_name(premise), output)?;
+            any = true;
+        }
+    }
+    if any {
+        Ok(())
+    } else {
+        put_all(output, b" none")
+    }
+}
+
+// Writes what a user believes.
+fn write_beliefs<A: Allocator + Copy, O: Output>(
+    premises: PremiseSet,
+    declaration: &Declaration<'_, A>,
+    output: &mut O,
+) -> Result<(), Failed>
+    ensures { Writes O.passes O.has_failed output.old output.new result (codes "believes"
+        ++ text_of_names (premise_names (declared_by declaration.now) premises)) }
+{
+    put_all(output, b"believes")?;
+    write_premises(premises, declaration, output)
+}
+
 // Writes what a reply says.
 fn write_answer<A: Allocator + Copy, O: Output>(
     reply: &Reply,
@@ -54,6 +100,7 @@ fn write_answer<A: Allocator + Copy, O: Output>(
     match *reply {
         Reply::Done => put_all(output, b"ok"),
         Reply::Value(info) => write_info(&info, declaration, output),
+        Reply::Believes(premises) => write_beliefs(premises, declaration, output),
         Reply::Refused(refusal) => write_refusal(refusal, output),
     }
 }

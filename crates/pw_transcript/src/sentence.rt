@@ -33,6 +33,8 @@ pub enum Said<'a> {
     Doubt {
         premises: Words<'a>,
     },
+    /// `beliefs`
+    Beliefs,
     /// `ask CELL`
     Ask {
         cell: &'a [u8],
@@ -149,6 +151,11 @@ fn read_said<'a>(name: &[u8], rest: Words<'a>) -> Option<Said<'a>>
             return None;
         }
         Some(Said::Doubt { premises: rest })
+    } else if name == b"beliefs".as_slice() {
+        if !rest.is_empty() {
+            return None;
+        }
+        Some(Said::Beliefs)
     } else if name == b"ask".as_slice() {
         read_ask(rest)
     } else {

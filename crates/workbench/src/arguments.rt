@@ -22,9 +22,12 @@ const MORE: &str = "Files:
 
 Command lines:
   USER tell CELL INFO [under P..]  tells of CELL that it is INFO, as 5, 1..5 or {card}, given the premises P..
+  USER attach CALLABLE CELL.. [under P..]
+                                   lets a procedure or compound carry information between cells, given the premises P..
   USER believe P..                 USER believes the premises; at the start every user believes all
   USER doubt P..                   USER believes them no longer
-  USER ask CELL                    asks what is known of CELL under the premises USER believes
+  USER beliefs                     asks which premises USER believes
+  USER ask CELL                    asks what follows at CELL under the premises USER believes
 
 Each command is answered on standard output by a line `N: REPLY`, where N is the number of its line.
 

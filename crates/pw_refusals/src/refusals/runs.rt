@@ -109,6 +109,7 @@ fn believing_doubting_and_asking_take_no_memory(rt: HostRuntime) -> Result<(), F
     let rows = [
         ("ann doubt b", "ok"),
         ("ann ask x", "nothing"),
+        ("ann beliefs", "believes a c mine"),
         ("ann believe b", "ok"),
         ("bob ask y", "nothing"),
         ("ann tell x 1", "refused 11 memory"),
@@ -120,8 +121,8 @@ fn believing_doubting_and_asking_take_no_memory(rt: HostRuntime) -> Result<(), F
     assert_eq!(rt;
         answer,
         Ok(Lines {
-            lines: 6,
-            replies: 6
+            lines: 7,
+            replies: 7
         })
     );
     assert_eq!(rt; written.as_str(), wanted.as_str());

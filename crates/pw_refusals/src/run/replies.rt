@@ -19,6 +19,27 @@ fn memory_is_not_an_answer(rt: HostRuntime) -> Result<(), Fail> {
 }
 
 #[test]
+fn beliefs_are_listed_in_declared_order(rt: HostRuntime) -> Result<(), Fail> {
+    let rows = [
+        ("ann beliefs", "believes a b c mine"),
+        ("ann doubt b mine", "ok"),
+        ("ann beliefs", "believes a c"),
+        ("bob beliefs", "believes a b c mine"),
+        ("ann doubt c a c", "ok"),
+        ("ann beliefs", "believes none"),
+        ("ann believe mine b", "ok"),
+        (" ann\tbeliefs \r", "believes b mine"),
+        ("bob beliefs", "believes a b c mine"),
+    ];
+    answers(&rt, WORLD, &rows)?;
+    answers(
+        &rt,
+        "workbench 1\nuser ann\n",
+        &[("ann beliefs", "believes none")],
+    )
+}
+
+#[test]
 fn blank_lines_and_comments_get_no_reply(rt: HostRuntime) -> Result<(), Fail> {
     answers(&rt, WORLD, &[])?;
     answers(&rt, WORLD, &[("", ""), (" \t\r", ""), ("# ann ask x", "")])?;

@@ -4,7 +4,7 @@ use Rattle.std.specs.Str.{bytes_eq}
 use Rattle.pw_transcript.specs.declared.sentence.Said.{Said as Spelled}
 use Rattle.pw_transcript.specs.declared.sentence.Said.TheVariants as spelled
 use Rattle.pw_transcript.specs.declared.sentence.Sentence.{Sentence as SentenceSpelled}
-use Rattle.pw_transcript.specs.Sentence.{Said, Tell, Attach, Believe, Doubt, Ask, Other, Sentence}
+use Rattle.pw_transcript.specs.Sentence.{Said, Tell, Attach, Believe, Doubt, Beliefs, Ask, Other, Sentence}
 
 -- the premises at the end of a tell or of an attach
 abbrev pub under_form : List (List ℕ) → Option (List (List ℕ))
@@ -46,6 +46,11 @@ abbrev pub premises_form : (List (List ℕ) → Said) → List (List ℕ) → Op
 premises_form says [] = None
 premises_form says (premise ∷ premises) = Some (says (premise ∷ premises))
 
+-- what stands after `beliefs`: nothing
+abbrev pub beliefs_form : List (List ℕ) → Option Said
+beliefs_form [] = Some Beliefs
+beliefs_form rest = None
+
 -- what stands after `ask`
 abbrev pub ask_form : List (List ℕ) → Option Said
 ask_form (cell ∷ []) = Some (Ask cell)
@@ -58,8 +63,9 @@ said_form name rest =
     else (if bytes_eq name (codes "attach") then attach_form rest
     else (if bytes_eq name (codes "believe") then premises_form Believe rest
     else (if bytes_eq name (codes "doubt") then premises_form Doubt rest
+    else (if bytes_eq name (codes "beliefs") then beliefs_form rest
     else (if bytes_eq name (codes "ask") then ask_form rest
-    else Some Other))))
+    else Some Other)))))
 
 abbrev pub sentence_by : List ℕ → Said → Sentence
 sentence_by user said = record { user = user; said = said }
@@ -75,6 +81,7 @@ said_in (spelled.Tell cell info premises) = Tell cell.now info.now premises
 said_in (spelled.Attach callable cells premises) = Attach callable.now (before_under cells) premises
 said_in (spelled.Believe premises) = Believe premises
 said_in (spelled.Doubt premises) = Doubt premises
+said_in spelled.Beliefs = Beliefs
 said_in (spelled.Ask cell) = Ask cell.now
 said_in spelled.Other = Other
 
