@@ -36,62 +36,64 @@ fn declares<R: Abort + AllocGlobal>(rt: &R, text: &str, compounds: u8) -> Result
     Ok(())
 }
 
+// Lines after the header, by the fault that they have.
+const SECOND_LINES: [(DeclFaultKind, &[&str]); 5] = [
+    (
+        DeclFaultKind::Syntax,
+        &[
+            "compound",
+            "compound c p",
+            "compound c p interval q",
+            "compound 9 p interval",
+            "compound C p interval",
+            "compound end p interval",
+            "compound c 9 interval",
+            "compound c under interval",
+            "compound c p interval 9 zzz",
+            "compound adder p",
+            "compound adder 9 interval",
+            "compound caf\u{e9} p interval",
+            "end",
+            "end x",
+            "local x interval",
+            "adder x x x",
+            "copy",
+        ],
+    ),
+    (
+        DeclFaultKind::DuplicateName,
+        &[
+            "compound adder",
+            "compound adder p interval",
+            "compound at_most p zzz",
+            "compound sum p interval",
+            "compound product p interval",
+            "compound conditional p interval",
+            "compound c p interval p interval",
+            "compound c p interval q bool p exact",
+            "compound c p zzz p zzz",
+            "compound c a bool b bool c bool d bool e bool f bool g bool h bool a bool",
+        ],
+    ),
+    (
+        DeclFaultKind::UnknownName,
+        &[
+            "compound c p zzz",
+            "compound c p INTERVAL",
+            "compound c p interval q c",
+            "compound c a bool b bool c bool d bool e bool f bool g bool h bool i zzz",
+        ],
+    ),
+    (DeclFaultKind::WrongArguments, &["compound c"]),
+    (
+        DeclFaultKind::Limit,
+        &["compound c a bool b bool c bool d bool e bool f bool g bool h bool i bool"],
+    ),
+];
+
 #[test]
 fn faults_of_the_second_line(rt: HostRuntime) -> Result<(), Fail> {
-    let rows: [(DeclFaultKind, &[&str]); 5] = [
-        (
-            DeclFaultKind::Syntax,
-            &[
-                "compound",
-                "compound c p",
-                "compound c p interval q",
-                "compound 9 p interval",
-                "compound C p interval",
-                "compound end p interval",
-                "compound c 9 interval",
-                "compound c under interval",
-                "compound c p interval 9 zzz",
-                "compound adder p",
-                "compound adder 9 interval",
-                "compound caf\u{e9} p interval",
-                "end",
-                "end x",
-                "local x interval",
-                "adder x x x",
-                "copy",
-            ],
-        ),
-        (
-            DeclFaultKind::DuplicateName,
-            &[
-                "compound adder",
-                "compound adder p interval",
-                "compound at_most p zzz",
-                "compound sum p interval",
-                "compound product p interval",
-                "compound conditional p interval",
-                "compound c p interval p interval",
-                "compound c p interval q bool p exact",
-                "compound c p zzz p zzz",
-                "compound c a bool b bool c bool d bool e bool f bool g bool h bool a bool",
-            ],
-        ),
-        (
-            DeclFaultKind::UnknownName,
-            &[
-                "compound c p zzz",
-                "compound c p INTERVAL",
-                "compound c p interval q c",
-                "compound c a bool b bool c bool d bool e bool f bool g bool h bool i zzz",
-            ],
-        ),
-        (DeclFaultKind::WrongArguments, &["compound c"]),
-        (
-            DeclFaultKind::Limit,
-            &["compound c a bool b bool c bool d bool e bool f bool g bool h bool i bool"],
-        ),
-    ];
-    for (why, lines) in rows {
+    for (why, lines) in SECOND_LINES {
         for line in lines {
             tells(&rt, &["workbench 1", *line], Some((2, why)))?;
         }
@@ -99,70 +101,72 @@ fn faults_of_the_second_line(rt: HostRuntime) -> Result<(), Fail> {
     Ok(())
 }
 
+// Lines of a compound, by the fault that they have.
+const INNER_LINES: [(DeclFaultKind, &[&str]); 4] = [
+    (
+        DeclFaultKind::Syntax,
+        &[
+            "copy",
+            "zzz",
+            "user",
+            "end x",
+            "end end",
+            "local",
+            "local d",
+            "local d interval x",
+            "local 9 interval",
+            "local end interval",
+            "local 9 zzz",
+            "copy p caf\u{e9}",
+        ],
+    ),
+    (
+        DeclFaultKind::DuplicateName,
+        &["local p interval", "local q interval", "local p zzz"],
+    ),
+    (
+        DeclFaultKind::UnknownName,
+        &[
+            "user ann",
+            "workbench 1",
+            "cell x interval",
+            "compound d x interval",
+            "c p q r",
+            "Copy p p",
+            "local d zzz",
+            "copy p z",
+            "copy z p",
+            "copy p interval",
+            "adder p z",
+            "zzz p",
+            "adder p p p p p p p p p z",
+        ],
+    ),
+    (
+        DeclFaultKind::WrongArguments,
+        &[
+            "copy p",
+            "copy p q",
+            "adder p p",
+            "adder p p p p",
+            "adder p q p",
+            "adder p p r",
+            "adder p p p p p p p p p p",
+            "at_most p p p",
+            "switch q r p",
+            "switch p r r",
+            "sum p p",
+            "sum p p p p",
+            "product p p q",
+            "conditional p p p p",
+            "conditional q r r r",
+        ],
+    ),
+];
+
 #[test]
 fn faults_of_a_line_within(rt: HostRuntime) -> Result<(), Fail> {
-    let rows: [(DeclFaultKind, &[&str]); 4] = [
-        (
-            DeclFaultKind::Syntax,
-            &[
-                "copy",
-                "zzz",
-                "user",
-                "end x",
-                "end end",
-                "local",
-                "local d",
-                "local d interval x",
-                "local 9 interval",
-                "local end interval",
-                "local 9 zzz",
-                "copy p caf\u{e9}",
-            ],
-        ),
-        (
-            DeclFaultKind::DuplicateName,
-            &["local p interval", "local q interval", "local p zzz"],
-        ),
-        (
-            DeclFaultKind::UnknownName,
-            &[
-                "user ann",
-                "workbench 1",
-                "cell x interval",
-                "compound d x interval",
-                "c p q r",
-                "Copy p p",
-                "local d zzz",
-                "copy p z",
-                "copy z p",
-                "copy p interval",
-                "adder p z",
-                "zzz p",
-                "adder p p p p p p p p p z",
-            ],
-        ),
-        (
-            DeclFaultKind::WrongArguments,
-            &[
-                "copy p",
-                "copy p q",
-                "adder p p",
-                "adder p p p p",
-                "adder p q p",
-                "adder p p r",
-                "adder p p p p p p p p p p",
-                "at_most p p p",
-                "switch q r p",
-                "switch p r r",
-                "sum p p",
-                "sum p p p p",
-                "product p p q",
-                "conditional p p p p",
-                "conditional q r r r",
-            ],
-        ),
-    ];
-    for (why, lines) in rows {
+    for (why, lines) in INNER_LINES {
         for line in lines {
             tells(
                 &rt,
@@ -205,151 +209,153 @@ fn lines_without_fault(rt: HostRuntime) -> Result<(), Fail> {
     Ok(())
 }
 
+// Texts, each with its first fault, if it has one.
+const TEXTS: [(&[&str], Option<(u32, DeclFaultKind)>); 17] = [
+    (&["compound c p interval"], Some((1, DeclFaultKind::Syntax))),
+    (
+        &["workbench 1", "compound c p interval"],
+        Some((3, DeclFaultKind::MissingEnd)),
+    ),
+    (
+        &[
+            "workbench 1",
+            "compound c p interval",
+            "adder p p p",
+            "",
+            "#",
+        ],
+        Some((6, DeclFaultKind::MissingEnd)),
+    ),
+    (&["workbench 1", "compound c p interval", "end"], None),
+    (
+        &["workbench 1", "compound c p interval", "end", "end"],
+        Some((4, DeclFaultKind::Syntax)),
+    ),
+    (
+        &["workbench 1", "compound c p interval", "end", "copy p p"],
+        Some((4, DeclFaultKind::Syntax)),
+    ),
+    (
+        &[
+            "workbench 1",
+            "compound c p interval",
+            "end",
+            "compound c q bool",
+        ],
+        Some((4, DeclFaultKind::DuplicateName)),
+    ),
+    (
+        &[
+            "workbench 1",
+            "compound a p interval",
+            "b p",
+            "end",
+            "compound b p interval",
+            "end",
+        ],
+        Some((3, DeclFaultKind::UnknownName)),
+    ),
+    (
+        &[
+            "workbench 1",
+            "compound a p interval",
+            "end",
+            "compound b p interval",
+            "a p",
+            "end",
+        ],
+        None,
+    ),
+    (
+        &[
+            "workbench 1",
+            "compound a p interval",
+            "end",
+            "compound b p bool",
+            "a p",
+            "end",
+        ],
+        Some((5, DeclFaultKind::WrongArguments)),
+    ),
+    (
+        &[
+            "workbench 1",
+            "compound a p interval",
+            "end",
+            "compound b p interval",
+            "a p p",
+            "end",
+        ],
+        Some((5, DeclFaultKind::WrongArguments)),
+    ),
+    (
+        &[
+            "workbench 1",
+            "compound c p bool",
+            "local d bool",
+            "local d bool",
+        ],
+        Some((4, DeclFaultKind::DuplicateName)),
+    ),
+    (
+        &[
+            "workbench 1",
+            "compound c p bool",
+            "copy p d",
+            "local d bool",
+        ],
+        Some((3, DeclFaultKind::UnknownName)),
+    ),
+    (
+        &[
+            "workbench 1",
+            "compound a p bool",
+            "local d bool",
+            "copy p d",
+            "end",
+            "compound b p exact",
+            "local d exact",
+            "copy d p",
+            "end",
+        ],
+        None,
+    ),
+    (
+        &[
+            "workbench 1",
+            "compound user p bool",
+            "end",
+            "user ann",
+            "compound c p bool",
+            "user p",
+            "end",
+        ],
+        None,
+    ),
+    (
+        &[
+            "workbench 1",
+            "compound c p mood",
+            "end",
+            "set mood good bad",
+        ],
+        Some((2, DeclFaultKind::UnknownName)),
+    ),
+    (
+        &[
+            "workbench 1",
+            "set mood good bad",
+            "set tone good bad",
+            "compound c p mood q tone",
+            "copy p q",
+        ],
+        Some((5, DeclFaultKind::WrongArguments)),
+    ),
+];
+
 #[test]
 fn faults_of_several_lines(rt: HostRuntime) -> Result<(), Fail> {
-    let rows: [(&[&str], Option<(u32, DeclFaultKind)>); 17] = [
-        (&["compound c p interval"], Some((1, DeclFaultKind::Syntax))),
-        (
-            &["workbench 1", "compound c p interval"],
-            Some((3, DeclFaultKind::MissingEnd)),
-        ),
-        (
-            &[
-                "workbench 1",
-                "compound c p interval",
-                "adder p p p",
-                "",
-                "#",
-            ],
-            Some((6, DeclFaultKind::MissingEnd)),
-        ),
-        (&["workbench 1", "compound c p interval", "end"], None),
-        (
-            &["workbench 1", "compound c p interval", "end", "end"],
-            Some((4, DeclFaultKind::Syntax)),
-        ),
-        (
-            &["workbench 1", "compound c p interval", "end", "copy p p"],
-            Some((4, DeclFaultKind::Syntax)),
-        ),
-        (
-            &[
-                "workbench 1",
-                "compound c p interval",
-                "end",
-                "compound c q bool",
-            ],
-            Some((4, DeclFaultKind::DuplicateName)),
-        ),
-        (
-            &[
-                "workbench 1",
-                "compound a p interval",
-                "b p",
-                "end",
-                "compound b p interval",
-                "end",
-            ],
-            Some((3, DeclFaultKind::UnknownName)),
-        ),
-        (
-            &[
-                "workbench 1",
-                "compound a p interval",
-                "end",
-                "compound b p interval",
-                "a p",
-                "end",
-            ],
-            None,
-        ),
-        (
-            &[
-                "workbench 1",
-                "compound a p interval",
-                "end",
-                "compound b p bool",
-                "a p",
-                "end",
-            ],
-            Some((5, DeclFaultKind::WrongArguments)),
-        ),
-        (
-            &[
-                "workbench 1",
-                "compound a p interval",
-                "end",
-                "compound b p interval",
-                "a p p",
-                "end",
-            ],
-            Some((5, DeclFaultKind::WrongArguments)),
-        ),
-        (
-            &[
-                "workbench 1",
-                "compound c p bool",
-                "local d bool",
-                "local d bool",
-            ],
-            Some((4, DeclFaultKind::DuplicateName)),
-        ),
-        (
-            &[
-                "workbench 1",
-                "compound c p bool",
-                "copy p d",
-                "local d bool",
-            ],
-            Some((3, DeclFaultKind::UnknownName)),
-        ),
-        (
-            &[
-                "workbench 1",
-                "compound a p bool",
-                "local d bool",
-                "copy p d",
-                "end",
-                "compound b p exact",
-                "local d exact",
-                "copy d p",
-                "end",
-            ],
-            None,
-        ),
-        (
-            &[
-                "workbench 1",
-                "compound user p bool",
-                "end",
-                "user ann",
-                "compound c p bool",
-                "user p",
-                "end",
-            ],
-            None,
-        ),
-        (
-            &[
-                "workbench 1",
-                "compound c p mood",
-                "end",
-                "set mood good bad",
-            ],
-            Some((2, DeclFaultKind::UnknownName)),
-        ),
-        (
-            &[
-                "workbench 1",
-                "set mood good bad",
-                "set tone good bad",
-                "compound c p mood q tone",
-                "copy p q",
-            ],
-            Some((5, DeclFaultKind::WrongArguments)),
-        ),
-    ];
-    for (lines, fault) in rows {
+    for (lines, fault) in TEXTS {
         tells(&rt, lines, fault)?;
     }
     Ok(())
