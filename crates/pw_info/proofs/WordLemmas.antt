@@ -3,7 +3,12 @@ use Rattle.std.proofs.Common.{◌≡◌, ℕ, suc, ◌<◌, ◌≤◌, true, fal
 use Rattle.std.proofs.lemmas.Bool.{cases_Bool, both_ways}
 use Rattle.std.proofs.Math.Numerals.{one-add}
 use Rattle.std.specs.List.{prefix_len, onto_first, AllByRecursion}
-use Rattle.pw_info.specs.Words.{is_blank, is_plain, ends_word, words_of, AreBlanks, AreWords}
+use Rattle.std.specs.Prelude.{◌==◌, codes}
+use Rattle.std.specs.Str.{bytes_eq}
+use Rattle.std.proofs.lemmas.Bool.{eqb-true}
+use Rattle.std.proofs.lemmas.List.{take-append-drop}
+use Rattle.std.proofs.lemmas.Slice.Eq.{bytes_eq-Decides}
+use Rattle.pw_info.specs.Words.{is_blank, is_plain, ends_word, words_of, is_nil, AreBlanks, AreWords}
 
 -- ---- one byte more at the front
 
@@ -143,6 +148,69 @@ pub first_word : (line text word rest : List ℕ) (end : ℕ) → text ≡ drop 
 unfolding past_blanks
 first_word line text word rest end is long some front back =
     rw (front, back, long, is) (first_word_past line (let e : end ≡ prefix_len is_plain (past_blanks line) = long ∙ ap (prefix_len is_plain) is in omega arith))
+
+-- ---- blanks behind a line
+
+ends_word-blanks : (gap : List ℕ) → AreBlanks gap → ends_word gap ≡ true
+ends_word-blanks [] blanks = refl
+ends_word-blanks (byte ∷ gap) blanks = blanks.0
+
+ends_word-before : (line gap : List ℕ) → AreBlanks gap → ends_word (line ++ gap) ≡ ends_word line
+ends_word-before [] gap blanks = ends_word-blanks gap blanks
+ends_word-before (byte ∷ line) gap blanks = refl
+
+-- Blanks behind a line change none of its words.
+before_blanks : (line gap : List ℕ) → AreBlanks gap → words_of (line ++ gap) ≡ words_of line
+before_blanks [] gap blanks = ap words_of (sym (append-nil gap)) ∙ after_blanks gap [] blanks
+before_blanks (byte ∷ line) gap blanks = elim (cases_Bool (is_blank byte)) [
+  | inl blank ↦ words_of-blank byte (line ++ gap) blank ∙ before_blanks line gap blanks ∙ sym (words_of-blank byte line blank)
+  | inr plain ↦ elim (cases_Bool (ends_word line)) [
+    | inl ends ↦
+        words_of-last byte (line ++ gap) plain (ends_word-before line gap blanks ∙ ends)
+        ∙ ap (λ (ws : List (List ℕ)). (byte ∷ []) ∷ ws) (before_blanks line gap blanks) ∙ sym (words_of-last byte line plain ends)
+    | inr more ↦
+        words_of-more byte (line ++ gap) plain (ends_word-before line gap blanks ∙ more)
+        ∙ ap (onto_first byte) (before_blanks line gap blanks) ∙ sym (words_of-more byte line plain more)
+  ]
+]
+
+-- A line that ends in eight spaces has the words of what stands before them.
+pub without_spaces : (line front : List ℕ) (n : ℕ) → bytes_eq (drop n line) (codes "        ") ≡ true → front ≡ take n line → words_of front ≡ words_of line
+without_spaces line front n spaces is =
+    let last : drop n line ≡ codes "        " = (bytes_eq-Decides (drop n line) (codes "        ")).0 spaces in
+    ap words_of is ∙ sym (before_blanks (take n line) (codes "        ") (refl, (refl, (refl, (refl, (refl, (refl, (refl, (refl, tt)))))))))
+    ∙ ap (λ (l : List ℕ). words_of (take n line ++ l)) (sym last) ∙ ap words_of (take-append-drop n line)
+
+-- ---- no word
+
+is_nil-onto_first : (byte : ℕ) (words : List (List ℕ)) → is_nil (onto_first byte words) ≡ false
+is_nil-onto_first byte [] = refl
+is_nil-onto_first byte (word ∷ words) = refl
+
+is_nil-plain : (byte : ℕ) (line : List ℕ) → is_blank byte ≡ false → is_nil (words_of (byte ∷ line)) ≡ false
+is_nil-plain byte line plain = elim (cases_Bool (ends_word line)) [
+  | inl ends ↦ ap is_nil (words_of-last byte line plain ends)
+  | inr more ↦ ap is_nil (words_of-more byte line plain more) ∙ is_nil-onto_first byte (words_of line)
+]
+
+some_bytes : (byte : ℕ) (line : List ℕ) → (length (byte ∷ line) == 0) ≡ false
+some_bytes byte line = elim (cases_Bool (length (byte ∷ line) == 0)) [
+  | inl none ↦ (let e : length (byte ∷ line) ≡ 0 = eqb-true (length (byte ∷ line)) 0 none in absurd (omega (arith, e)))
+  | inr some ↦ some
+]
+
+no_words_past : (line : List ℕ) → (length (past_blanks line) == 0) ≡ is_nil (words_of line)
+unfolding past_blanks
+no_words_past [] = refl
+no_words_past (byte ∷ line) = elim (cases_Bool (is_blank byte)) [
+  | inl blank ↦ rw (words_of-blank byte line blank, past_blanks-blank byte line blank) (no_words_past line)
+  | inr plain ↦ rw (past_blanks-plain byte line plain) (some_bytes byte line ∙ sym (is_nil-plain byte line plain))
+]
+
+-- A line has a word where a byte comes after its first blanks.
+pub no_words : (line text : List ℕ) → text ≡ drop (prefix_len is_blank line) line → (length text == 0) ≡ is_nil (words_of line)
+unfolding past_blanks
+no_words line text is = ap (λ (l : List ℕ). length l == 0) is ∙ no_words_past line
 
 -- ---- how many words
 

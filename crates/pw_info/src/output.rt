@@ -116,7 +116,23 @@ impl<W: Write> Output for Writing<W> {
 }
 
 /// Puts all of the bytes. A put that fails ends it with `Failed`: a front of the bytes was passed then.
+#[inline(always)]
 pub fn put_all<O: Output>(output: &mut O, bytes: &[u8]) -> Result<(), Failed>
+    ensures { Writes O.passes O.has_failed output.old output.new result bytes.now }
+{
+    if bytes.is_empty() {
+        return Ok(());
+    }
+    // Mostly one put takes all: it stands alone, so that little is done for a few bytes.
+    match output.put(bytes) {
+        Ok(count) if count == bytes.len() => Ok(()),
+        Ok(count) => put_rest(output, &bytes[count..]),
+        Err(fault) => Err(fault),
+    }
+}
+
+// Puts all of what a first put left.
+fn put_rest<O: Output>(output: &mut O, bytes: &[u8]) -> Result<(), Failed>
     ensures { Writes O.passes O.has_failed output.old output.new result bytes.now }
 {
     let mut rest = bytes;

@@ -1,6 +1,6 @@
 use Rattle.std.proofs.Common.{◌≡◌, ℕ, List, ◌++◌, length}
 use Rattle.pw_info.specs.Passing.{IsWritten}
-use Rattle.pw_info.proofs.output.put_all.Given as goal
+use Rattle.pw_info.proofs.output.put_rest.Given as goal
 
 -- what was put so far, followed by the rest, is what is to be put
 abbrev pub invariant-loop-rest : goal.invariant-loop-rest
