@@ -1,16 +1,14 @@
 use Rattle.std.proofs.Common.{◌≡◌, ℕ, zero, suc, ◌+◌, ◌<◌, Bool, true, false, cond, ◌||◌, List, [], ◌∷◌, ◌++◌, Some, None, length, get_or, map, refl, sym, ◌∙◌, ap, subst, arith, inl, inr}
 use Rattle.std.proofs.lemmas.Bool.{cases_Bool, false≢true}
 use Rattle.std.proofs.lemmas.List.{map_push, length-map}
-use Rattle.std.proofs.lemmas.Option.{slice_get_read}
+use Rattle.std.proofs.lemmas.List.Elements.{All-push}
+use Rattle.std.proofs.lemmas.Option.{slice_get_read, slice_get-map}
 use Rattle.std.proofs.lemmas.Iterator.Adapters.{position_from-zero}
-use Rattle.std.specs.List.{position, position_from, list_any, slice_get, AllByRecursion, IsDistinct}
+use Rattle.std.specs.List.{position, position_from, list_any, slice_get, All, AllByRecursion, IsDistinct}
 use Rattle.std.proofs.lemmas.Map.Keys.{IsDistinct-head, IsDistinct-tail}
 use Rattle.std.specs.Str.{bytes_eq, IsUtf8}
-use Rattle.std.specs.Prelude.{String}
-use Rattle.std.specs.String.{string_bytes}
-use Rattle.std.proofs.lemmas.Str.{IsUtf8-string_bytes}
 use Rattle.std.proofs.lemmas.Slice.Eq.{bytes_eq-Decides}
-use Rattle.std.specs.Prelude.{if◌then◌else◌}
+use Rattle.std.specs.Prelude.{if◌then◌else◌, option_map}
 use Rattle.pw_procs.specs.Place.{place_of_name}
 
 -- a place in a mapped list is the place of what is mapped to it
@@ -40,21 +38,14 @@ added f key ks none =
     let new : list_any (λ k. bytes_eq (f key) (f k)) ks ≡ false = list_any-map f (bytes_eq (f key)) ks ∙ none-list_any (bytes_eq (f key)) 0 (map f ks) none in
     rw new (map_push f ks key)
 
--- a text is no word that is no text
-other : {Z : Type 0} (word : List ℕ) (s : String Z) → (IsUtf8 word → ⊥) → bytes_eq word (string_bytes s) ≡ false
-other word s broken =
-    elim (cases_Bool (bytes_eq word (string_bytes s))) [
-      | inl same ↦ absurd (broken (subst IsUtf8 (sym ((bytes_eq-Decides word (string_bytes s)).0 same)) (IsUtf8-string_bytes s)))
-      | inr apart ↦ apart
+-- where all names are texts and one more is, all are with it
+pub texts_added : {K : Type 0} (f : K → List ℕ) (key : K) (ks : List K) → IsUtf8 (f key) → All (λ k. IsUtf8 (f k)) ks
+    → All (λ k. IsUtf8 (f k)) (if list_any (λ k. bytes_eq (f key) (f k)) ks then ks else ks ++ key ∷ [])
+texts_added f key ks text texts =
+    elim (cases_Bool (list_any (λ k. bytes_eq (f key) (f k)) ks)) [
+      | inl known ↦ rw known texts
+      | inr new ↦ rw new (All-push (λ k. IsUtf8 (f k)) ks key texts text)
     ]
-
-no_text_from : {Z : Type 0} (word : List ℕ) (i : ℕ) (keys : List (String Z)) → (IsUtf8 word → ⊥) → position_from (bytes_eq word) i (map string_bytes keys) ≡ None
-no_text_from word i [] broken = refl
-no_text_from word i (key ∷ keys) broken = rw (other word key broken) (no_text_from word (i + 1) keys broken)
-
--- a word that is no text has no place among texts
-pub no_text : {Z : Type 0} (word : List ℕ) (keys : List (String Z)) → (IsUtf8 word → ⊥) → place_of_name (map string_bytes keys) word ≡ None
-no_text word keys broken = no_text_from word 0 keys broken
 
 -- ---- the name at a place, where no two names are equal
 
@@ -89,3 +80,10 @@ pub own_name : {K : Type 0} (f : K → List ℕ) (ks : List K) (names : List (Li
 own_name f ks names i k view within at distinct =
     let few : i < length ks = omega (arith, ap length view, length-map ks f) in
     rw (← view) (own_place f ks i k distinct (slice_get_read ks (length ks) i k refl few at))
+
+-- and stands there
+pub name_there : {K : Type 0} (f : K → List ℕ) (ks : List K) (names : List (List ℕ)) (i : ℕ) (k : K) →
+    map f ks ≡ names → i < length names → k ≡ get_or ks i k → slice_get names i ≡ Some (f k)
+name_there f ks names i k view within at =
+    let few : i < length ks = omega (arith, ap length view, length-map ks f) in
+    rw (← view) (slice_get-map f ks i ∙ ap (option_map f) (slice_get_read ks (length ks) i k refl few at))

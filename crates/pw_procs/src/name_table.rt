@@ -10,16 +10,19 @@ use std::marker::Model;
 /// A list of different names. The number of a name is its position, from 0.
 #[derive(Drop)]
 pub struct NameTable<A: Allocator = Global> {
-    set: IndexSet<String<A>, BuildHasherDefault<FoldHasher>, A>,
+    // The bytes of the names, each of which is a text: so a word is looked up as it is.
+    set: IndexSet<Vec<u8, A>, BuildHasherDefault<FoldHasher>, A>,
 }
 
 impl<A: Allocator> Model for NameTable<A> {
-    ghost use Rattle.std.specs.Prelude.{List, ℕ, map};
-    ghost use Rattle.std.specs.String.{string_bytes};
+    ghost use Rattle.std.specs.Prelude.{List, ℕ, map, All};
+    ghost use Rattle.std.specs.Str.{IsUtf8};
 
     ghost Value = { List (List ℕ) };
 
-    ghost view = { λ t. map string_bytes t.set.keys };
+    ghost view = { λ t. map (λ name. name.items) t.set.keys };
+
+    ghost invariant = { λ t. All (λ name. IsUtf8 name.items) t.set.keys };
 }
 
 impl<A: Allocator + Copy> NameTable<A> {
@@ -44,11 +47,7 @@ impl<A: Allocator + Copy> NameTable<A> {
         ensures number { result ≡ place_of_name self.now word.now }
         ensures within { IfSome result (λ number. number < length self.now) }
     {
-        let set = &self.set;
-        let Ok(text) = str::from_utf8(word) else {
-            return None;
-        };
-        set.get_index_of(text)
+        self.set.get_index_of(word)
     }
 
     /// The name of this number.
@@ -58,7 +57,10 @@ impl<A: Allocator + Copy> NameTable<A> {
         // No two names are equal.
         ensures own { place_of_name self.now result.now ≡ Some number }
     {
-        self.set.as_slice()[number].as_str()
+        let Ok(name) = str::from_utf8(self.set.as_slice()[number].as_slice()) else {
+            unreachable!("each name is a text");
+        };
+        name
     }
 
     /// Adds a name, which gets the next number. It fails only for want of memory, and then the table stays as it was.
@@ -68,7 +70,7 @@ impl<A: Allocator + Copy> NameTable<A> {
         ensures err { OnErr result (self.new ≡ self.old) }
     {
         let alloc = *self.set.allocator();
-        let key = String::from_str(alloc, name)?;
+        let key = String::from_str(alloc, name)?.into_bytes();
         self.set.insert(key)?;
         Ok(())
     }
