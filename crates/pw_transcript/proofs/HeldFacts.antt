@@ -1,5 +1,5 @@
 -- What lies between two places of a buffer, after bytes were written past it.
-use Rattle.std.proofs.Common.{◌≡◌, ℕ, ◌+◌, ◌≤◌, List, ◌++◌, length, take, drop, ap, ◌∙◌, arith, length-take-le, []}
+use Rattle.std.proofs.Common.{◌≡◌, ℕ, ◌+◌, ◌≤◌, List, ◌++◌, length, take, drop, ap, ◌∙◌, arith, length-take-le, length-drop, []}
 use Rattle.std.proofs.lemmas.Grind.{common_steps}
 use Rattle.std.proofs.lemmas.Slice.{take-put_mid}
 use lib.Seq.{drop-append-le}
@@ -15,3 +15,8 @@ held-put_mid start end n k xs ys e le within =
 -- nothing lies between a place and itself
 pub held-none : (start end : ℕ) (xs : List ℕ) → start ≡ end → drop start (take end xs) ≡ []
 held-none start end xs e = grind (arith, common_steps)
+
+-- and where nothing lies between two places, they are one
+pub held-empty : (start end : ℕ) (xs : List ℕ) → start ≤ end → end ≤ length xs → drop start (take end xs) ≡ [] → start ≡ end
+held-empty start end xs le within e =
+    omega (arith, ap length e, length-drop start (take end xs), length-take-le end xs within, le)

@@ -4,6 +4,8 @@ use Rattle.std.proofs.lemmas.List.{take-append-le, take-append-drop}
 use Rattle.std.specs.Prelude.{if◌then◌else◌}
 use Rattle.std.specs.List.{AllByRecursion}
 use Rattle.std.proofs.lemmas.Bool.{cases_Bool, eqb-true, eqb-false}
+use Rattle.std.proofs.lemmas.Bool.Decides.{nat_tests}
+use Rattle.std.specs.Prelude.{Option, Some}
 use Rattle.std.specs.Borrow.{GName}
 use Rattle.pw_info.specs.Passing.{PassesPart}
 use Rattle.pw_info.proofs.PassingFacts.{PassesPart-after, PassesPart-all}
@@ -42,6 +44,13 @@ held_nothing line same = elim (cases_Bool (nat_le (length line) 1024)) [
   | inr long ↦ let e = rw long at same in cc
 ]
 
+-- a piece that is no longer than a line that is read is held as it is, where nothing was held before it
+pub held_whole : (line piece : List ℕ) (held : Option (List ℕ)) → held ≡ held_line [] → length piece ≤ 1024 → held ≡ held_line line → Some piece ≡ held_line (line ++ piece)
+held_whole line piece held none short is =
+    let empty : line ≡ [] = held_nothing line (sym is ∙ none) in
+    let fits : nat_le (length piece) 1024 ≡ true = grind (arith, nat_tests) in
+    rw empty (rw fits refl)
+
 empty_line : (line : List ℕ) → eqb (length line) 0 ≡ true → line ≡ []
 empty_line [] zero_length = refl
 empty_line (byte ∷ line) zero_length = let e : length (byte ∷ line) ≡ 0 = eqb-true (length (byte ∷ line)) 0 zero_length in absurd (omega arith)
@@ -77,9 +86,6 @@ before_rest before bytes done rest whole = append_assoc before done rest ∙ ap 
 -- a line that ended is done too
 pub line_done : (bytes done rest piece after : List ℕ) → bytes ≡ done ++ rest → rest ≡ piece ++ 10 ∷ after → bytes ≡ (done ++ (piece ++ 10 ∷ [])) ++ after
 line_done bytes done rest piece after whole parts = whole ∙ ap (λ (text : List ℕ). done ++ text) parts ∙ simp append_assoc
-
-pub before_line : (before done piece : List ℕ) → ((before ++ done) ++ piece) ++ 10 ∷ [] ≡ before ++ (done ++ (piece ++ 10 ∷ []))
-before_line before done piece = simp append_assoc
 
 -- what is kept of the bytes taken, and the others
 pub kept_taken : (new rest : List ℕ) (kept taken : ℕ) → kept ≤ taken → taken ≤ length new → take kept (new ++ rest) ++ drop kept (take taken new) ≡ take taken new

@@ -20,7 +20,8 @@ impl Model for Held {
 
     ghost view = { λ h. drop h.start (take h.end h.bytes) };
 
-    ghost invariant = { λ h. (h.start ≤ h.end) × (h.end ≤ 16384) };
+    // Where nothing is held, there is room for all that it can hold.
+    ghost invariant = { λ h. (h.start ≤ h.end) × (h.end ≤ 16384) × (h.start ≡ h.end → h.end ≡ 0) };
 }
 
 impl Held {
@@ -42,15 +43,29 @@ impl Held {
     }
 
     // Adds a front of the bytes, as much as there is room for.
+    #[inline(always)]
     fn add(&mut self, bytes: &[u8]) -> usize
         ensures bound { result ≤ length bytes.now }
         ensures added { self.new ≡ self.old ++ take result bytes.now }
         ensures some { self.old ≡ [] → 0 < length bytes.now → 0 < result }
     {
-        if self.start == self.end {
-            self.start = 0;
-            self.end = 0;
+        if bytes.len() > ROOM - self.end {
+            return self.fill(bytes);
         }
+        // How many bytes there are is mostly known where this is called, so that a few are written at once.
+        let end = self.end + bytes.len();
+        self.bytes[self.end..end].copy_from_slice(bytes);
+        self.end = end;
+        bytes.len()
+    }
+
+    // The same, where there may be no room for all of them.
+    #[inline(never)]
+    fn fill(&mut self, bytes: &[u8]) -> usize
+        ensures bound { result ≤ length bytes.now }
+        ensures added { self.new ≡ self.old ++ take result bytes.now }
+        ensures some { self.old ≡ [] → 0 < length bytes.now → 0 < result }
+    {
         let count = bytes.len().min(ROOM - self.end);
         self.bytes[self.end..self.end + count].copy_from_slice(&bytes[..count]);
         self.end += count;
@@ -62,7 +77,13 @@ impl Held {
         requires { count ≤ length self.old }
         ensures { self.new ≡ drop count self.old }
     {
-        self.start += count;
+        let start = self.start + count;
+        if start == self.end {
+            self.start = 0;
+            self.end = 0;
+            return;
+        }
+        self.start = start;
     }
 }
 
@@ -119,6 +140,7 @@ impl<O: Output> Output for Gathered<'_, O> {
 
     ghost has_failed = { λ s. O.has_failed (output_of s).now };
 
+    #[inline(always)]
     fn put(&mut self, bytes: &[u8]) -> Result<usize, Failed> {
         if self.output.failed() {
             return Err(Failed);
@@ -128,7 +150,7 @@ impl<O: Output> Output for Gathered<'_, O> {
             return Ok(count);
         }
         match self.flush() {
-            Ok(()) => Ok(self.held.add(bytes)),
+            Ok(()) => Ok(self.held.fill(bytes)),
             Err(fault) => Err(fault),
         }
     }

@@ -1,6 +1,6 @@
 // What has come of a line that has not ended.
 
-ghost use Rattle.std.specs.Prelude.{◌≡◌, ◌==◌, ℕ, List, [], ◌++◌, length, option_copied};
+ghost use Rattle.std.specs.Prelude.{◌≡◌, ◌==◌, ℕ, List, [], ◌++◌, length, option_copied, IsTrue};
 ghost use Rattle.pw_transcript.specs.Steps.Answering.{held_line};
 
 use std::marker::Model;
@@ -78,7 +78,8 @@ impl LineBuffer {
 
     /// Whether nothing has come.
     pub fn is_empty(&self) -> bool
-        ensures { (line : List ℕ) → self.now ≡ held_line line → result ≡ (length line == 0) }
+        ensures value { (line : List ℕ) → self.now ≡ held_line line → result ≡ (length line == 0) }
+        ensures yes { IsTrue result → self.now ≡ held_line [] }
     {
         !self.is_long && self.length == 0
     }

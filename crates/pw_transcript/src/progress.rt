@@ -1,15 +1,17 @@
 //! How far a run has come between two takes, and the steps by which it goes on.
 
-ghost use Rattle.std.specs.Prelude.{◌≡◌, ◌+◌, ◌<◌, ◌≤◌, [], ◌∷◌, true, false, IfOk, OnOk, OnErr, if◌then◌else◌};
+ghost use Rattle.std.specs.Prelude.{◌≡◌, ◌+◌, ◌<◌, ◌≤◌, [], ◌∷◌, ◌++◌, length, true, false, IfOk, OnOk, OnErr, if◌then◌else◌};
 ghost use Rattle.pw_info.specs.Bytes.{line_feed};
+ghost use Rattle.pw_info.specs.Lines.{HasNoEnd};
 ghost use Rattle.pw_decl.specs.Fields.{declared_by};
 ghost use Rattle.pw_sessions.specs.Fields.{workbench_by};
-ghost use Rattle.pw_transcript.specs.Limits.{most_lines};
+ghost use Rattle.pw_transcript.specs.Limits.{most_line_bytes, most_lines};
 ghost use Rattle.pw_transcript.specs.Steps.Answering.{held_line};
 ghost use Rattle.pw_transcript.specs.Steps.Fields.{progress_by};
 ghost use Rattle.pw_transcript.specs.Steps.Running.{IsRunning, GoesOn, FailsIn, StopsIn, Ends, FailsAtEnd};
 
 use crate::answer::answer_line;
+use crate::command_text::MOST_LINE_BYTES;
 use crate::line_buffer::LineBuffer;
 use crate::transcript::Lines;
 use pw_decl::Declaration;
@@ -93,6 +95,55 @@ impl<'d, 'r, A: Allocator + Copy> Progress<'d, 'r, A> {
         Ok(())
     }
 
+    // Answers a line that has come as a whole, where nothing of it is held, and has ended.
+    fn end_whole_line<O: Output>(
+        &mut self,
+        d: &Declaration<'_, A>,
+        line: &[u8],
+        output: &mut O,
+    ) -> Result<(), Failed>
+        requires running { IsRunning (declared_by d.now) (progress_by self.old) }
+        requires more { (progress_by self.old).counts.lines < most_lines }
+        requires fresh { (progress_by self.old).line ≡ held_line [] }
+        requires short { length line.now ≤ most_line_bytes }
+        requires no_end { HasNoEnd line.now }
+        ensures ok { OnOk result (GoesOn O.passes (declared_by d.now) (progress_by self.old)
+            output.old (line.now ++ line_feed ∷ []) (progress_by self.new) output.new) }
+        ensures running { OnOk result (IsRunning (declared_by d.now) (progress_by self.new)) }
+        ensures err { OnErr result (FailsIn O.passes (declared_by d.now)
+            (progress_by self.old) output.old (line.now ++ line_feed ∷ []) output.new) }
+        ensures failed { OnErr result (O.has_failed output.new ≡ true) }
+    {
+        let number = self.counts.lines + 1;
+        let replied = answer_line(d, number, Some(line), &mut self.workbench, output)?;
+        self.counts = self.counts.and_one(replied);
+        Ok(())
+    }
+
+    // Answers the line that ends with this piece. One that lies whole in the piece is read there.
+    fn end_with<O: Output>(
+        &mut self,
+        d: &Declaration<'_, A>,
+        piece: &[u8],
+        output: &mut O,
+    ) -> Result<(), Failed>
+        requires running { IsRunning (declared_by d.now) (progress_by self.old) }
+        requires more { (progress_by self.old).counts.lines < most_lines }
+        requires no_end { HasNoEnd piece.now }
+        ensures ok { OnOk result (GoesOn O.passes (declared_by d.now) (progress_by self.old)
+            output.old (piece.now ++ line_feed ∷ []) (progress_by self.new) output.new) }
+        ensures running { OnOk result (IsRunning (declared_by d.now) (progress_by self.new)) }
+        ensures err { OnErr result (FailsIn O.passes (declared_by d.now)
+            (progress_by self.old) output.old (piece.now ++ line_feed ∷ []) output.new) }
+        ensures failed { OnErr result (O.has_failed output.new ≡ true) }
+    {
+        if piece.len() <= MOST_LINE_BYTES && self.line.is_empty() {
+            return self.end_whole_line(d, piece, output);
+        }
+        self.line.extend(piece);
+        self.end_line(d, output)
+    }
+
     /// Answers the lines that end in the bytes, and holds the rest.
     pub(crate) fn feed<O: Output>(
         &mut self,
@@ -119,8 +170,7 @@ impl<'d, 'r, A: Allocator + Copy> Progress<'d, 'r, A> {
                 self.line.extend(rest);
                 return Ok(Fed::Whole);
             };
-            self.line.extend(piece);
-            match self.end_line(d, output) {
+            match self.end_with(d, piece, output) {
                 Ok(()) => {}
                 Err(fault) => return Err(fault),
             }

@@ -1,10 +1,10 @@
-use Rattle.std.proofs.Common.{◌<◌, ℕ, List, [], ◌∷◌, ◌++◌, length, refl, sym, ap, ◌∙◌, subst, append-nil, arith}
+use Rattle.std.proofs.Common.{◌<◌, ℕ, List, [], ◌∷◌, ◌++◌, length, refl, sym, ap, ◌∙◌, subst, append-nil, append_assoc, arith}
 use Rattle.std.proofs.lemmas.Grind.{common_steps}
 use Rattle.pw_decl.specs.Fields.{declared_by}
 use Rattle.pw_transcript.specs.Steps.Fields.{progress_by}
 use Rattle.pw_transcript.specs.Limits.{most_lines}
-use Rattle.pw_transcript.specs.Steps.Running.{Progress, SoFar, FrontSoFar}
-use Rattle.pw_transcript.proofs.RunLemmas.{SoFar-held, SoFar-limit, FrontSoFar-more, before_rest, line_done, before_line}
+use Rattle.pw_transcript.specs.Steps.Running.{SoFar, FrontSoFar}
+use Rattle.pw_transcript.proofs.RunLemmas.{SoFar-held, SoFar-limit, FrontSoFar-more, before_rest, line_done}
 use Rattle.pw_transcript.proofs.progress.Progress.feed.Goals as goal
 
 pub loop-rest-init : goal.loop-rest-init
@@ -37,28 +37,21 @@ returns-in-Err-clause-err g c = λ first before s.
     let inv = c.loop-rest.invariant in
     let piece = c.in-Some.piece.now in
     let after = c.in-Some.after.now in
-    let more : c.loop-rest.self.counts.lines < most_lines = grind (arith, common_steps, inv.running.lines) in
-    let with_piece : Progress = record (progress_by c.loop-rest.self) { line = c.extend-in-loop-rest.new.self } in
-    let held = SoFar-held g.O.Output.passes (declared_by c.args.d.now) first _ (progress_by c.loop-rest.self) with_piece (before ++ inv.done) piece (inv.so_far first before s)
-    c.in-Some.ensures.some.1 refl refl c.extend-in-loop-rest.ensures more in
     subst (FrontSoFar g.O.Output.passes (declared_by c.args.d.now) first _)
-    (ap (λ (text : List ℕ). text ++ after) (before_line before inv.done piece)
+    (ap (λ (text : List ℕ). text ++ after) (append_assoc before inv.done (piece ++ 10 ∷ []))
     ∙ before_rest before c.args.bytes.now (inv.done ++ (piece ++ 10 ∷ [])) after (line_done c.args.bytes.now inv.done c.loop-rest.rest.now piece after inv.whole c.in-Some.ensures.some.0))
-    (FrontSoFar-more g.O.Output.passes (declared_by c.args.d.now) first _ _ after (c.in-Err.ensures.err first _ held))
+    (FrontSoFar-more g.O.Output.passes (declared_by c.args.d.now) first _ _ after (c.in-Err.ensures.err first _ (inv.so_far first before s)))
 
 pub loop-rest-preserved : goal.loop-rest-preserved
 loop-rest-preserved g c =
     let inv = c.loop-rest.invariant in
     let piece = c.in-Some.piece.now in
     let after = c.in-Some.after.now in
-    let more : c.loop-rest.self.counts.lines < most_lines = grind (arith, common_steps, inv.running.lines) in
-    let with_piece : Progress = record (progress_by c.loop-rest.self) { line = c.extend-in-loop-rest.new.self } in
     record {
       done = inv.done ++ (piece ++ 10 ∷ []);
       whole = line_done c.args.bytes.now inv.done c.loop-rest.rest.now piece after inv.whole c.in-Some.ensures.some.0;
       so_far = λ first before s.
-          let held = SoFar-held g.O.Output.passes (declared_by c.args.d.now) first _ (progress_by c.loop-rest.self) with_piece (before ++ inv.done) piece (inv.so_far first before s)
-          c.in-Some.ensures.some.1 refl refl c.extend-in-loop-rest.ensures more in
-          subst (SoFar g.O.Output.passes (declared_by c.args.d.now) first _ _) (before_line before inv.done piece) (c.in-Ok.ensures.ok first _ held);
+          subst (SoFar g.O.Output.passes (declared_by c.args.d.now) first _ _) (append_assoc before inv.done (piece ++ 10 ∷ []))
+          (c.in-Ok.ensures.ok first _ (inv.so_far first before s));
       running = c.in-Ok.ensures.running;
     }
