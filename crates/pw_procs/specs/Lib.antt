@@ -3,6 +3,7 @@ pub mod Values
 pub mod Quotient
 pub mod Rules
 pub mod Meaning
+pub mod Name
 pub mod Shapes
 pub mod Arguments
 pub mod Signature

@@ -7,6 +7,7 @@ pub mod bodies;
 mod kinds;
 pub mod laws;
 mod meaning;
+mod name;
 mod name_table;
 mod procedures;
 mod registry;

@@ -1,28 +1,44 @@
 //! Names in the order in which they were added.
 ghost use Rattle.std.specs.Prelude.{◌≡◌, None, Some, [], ◌∷◌, ◌++◌, ◌<◌, length, slice_get, IfSome, OnOk, OnErr};
+ghost use Rattle.std.specs.List.{position};
+ghost use Rattle.std.specs.Str.{bytes_eq};
+ghost use Rattle.pw_procs.specs.Name.{name_bytes};
 ghost use Rattle.pw_procs.specs.Place.{place_of_name};
 
+use crate::name::Name;
 use indexmap::IndexSet;
 use std::alloc::{AllocError, Allocator, Global};
 use std::hash::{BuildHasherDefault, FoldHasher};
 use std::marker::Model;
 
+// So many names are looked through one after another, which takes less than to hash the word.
+const FEW: usize = 8;
+
+// The place of the name that is equal to the word, if there is one.
+fn place_among<A: Allocator>(names: &[Name<'static, A>], word: &[u8]) -> Option<usize>
+    ensures number { result ≡ position (λ name. bytes_eq word.now (name_bytes name)) names.now }
+    ensures within { IfSome result (λ number. number < length names.now) }
+{
+    names.iter().position(|name| word == name.bytes())
+}
+
 /// A list of different names. The number of a name is its position, from 0.
 #[derive(Drop)]
 pub struct NameTable<A: Allocator = Global> {
-    // The bytes of the names, each of which is a text: so a word is looked up as it is.
-    set: IndexSet<Vec<u8, A>, BuildHasherDefault<FoldHasher>, A>,
+    // Each name is a text.
+    set: IndexSet<Name<'static, A>, BuildHasherDefault<FoldHasher>, A>,
 }
 
 impl<A: Allocator> Model for NameTable<A> {
     ghost use Rattle.std.specs.Prelude.{List, ℕ, map, All};
     ghost use Rattle.std.specs.Str.{IsUtf8};
+    ghost use Rattle.pw_procs.specs.Name.{name_bytes};
 
     ghost Value = { List (List ℕ) };
 
-    ghost view = { λ t. map (λ name. name.items) t.set.keys };
+    ghost view = { λ t. map name_bytes t.set.keys };
 
-    ghost invariant = { λ t. All (λ name. IsUtf8 name.items) t.set.keys };
+    ghost invariant = { λ t. All (λ name. IsUtf8 (name_bytes name)) t.set.keys };
 }
 
 impl<A: Allocator + Copy> NameTable<A> {
@@ -47,7 +63,11 @@ impl<A: Allocator + Copy> NameTable<A> {
         ensures number { result ≡ place_of_name self.now word.now }
         ensures within { IfSome result (λ number. number < length self.now) }
     {
-        self.set.get_index_of(word)
+        let set = &self.set;
+        if set.len() <= FEW {
+            return place_among(set.as_slice(), word);
+        }
+        set.get_index_of(&Name::Sought(word))
     }
 
     /// The name of this number.
@@ -57,7 +77,7 @@ impl<A: Allocator + Copy> NameTable<A> {
         // No two names are equal.
         ensures own { place_of_name self.now result.now ≡ Some number }
     {
-        let Ok(name) = str::from_utf8(self.set.as_slice()[number].as_slice()) else {
+        let Ok(name) = str::from_utf8(self.set.as_slice()[number].bytes()) else {
             unreachable!("each name is a text");
         };
         name
@@ -71,7 +91,7 @@ impl<A: Allocator + Copy> NameTable<A> {
     {
         let alloc = *self.set.allocator();
         let key = String::from_str(alloc, name)?.into_bytes();
-        self.set.insert(key)?;
+        self.set.insert(Name::Kept(key))?;
         Ok(())
     }
 }

@@ -1,6 +1,15 @@
-use Rattle.std.proofs.Common.{◌∙◌}
+use Rattle.std.proofs.Common.{◌≡◌, ◌∙◌, map}
+use Rattle.pw_procs.specs.Place.{place_of_name}
+use Rattle.pw_procs.specs.Name.{name_bytes}
 use Rattle.pw_procs.proofs.PlaceLemmas.{place}
 use Rattle.pw_procs.proofs.name_table.NameTable.find.Goals as goal
 
 pub returns-clause-number : goal.returns-clause-number
-returns-clause-number g c = rw (← c.self.view_is) (c.get_index_of.ensures.index ∙ place (λ name. name.items) c.args.word.now c.self.inside.set.keys)
+returns-clause-number g c = rw (← c.self.view_is) (c.get_index_of.ensures.index ∙ place name_bytes c.args.word.now c.self.inside.set.keys)
+
+pub returns-then-len-le-FEW-clause-number : goal.returns-then-len-le-FEW-clause-number
+returns-then-len-le-FEW-clause-number g c =
+    let keys = c.self.inside.set.keys in
+    let at : c.place_among.result ≡ place_of_name (map name_bytes keys) c.args.word.now =
+    rw c.as_slice.ensures.keys at (c.place_among.ensures.number ∙ place name_bytes c.args.word.now c.as_slice.result.now) in
+    rw (← c.self.view_is) at
