@@ -1,5 +1,6 @@
 -- The set of the premises that words name, one word after another.
-use Rattle.std.proofs.Common.{◌≡◌, ℕ, Bool, true, false, ◌||◌, List, ◌∷◌, Some, refl, sym, ap, ◌∙◌}
+use Rattle.std.proofs.Common.{◌≡◌, ℕ, Bool, true, false, ◌||◌, ◌&&◌, List, ◌∷◌, Some, refl, sym, ap, ◌∙◌}
+use Rattle.std.specs.List.{list_all}
 use Rattle.std.specs.Ordering.{nat_cmp, eq_by_cmp}
 use Rattle.std.specs.Cmp.{nat_cmp_total}
 use Rattle.std.specs.FinSet.{empty, insert, contains, union, same_set, contains-empty, contains-insert, contains-union, nat_cmp-IsAntisymmetric}
@@ -45,3 +46,14 @@ pub premises_step : (d : Declared) (word : List ℕ) (words all : List (List ℕ
 premises_step d word words all n s t one e so_far is_one joined =
     so_far ∙ ap (λ (x : Premises). union s x) (premises_of-more d word words n e) ∙ union_insert s (premises_of d words) n
     ∙ sym (ap (λ (x : Premises). union x (premises_of d words)) (joined ∙ ap (λ (x : Premises). union s x) is_one))
+
+and_assoc : (a b c : Bool) → (a && (b && c)) ≡ ((a && b) && c)
+and_assoc true b c = refl
+and_assoc false b c = refl
+
+-- what holds of all words so far and of those that are left, with one word more
+pub one_more_word : (test : List ℕ → Bool) (all words rest : List (List ℕ)) (word : List ℕ) (so_far here : Bool) → list_all test all ≡ (so_far && list_all test words)
+    → words ≡ word ∷ rest → here ≡ test word → list_all test all ≡ ((so_far && here) && list_all test rest)
+one_more_word test all words rest word so_far here before parts is =
+    before ∙ ap (λ (l : List (List ℕ)). so_far && list_all test l) parts
+    ∙ ap (λ b. so_far && (b && list_all test rest)) (sym is) ∙ and_assoc so_far here (list_all test rest)

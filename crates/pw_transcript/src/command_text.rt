@@ -1,6 +1,6 @@
 //! Reading a line of a transcript: its form first, then its names, in the order in which refusals are tried.
 
-ghost use Rattle.std.specs.Prelude.{◌≡◌, ◌<◌, length, true, false, IfOk, IfErr, IfNone, IfSome, OnOk, OnErr};
+ghost use Rattle.std.specs.Prelude.{◌≡◌, ◌<◌, length, true, false, Some, IfOk, IfErr, IfNone, IfSome, OnOk, OnErr};
 ghost use Rattle.std.specs.List.{list_all};
 ghost use Rattle.pw_procs.specs.Shapes.{most_cells};
 ghost use Rattle.pw_decl.specs.Fields.{declared_by};
@@ -49,33 +49,44 @@ fn premise_set<A: Allocator + Copy>(
     Ok(set)
 }
 
-// Whether the user may tell or attach under the premise that the word names.
-fn may_use<A: Allocator + Copy>(declaration: &Declaration<'_, A>, user: u8, word: &[u8]) -> bool
-    ensures { result ≡ spec.may_use (declared_by declaration.now) user word.now }
+// Whether the user may tell or attach under this premise.
+fn may_use<A: Allocator + Copy>(declaration: &Declaration<'_, A>, user: u8, premise: u8) -> bool
+    requires { premise < length (declared_by declaration.now).premises }
+    ensures { result ≡ spec.may_use_at (declared_by declaration.now) user (Some premise) }
 {
-    let Some(premise) = declaration.premise(word) else {
-        return true;
-    };
     let Some(owner) = declaration.owner(premise) else {
         return true;
     };
     owner == user
 }
 
-// Whether the user may tell or attach under each premise that the words name.
-fn may_use_all<A: Allocator + Copy>(
+// The premises that the words name, and whether the user may tell or attach under each; or the refusal of a word that
+// names none, whoever the premises before it belong to.
+fn support_of<A: Allocator + Copy>(
     declaration: &Declaration<'_, A>,
     user: u8,
     mut words: Words<'_>,
-) -> bool
-    ensures { result ≡ list_all (spec.may_use (declared_by declaration.now) user) words.entry }
+) -> Result<(PremiseSet, bool), Refusal>
+    ensures ok { IfOk result (λ support.
+        support.0 ≡ spec.premises_of (declared_by declaration.now) words.entry) }
+    ensures own { IfOk result (λ support.
+        support.1 ≡ list_all (spec.may_use (declared_by declaration.now) user) words.entry) }
+    ensures known { OnOk result
+        (list_all (spec.is_known (declared_by declaration.now)) words.entry ≡ true) }
+    ensures unknown { OnErr result
+        (list_all (spec.is_known (declared_by declaration.now)) words.entry ≡ false) }
+    ensures err { IfErr result (λ refusal. refusal ≡ Refusal.UnknownPremise) }
 {
+    let mut set = PremiseSet::empty();
+    let mut may_use_all = true;
     while let Some(word) = words.next() {
-        if !may_use(declaration, user, word) {
-            return false;
-        }
+        let Some(premise) = declaration.premise(word) else {
+            return Err(Refusal::UnknownPremise);
+        };
+        set = set.join(PremiseSet::one(premise));
+        may_use_all &= may_use(declaration, user, premise);
     }
-    true
+    Ok((set, may_use_all))
 }
 
 // What a user tells.
@@ -99,10 +110,10 @@ fn resolve_tell<A: Allocator + Copy>(
     let Some(info) = read_info(info, declaration.cell_kind(cell), declaration) else {
         return Err(Refusal::WrongInformation);
     };
-    let Ok(support) = premise_set(declaration, premises.again()) else {
+    let Ok((support, may_use_all)) = support_of(declaration, user, premises) else {
         return Err(Refusal::UnknownPremise);
     };
-    if !may_use_all(declaration, user, premises) {
+    if !may_use_all {
         return Err(Refusal::NotYourPremise);
     }
     let fact = Fact { info, support };
@@ -179,10 +190,10 @@ fn resolve_attach<A: Allocator + Copy>(
     if !declaration.accepts_at(callable, declaration.kinds(), cells) {
         return Err(Refusal::WrongArguments);
     }
-    let Ok(support) = premise_set(declaration, under.again()) else {
+    let Ok((support, may_use_all)) = support_of(declaration, user, under) else {
         return Err(Refusal::UnknownPremise);
     };
-    if !may_use_all(declaration, user, under) {
+    if !may_use_all {
         return Err(Refusal::NotYourPremise);
     }
     Ok(Command::Attach {

@@ -48,5 +48,5 @@ returns-clause-ok g c =
       all,
       c.in-Some-named_cells.ensures.some,
       same.0 (c.if-not-accepts_at.ensures.0 refl),
-      ap (λ (s : Premises). commands.Attach c.args.user c.in-Some.callable cells s) (c.in-Ok.ensures.ok ∙ ap (λ (l : List (List ℕ)). premises_of d l) c.again-2.ensures),
+      ap (λ (s : Premises). commands.Attach c.args.user c.in-Some.callable cells s) (c.in-Ok.ensures.ok),
     )

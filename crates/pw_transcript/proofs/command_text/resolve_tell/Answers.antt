@@ -38,5 +38,5 @@ returns-clause-ok g c =
       c.in-Some-read_info.info,
       sym c.in-Some.ensures.number,
       subst (λ (k : Kind). SpellsInfo (members_of (declared_by c.args.declaration.now)) c.args.info.now k c.in-Some-read_info.info) c.cell_kind.ensures.kind spelled,
-      ap (λ (s : Premises). commands.Tell c.args.user c.in-Some.cell (record { info = c.in-Some-read_info.info; support = s })) (c.in-Ok.ensures.ok ∙ ap (λ (words : List (List ℕ)). premises_of (declared_by c.args.declaration.now) words) c.again.ensures),
+      ap (λ (s : Premises). commands.Tell c.args.user c.in-Some.cell (record { info = c.in-Some-read_info.info; support = s })) (c.in-Ok.ensures.ok),
     )
