@@ -1,9 +1,9 @@
 //! The jobs: over a registry of procedures a declaration is read, and then a transcript answered, or told how much is declared.
 
-use crate::arguments::Job;
 use crate::checking::check_line;
 use crate::fault::Fault;
 use crate::files::declaration_text;
+use pw_arguments::Job;
 use pw_decl::{Declaration, read_declaration};
 use pw_info::Writing;
 use pw_procs::Registry;

@@ -2,16 +2,15 @@
 #![tactic(auto)]
 
 mod answering;
-mod arguments;
 mod checking;
 mod ending;
 mod fault;
 mod files;
 mod procedures;
 
-use arguments::{given_arguments, read_arguments};
 use ending::{Stop, conclude};
 use procedures::do_job;
+use pw_arguments::{given_arguments, read_arguments};
 use std::process::ExitCode;
 use std::rt::Files;
 

@@ -8,8 +8,8 @@ ghost use Rattle.pw_procs.specs.Registry.{procedures_in};
 ghost use Rattle.workbench.specs.Procedures.{AreOfProgram};
 
 use crate::answering::do_over;
-use crate::arguments::Job;
 use crate::fault::Fault;
+use pw_arguments::Job;
 use pw_info::{Info, Kind, SetKind};
 use pw_kinds::Interval;
 use pw_procs::bodies::{self, by_rules};
