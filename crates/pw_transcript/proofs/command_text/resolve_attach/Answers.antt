@@ -1,4 +1,4 @@
-use Rattle.std.proofs.Common.{◌≡◌, ℕ, List, true, ap, sym, ◌∙◌, refl, length}
+use Rattle.std.proofs.Common.{◌≡◌, true, ap, sym, ◌∙◌, refl, length}
 use Rattle.std.specs.List.{list_all}
 use Rattle.std.proofs.lemmas.Bool.{false≢true}
 use Rattle.pw_premises.specs.Premises.{Premises}
@@ -6,7 +6,7 @@ use Rattle.pw_procs.specs.Arguments.{cells_of}
 use Rattle.pw_decl.proofs.CompoundLemmas.{places_there, accepts_same}
 use Rattle.pw_decl.specs.Fields.{declared_by}
 use Rattle.pw_sessions.specs.declared.command.Command.TheVariants as commands
-use Rattle.pw_transcript.specs.Reading.{cells_named, is_cell, premises_of}
+use Rattle.pw_transcript.specs.Reading.{cells_named, is_cell}
 use Rattle.pw_transcript.specs.Steps.Forms.{before_under}
 use Rattle.pw_transcript.proofs.CellLists.{too_many, wrong_arguments}
 use Rattle.pw_transcript.proofs.command_text.resolve_attach.Goals as goal

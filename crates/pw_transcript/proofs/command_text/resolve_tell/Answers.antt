@@ -1,4 +1,4 @@
-use Rattle.std.proofs.Common.{◌∙◌, ℕ, List, refl, sym, ap, subst, inl, inr}
+use Rattle.std.proofs.Common.{refl, sym, ap, subst, inl, inr}
 use Rattle.pw_info.specs.declared.kind.Kind.{Kind}
 use Rattle.pw_info.specs.declared.info.Info.{Info}
 use Rattle.pw_info.specs.Spelling.{SpellsInfo}
@@ -6,7 +6,6 @@ use Rattle.pw_sessions.specs.declared.command.Command.TheVariants as commands
 use Rattle.pw_decl.specs.Declaration.{members_of}
 use Rattle.pw_decl.specs.Fields.{declared_by}
 use Rattle.pw_premises.specs.Premises.{Premises}
-use Rattle.pw_transcript.specs.Reading.{premises_of}
 use Rattle.pw_transcript.proofs.ReadingLemmas.{not_none}
 use Rattle.pw_transcript.proofs.command_text.resolve_tell.Goals as goal
 

@@ -1,4 +1,4 @@
-use Rattle.std.proofs.Common.{◌≡◌, ◌++◌, take, drop, length, ◌+◌, ◌-◌, arith, ap, sym, ◌∙◌}
+use Rattle.std.proofs.Common.{◌++◌, length, ◌+◌, ◌-◌, arith, ap, ◌∙◌}
 use Rattle.std.proofs.lemmas.Grind.{common_steps}
 use Rattle.pw_transcript.proofs.HeldFacts.{held-put_mid}
 use Rattle.pw_transcript.proofs.gathered.Held.add.Goals as goal

@@ -1,6 +1,5 @@
 use Rattle.std.proofs.Common.{take, drop, sym, ap, ◌∙◌}
 use Rattle.std.proofs.lemmas.List.{drop-drop}
-use Rattle.pw_transcript.proofs.HeldFacts.{held-none}
 use Rattle.pw_transcript.proofs.gathered.Held.release.Goals as goal
 
 pub returns : goal.returns

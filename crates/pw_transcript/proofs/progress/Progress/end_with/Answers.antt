@@ -1,4 +1,4 @@
-use Rattle.std.proofs.Common.{ℕ, List, ◌∷◌, [], ◌++◌, refl, subst, append_assoc}
+use Rattle.std.proofs.Common.{◌∷◌, [], ◌++◌, refl, subst, append_assoc}
 use Rattle.pw_decl.specs.Fields.{declared_by}
 use Rattle.pw_transcript.specs.Steps.Fields.{progress_by}
 use Rattle.pw_transcript.specs.Steps.Running.{Progress, SoFar, FrontSoFar}
