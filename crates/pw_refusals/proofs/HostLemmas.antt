@@ -37,6 +37,14 @@ module _ (d : Declared) (before : List LineReading) (old : Workbench) (command :
       subst (λ (l : List LineReading). IsCarriedOut d l command new given) (append-nil before) (out d before 0 left (omega (arith, at)) named) in
       answered d before command new given carried plain
 
+-- a command under another name
+pub can_by : (old : Workbench) (line : ℕ) (x y : Command) → x ≡ y → CanBeCarriedOut old line y → CanBeCarriedOut old line x
+can_by old line x y same can = subst (λ (command : Command). CanBeCarriedOut old line command) (sym same) can
+
+pub out_by : (old : Workbench) (line : ℕ) (x y : Command) (new : Workbench) (given : Reply) → x ≡ y → CarriesOut old line x new given →
+    CarriesOut old line y new given
+out_by old line x y new given same out = subst (λ (command : Command). CarriesOut old line command new given) same out
+
 -- a reply that is no refusal
 done_is_none : reply.Done ≡ reply.Refused refusal.Memory → ⊥
 done_is_none e = cc

@@ -1,6 +1,7 @@
 //! A host that uses the workbench as a library, without any text: two users who share a network.
 
-ghost use Rattle.std.specs.Prelude.{IfSome};
+ghost use Rattle.std.specs.Prelude.{◌≡◌, IfSome};
+ghost use Rattle.std.specs.FinSet.{empty};
 ghost use Rattle.pw_decl.specs.Fields.{declared_by};
 ghost use Rattle.pw_refusals.specs.Host.{AreReplies, IsOfDeclared};
 
@@ -67,6 +68,49 @@ impl Matter {
             asked,
         })
     }
+
+    // What user 0 attaches, for everybody.
+    fn attaching(&self) -> Command
+        ensures { result ≡ Command.Attach 0 self.now.callable self.now.cells empty }
+    {
+        Command::Attach {
+            user: 0,
+            callable: self.callable,
+            cells: self.cells,
+            support: PremiseSet::empty(),
+        }
+    }
+
+    // What user 1 tells.
+    fn telling(&self) -> Command
+        ensures { result ≡ Command.Tell 1 self.now.told self.now.fact }
+    {
+        Command::Tell {
+            user: 1,
+            cell: self.told,
+            fact: self.fact,
+        }
+    }
+
+    // What user 0 doubts.
+    fn doubting(&self) -> Command
+        ensures { result ≡ Command.Doubt 0 self.now.doubted }
+    {
+        Command::Doubt {
+            user: 0,
+            premises: self.doubted,
+        }
+    }
+
+    // What the user asks for.
+    fn asking(&self, user: u8) -> Command
+        ensures { result ≡ Command.Ask user self.now.asked }
+    {
+        Command::Ask {
+            user,
+            cell: self.asked,
+        }
+    }
 }
 
 /// User 0 attaches a callable for everybody, and user 1 tells a fact. Then user 0 doubts some premises, and both ask for one
@@ -80,60 +124,25 @@ pub fn asked_by_two<A: Allocator + Copy>(
     ensures { IfSome result (λ replies.
         AreReplies (declared_by declaration.now) matter.now replies.0 replies.1) }
 {
-    let Matter {
-        callable,
-        cells,
-        told,
-        fact,
-        doubted,
-        asked,
-    } = *matter;
     let Ok(network) = Network::new(alloc, declaration) else {
         return None;
     };
     let Ok(mut workbench) = Workbench::new(alloc, declaration, network) else {
         return None;
     };
-    let attach = Command::Attach {
-        user: 0,
-        callable,
-        cells,
-        support: PremiseSet::empty(),
-    };
-    let Reply::Done = workbench.command(1, &attach) else {
+    let Reply::Done = workbench.command(1, &matter.attaching()) else {
         return None;
     };
-    let tell = Command::Tell {
-        user: 1,
-        cell: told,
-        fact,
-    };
-    let Reply::Done = workbench.command(2, &tell) else {
+    let Reply::Done = workbench.command(2, &matter.telling()) else {
         return None;
     };
-    let doubt = Command::Doubt {
-        user: 0,
-        premises: doubted,
-    };
-    let Reply::Done = workbench.command(3, &doubt) else {
+    let Reply::Done = workbench.command(3, &matter.doubting()) else {
         return None;
     };
-    let Reply::Value(first) = workbench.command(
-        4,
-        &Command::Ask {
-            user: 0,
-            cell: asked,
-        },
-    ) else {
+    let Reply::Value(first) = workbench.command(4, &matter.asking(0)) else {
         return None;
     };
-    let Reply::Value(second) = workbench.command(
-        5,
-        &Command::Ask {
-            user: 1,
-            cell: asked,
-        },
-    ) else {
+    let Reply::Value(second) = workbench.command(5, &matter.asking(1)) else {
         return None;
     };
     Some((Reply::Value(first), Reply::Value(second)))
