@@ -1,6 +1,6 @@
 -- The answer to a command: from scratch, from the entries that are visible under the beliefs, and from the beliefs.
-use Rattle.std.specs.Prelude.{ℕ, Bool, List, [], ◌∷◌, ◌++◌, Option, Some, None, Contains, filter, map}
-use Rattle.std.specs.List.{flat_map}
+use Rattle.std.specs.Prelude.{ℕ, Bool, List, [], ◌∷◌, ◌++◌, Option, Some, None, Contains, filter, length, map}
+use Rattle.std.specs.List.{flat_map, list_any, range_with_len}
 use Rattle.std.specs.FinSet.{is_subset}
 use Rattle.pw_info.specs.declared.info.Info.{Info}
 use Rattle.pw_premises.specs.Premises.{Premises}
@@ -11,13 +11,16 @@ use Rattle.pw_settle.specs.Sources as sources
 use Rattle.pw_settle.specs.Sources.{Source, cell_of, is_propagator}
 use Rattle.pw_settle.specs.Fixpoint.{fixpoint}
 use Rattle.pw_settle.specs.Values.{propagators_of}
+use Rattle.pw_reasons.specs.Conflicts.{Conflicts}
+use Rattle.pw_reasons.specs.Reason.{reason_of}
+use Rattle.pw_reasons.specs.SameInfo.{is_contradiction}
 use Rattle.pw_sessions.specs.declared.command.Command.{Command}
 use Rattle.pw_sessions.specs.declared.command.Command.TheVariants as commands
 use Rattle.pw_sessions.specs.declared.reply.Reply.{Reply}
 use Rattle.pw_sessions.specs.declared.reply.Reply.TheVariants as reply
 use Rattle.pw_sessions.specs.Beliefs.{beliefs_at}
-use Rattle.pw_sessions.specs.CellNames.{named_cells, names_after}
-use Rattle.pw_sessions.specs.Entries.{Entry, Told, Attached, entries_before, support_of}
+use Rattle.pw_sessions.specs.CellNames.{inner_names_of, named_cells, names_after}
+use Rattle.pw_sessions.specs.Entries.{Entry, Told, Attached, entries_before, line_of, support_of}
 use Rattle.pw_sessions.specs.LineReading.{LineReading, Blank, Refused, Says}
 
 -- an entry rests on premises that are all believed
@@ -51,10 +54,31 @@ value_in d entries cell = value_by_name d entries (DeclaredCell cell)
 abbrev pub IsWritten : Declared → List Entry → ℕ → Type 0
 IsWritten d entries cell = Contains (map cell_of (filter is_propagator (sources_after d entries))) (DeclaredCell cell)
 
--- the answer to a command, where these entries were made and this is what its user believes: to an ask the value of the cell
--- from the visible entries alone, to `beliefs` what the user believes, to every other command `ok`
+-- why a declared cell has its value where this is believed: of these premises, tried from the last to the first, those without
+-- which the value from the entries that are then visible is another
+abbrev pub reason_in : Declared → List Entry → Premises → ℕ → Premises
+reason_in d entries beliefs cell = reason_of (λ believed. value_in d (visible_in entries believed) cell) beliefs
+
+-- the entry made an inner cell whose value, where these entries were made, is a contradiction
+abbrev pub has_conflict : Declared → List Entry → Entry → Bool
+has_conflict d entries entry = list_any (λ name. is_contradiction (value_by_name d entries name)) (inner_names_of d entry)
+
+-- what is contradictory where these entries were made: declared cells, in order; and attachments by line, for an inner cell
+abbrev pub conflicts_of : Declared → List Entry → Conflicts
+conflicts_of d entries =
+    record {
+      cells = filter (λ cell. is_contradiction (value_in d entries cell)) (range_with_len 0 (length d.cells));
+      lines = map line_of (filter (has_conflict d entries) entries);
+    }
+
+-- the answer to a command, where these entries were made and this is what its user believes: to `ask` the value of the cell
+-- from the visible entries alone, to `why` this value and its reason, to `conflicts` what the visible entries contradict, to
+-- `beliefs` what the user believes, to every other command `ok`
 abbrev pub answer_to : Declared → List Entry → Premises → Command → Reply
 answer_to d entries beliefs (commands.Ask user cell) = reply.Value (value_in d (visible_in entries beliefs) cell)
+answer_to d entries beliefs (commands.Why user cell) =
+    reply.Because (value_in d (visible_in entries beliefs) cell) (reason_in d entries beliefs cell)
+answer_to d entries beliefs (commands.Conflicts user) = reply.Listed (conflicts_of d (visible_in entries beliefs))
 answer_to d entries beliefs (commands.Beliefs user) = reply.Believes beliefs
 answer_to d entries beliefs command = reply.Done
 
@@ -65,6 +89,8 @@ user_of (commands.Believe user premises) = user
 user_of (commands.Doubt user premises) = user
 user_of (commands.Beliefs user) = user
 user_of (commands.Ask user cell) = user
+user_of (commands.Why user cell) = user
+user_of (commands.Conflicts user) = user
 
 -- the reply to a line that reads so, after lines that read so; a blank line gets none
 abbrev pub reply_to : Declared → List LineReading → LineReading → Option Reply

@@ -15,6 +15,7 @@ NamesDeclared d (commands.Tell user cell fact) = (cell < length d.cells) × (kin
 NamesDeclared d (commands.Attach user callable cells support) =
     All (λ cell. cell < length d.cells) (cells_of cells) × Takes d callable (kinds_at d.kinds (cells_of cells))
 NamesDeclared d (commands.Ask user cell) = cell < length d.cells
+NamesDeclared d (commands.Why user cell) = cell < length d.cells
 NamesDeclared d command = Unit {0}
 
 -- if the line says a command, its user and what it names are declared

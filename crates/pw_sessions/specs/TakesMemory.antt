@@ -9,12 +9,14 @@ use Rattle.pw_sessions.specs.Beliefs.{beliefs_at}
 use Rattle.pw_sessions.specs.Entries.{entries_before}
 use Rattle.pw_sessions.specs.LineReading.{LineReading, Refused, Says}
 
--- after lines that read so, the command takes memory: it tells a fact, attaches a callable, or asks for a cell that a visible
--- instance writes. The others never do
+-- after lines that read so, the command takes memory: it tells a fact, attaches a callable, asks for a cell that a visible
+-- instance writes, or asks why or for conflicts. The others never do
 abbrev pub TakesMemory : Declared → List LineReading → Command → Type 0
 TakesMemory d before (commands.Tell user cell fact) = Unit {0}
 TakesMemory d before (commands.Attach user callable cells support) = Unit {0}
 TakesMemory d before (commands.Ask user cell) = IsWritten d (visible_in (entries_before before) (beliefs_at d user before)) cell
+TakesMemory d before (commands.Why user cell) = Unit {0}
+TakesMemory d before (commands.Conflicts user) = Unit {0}
 TakesMemory d before command = ⊥
 
 -- what a line that says the command comes to, after lines that read so: it says it; or it is refused for want of memory

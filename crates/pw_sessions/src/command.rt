@@ -44,4 +44,13 @@ pub enum Command {
         user: u8,
         cell: u32,
     },
+    /// What is known of a cell under what the user believes, and which of these premises it needs.
+    Why {
+        user: u8,
+        cell: u32,
+    },
+    /// What is contradictory under what the user believes.
+    Conflicts {
+        user: u8,
+    },
 }

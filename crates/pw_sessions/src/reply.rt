@@ -2,6 +2,8 @@
 
 use pw_info::Info;
 use pw_premises::PremiseSet;
+use pw_reasons::Conflicts;
+use std::alloc::{Allocator, Global};
 use thiserror::Error;
 
 /// Why a line is refused. A line that several of these apply to is refused for the first of them, in the order
@@ -45,12 +47,16 @@ pub enum Refusal {
 }
 
 /// What a line is answered with.
-#[derive(Clone, Copy, Debug, PartialEq, Eq)]
-pub enum Reply {
+#[derive(Drop)]
+pub enum Reply<A: Allocator = Global> {
     /// A command that tells or changes something was carried out.
     Done,
     /// What is known of the cell that was asked for.
     Value(Info),
+    /// What is known of the cell, and the premises that it needs.
+    Because(Info, PremiseSet),
+    /// What is contradictory.
+    Listed(Conflicts<A>),
     /// The premises that the user believes.
     Believes(PremiseSet),
     /// The line was refused, and changed nothing.

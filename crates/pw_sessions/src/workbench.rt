@@ -126,7 +126,7 @@ impl<'d, 'r, A: Allocator + Copy> Workbench<'d, 'r, A> {
     }
 
     // What is known of the declared cell under what the user, who is there, believes.
-    fn ask(&mut self, user: u8, cell: u32) -> Reply
+    fn ask(&mut self, user: u8, cell: u32) -> Reply<A>
         requires fits { StoreFits (workbench_by self.old) }
         requires user { user < length (workbench_by self.old).beliefs }
         requires cell { cell < length (workbench_by self.old).network.declared.cells }
@@ -147,7 +147,7 @@ impl<'d, 'r, A: Allocator + Copy> Workbench<'d, 'r, A> {
     }
 
     // Carries out a command at the line after the last, blank ones among them.
-    fn carry_out(&mut self, line: u32, command: &Command) -> Reply
+    fn carry_out(&mut self, line: u32, command: &Command) -> Reply<A>
         requires { CanCarryOut (workbench_by self.old) line command.now }
         ensures { CarriesOutNext (workbench_by self.old) line command.now (workbench_by self.new)
             result }
@@ -180,6 +180,7 @@ impl<'d, 'r, A: Allocator + Copy> Workbench<'d, 'r, A> {
             }
             Command::Beliefs { user } => Reply::Believes(self.beliefs_of(user)),
             Command::Ask { user, cell } => self.ask(user, cell),
+            Command::Why { .. } | Command::Conflicts { .. } => Reply::Refused(Refusal::Memory),
         }
     }
 
@@ -190,7 +191,7 @@ impl<'d, 'r, A: Allocator + Copy> Workbench<'d, 'r, A> {
     /// The reply is the answer to the command from what the lines before it left, or `Refused(Memory)` where memory is refused
     /// to a tell, to an attach, or to an ask of a cell that an instance writes whose premises are all believed; and then
     /// nothing changes. Commands on beliefs are never refused.
-    pub fn command(&mut self, line: u32, command: &Command) -> Reply
+    pub fn command(&mut self, line: u32, command: &Command) -> Reply<A>
         requires { CanBeCarriedOut (workbench_by self.old) line command.now }
         ensures { CarriesOut (workbench_by self.old) line command.now (workbench_by self.new)
             result }

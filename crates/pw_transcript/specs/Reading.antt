@@ -19,7 +19,7 @@ use Rattle.pw_premises.specs.Premises.{Premises}
 use Rattle.pw_info.specs.First.{IsFirstIn, HoldsOfNone}
 use Rattle.pw_decl.specs.Declaration.{Declared, Takes, callable_named, owner_of, kind_at, members_of}
 use Rattle.pw_transcript.specs.Limits.{most_line_bytes}
-use Rattle.pw_transcript.specs.Sentence.{Said, Tell, Attach, Believe, Doubt, Beliefs, Ask, Other, Sentence, IsSentence}
+use Rattle.pw_transcript.specs.Sentence.{Said, Tell, Attach, Believe, Doubt, Beliefs, Ask, Why, Conflicts, Other, Sentence, IsSentence}
 use Rattle.pw_info.specs.Words.{words_of, is_idle, is_allowed}
 
 -- ---- what the declaration says of names
@@ -74,6 +74,9 @@ MeansFor d user (Doubt words) command = command ≡ commands.Doubt user (premise
 MeansFor d user Beliefs command = command ≡ commands.Beliefs user
 MeansFor d user (Ask cell_word) command =
     (cell : ℕ) × (place_of_name d.cells cell_word ≡ Some cell) × (command ≡ commands.Ask user cell)
+MeansFor d user (Why cell_word) command =
+    (cell : ℕ) × (place_of_name d.cells cell_word ≡ Some cell) × (command ≡ commands.Why user cell)
+MeansFor d user Conflicts command = command ≡ commands.Conflicts user
 MeansFor d user Other command = ⊥
 
 -- the sentence means the command: its first word names the user, and what is said means the command for this user
@@ -95,6 +98,7 @@ abbrev pub HasUnknownCell : Declared → Said → Type 0
 HasUnknownCell d (Tell cell info premises) = place_of_name d.cells cell ≡ None
 HasUnknownCell d (Attach callable cells premises) = list_all (is_cell d) cells ≡ false
 HasUnknownCell d (Ask cell) = place_of_name d.cells cell ≡ None
+HasUnknownCell d (Why cell) = place_of_name d.cells cell ≡ None
 HasUnknownCell d said = ⊥
 
 -- the word names neither a procedure nor a compound

@@ -8,6 +8,7 @@ use Rattle.pw_info.specs.Information.{kind_of}
 use Rattle.pw_info.specs.SetNames.{IsNamed, name_at}
 use Rattle.pw_info.specs.Text.{text_of_info}
 use Rattle.pw_premises.specs.Premises.{Premises}
+use Rattle.pw_reasons.specs.Conflicts.{Conflicts}
 use Rattle.pw_sessions.specs.declared.reply.Reply.{Reply}
 use Rattle.pw_sessions.specs.declared.reply.Reply.TheVariants as reply
 use Rattle.pw_sessions.specs.declared.reply.Refusal.{Refusal}
@@ -41,15 +42,23 @@ abbrev pub text_of_names : List (List ℕ) → List ℕ
 text_of_names [] = codes " none"
 text_of_names (name ∷ names) = flat_map after_space (name ∷ names)
 
--- if the reply is a value, every member of its kind has its name
+-- the names of what is contradictory: of each cell its own, and of the attachment of line N `line N`
+abbrev pub conflict_names : Declared → Conflicts → List (List ℕ)
+conflict_names d conflicts = map (name_at d.cells) conflicts.cells ++ map (λ line. codes "line " ++ decimal line) conflicts.lines
+
+-- if the reply tells a value, every member of its kind has its name
 abbrev pub IsReplyNamed : Declared → Reply → Type 0
 IsReplyNamed d (reply.Value info) = IsNamed (members_of d) (kind_of info)
+IsReplyNamed d (reply.Because info premises) = IsNamed (members_of d) (kind_of info)
 IsReplyNamed d reply = Unit {0}
 
 -- what a reply says
 abbrev pub text_of_answer : Declared → Reply → List ℕ
 text_of_answer d reply.Done = codes "ok"
 text_of_answer d (reply.Value info) = text_of_info (members_of d) info
+text_of_answer d (reply.Because info premises) =
+    text_of_info (members_of d) info ++ codes " because" ++ text_of_names (premise_names d premises)
+text_of_answer d (reply.Listed conflicts) = codes "conflicts" ++ text_of_names (conflict_names d conflicts)
 text_of_answer d (reply.Believes premises) = codes "believes" ++ text_of_names (premise_names d premises)
 text_of_answer d (reply.Refused refusal) = codes "refused " ++ text_of_refusal refusal
 

@@ -10,6 +10,8 @@ pub data Said : Type 0 where
   Doubt : (premises : List (List ℕ)) → Said
   Beliefs : Said
   Ask : (cell : List ℕ) → Said
+  Why : (cell : List ℕ) → Said
+  Conflicts : Said
   Other : Said
 
 -- what a line says: who speaks, and what is said
@@ -20,7 +22,8 @@ pub record Sentence : Type 0 where
 -- the words that name commands
 abbrev pub command_names : List (List ℕ)
 command_names =
-    codes "tell" ∷ codes "attach" ∷ codes "believe" ∷ codes "doubt" ∷ codes "beliefs" ∷ codes "ask" ∷ []
+    codes "tell" ∷ codes "attach" ∷ codes "believe" ∷ codes "doubt" ∷ codes "beliefs" ∷ codes "ask" ∷ codes "why"
+    ∷ codes "conflicts" ∷ []
 
 -- the word names no command
 abbrev pub NamesNoCommand : List ℕ → Type 0
@@ -46,6 +49,8 @@ IsSaid words (Believe premises) = (words ≡ codes "believe" ∷ premises) × (0
 IsSaid words (Doubt premises) = (words ≡ codes "doubt" ∷ premises) × (0 < length premises)
 IsSaid words Beliefs = words ≡ codes "beliefs" ∷ []
 IsSaid words (Ask cell) = words ≡ codes "ask" ∷ cell ∷ []
+IsSaid words (Why cell) = words ≡ codes "why" ∷ cell ∷ []
+IsSaid words Conflicts = words ≡ codes "conflicts" ∷ []
 IsSaid words Other = (word : List ℕ) × (rest : List (List ℕ)) × (words ≡ word ∷ rest) × NamesNoCommand word
 
 -- the words are the sentence: its user first, and then what is said

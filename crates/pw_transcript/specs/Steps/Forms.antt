@@ -4,7 +4,7 @@ use Rattle.std.specs.Str.{bytes_eq}
 use Rattle.pw_transcript.specs.declared.sentence.Said.{Said as Spelled}
 use Rattle.pw_transcript.specs.declared.sentence.Said.TheVariants as spelled
 use Rattle.pw_transcript.specs.declared.sentence.Sentence.{Sentence as SentenceSpelled}
-use Rattle.pw_transcript.specs.Sentence.{Said, Tell, Attach, Believe, Doubt, Beliefs, Ask, Other, Sentence}
+use Rattle.pw_transcript.specs.Sentence.{Said, Tell, Attach, Believe, Doubt, Beliefs, Ask, Why, Conflicts, Other, Sentence}
 
 -- the premises at the end of a tell or of an attach
 abbrev pub under_form : List (List ℕ) → Option (List (List ℕ))
@@ -46,15 +46,15 @@ abbrev pub premises_form : (List (List ℕ) → Said) → List (List ℕ) → Op
 premises_form says [] = None
 premises_form says (premise ∷ premises) = Some (says (premise ∷ premises))
 
--- what stands after `beliefs`: nothing
-abbrev pub beliefs_form : List (List ℕ) → Option Said
-beliefs_form [] = Some Beliefs
-beliefs_form rest = None
+-- what stands after `beliefs` and after `conflicts`: nothing
+abbrev pub bare_form : Said → List (List ℕ) → Option Said
+bare_form says [] = Some says
+bare_form says rest = None
 
--- what stands after `ask`
-abbrev pub ask_form : List (List ℕ) → Option Said
-ask_form (cell ∷ []) = Some (Ask cell)
-ask_form rest = None
+-- what stands after `ask` and after `why`: a cell
+abbrev pub cell_form : (List ℕ → Said) → List (List ℕ) → Option Said
+cell_form says (cell ∷ []) = Some (says cell)
+cell_form says rest = None
 
 -- what is said by a word, and the words after it
 abbrev pub said_form : List ℕ → List (List ℕ) → Option Said
@@ -63,9 +63,11 @@ said_form name rest =
     else (if bytes_eq name (codes "attach") then attach_form rest
     else (if bytes_eq name (codes "believe") then premises_form Believe rest
     else (if bytes_eq name (codes "doubt") then premises_form Doubt rest
-    else (if bytes_eq name (codes "beliefs") then beliefs_form rest
-    else (if bytes_eq name (codes "ask") then ask_form rest
-    else Some Other)))))
+    else (if bytes_eq name (codes "beliefs") then bare_form Beliefs rest
+    else (if bytes_eq name (codes "ask") then cell_form Ask rest
+    else (if bytes_eq name (codes "why") then cell_form Why rest
+    else (if bytes_eq name (codes "conflicts") then bare_form Conflicts rest
+    else Some Other)))))))
 
 abbrev pub sentence_by : List ℕ → Said → Sentence
 sentence_by user said = record { user = user; said = said }
@@ -83,6 +85,8 @@ said_in (spelled.Believe premises) = Believe premises
 said_in (spelled.Doubt premises) = Doubt premises
 said_in spelled.Beliefs = Beliefs
 said_in (spelled.Ask cell) = Ask cell.now
+said_in (spelled.Why cell) = Why cell.now
+said_in spelled.Conflicts = Conflicts
 said_in spelled.Other = Other
 
 -- an attach is of a cell at least

@@ -1,0 +1,27 @@
+-- Which cells of a network are contradictory, and in which attachments.
+use Rattle.std.specs.Prelude.{◌≡◌, ◌↔◌, ℕ, ◌<◌, true, List, Contains, Some, filter, length}
+use Rattle.std.specs.List.{range_with_len}
+use Rattle.std.specs.List.Sorted.{IsStrictlyIncreasing}
+use Rattle.pw_info.specs.declared.info.Info.{Info}
+use Rattle.pw_network.specs.Network.{Network, cells_in, origin_in}
+use Rattle.pw_reasons.specs.SameInfo.{is_contradiction}
+
+-- numbers of declared cells, and of lines
+pub record Conflicts : Type 0 where
+  pub cells : List ℕ
+  pub lines : List ℕ
+
+-- the attachment of this line has an inner cell whose value is a contradiction
+pub record HasConflict (network : Network) (value : ℕ → Info) (line : ℕ) : Type 0 where
+  pub cell : ℕ
+  pub number : ℕ
+  pub here : cell < cells_in network
+  pub origin : origin_in network cell ≡ Some (line, number)
+  pub contradictory : is_contradiction (value cell) ≡ true
+
+-- where these are the values of its cells, the conflicts of the network are these: the declared cells whose value is a
+-- contradiction, in order; and the lines of the attachments with such an inner cell, rising, each once
+pub record AreConflicts (network : Network) (value : ℕ → Info) (conflicts : Conflicts) : Type 0 where
+  pub cells : conflicts.cells ≡ filter (λ cell. is_contradiction (value cell)) (range_with_len 0 (length network.declared.cells))
+  pub rising : IsStrictlyIncreasing conflicts.lines
+  pub lines : (line : ℕ) → Contains conflicts.lines line ↔ HasConflict network value line

@@ -1,0 +1,4 @@
+pub mod Conflicts
+pub mod ConflictsCode
+pub mod Reason
+pub mod SameInfo

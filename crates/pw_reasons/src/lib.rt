@@ -1,0 +1,11 @@
+//! Why a value is what it is, and what contradicts itself.
+#![tactic(auto)]
+
+mod conflicts;
+pub mod laws;
+mod listing;
+mod reasoning;
+
+pub use conflicts::Conflicts;
+pub use listing::list_conflicts;
+pub use reasoning::reason;
