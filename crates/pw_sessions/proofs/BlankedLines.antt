@@ -43,6 +43,8 @@ module _ (user : ℕ) (beliefs : Premises) where
   ]
   same_entries number (Says (commands.Beliefs other)) = refl
   same_entries number (Says (commands.Ask other cell)) = refl
+  same_entries number (Says (commands.Why other cell)) = refl
+  same_entries number (Says (commands.Conflicts other)) = refl
 
   -- and so do lines
   all_entries : (number : ℕ) (readings : List LineReading) →
@@ -78,6 +80,8 @@ module _ (user : ℕ) (beliefs : Premises) where
   ]
   same_beliefs now (Says (commands.Beliefs other)) = refl
   same_beliefs now (Says (commands.Ask other cell)) = refl
+  same_beliefs now (Says (commands.Why other cell)) = refl
+  same_beliefs now (Says (commands.Conflicts other)) = refl
 
   -- and so do lines
   all_beliefs : (now : Premises) (readings : List LineReading) → fold (believed_after user) now (map kept readings) ≡ fold (believed_after user) now readings

@@ -1,5 +1,5 @@
 -- A command is carried out: what it leaves, and its reply, are those of its line from scratch.
-use Rattle.std.proofs.Common.{◌≡◌, ◌≢◌, ℕ, ◌+◌, ◌<◌, true, List, [], ◌∷◌, ◌++◌, length, set, Some, refl, sym, ap, ◌∙◌, subst, inl, inr}
+use Rattle.std.proofs.Common.{◌≡◌, ◌≢◌, ℕ, ◌+◌, ◌<◌, true, List, [], ◌∷◌, ◌++◌, length, set, Option, Some, refl, sym, ap, ◌∙◌, subst, inl, inr}
 use Rattle.std.specs.FinSet.{union, difference}
 use Rattle.pw_info.specs.declared.info.Info.{Info}
 use Rattle.pw_info.specs.Information.{meet}
@@ -13,18 +13,20 @@ use Rattle.pw_decl.specs.declared.step.Callable.{Callable}
 use Rattle.pw_decl.specs.Declaration.{Declared}
 use Rattle.pw_decl.specs.WellDeclared.{IsWellDeclared}
 use Rattle.pw_settle.specs.Values as settled
+use Rattle.pw_reasons.specs.Reason.{reason_of}
 use Rattle.pw_sessions.specs.declared.command.Command.TheVariants as commands
 use Rattle.pw_sessions.specs.declared.reply.Reply.{Reply}
 use Rattle.pw_sessions.specs.declared.reply.Reply.TheVariants as reply
 use Rattle.pw_sessions.specs.declared.reply.Refusal.TheVariants as refusal
-use Rattle.pw_sessions.specs.Answer.{IsWritten, value_in, visible_in}
+use Rattle.pw_sessions.specs.Answer.{IsWritten, conflicts_of, value_in, visible_in}
 use Rattle.pw_sessions.specs.Beliefs.{beliefs_at}
 use Rattle.pw_sessions.specs.Entries.{entries_before}
 use Rattle.pw_sessions.specs.LineReading.{LineReading, Refused, Says}
 use Rattle.pw_sessions.specs.NamesDeclared.{IsDeclared}
-use Rattle.pw_sessions.specs.Steps.{AnswersAsk, IsAsBefore, IsAttached, is_written}
+use Rattle.pw_sessions.specs.Steps.{AnswersAsk, AnswersConflicts, AnswersWhy, IsAsBefore, IsAttached, is_written}
 use Rattle.pw_sessions.specs.Workbench.{Workbench, IsLeftBy, IsCarriedOut, beliefs_in}
 use Rattle.pw_sessions.proofs.EntriesRise.{rise_before}
+use Rattle.pw_sessions.proofs.NamedConflicts.{conflicts_named}
 use Rattle.pw_sessions.proofs.NamedValues.{value_is}
 use Rattle.pw_sessions.proofs.WorkbenchLemmas.{left_as_before, left_attached, left_believed, left_same, left_told}
 use Rattle.pw_sessions.proofs.WrittenCells.{written_is}
@@ -153,4 +155,61 @@ module _ (d : Declared) (well : IsWellDeclared d) (readings : List LineReading) 
         became = inr (refl, entries_write user cell named.0 named.1 refused.1);
         left = left_same d well.kinds readings (Refused refusal.Memory) old left (λ n. refl) (λ u beliefs. refl);
         replied = ap (λ (r : Reply). Some r) (sym refused.0);
+      }
+
+  -- ---- a why
+
+  -- what follows at the cell, whatever is believed
+  abbrev by_number : ℕ → Premises → Info
+  by_number cell w = settled.value_in old.network old.store w cell
+
+  abbrev by_name : ℕ → Premises → Info
+  by_name cell w = value_in d (visible_in (entries_before readings) w) cell
+
+  -- what settles at the cell, whatever is believed, is what follows
+  settles_everywhere : (cell : ℕ) → cell < length d.cells → by_number cell ≡ by_name cell
+  settles_everywhere cell here = λ i w.
+      value_is d (entries_before readings) old.network old.store w cell well left.fit (rise_before readings) left.network left.told here i
+
+  -- an answer that was given, or a why for which memory was refused
+  pub carried_why : (user cell : ℕ) (answer : Reply) → IsDeclared d (Says (commands.Why user cell)) → AnswersWhy old user cell answer →
+      IsCarriedOut d readings (commands.Why user cell) old answer
+  carried_why user cell answer named (inl is) =
+      let why : (Premises → Info) → Premises → Option Reply = λ value w. Some (reply.Because (value w) (reason_of value w)) in
+      record {
+        reading = Says (commands.Why user cell);
+        became = inl refl;
+        left = left_same d well.kinds readings (Says (commands.Why user cell)) old left (λ n. refl) (λ u beliefs. refl);
+        replied = sym (ap (λ (r : Reply). Some r) is ∙ (λ i. why (settles_everywhere cell named.1 i) (left.beliefs user named.0 i)));
+      }
+  carried_why user cell answer named (inr refused) =
+      record {
+        reading = Refused refusal.Memory;
+        became = inr (refl, tt);
+        left = left_same d well.kinds readings (Refused refusal.Memory) old left (λ n. refl) (λ u beliefs. refl);
+        replied = ap (λ (r : Reply). Some r) (sym refused);
+      }
+
+  -- ---- a question for conflicts
+
+  -- an answer that was given, or a question for which memory was refused
+  pub carried_conflicts : (user : ℕ) (answer : Reply) → user < length d.users → AnswersConflicts old user answer →
+      IsCarriedOut d readings (commands.Conflicts user) old answer
+  carried_conflicts user answer there (inl listed) =
+      let named : listed.0 ≡ conflicts_of d (visible_in (entries_before readings) (beliefs_in old user)) =
+      conflicts_named d (entries_before readings) old.network old.store (beliefs_in old user) listed.0 well left.fit (rise_before readings)
+      left.network left.told listed.2 in
+      record {
+        reading = Says (commands.Conflicts user);
+        became = inl refl;
+        left = left_same d well.kinds readings (Says (commands.Conflicts user)) old left (λ n. refl) (λ u beliefs. refl);
+        replied = ap (λ (r : Reply). Some r) (sym (listed.1 ∙ ap reply.Listed named
+            ∙ ap (λ w. reply.Listed (conflicts_of d (visible_in (entries_before readings) w))) (left.beliefs user there)));
+      }
+  carried_conflicts user answer there (inr refused) =
+      record {
+        reading = Refused refusal.Memory;
+        became = inr (refl, tt);
+        left = left_same d well.kinds readings (Refused refusal.Memory) old left (λ n. refl) (λ u beliefs. refl);
+        replied = ap (λ (r : Reply). Some r) (sym refused);
       }

@@ -7,6 +7,7 @@ pub mod EntriesRise
 pub mod EntryLemmas
 pub mod FurtherLines
 pub mod NameMembers
+pub mod NamedConflicts
 pub mod NamedNetworks
 pub mod NamedSources
 pub mod NamedValues

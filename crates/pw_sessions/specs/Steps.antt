@@ -10,6 +10,8 @@ use Rattle.pw_decl.specs.Expansion.{inner_kinds_of}
 use Rattle.pw_network.specs.Limits.{most_lines}
 use Rattle.pw_network.specs.Network.{Attached, with_attached}
 use Rattle.pw_settle.specs.Values.{kinds_in, value_in}
+use Rattle.pw_reasons.specs.Conflicts.{Conflicts, AreConflicts}
+use Rattle.pw_reasons.specs.Reason.{reason_of}
 use Rattle.pw_sessions.specs.declared.command.Command.{Command}
 use Rattle.pw_sessions.specs.declared.reply.Reply.{Reply}
 use Rattle.pw_sessions.specs.declared.reply.Reply.TheVariants as reply
@@ -58,3 +60,19 @@ abbrev pub AnswersAsk : Workbench → ℕ → ℕ → Reply → Type 0
 AnswersAsk workbench user cell answer =
     (answer ≡ reply.Value (value_in workbench.network workbench.store (beliefs_in workbench user) cell))
     ⊎ ((answer ≡ reply.Refused refusal.Memory) × (is_written workbench.network.attached cell (beliefs_in workbench user) ≡ true))
+
+-- a why of the cell by the user was answered: with what settles in the network under what the user believes, and its reason;
+-- or with want of memory
+abbrev pub AnswersWhy : Workbench → ℕ → ℕ → Reply → Type 0
+AnswersWhy workbench user cell answer =
+    (answer ≡ reply.Because (value_in workbench.network workbench.store (beliefs_in workbench user) cell)
+    (reason_of (λ w. value_in workbench.network workbench.store w cell) (beliefs_in workbench user)))
+    ⊎ (answer ≡ reply.Refused refusal.Memory)
+
+-- a question for conflicts by the user was answered: with those of what settles in the network under what the user believes; or
+-- with want of memory
+abbrev pub AnswersConflicts : Workbench → ℕ → Reply → Type 0
+AnswersConflicts workbench user answer =
+    ((conflicts : Conflicts) × (answer ≡ reply.Listed conflicts)
+    × AreConflicts workbench.network (value_in workbench.network workbench.store (beliefs_in workbench user)) conflicts)
+    ⊎ (answer ≡ reply.Refused refusal.Memory)

@@ -13,7 +13,7 @@ ghost use Rattle.pw_sessions.specs.Beliefs.{beliefs_at};
 ghost use Rattle.pw_sessions.specs.Carrying.{CanBeCarriedOut, CarriesOut, IsUserOf};
 ghost use Rattle.pw_sessions.specs.Fields.{workbench_by};
 ghost use Rattle.pw_sessions.specs.LineReading.{LineReading};
-ghost use Rattle.pw_sessions.specs.Steps.{AnswersAsk, CanCarryOut, CarriesOutNext, IsAsBefore, IsAttached};
+ghost use Rattle.pw_sessions.specs.Steps.{AnswersAsk, AnswersConflicts, AnswersWhy, CanCarryOut, CarriesOutNext, IsAsBefore, IsAttached};
 ghost use Rattle.pw_sessions.specs.Steps.{StoreFits, is_written};
 ghost use Rattle.pw_sessions.specs.Workbench.{IsLeftBy, beliefs_in};
 
@@ -25,6 +25,7 @@ use pw_info::Kind;
 use pw_network::{Instance, Network};
 use pw_premises::PremiseSet;
 use pw_procs::Arguments;
+use pw_reasons::{list_conflicts, reason};
 use pw_settle::settle;
 use std::alloc::{AllocError, Allocator};
 
@@ -146,6 +147,43 @@ impl<'d, 'r, A: Allocator + Copy> Workbench<'d, 'r, A> {
         }
     }
 
+    // What is known of the declared cell under what the user, who is there, believes, and why.
+    fn why(&mut self, user: u8, cell: u32) -> Reply<A>
+        requires fits { StoreFits (workbench_by self.old) }
+        requires user { user < length (workbench_by self.old).beliefs }
+        requires cell { cell < length (workbench_by self.old).network.declared.cells }
+        ensures answer { AnswersWhy (workbench_by self.old) user cell result }
+        ensures stays { workbench_by self.new ≡ workbench_by self.old }
+    {
+        let alloc = *self.beliefs.allocator();
+        let beliefs = self.beliefs_of(user);
+        let Ok(settled) = settle(alloc, &self.network, &mut self.store, &beliefs) else {
+            return Reply::Refused(Refusal::Memory);
+        };
+        match reason(alloc, &self.network, &mut self.store, &settled, cell) {
+            Ok(reason) => Reply::Because(settled.value(cell).info, reason),
+            Err(_) => Reply::Refused(Refusal::Memory),
+        }
+    }
+
+    // What is contradictory under what the user, who is there, believes.
+    fn conflicts(&mut self, user: u8) -> Reply<A>
+        requires fits { StoreFits (workbench_by self.old) }
+        requires user { user < length (workbench_by self.old).beliefs }
+        ensures answer { AnswersConflicts (workbench_by self.old) user result }
+        ensures stays { workbench_by self.new ≡ workbench_by self.old }
+    {
+        let alloc = *self.beliefs.allocator();
+        let beliefs = self.beliefs_of(user);
+        let Ok(settled) = settle(alloc, &self.network, &mut self.store, &beliefs) else {
+            return Reply::Refused(Refusal::Memory);
+        };
+        match list_conflicts(alloc, &self.network, &settled) {
+            Ok(conflicts) => Reply::Listed(conflicts),
+            Err(_) => Reply::Refused(Refusal::Memory),
+        }
+    }
+
     // Carries out a command at the line after the last, blank ones among them.
     fn carry_out(&mut self, line: u32, command: &Command) -> Reply<A>
         requires { CanCarryOut (workbench_by self.old) line command.now }
@@ -180,7 +218,8 @@ impl<'d, 'r, A: Allocator + Copy> Workbench<'d, 'r, A> {
             }
             Command::Beliefs { user } => Reply::Believes(self.beliefs_of(user)),
             Command::Ask { user, cell } => self.ask(user, cell),
-            Command::Why { .. } | Command::Conflicts { .. } => Reply::Refused(Refusal::Memory),
+            Command::Why { user, cell } => self.why(user, cell),
+            Command::Conflicts { user } => self.conflicts(user),
         }
     }
 
@@ -189,8 +228,8 @@ impl<'d, 'r, A: Allocator + Copy> Workbench<'d, 'r, A> {
     /// kind of its cell.
     ///
     /// The reply is the answer to the command from what the lines before it left, or `Refused(Memory)` where memory is refused
-    /// to a tell, to an attach, or to an ask of a cell that an instance writes whose premises are all believed; and then
-    /// nothing changes. Commands on beliefs are never refused.
+    /// to a tell, to an attach, to an ask of a cell that an instance writes whose premises are all believed, to a why, or to
+    /// conflicts; and then nothing changes. Commands on beliefs are never refused.
     pub fn command(&mut self, line: u32, command: &Command) -> Reply<A>
         requires { CanBeCarriedOut (workbench_by self.old) line command.now }
         ensures { CarriesOut (workbench_by self.old) line command.now (workbench_by self.new)

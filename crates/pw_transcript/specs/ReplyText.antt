@@ -1,5 +1,5 @@
 -- How replies are written.
-use Rattle.std.specs.Prelude.{ℕ, ◌+◌, List, [], ◌∷◌, ◌++◌, Option, Some, None, codes, filter, length, map}
+use Rattle.std.specs.Prelude.{ℕ, ◌+◌, ◌<◌, All, List, [], ◌∷◌, ◌++◌, Option, Some, None, codes, filter, length, map}
 use Rattle.std.specs.FinSet.{contains}
 use Rattle.std.specs.Fmt.{decimal}
 use Rattle.std.specs.List.{flat_map, range_with_len}
@@ -46,10 +46,11 @@ text_of_names (name ∷ names) = flat_map after_space (name ∷ names)
 abbrev pub conflict_names : Declared → Conflicts → List (List ℕ)
 conflict_names d conflicts = map (name_at d.cells) conflicts.cells ++ map (λ line. codes "line " ++ decimal line) conflicts.lines
 
--- if the reply tells a value, every member of its kind has its name
+-- what the reply tells has names: every member of the kind of a value, and each cell that is listed
 abbrev pub IsReplyNamed : Declared → Reply → Type 0
 IsReplyNamed d (reply.Value info) = IsNamed (members_of d) (kind_of info)
 IsReplyNamed d (reply.Because info premises) = IsNamed (members_of d) (kind_of info)
+IsReplyNamed d (reply.Listed conflicts) = All (λ cell. cell < length d.cells) conflicts.cells
 IsReplyNamed d reply = Unit {0}
 
 -- what a reply says

@@ -12,7 +12,7 @@ use Rattle.pw_sessions.specs.LineReading.{Says}
 use Rattle.pw_sessions.specs.NamesDeclared.{IsDeclared}
 use Rattle.pw_sessions.specs.Workbench.{Workbench, IsCarriedOut}
 use Rattle.pw_sessions.proofs.AskedCells.{well_left}
-use Rattle.pw_sessions.proofs.CarriedCommands.{carried_ask, carried_attach, carried_beliefs, carried_believe, carried_doubt, carried_tell, refused_attach, refused_tell}
+use Rattle.pw_sessions.proofs.CarriedCommands.{carried_ask, carried_attach, carried_beliefs, carried_believe, carried_conflicts, carried_doubt, carried_tell, carried_why, refused_attach, refused_tell}
 use Rattle.pw_sessions.proofs.workbench.holding.Workbench.carry_out.Goals as goal
 
 pub returns-in_default : goal.returns-in_default
@@ -88,3 +88,21 @@ returns-in-Beliefs g c = λ d before left at named.
     let named' = subst (λ (x : Command). IsDeclared d (Says x)) c.in-Beliefs.is named in
     subst (λ (x : Command). IsCarriedOut d before x bench (reply.Believes c.beliefs_of-in-Beliefs.result)) (sym c.in-Beliefs.is)
     (carried_beliefs d well before bench left c.in-Beliefs.user c.beliefs_of-in-Beliefs.result named'.0 c.beliefs_of-in-Beliefs.ensures)
+
+pub returns-in-Why : goal.returns-in-Why
+returns-in-Why g c = λ d before left at named.
+    let bench : Workbench = workbench_by c.args.self.now in
+    let well = well_left d before bench c.args.self.now.network.well left in
+    let named' = subst (λ (x : Command). IsDeclared d (Says x)) c.in-Why.is named in
+    subst (λ (x : Command). IsCarriedOut d before x (workbench_by c.why.new.self) c.why.result) (sym c.in-Why.is)
+    (subst (λ (new : Workbench). IsCarriedOut d before (commands.Why c.in-Why.user c.in-Why.cell) new c.why.result) (sym c.why.ensures.stays)
+    (carried_why d well before bench left c.in-Why.user c.in-Why.cell c.why.result named' c.why.ensures.answer))
+
+pub returns-in-Conflicts : goal.returns-in-Conflicts
+returns-in-Conflicts g c = λ d before left at named.
+    let bench : Workbench = workbench_by c.args.self.now in
+    let well = well_left d before bench c.args.self.now.network.well left in
+    let named' = subst (λ (x : Command). IsDeclared d (Says x)) c.in-Conflicts.is named in
+    subst (λ (x : Command). IsCarriedOut d before x (workbench_by c.conflicts.new.self) c.conflicts.result) (sym c.in-Conflicts.is)
+    (subst (λ (new : Workbench). IsCarriedOut d before (commands.Conflicts c.in-Conflicts.user) new c.conflicts.result) (sym c.conflicts.ensures.stays)
+    (carried_conflicts d well before bench left c.in-Conflicts.user c.conflicts.result named'.0 c.conflicts.ensures.answer))
