@@ -5,8 +5,8 @@ use Rattle.pw_premises.specs.Premises.{Premises}
 use Rattle.pw_procs.specs.Arguments.{cells_of}
 use Rattle.pw_decl.specs.Declaration.{Declared}
 use Rattle.pw_sessions.specs.declared.command.Command.TheVariants as commands
-use Rattle.pw_sessions.specs.declared.reply.Reply.{Reply}
-use Rattle.pw_sessions.specs.declared.reply.Reply.TheVariants as reply
+use Rattle.pw_sessions.specs.Reply.{Reply}
+use Rattle.pw_sessions.specs.Reply as reply
 use Rattle.pw_sessions.specs.Answer.{value_in, visible_in}
 use Rattle.pw_sessions.specs.Beliefs.{all_premises}
 use Rattle.pw_sessions.specs.Entries.{Entry, Told, Attached}

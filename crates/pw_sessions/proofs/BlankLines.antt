@@ -4,8 +4,8 @@ use Rattle.std.proofs.lemmas.List.{length-replicate}
 use Rattle.pw_decl.specs.Declaration.{Declared}
 use Rattle.pw_decl.specs.WellDeclared.{IsWellDeclared}
 use Rattle.pw_sessions.specs.declared.command.Command.{Command}
-use Rattle.pw_sessions.specs.declared.reply.Reply.{Reply}
-use Rattle.pw_sessions.specs.declared.reply.Reply.TheVariants as reply
+use Rattle.pw_sessions.specs.Reply.{Reply}
+use Rattle.pw_sessions.specs.Reply as reply
 use Rattle.pw_sessions.specs.declared.reply.Refusal.TheVariants as refusal
 use Rattle.pw_sessions.specs.Answer.{answer_to, reply_to, user_of}
 use Rattle.pw_sessions.specs.Beliefs.{beliefs_at}

@@ -15,8 +15,8 @@ use Rattle.pw_decl.specs.WellDeclared.{IsWellDeclared}
 use Rattle.pw_settle.specs.Values as settled
 use Rattle.pw_reasons.specs.Reason.{reason_of}
 use Rattle.pw_sessions.specs.declared.command.Command.TheVariants as commands
-use Rattle.pw_sessions.specs.declared.reply.Reply.{Reply}
-use Rattle.pw_sessions.specs.declared.reply.Reply.TheVariants as reply
+use Rattle.pw_sessions.specs.Reply.{Reply}
+use Rattle.pw_sessions.specs.Reply as reply
 use Rattle.pw_sessions.specs.declared.reply.Refusal.TheVariants as refusal
 use Rattle.pw_sessions.specs.Answer.{IsWritten, conflicts_of, value_in, visible_in}
 use Rattle.pw_sessions.specs.Beliefs.{beliefs_at}

@@ -28,7 +28,7 @@ use Rattle.pw_settle.proofs.FixpointLemmas.{kind-fixpoint}
 use Rattle.pw_reasons.proofs.ReasonLemmas.{reason_of_subsets}
 use Rattle.pw_sessions.specs.declared.command.Command.{Command}
 use Rattle.pw_sessions.specs.declared.command.Command.TheVariants as commands
-use Rattle.pw_sessions.specs.declared.reply.Reply.TheVariants as reply
+use Rattle.pw_sessions.specs.Reply as reply
 use Rattle.pw_sessions.specs.Answer.{answer_to, conflicts_of, is_visible, reason_in, sources_after, sources_of, value_in, visible_in}
 use Rattle.pw_sessions.specs.CellNames.{named_cells, names_after, same_name}
 use Rattle.pw_sessions.specs.Entries.{Entry, Told, Attached, support_of}

@@ -16,8 +16,8 @@ use Rattle.pw_reasons.specs.Reason.{reason_of}
 use Rattle.pw_reasons.specs.SameInfo.{is_contradiction}
 use Rattle.pw_sessions.specs.declared.command.Command.{Command}
 use Rattle.pw_sessions.specs.declared.command.Command.TheVariants as commands
-use Rattle.pw_sessions.specs.declared.reply.Reply.{Reply}
-use Rattle.pw_sessions.specs.declared.reply.Reply.TheVariants as reply
+use Rattle.pw_sessions.specs.Reply.{Reply}
+use Rattle.pw_sessions.specs.Reply as reply
 use Rattle.pw_sessions.specs.Beliefs.{beliefs_at}
 use Rattle.pw_sessions.specs.CellNames.{inner_names_of, named_cells, names_after}
 use Rattle.pw_sessions.specs.Entries.{Entry, Told, Attached, entries_before, line_of, support_of}

@@ -3,7 +3,7 @@ use Rattle.std.specs.Prelude.{◌≡◌, ℕ, ◌+◌, ◌<◌, ◌≤◌, List,
 use Rattle.pw_decl.specs.Declaration.{Declared}
 use Rattle.pw_network.specs.Limits.{most_lines}
 use Rattle.pw_sessions.specs.declared.command.Command.{Command}
-use Rattle.pw_sessions.specs.declared.reply.Reply.{Reply}
+use Rattle.pw_sessions.specs.Reply.{Reply}
 use Rattle.pw_sessions.specs.Answer.{answer_to, user_of}
 use Rattle.pw_sessions.specs.Beliefs.{beliefs_at}
 use Rattle.pw_sessions.specs.Entries.{entries_before}

@@ -7,6 +7,7 @@ pub mod Entries
 pub mod Fields
 pub mod LineReading
 pub mod NamesDeclared
+pub mod Reply
 pub mod Steps
 pub mod TakesMemory
 pub mod Workbench

@@ -13,8 +13,8 @@ use Rattle.pw_settle.specs.Values.{kinds_in, value_in}
 use Rattle.pw_reasons.specs.Conflicts.{Conflicts, AreConflicts}
 use Rattle.pw_reasons.specs.Reason.{reason_of}
 use Rattle.pw_sessions.specs.declared.command.Command.{Command}
-use Rattle.pw_sessions.specs.declared.reply.Reply.{Reply}
-use Rattle.pw_sessions.specs.declared.reply.Reply.TheVariants as reply
+use Rattle.pw_sessions.specs.Reply.{Reply}
+use Rattle.pw_sessions.specs.Reply as reply
 use Rattle.pw_sessions.specs.declared.reply.Refusal.TheVariants as refusal
 use Rattle.pw_sessions.specs.LineReading.{LineReading, Says}
 use Rattle.pw_sessions.specs.NamesDeclared.{IsDeclared}

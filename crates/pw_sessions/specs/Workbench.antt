@@ -9,7 +9,7 @@ use Rattle.pw_network.specs.Network.{Network, bare, cells_in, with_attached}
 use Rattle.pw_settle.specs.Fixpoint.{told_of}
 use Rattle.pw_settle.specs.Values.{kinds_in}
 use Rattle.pw_sessions.specs.declared.command.Command.{Command}
-use Rattle.pw_sessions.specs.declared.reply.Reply.{Reply}
+use Rattle.pw_sessions.specs.Reply.{Reply}
 use Rattle.pw_sessions.specs.Answer.{reply_to, sources_after, visible_in}
 use Rattle.pw_sessions.specs.Beliefs.{beliefs_at}
 use Rattle.pw_sessions.specs.CellNames.{named_cells}

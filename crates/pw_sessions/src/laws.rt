@@ -3,7 +3,8 @@
 ghost use Rattle.std.specs.Prelude.{◌≡◌, ℕ, [], ◌∷◌, ◌++◌, List};
 ghost use Rattle.pw_premises.specs.Premises.{Premises};
 ghost use Rattle.pw_sessions.specs.declared.reply.Refusal.{Refusal};
-ghost use Rattle.pw_sessions.specs.declared.reply.Reply.{Reply};
+ghost use Rattle.pw_sessions.specs.Reply.{Reply};
+ghost use Rattle.pw_sessions.specs.Reply as replies;
 ghost use Rattle.pw_decl.specs.Declaration.{Declared};
 ghost use Rattle.pw_decl.specs.WellDeclared.{IsWellDeclared};
 ghost use Rattle.pw_sessions.specs.LineReading.{LineReading, Blank, Refused, and_blank_lines};
@@ -15,7 +16,7 @@ ghost use Rattle.pw_sessions.specs.Carrying.{IsAnswered};
 ghost use Rattle.pw_sessions.specs.Workbench.{Workbench, IsCarriedOut, IsLeftBy};
 
 use crate::command::Command;
-use crate::reply::{Refusal, Reply};
+use crate::reply::Refusal;
 
 /// A refused line leaves nothing, whatever it was refused for: the lines after it get the replies that they would get
 /// had it been blank.
@@ -49,6 +50,6 @@ pub fn blank_lines_leave_a_workbench()
 /// A command that was carried out and not refused was answered, and its line counts from then on.
 pub fn commands_not_refused_are_answered()
     ensures { (d : Declared) (before : List LineReading) (command : Command) (new : Workbench) (reply : Reply)
-        → IsCarriedOut d before command new reply → (reply ≡ Reply.Refused Refusal.Memory → ⊥)
+        → IsCarriedOut d before command new reply → (reply ≡ replies.Refused Refusal.Memory → ⊥)
         → IsAnswered d before command new reply }
 {}

@@ -13,6 +13,7 @@ ghost use Rattle.pw_sessions.specs.Beliefs.{beliefs_at};
 ghost use Rattle.pw_sessions.specs.Carrying.{CanBeCarriedOut, CarriesOut, IsUserOf};
 ghost use Rattle.pw_sessions.specs.Fields.{workbench_by};
 ghost use Rattle.pw_sessions.specs.LineReading.{LineReading};
+ghost use Rattle.pw_sessions.specs.Reply.{reply_by};
 ghost use Rattle.pw_sessions.specs.Steps.{AnswersAsk, AnswersConflicts, AnswersWhy, CanCarryOut, CarriesOutNext, IsAsBefore, IsAttached};
 ghost use Rattle.pw_sessions.specs.Steps.{StoreFits, is_written};
 ghost use Rattle.pw_sessions.specs.Workbench.{IsLeftBy, beliefs_in};
@@ -133,7 +134,7 @@ impl<'d, 'r, A: Allocator + Copy> Workbench<'d, 'r, A> {
         requires cell { cell < length (workbench_by self.old).network.declared.cells }
         ensures answer { (d : Declared) (before : List LineReading)
             → IsLeftBy d before (workbench_by self.old)
-            → AnswersAsk (workbench_by self.old) user cell result }
+            → AnswersAsk (workbench_by self.old) user cell (reply_by result) }
         ensures stays { workbench_by self.new ≡ workbench_by self.old }
     {
         let beliefs = self.beliefs_of(user);
@@ -152,7 +153,7 @@ impl<'d, 'r, A: Allocator + Copy> Workbench<'d, 'r, A> {
         requires fits { StoreFits (workbench_by self.old) }
         requires user { user < length (workbench_by self.old).beliefs }
         requires cell { cell < length (workbench_by self.old).network.declared.cells }
-        ensures answer { AnswersWhy (workbench_by self.old) user cell result }
+        ensures answer { AnswersWhy (workbench_by self.old) user cell (reply_by result) }
         ensures stays { workbench_by self.new ≡ workbench_by self.old }
     {
         let alloc = *self.beliefs.allocator();
@@ -170,7 +171,7 @@ impl<'d, 'r, A: Allocator + Copy> Workbench<'d, 'r, A> {
     fn conflicts(&mut self, user: u8) -> Reply<A>
         requires fits { StoreFits (workbench_by self.old) }
         requires user { user < length (workbench_by self.old).beliefs }
-        ensures answer { AnswersConflicts (workbench_by self.old) user result }
+        ensures answer { AnswersConflicts (workbench_by self.old) user (reply_by result) }
         ensures stays { workbench_by self.new ≡ workbench_by self.old }
     {
         let alloc = *self.beliefs.allocator();
@@ -188,7 +189,7 @@ impl<'d, 'r, A: Allocator + Copy> Workbench<'d, 'r, A> {
     fn carry_out(&mut self, line: u32, command: &Command) -> Reply<A>
         requires { CanCarryOut (workbench_by self.old) line command.now }
         ensures { CarriesOutNext (workbench_by self.old) line command.now (workbench_by self.new)
-            result }
+            (reply_by result) }
     {
         match *command {
             Command::Tell { cell, fact, .. } => {
@@ -233,7 +234,7 @@ impl<'d, 'r, A: Allocator + Copy> Workbench<'d, 'r, A> {
     pub fn command(&mut self, line: u32, command: &Command) -> Reply<A>
         requires { CanBeCarriedOut (workbench_by self.old) line command.now }
         ensures { CarriesOut (workbench_by self.old) line command.now (workbench_by self.new)
-            result }
+            (reply_by result) }
     {
         self.carry_out(line, command)
     }

@@ -2,7 +2,7 @@
 use Rattle.std.proofs.Common.{◌≡◌, ℕ, suc, ◌+◌, ◌<◌, ◌≤◌, List, [], ◌∷◌, ◌++◌, length, Option, Some, None, Contains, refl, sym, ap, ◌∙◌, subst, inl, inr, append-nil, append_assoc, arith}
 use Rattle.std.specs.Prelude.{All, if◌then◌else◌, is_some}
 use Rattle.pw_sessions.specs.declared.command.Command.{Command}
-use Rattle.pw_sessions.specs.declared.reply.Reply.{Reply}
+use Rattle.pw_sessions.specs.Reply.{Reply}
 use Rattle.pw_sessions.specs.declared.reply.Refusal.TheVariants as refusal
 use Rattle.pw_decl.specs.Declaration.{Declared}
 use Rattle.pw_transcript.specs.Sentence.{Said, Tell, Attach, Believe, Doubt, Beliefs, Ask, Other}

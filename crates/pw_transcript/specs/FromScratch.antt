@@ -3,7 +3,7 @@ use Rattle.std.specs.Prelude.{◌≡◌, ℕ, ◌+◌, ◌≤◌, List, [], ◌�
 use Rattle.std.specs.List.{AllByRecursion}
 use Rattle.pw_info.specs.Passing.{PassesPart}
 use Rattle.pw_sessions.specs.declared.command.Command.{Command}
-use Rattle.pw_sessions.specs.declared.reply.Reply.{Reply}
+use Rattle.pw_sessions.specs.Reply.{Reply}
 use Rattle.pw_sessions.specs.declared.reply.Refusal.TheVariants as refusal
 use Rattle.pw_transcript.specs.declared.transcript.Lines.{Lines}
 use Rattle.pw_info.specs.Lines.{lines_of, HasNoEnd, text_of_lines}

@@ -2,7 +2,7 @@
 use Rattle.std.specs.Prelude.{◌≡◌, ℕ, ◌+◌, Bool, List, [], ◌∷◌, ◌++◌, length, Option, if◌then◌else◌}
 use Rattle.pw_info.specs.Lines.{lines_of}
 use Rattle.pw_decl.specs.Declaration.{Declared}
-use Rattle.pw_sessions.specs.declared.reply.Reply.{Reply}
+use Rattle.pw_sessions.specs.Reply.{Reply}
 use Rattle.pw_sessions.specs.Answer.{reply_to}
 use Rattle.pw_sessions.specs.Blanking.{matters_to}
 use Rattle.pw_sessions.specs.LineReading.{LineReading}

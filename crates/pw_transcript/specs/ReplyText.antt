@@ -9,8 +9,8 @@ use Rattle.pw_info.specs.SetNames.{IsNamed, name_at}
 use Rattle.pw_info.specs.Text.{text_of_info}
 use Rattle.pw_premises.specs.Premises.{Premises}
 use Rattle.pw_reasons.specs.Conflicts.{Conflicts}
-use Rattle.pw_sessions.specs.declared.reply.Reply.{Reply}
-use Rattle.pw_sessions.specs.declared.reply.Reply.TheVariants as reply
+use Rattle.pw_sessions.specs.Reply.{Reply}
+use Rattle.pw_sessions.specs.Reply as reply
 use Rattle.pw_sessions.specs.declared.reply.Refusal.{Refusal}
 use Rattle.pw_sessions.specs.declared.reply.Refusal.TheVariants as refusal
 use Rattle.pw_decl.specs.Declaration.{Declared, members_of}

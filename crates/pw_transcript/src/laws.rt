@@ -6,7 +6,7 @@ ghost use Rattle.pw_decl.specs.WellDeclared.{IsWellDeclared};
 ghost use Rattle.pw_info.specs.Lines.{lines_of};
 ghost use Rattle.pw_sessions.specs.LineReading.{LineReading};
 ghost use Rattle.pw_sessions.specs.declared.reply.Refusal.{Refusal};
-ghost use Rattle.pw_sessions.specs.declared.reply.Reply.{Reply};
+ghost use Rattle.pw_sessions.specs.Reply.{Reply};
 ghost use Rattle.pw_transcript.specs.FromScratch.{GetReplies};
 ghost use Rattle.pw_transcript.specs.Isolation.{BeginsWith, IsReplyAt, RestsOn};
 ghost use Rattle.pw_transcript.specs.declared.input.Reading.{Reading};

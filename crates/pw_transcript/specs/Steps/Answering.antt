@@ -1,7 +1,7 @@
 -- The answer to one line, as a step from what the lines before it left to what they leave with it.
 use Rattle.std.specs.Prelude.{◌≡◌, ℕ, ◌+◌, nat_le, List, [], ◌∷◌, ◌++◌, length, Option, Some, None, is_some, Bool, if◌then◌else◌}
 use Rattle.pw_info.specs.Passing.{PassesPart}
-use Rattle.pw_sessions.specs.declared.reply.Reply.{Reply}
+use Rattle.pw_sessions.specs.Reply.{Reply}
 use Rattle.pw_decl.specs.Declaration.{Declared}
 use Rattle.pw_sessions.specs.LineReading.{LineReading}
 use Rattle.pw_transcript.specs.Limits.{most_line_bytes}

@@ -3,7 +3,7 @@ use Rattle.std.specs.FinSet.{empty}
 use Rattle.pw_decl.specs.Declaration.{Declared}
 use Rattle.pw_decl.specs.Fields.{declared_by}
 use Rattle.pw_sessions.specs.declared.command.Command.TheVariants as commands
-use Rattle.pw_sessions.specs.declared.reply.Reply.TheVariants as reply
+use Rattle.pw_sessions.specs.Reply as reply
 use Rattle.pw_sessions.specs.Fields.{workbench_by}
 use Rattle.pw_sessions.specs.Workbench.{Workbench}
 use Rattle.pw_refusals.specs.declared.host.Matter.{Matter}

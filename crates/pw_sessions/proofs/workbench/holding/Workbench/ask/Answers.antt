@@ -7,7 +7,7 @@ use Rattle.pw_network.specs.Network.{cells_in}
 use Rattle.pw_settle.specs.Values.{value_in}
 use Rattle.pw_sessions.specs.Fields.{workbench_by}
 use Rattle.pw_sessions.specs.Steps.{is_written}
-use Rattle.pw_sessions.specs.declared.reply.Reply.TheVariants as reply
+use Rattle.pw_sessions.specs.Reply as reply
 use Rattle.pw_sessions.proofs.AskedCells.{told_answers}
 use Rattle.pw_sessions.proofs.StoreLemmas.{cells_kept}
 use Rattle.pw_sessions.proofs.workbench.holding.Workbench.ask.Goals as goal

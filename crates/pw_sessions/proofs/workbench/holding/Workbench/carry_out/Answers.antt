@@ -5,7 +5,7 @@ use Rattle.pw_premises.specs.Premises.{Premises}
 use Rattle.pw_cells.specs.Cells.{Store}
 use Rattle.pw_sessions.specs.declared.command.Command.{Command}
 use Rattle.pw_sessions.specs.declared.command.Command.TheVariants as commands
-use Rattle.pw_sessions.specs.declared.reply.Reply.TheVariants as reply
+use Rattle.pw_sessions.specs.Reply as reply
 use Rattle.pw_sessions.specs.declared.reply.Refusal.TheVariants as refusal
 use Rattle.pw_sessions.specs.Fields.{workbench_by}
 use Rattle.pw_sessions.specs.LineReading.{Says}

@@ -1,0 +1,26 @@
+-- What a line is answered with.
+use Rattle.pw_info.specs.declared.info.Info.{Info}
+use Rattle.pw_premises.specs.Premises.{Premises}
+use Rattle.pw_reasons.specs.Conflicts.{Conflicts}
+use Rattle.pw_sessions.specs.declared.reply.Refusal.{Refusal}
+use Rattle.pw_sessions.specs.declared.reply.Reply.{Reply as ReplyKept}
+use Rattle.pw_sessions.specs.declared.reply.Reply.TheVariants as kept
+
+-- a command that tells or changes something was carried out; or a value, with its reason or without; what is contradictory; what
+-- a user believes; or why the line was refused
+pub data Reply : Type 0 where
+  Done : Reply
+  Value : (info : Info) → Reply
+  Because : (info : Info) (reason : Premises) → Reply
+  Listed : (conflicts : Conflicts) → Reply
+  Believes : (premises : Premises) → Reply
+  Refused : (refusal : Refusal) → Reply
+
+-- what a reply in the code is, whatever memory holds its lists
+abbrev pub reply_by : {A : Type 0} → ReplyKept A → Reply
+reply_by kept.Done = Done
+reply_by (kept.Value info) = Value info
+reply_by (kept.Because info reason) = Because info reason
+reply_by (kept.Listed conflicts) = Listed conflicts
+reply_by (kept.Believes premises) = Believes premises
+reply_by (kept.Refused refusal) = Refused refusal
