@@ -6,6 +6,7 @@ pub mod CarriedCommands
 pub mod EntriesRise
 pub mod EntryLemmas
 pub mod FurtherLines
+pub mod GrowingValues
 pub mod NameMembers
 pub mod NamedConflicts
 pub mod NamedNetworks
@@ -16,6 +17,7 @@ pub mod NetworkKinds
 pub mod NetworkNames
 pub mod NextLines
 pub mod StoreLemmas
+pub mod StubConflicts
 pub mod WorkbenchLemmas
 pub mod WrittenCells
 pub mod WrittenLemmas

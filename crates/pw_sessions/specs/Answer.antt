@@ -54,10 +54,13 @@ value_in d entries cell = value_by_name d entries (DeclaredCell cell)
 abbrev pub IsWritten : Declared → List Entry → ℕ → Type 0
 IsWritten d entries cell = Contains (map cell_of (filter is_propagator (sources_after d entries))) (DeclaredCell cell)
 
--- why a declared cell has its value where this is believed: of these premises, tried from the last to the first, those without
--- which the value from the entries that are then visible is another
+-- the value of a declared cell where just these premises are believed: from the entries that are then visible
+abbrev pub value_under : Declared → List Entry → ℕ → Premises → Info
+value_under d entries cell believed = value_in d (visible_in entries believed) cell
+
+-- why the cell has its value where this is believed: of these premises, tried from the last to the first, what the value needs
 abbrev pub reason_in : Declared → List Entry → Premises → ℕ → Premises
-reason_in d entries beliefs cell = reason_of (λ believed. value_in d (visible_in entries believed) cell) beliefs
+reason_in d entries beliefs cell = reason_of (value_under d entries cell) beliefs
 
 -- the entry made an inner cell whose value, where these entries were made, is a contradiction
 abbrev pub has_conflict : Declared → List Entry → Entry → Bool
@@ -75,9 +78,9 @@ conflicts_of d entries =
 -- from the visible entries alone, to `why` this value and its reason, to `conflicts` what the visible entries contradict, to
 -- `beliefs` what the user believes, to every other command `ok`
 abbrev pub answer_to : Declared → List Entry → Premises → Command → Reply
-answer_to d entries beliefs (commands.Ask user cell) = reply.Value (value_in d (visible_in entries beliefs) cell)
+answer_to d entries beliefs (commands.Ask user cell) = reply.Value (value_under d entries cell beliefs)
 answer_to d entries beliefs (commands.Why user cell) =
-    reply.Because (value_in d (visible_in entries beliefs) cell) (reason_in d entries beliefs cell)
+    reply.Because (value_under d entries cell beliefs) (reason_in d entries beliefs cell)
 answer_to d entries beliefs (commands.Conflicts user) = reply.Listed (conflicts_of d (visible_in entries beliefs))
 answer_to d entries beliefs (commands.Beliefs user) = reply.Believes beliefs
 answer_to d entries beliefs command = reply.Done

@@ -1,7 +1,8 @@
 //! Laws of answers, each the contract of a function that does nothing: they hold of every transcript.
 
-ghost use Rattle.std.specs.Prelude.{◌≡◌, ℕ, [], ◌∷◌, ◌++◌, List};
-ghost use Rattle.pw_premises.specs.Premises.{Premises};
+ghost use Rattle.std.specs.Prelude.{◌≡◌, ◌≢◌, ◌<◌, ℕ, true, [], ◌∷◌, ◌++◌, All, List, length};
+ghost use Rattle.std.specs.FinSet.{contains, remove};
+ghost use Rattle.pw_premises.specs.Premises.{Premises, most_premises};
 ghost use Rattle.pw_sessions.specs.declared.reply.Refusal.{Refusal};
 ghost use Rattle.pw_sessions.specs.Reply.{Reply};
 ghost use Rattle.pw_sessions.specs.Reply as replies;
@@ -9,8 +10,11 @@ ghost use Rattle.pw_decl.specs.Declaration.{Declared};
 ghost use Rattle.pw_decl.specs.WellDeclared.{IsWellDeclared};
 ghost use Rattle.pw_sessions.specs.LineReading.{LineReading, Blank, Refused, and_blank_lines};
 ghost use Rattle.pw_sessions.specs.declared.command.Command.{Command};
-ghost use Rattle.pw_sessions.specs.Entries.{Entry};
+ghost use Rattle.pw_sessions.specs.Entries.{Entry, entries_before};
+ghost use Rattle.pw_sessions.specs.NamesDeclared.{IsDeclared};
+ghost use Rattle.pw_reasons.specs.Reason.{Grows};
 ghost use Rattle.pw_sessions.specs.Answer.{visible_in, answer_to, reply_to, replies_after};
+ghost use Rattle.pw_sessions.specs.Answer.{reason_in, value_under};
 ghost use Rattle.pw_sessions.specs.Blanking.{blanked_for};
 ghost use Rattle.pw_sessions.specs.Carrying.{IsAnswered};
 ghost use Rattle.pw_sessions.specs.Workbench.{Workbench, IsCarriedOut, IsLeftBy};
@@ -30,6 +34,20 @@ pub fn refused_lines_count_as_blank()
 pub fn unbelieved_entries_change_nothing()
     ensures { (d : Declared) (entries : List Entry) (beliefs : Premises) (command : Command) →
         answer_to d (visible_in entries beliefs) beliefs command ≡ answer_to d entries beliefs command }
+{}
+
+/// More is known where more is believed; so the laws of reasons hold of the reason in a reply to `why`: it is a part of what
+/// the user believes that gives the same value, and without any one of its premises the value is another.
+pub fn reasons_say_why()
+    ensures grows { (d : Declared) (before : List LineReading) (cell : ℕ) → IsWellDeclared d → All (IsDeclared d) before
+        → cell < length d.cells → Grows (value_under d (entries_before before) cell) }
+    ensures same { (d : Declared) (entries : List Entry) (beliefs : Premises) (cell : ℕ) →
+        value_under d entries cell (reason_in d entries beliefs cell) ≡ value_under d entries cell beliefs }
+    ensures needed { (d : Declared) (before : List LineReading) (beliefs : Premises) (cell premise : ℕ) → IsWellDeclared d
+        → All (IsDeclared d) before → cell < length d.cells → premise < most_premises
+        → contains (reason_in d (entries_before before) beliefs cell) premise ≡ true
+        → value_under d (entries_before before) cell (remove (reason_in d (entries_before before) beliefs cell) premise)
+        ≢ value_under d (entries_before before) cell beliefs }
 {}
 
 /// Users do not disturb each other: a line gets the reply that it would get had all lines before it been blank that it does

@@ -6,6 +6,7 @@ use Rattle.pw_cells.specs.Cells.{Store}
 use Rattle.pw_sessions.specs.declared.command.Command.{Command}
 use Rattle.pw_sessions.specs.declared.command.Command.TheVariants as commands
 use Rattle.pw_sessions.specs.Reply as reply
+use Rattle.pw_sessions.specs.Reply.{reply_by}
 use Rattle.pw_sessions.specs.declared.reply.Refusal.TheVariants as refusal
 use Rattle.pw_sessions.specs.Fields.{workbench_by}
 use Rattle.pw_sessions.specs.LineReading.{Says}
@@ -77,9 +78,9 @@ returns-in-Ask g c = λ d before left at named.
     let bench : Workbench = workbench_by c.args.self.now in
     let well = well_left d before bench c.args.self.now.network.well left in
     let named' = subst (λ (x : Command). IsDeclared d (Says x)) c.in-Ask.is named in
-    subst (λ (x : Command). IsCarriedOut d before x (workbench_by c.ask.new.self) c.ask.result) (sym c.in-Ask.is)
-    (subst (λ (new : Workbench). IsCarriedOut d before (commands.Ask c.in-Ask.user c.in-Ask.cell) new c.ask.result) (sym c.ask.ensures.stays)
-    (carried_ask d well before bench left c.in-Ask.user c.in-Ask.cell c.ask.result named' (c.ask.ensures.answer d before left)))
+    subst (λ (x : Command). IsCarriedOut d before x (workbench_by c.ask.new.self) (reply_by c.ask.result)) (sym c.in-Ask.is)
+    (subst (λ (new : Workbench). IsCarriedOut d before (commands.Ask c.in-Ask.user c.in-Ask.cell) new (reply_by c.ask.result)) (sym c.ask.ensures.stays)
+    (carried_ask d well before bench left c.in-Ask.user c.in-Ask.cell (reply_by c.ask.result) named' (c.ask.ensures.answer d before left)))
 
 pub returns-in-Beliefs : goal.returns-in-Beliefs
 returns-in-Beliefs g c = λ d before left at named.
@@ -94,15 +95,15 @@ returns-in-Why g c = λ d before left at named.
     let bench : Workbench = workbench_by c.args.self.now in
     let well = well_left d before bench c.args.self.now.network.well left in
     let named' = subst (λ (x : Command). IsDeclared d (Says x)) c.in-Why.is named in
-    subst (λ (x : Command). IsCarriedOut d before x (workbench_by c.why.new.self) c.why.result) (sym c.in-Why.is)
-    (subst (λ (new : Workbench). IsCarriedOut d before (commands.Why c.in-Why.user c.in-Why.cell) new c.why.result) (sym c.why.ensures.stays)
-    (carried_why d well before bench left c.in-Why.user c.in-Why.cell c.why.result named' c.why.ensures.answer))
+    subst (λ (x : Command). IsCarriedOut d before x (workbench_by c.why.new.self) (reply_by c.why.result)) (sym c.in-Why.is)
+    (subst (λ (new : Workbench). IsCarriedOut d before (commands.Why c.in-Why.user c.in-Why.cell) new (reply_by c.why.result)) (sym c.why.ensures.stays)
+    (carried_why d well before bench left c.in-Why.user c.in-Why.cell (reply_by c.why.result) named' c.why.ensures.answer))
 
 pub returns-in-Conflicts : goal.returns-in-Conflicts
 returns-in-Conflicts g c = λ d before left at named.
     let bench : Workbench = workbench_by c.args.self.now in
     let well = well_left d before bench c.args.self.now.network.well left in
     let named' = subst (λ (x : Command). IsDeclared d (Says x)) c.in-Conflicts.is named in
-    subst (λ (x : Command). IsCarriedOut d before x (workbench_by c.conflicts.new.self) c.conflicts.result) (sym c.in-Conflicts.is)
-    (subst (λ (new : Workbench). IsCarriedOut d before (commands.Conflicts c.in-Conflicts.user) new c.conflicts.result) (sym c.conflicts.ensures.stays)
-    (carried_conflicts d well before bench left c.in-Conflicts.user c.conflicts.result named'.0 c.conflicts.ensures.answer))
+    subst (λ (x : Command). IsCarriedOut d before x (workbench_by c.conflicts.new.self) (reply_by c.conflicts.result)) (sym c.in-Conflicts.is)
+    (subst (λ (new : Workbench). IsCarriedOut d before (commands.Conflicts c.in-Conflicts.user) new (reply_by c.conflicts.result)) (sym c.conflicts.ensures.stays)
+    (carried_conflicts d well before bench left c.in-Conflicts.user (reply_by c.conflicts.result) named'.0 c.conflicts.ensures.answer))

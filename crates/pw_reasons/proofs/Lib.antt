@@ -1,0 +1,3 @@
+pub mod SameInfoLemmas
+pub mod ReasonLemmas
+pub mod ValueGrows
