@@ -30,6 +30,8 @@ Command lines:
   USER doubt P..                   USER believes them no longer
   USER beliefs                     asks which premises USER believes
   USER ask CELL                    asks what follows at CELL under the premises USER believes
+  USER why CELL                    asks the same, and which of these premises it needs
+  USER conflicts                   asks which cells and attachments contradict themselves under these premises
 
 Each command is answered on standard output by a line `N: REPLY`, where N is the number of its line.
 

@@ -5,6 +5,7 @@ mod failing_ends;
 mod limits;
 mod pace;
 mod putting;
+mod reasons;
 mod refused_lines;
 mod replies;
 mod taking;

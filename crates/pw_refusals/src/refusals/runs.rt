@@ -31,6 +31,33 @@ const ATTACHING: [&str; 8] = [
     "bob ask x",
 ];
 
+// A compound with an inner cell.
+const APART: &str = "workbench 1
+user ann
+user bob
+premise a
+premise b
+cell x interval
+cell y interval
+compound apart p interval q interval
+local d interval
+copy p d
+copy q d
+end
+";
+
+// Each question is asked twice, so that one that was refused is asked again.
+const EXPLAINING: [&str; 8] = [
+    "ann tell x 1 under a",
+    "bob tell y 2 under b",
+    "ann attach apart x y",
+    "bob tell x 3",
+    "ann why x",
+    "ann why x",
+    "ann conflicts",
+    "ann conflicts",
+];
+
 // The lines of the transcript, those that were refused made empty.
 fn blanked(alloc: Global, lines: [&str; 8], refused: [bool; 8]) -> Result<String, Fail> {
     let mut lines = lines;
@@ -61,13 +88,17 @@ fn without_refusals(alloc: Global, written: &str) -> Result<(String, [bool; 8]),
 }
 
 // That lines that are refused for memory count as blank, whichever growth of a run over these lines is refused.
-fn refused_lines_are_blank<R: Abort + AllocGlobal>(rt: &R, lines: [&str; 8]) -> Result<(), Fail> {
+fn refused_lines_are_blank<R: Abort + AllocGlobal>(
+    rt: &R,
+    declaration: &str,
+    lines: [&str; 8],
+) -> Result<(), Fail> {
     let whole = blanked(rt.alloc(), lines, [false; 8])?;
     let mut lines_refused = 0u32;
     let mut faults = 0u32;
     for at in 1..100u64 {
         let (ample, refusing) = (Refusing::nth(rt.alloc(), 0), Refusing::nth(rt.alloc(), at));
-        let (answer, written) = outcome(rt.alloc(), &ample, &refusing, WORLD, whole.as_str())?;
+        let (answer, written) = outcome(rt.alloc(), &ample, &refusing, declaration, whole.as_str())?;
         if answer == Err(RunFault::Memory) {
             assert_eq!(rt; written.as_str(), "", "at {at}");
             faults = faults.saturating_add(1);
@@ -76,7 +107,7 @@ fn refused_lines_are_blank<R: Abort + AllocGlobal>(rt: &R, lines: [&str; 8]) -> 
         assert!(rt; answer.is_ok(), "at {at}");
         let (rest, refused) = without_refusals(rt.alloc(), written.as_str())?;
         let blank = blanked(rt.alloc(), lines, refused)?;
-        let (_, ample) = outcome(rt.alloc(), rt.alloc(), rt.alloc(), WORLD, blank.as_str())?;
+        let (_, ample) = outcome(rt.alloc(), rt.alloc(), rt.alloc(), declaration, blank.as_str())?;
         assert_eq!(rt; rest.as_str(), ample.as_str(), "at {at}");
         if refused == [false; 8] {
             assert!(rt; refusing.calls() < at, "at {at}");
@@ -91,12 +122,19 @@ fn refused_lines_are_blank<R: Abort + AllocGlobal>(rt: &R, lines: [&str; 8]) -> 
 
 #[test]
 fn a_tell_refused_for_memory_counts_as_blank(rt: HostRuntime) -> Result<(), Fail> {
-    refused_lines_are_blank(&rt, TELLING)
+    refused_lines_are_blank(&rt, WORLD, TELLING)
 }
 
 #[test]
 fn an_attachment_refused_for_memory_counts_as_blank(rt: HostRuntime) -> Result<(), Fail> {
-    refused_lines_are_blank(&rt, ATTACHING)
+    refused_lines_are_blank(&rt, WORLD, ATTACHING)
+}
+
+#[test]
+fn a_question_refused_for_memory_is_answered_when_asked_again(
+    rt: HostRuntime,
+) -> Result<(), Fail> {
+    refused_lines_are_blank(&rt, APART, EXPLAINING)
 }
 
 #[test]
@@ -114,6 +152,8 @@ fn believing_doubting_and_asking_take_no_memory(rt: HostRuntime) -> Result<(), F
         ("bob ask y", "nothing"),
         ("ann tell x 1", "refused 11 memory"),
         ("ann ask x", "nothing"),
+        ("ann why x", "refused 11 memory"),
+        ("ann conflicts", "refused 11 memory"),
     ];
     let transcript = said(rt.alloc(), &rows)?;
     let wanted = answered(rt.alloc(), &rows)?;
@@ -121,8 +161,8 @@ fn believing_doubting_and_asking_take_no_memory(rt: HostRuntime) -> Result<(), F
     assert_eq!(rt;
         answer,
         Ok(Lines {
-            lines: 7,
-            replies: 7
+            lines: 9,
+            replies: 9
         })
     );
     assert_eq!(rt; written.as_str(), wanted.as_str());

@@ -12,7 +12,11 @@ fn lines_are_refused_in_order(rt: HostRuntime) -> Result<(), Fail> {
         ("eve ask", "refused 1 syntax"),
         ("eve say", "refused 2 unknown user"),
         ("ann say x", "refused 3 unknown command"),
-        ("ann why", "refused 3 unknown command"),
+        ("ann why", "refused 1 syntax"),
+        ("ann why x y", "refused 1 syntax"),
+        ("ann why zz", "refused 4 unknown cell"),
+        ("ann conflicts x", "refused 1 syntax"),
+        ("ann conflict", "refused 3 unknown command"),
         ("ann belief", "refused 3 unknown command"),
         ("ann ask zz", "refused 4 unknown cell"),
         ("ann tell zz 9..3", "refused 4 unknown cell"),
@@ -86,7 +90,7 @@ fn attachments_are_refused_in_order(rt: HostRuntime) -> Result<(), Fail> {
 }
 
 // Lines with two faults, each with the refusal of the first in the stated order. Pairs that are not here cannot meet.
-const PAIRS: [(&str, &str); 31] = [
+const PAIRS: [(&str, &str); 35] = [
     ("eve ask", "refused 1 syntax"),
     ("ann say \u{1}", "refused 1 syntax"),
     ("ann ask zz x", "refused 1 syntax"),
@@ -121,6 +125,10 @@ const PAIRS: [(&str, &str); 31] = [
     ),
     ("ann beliefs x", "refused 1 syntax"),
     ("eve beliefs", "refused 2 unknown user"),
+    ("ann why zz x", "refused 1 syntax"),
+    ("eve why zz", "refused 2 unknown user"),
+    ("eve conflicts x", "refused 1 syntax"),
+    ("eve conflicts", "refused 2 unknown user"),
 ];
 
 // The line, with blanks behind it, so that it is too long.

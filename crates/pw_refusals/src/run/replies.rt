@@ -14,6 +14,8 @@ fn memory_is_not_an_answer(rt: HostRuntime) -> Result<(), Fail> {
         ("bob ask x", "contradiction"),
         ("ann believe b", "ok"),
         ("ann ask x", "contradiction"),
+        ("ann why x", "contradiction because a b"),
+        ("bob conflicts", "conflicts x"),
     ];
     answers(&rt, WORLD, &rows)
 }
