@@ -1,3 +1,4 @@
-pub mod SameInfoLemmas
+pub mod ConflictLemmas
 pub mod ReasonLemmas
+pub mod SameInfoLemmas
 pub mod ValueGrows

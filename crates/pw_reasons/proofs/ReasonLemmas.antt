@@ -79,34 +79,31 @@ module _ (earlier later : Premises) (n : ℕ) where
 
 module _ (value : Premises → Info) (worldview : Premises) where
   module _ (left : Premises) (n : ℕ) where
-    abbrev without : Premises
-    without = remove left n
-
     -- what is left is a part of what was
     tried_part : is_subset (tried value worldview left n) left ≡ true
-    tried_part = part (same_info (value without) (value worldview)) where
-      part : (b : Bool) → is_subset (if b then without else left) left ≡ true
+    tried_part = part (same_info (value (remove left n)) (value worldview)) where
+      part : (b : Bool) → is_subset (if b then remove left n else left) left ≡ true
       part true = remove_is_subset left n
       part false = is_subset_refl left
 
     -- the value stays
     tried_same : value left ≡ value worldview → value (tried value worldview left n) ≡ value worldview
-    tried_same so_far = stays (same_info (value without) (value worldview)) (same_info_is (value without) (value worldview)) where
-      stays : (b : Bool) → Decides b (value without ≡ value worldview) → value (if b then without else left) ≡ value worldview
+    tried_same so_far = stays (same_info (value (remove left n)) (value worldview)) (same_info_is (value (remove left n)) (value worldview)) where
+      stays : (b : Bool) → Decides b (value (remove left n) ≡ value worldview) → value (if b then remove left n else left) ≡ value worldview
       stays true decides = decides.0 refl
       stays false decides = so_far
 
     -- the other premises stay
     tried_others : (q : ℕ) → q ≢ n → contains (tried value worldview left n) q ≡ contains left q
-    tried_others q other = stays (same_info (value without) (value worldview)) where
-      stays : (b : Bool) → contains (if b then without else left) q ≡ contains left q
+    tried_others q other = stays (same_info (value (remove left n)) (value worldview)) where
+      stays : (b : Bool) → contains (if b then remove left n else left) q ≡ contains left q
       stays true = without_others left n q other
       stays false = refl
 
     -- the premise stays just where the value without it is another
-    tried_itself : contains left n ≡ true → (contains (tried value worldview left n) n ≡ true) ↔ (value without ≢ value worldview)
-    tried_itself here = decided (same_info (value without) (value worldview)) (same_info_is (value without) (value worldview)) where
-      decided : (b : Bool) → Decides b (value without ≡ value worldview) → (contains (if b then without else left) n ≡ true) ↔ (value without ≢ value worldview)
+    tried_itself : contains left n ≡ true → (contains (tried value worldview left n) n ≡ true) ↔ (value (remove left n) ≢ value worldview)
+    tried_itself here = decided (same_info (value (remove left n)) (value worldview)) (same_info_is (value (remove left n)) (value worldview)) where
+      decided : (b : Bool) → Decides b (value (remove left n) ≡ value worldview) → (contains (if b then remove left n else left) n ≡ true) ↔ (value (remove left n) ≢ value worldview)
       decided true decides = (λ e same. let wrong : false ≡ true = sym (without_itself left n) ∙ e in absurd (cc), λ other. absurd (other (decides.0 refl)))
       decided false decides = (λ e same. let wrong : false ≡ true = decides.1 same in absurd (cc), λ other. here)
 
@@ -275,29 +272,32 @@ module _ (value : Premises → Info) (worldview : Premises) where
   }
 
   -- it goes where the value without it implies the worldview's
-  pub taken_out : Grows value → (left : Premises) (to_come rest : List ℕ) (premise : ℕ) → to_come ≡ rest ++ premise ∷ [] →
-      IsTriedSoFar value worldview left to_come → Implies (value (remove left premise)) (value worldview) → IsTriedSoFar value worldview (remove left premise) rest
-  taken_out grows left to_come rest premise last so_far implied =
-      subst (λ (s : Premises). IsTriedSoFar value worldview s rest) goes (one_tried left to_come rest premise last so_far)
+  pub taken_out : Grows value → (left without : Premises) (to_come rest : List ℕ) (premise : ℕ) → to_come ≡ rest ++ premise ∷ [] →
+      without ≡ remove left premise → IsTriedSoFar value worldview left to_come → Implies (value without) (value worldview) →
+      IsTriedSoFar value worldview without rest
+  taken_out grows left without to_come rest premise last is so_far implied =
+      subst (λ (s : Premises). IsTriedSoFar value worldview s rest) (goes ∙ sym is) (one_tried left to_come rest premise last so_far)
     where
-      part : is_subset (remove left premise) worldview ≡ true
-      part = is_subset_trans _ _ _ (remove_is_subset left premise)
+      part : is_subset without worldview ≡ true
+      part = ap (λ (s : Premises). is_subset s worldview) is
+          ∙ is_subset_trans _ _ _ (remove_is_subset left premise)
           (ap (λ (s : Premises). is_subset s worldview) so_far.left_is ∙ left_part value worldview so_far.later)
 
       goes : tried value worldview left premise ≡ remove left premise
       goes = ap (λ (b : Bool). if b then remove left premise else left)
-          ((same_info_is (value (remove left premise)) (value worldview)).1 (implied_same value worldview grows (remove left premise) part implied))
+          ((same_info_is (value (remove left premise)) (value worldview)).1 (ap value (sym is) ∙ implied_same value worldview grows without part implied))
 
   -- and else it stays
-  pub left_in : (left : Premises) (to_come rest : List ℕ) (premise : ℕ) → to_come ≡ rest ++ premise ∷ [] → IsTriedSoFar value worldview left to_come →
-      (Implies (value (remove left premise)) (value worldview) → ⊥) → IsTriedSoFar value worldview left rest
-  left_in left to_come rest premise last so_far not_implied =
+  pub left_in : (left without : Premises) (to_come rest : List ℕ) (premise : ℕ) → to_come ≡ rest ++ premise ∷ [] →
+      without ≡ remove left premise → IsTriedSoFar value worldview left to_come → (Implies (value without) (value worldview) → ⊥) →
+      IsTriedSoFar value worldview left rest
+  left_in left without to_come rest premise last is so_far not_implied =
       subst (λ (s : Premises). IsTriedSoFar value worldview s rest)
       (stays (same_info (value (remove left premise)) (value worldview)) (same_info_is (value (remove left premise)) (value worldview)))
       (one_tried left to_come rest premise last so_far)
     where
       stays : (b : Bool) → Decides b (value (remove left premise) ≡ value worldview) → (if b then remove left premise else left) ≡ left
-      stays true decides = absurd (not_implied (λ v possible. subst (λ (i : Info). allows i v ≡ true) (decides.0 refl) possible))
+      stays true decides = absurd (not_implied (λ v possible. subst (λ (i : Info). allows i v ≡ true) (ap value is ∙ decides.0 refl) possible))
       stays false decides = refl
 
   -- at last what is left is the reason

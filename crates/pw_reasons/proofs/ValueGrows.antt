@@ -4,7 +4,6 @@ use Rattle.std.specs.List.{range_with_len}
 use Rattle.std.specs.FinSet.{is_subset}
 use Rattle.std.proofs.lemmas.List.Elements.{All-append, All-cons, All-head, All-nil, All-tail, filter_map-append}
 use Rattle.pw_info.specs.declared.info.Info.{Info}
-use Rattle.pw_info.specs.Information.{Implies}
 use Rattle.pw_premises.specs.Premises.{Premises}
 use Rattle.pw_premises.specs.PremiseSubsets.{is_subset_trans}
 use Rattle.pw_procs.specs.Procedure.{Procedure}

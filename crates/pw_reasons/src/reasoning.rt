@@ -10,7 +10,7 @@ ghost use Rattle.pw_settle.specs.Values.{kinds_in, value_in};
 use pw_cells::CellStore;
 use pw_network::Network;
 use pw_premises::PremiseSet;
-use pw_settle::Settled;
+use pw_settle::{Settled, settle};
 use std::alloc::{AllocError, Allocator};
 
 /// Why the cell has its value in the worldview in which the network was settled: going over the premises of the worldview
@@ -34,5 +34,18 @@ pub fn reason<A: Allocator + Copy>(
         ≡ reason_of (λ w. value_in (network_by network.now) store.old w cell) settled.now.worldview) }
     ensures store { store.new ≡ store.old }
 {
-    Err(AllocError)
+    let worldview = *settled.worldview();
+    let info = settled.value(cell).info;
+    let mut left = worldview;
+    for premise in worldview.numbers().rev() {
+        let without = left.without(premise);
+        if settle(alloc, network, store, &without)?
+            .value(cell)
+            .info
+            .implies(&info)
+        {
+            left = without;
+        }
+    }
+    Ok(left)
 }

@@ -17,7 +17,6 @@ pub mod NetworkKinds
 pub mod NetworkNames
 pub mod NextLines
 pub mod StoreLemmas
-pub mod StubConflicts
 pub mod WorkbenchLemmas
 pub mod WrittenCells
 pub mod WrittenLemmas

@@ -4,7 +4,7 @@ use Rattle.pw_network.specs.Fields.{network_by}
 use Rattle.pw_network.specs.Network.{Network}
 use Rattle.pw_settle.specs.Settled.{info_at}
 use Rattle.pw_settle.specs.Values.{value_in}
-use Rattle.pw_sessions.proofs.StubConflicts.{conflicts_same}
+use Rattle.pw_reasons.proofs.ConflictLemmas.{conflicts_same}
 use Rattle.pw_sessions.specs.Fields.{workbench_by}
 use Rattle.pw_sessions.specs.Workbench.{beliefs_in}
 use Rattle.pw_sessions.proofs.workbench.holding.Workbench.conflicts.Goals as goal

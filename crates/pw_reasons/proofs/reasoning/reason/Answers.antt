@@ -1,0 +1,64 @@
+use Rattle.std.proofs.Common.{◌≡◌, ℕ, ◌<◌, true, false, refl, sym, ap, ◌∙◌, subst}
+use Rattle.pw_info.specs.declared.info.Info.{Info}
+use Rattle.pw_info.specs.Information.{Implies, kind_of}
+use Rattle.pw_premises.specs.Numbers.{numbers_of}
+use Rattle.pw_premises.specs.Premises.{Premises}
+use Rattle.pw_cells.specs.Cells.{Store}
+use Rattle.pw_network.specs.Fields.{network_by}
+use Rattle.pw_network.specs.Network.{Network, cells_in}
+use Rattle.pw_settle.specs.Settled.{Settled, IsSettled, info_at}
+use Rattle.pw_settle.specs.Values.{value_in}
+use Rattle.pw_reasons.proofs.ReasonLemmas.{all_tried, left_in, none_tried, taken_out}
+use Rattle.pw_reasons.proofs.ValueGrows.{value_grows}
+use Rattle.pw_reasons.proofs.reasoning.reason.Goals as goal
+
+-- what was found for a cell is its value, over the store as it was
+found : {network : Network} {store now : Store} {w : Premises} {settled : Settled} {info : Info} (cell : ℕ) → cell < cells_in network →
+    store ≡ now → IsSettled network store w settled → info ≡ info_at settled.infos cell → info ≡ value_in network now w cell
+found {network} {w = w} cell below same are is = is ∙ are.values cell below ∙ ap (λ (s : Store). value_in network s w cell) same
+
+-- what implies another does so by other names
+implied : {a b c d : Info} → a ≡ b → c ≡ d → Implies a c → Implies b d
+implied {b = b} {c = c} p q implies = subst (Implies b) q (subst (λ (i : Info). Implies i c) p implies)
+
+pub loop-premise-init : goal.loop-premise-init
+loop-premise-init g c = record {
+  tried = none_tried (λ w. value_in (network_by c.args.network.now) c.args.store.now w c.args.cell) c.args.settled.now.worldview _ _ c.worldview.ensures
+      (ap (λ r. r.iter) c.into_iter-premise-iterator.ensures.into_iter_gives ∙ c.rev-premise-items.ensures.source ∙ c.numbers.ensures.list
+      ∙ ap numbers_of c.worldview.ensures);
+  store = refl;
+}
+
+pub implies-requires : goal.implies-requires
+implies-requires g c =
+    let before = found c.args.cell c.requires.cell refl c.requires.settled c.value.ensures.info in
+    let after = found c.args.cell c.requires.cell c.loop-premise.invariant.store c.in_ok-settle.ensures.settled c.value-in-loop-premise-2.ensures.info in
+    let grows = value_grows (network_by c.args.network.now) c.args.store.now c.args.network.now.well c.requires.kinds c.args.cell in
+    ap kind_of after ∙ grows.kinds c.without-without.result c.args.settled.now.worldview ∙ sym (ap kind_of before)
+
+pub loop-premise-preserved-then-implies : goal.loop-premise-preserved-then-implies
+loop-premise-preserved-then-implies g c =
+    let before = found c.args.cell c.requires.cell refl c.requires.settled c.value.ensures.info in
+    let after = found c.args.cell c.requires.cell c.loop-premise.invariant.store c.in_ok-settle.ensures.settled c.value-in-loop-premise-2.ensures.info in
+    let grows = value_grows (network_by c.args.network.now) c.args.store.now c.args.network.now.well c.requires.kinds c.args.cell in
+    record {
+      tried = taken_out _ c.args.settled.now.worldview grows c.loop-premise.left c.without-without.result c.loop-premise.premise-iterator.iter
+          c.next.new.self.iter c.in-Some.premise c.in-Some.ensures.steps c.without-without.ensures.removed c.loop-premise.invariant.tried
+          (implied after before (c.if-implies.ensures.0 refl));
+      store = c.settle.ensures.store ∙ c.loop-premise.invariant.store;
+    }
+
+pub loop-premise-preserved : goal.loop-premise-preserved
+loop-premise-preserved g c =
+    let before = found c.args.cell c.requires.cell refl c.requires.settled c.value.ensures.info in
+    let after = found c.args.cell c.requires.cell c.loop-premise.invariant.store c.in_ok-settle.ensures.settled c.value-in-loop-premise-2.ensures.info in
+    record {
+      tried = left_in _ c.args.settled.now.worldview c.loop-premise.left c.without-without.result c.loop-premise.premise-iterator.iter
+          c.next.new.self.iter c.in-Some.premise c.in-Some.ensures.steps c.without-without.ensures.removed c.loop-premise.invariant.tried
+          (λ implies. let wrong : false ≡ true = c.if-implies.ensures.1 (implied (sym after) (sym before) implies) in absurd (cc));
+      store = c.settle.ensures.store ∙ c.loop-premise.invariant.store;
+    }
+
+pub returns-clause-reason : goal.returns-clause-reason
+returns-clause-reason g c =
+    all_tried _ c.args.settled.now.worldview c.loop-premise.left c.loop-premise.premise-iterator.iter c.in-None.ensures.steps.0 c.loop-premise.invariant.tried
