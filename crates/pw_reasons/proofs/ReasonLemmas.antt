@@ -1,12 +1,17 @@
 -- What is left of a worldview once premises of it were tried: a part that gives the same value, and that keeps just what is needed.
-use Rattle.std.proofs.Common.{◌≡◌, ◌≢◌, ℕ, zero, suc, ◌+◌, ◌<◌, ◌≤◌, ◌↔◌, Bool, true, false, not, cond, ◌&&◌, ◌||◌, if◌then◌else◌, List, [], ◌∷◌, ◌++◌, filter, refl, sym, ap, subst, ◌∙◌, arith, inl, inr, Decides}
+use Rattle.std.proofs.Common.{◌≡◌, ◌≢◌, ℕ, zero, suc, ◌+◌, ◌<◌, ◌≤◌, ◌↔◌, Bool, true, false, not, cond, ◌&&◌, ◌||◌, if◌then◌else◌, List, [], ◌∷◌, ◌++◌, filter, length, reverse, refl, sym, ap, subst, ◌∙◌, arith, inl, inr, Decides}
 use Rattle.std.specs.Prelude.{nat_eq, nat_lt}
+use Rattle.std.specs.Iterator.{YieldsLast}
+use Rattle.std.specs.Iterator.Adapters.{rev_source, rev_steps}
+use Rattle.std.specs.declared.iter.Rev.{Rev}
 use Rattle.std.specs.List.{range_with_len}
 use Rattle.std.specs.Cmp.{nat_cmp_total, unsigned_tied}
 use Rattle.std.specs.FinSet.{contains, remove, retain, is_subset, same_set, contains-remove, contains-retain, contains-union, contains-is_subset, is_subset-contains, nat_cmp-IsAntisymmetric}
 use Rattle.std.proofs.lemmas.Bool.{cases_eq, cases_order}
 use Rattle.std.proofs.lemmas.Bool.Decides.{nat_tests}
-use Rattle.std.proofs.lemmas.List.{append-nil, append_assoc}
+use Rattle.std.proofs.lemmas.List.{length-reverse, reverse-append, reverse-reverse}
+use Rattle.std.proofs.lemmas.Iterator.{YieldsList}
+use Rattle.std.proofs.lemmas.Iterator.Consumers.{YieldsList-from_shown}
 use Rattle.pw_info.specs.declared.info.Info.{Info}
 use Rattle.pw_info.specs.Information.{allows, Implies}
 use Rattle.pw_info.proofs.Informations.{Implies-antisym}
@@ -88,10 +93,12 @@ module _ (value : Premises → Info) (worldview : Premises) where
 
     -- the value stays
     tried_same : value left ≡ value worldview → value (tried value worldview left n) ≡ value worldview
-    tried_same so_far = stays (same_info (value (remove left n)) (value worldview)) (same_info_is (value (remove left n)) (value worldview)) where
-      stays : (b : Bool) → Decides b (value (remove left n) ≡ value worldview) → value (if b then remove left n else left) ≡ value worldview
-      stays true decides = decides.0 refl
-      stays false decides = so_far
+    tried_same so_far =
+        stays (same_info (value (remove left n)) (value worldview)) (same_info_is (value (remove left n)) (value worldview))
+      where
+        stays : (b : Bool) → Decides b (value (remove left n) ≡ value worldview) → value (if b then remove left n else left) ≡ value worldview
+        stays true decides = decides.0 refl
+        stays false decides = so_far
 
     -- the other premises stay
     tried_others : (q : ℕ) → q ≢ n → contains (tried value worldview left n) q ≡ contains left q
@@ -102,10 +109,16 @@ module _ (value : Premises → Info) (worldview : Premises) where
 
     -- the premise stays just where the value without it is another
     tried_itself : contains left n ≡ true → (contains (tried value worldview left n) n ≡ true) ↔ (value (remove left n) ≢ value worldview)
-    tried_itself here = decided (same_info (value (remove left n)) (value worldview)) (same_info_is (value (remove left n)) (value worldview)) where
-      decided : (b : Bool) → Decides b (value (remove left n) ≡ value worldview) → (contains (if b then remove left n else left) n ≡ true) ↔ (value (remove left n) ≢ value worldview)
-      decided true decides = (λ e same. let wrong : false ≡ true = sym (without_itself left n) ∙ e in absurd (cc), λ other. absurd (other (decides.0 refl)))
-      decided false decides = (λ e same. let wrong : false ≡ true = decides.1 same in absurd (cc), λ other. here)
+    tried_itself here =
+        decided (same_info (value (remove left n)) (value worldview)) (same_info_is (value (remove left n)) (value worldview))
+      where
+        decided : (b : Bool) → Decides b (value (remove left n) ≡ value worldview) →
+            (contains (if b then remove left n else left) n ≡ true) ↔ (value (remove left n) ≢ value worldview)
+        decided true decides = (
+          λ e same. let wrong : false ≡ true = sym (without_itself left n) ∙ e in absurd (cc),
+          λ other. absurd (other (decides.0 refl)),
+        )
+        decided false decides = (λ e same. let wrong : false ≡ true = decides.1 same in absurd (cc), λ other. here)
 
   -- ---- premises tried one after another
 
@@ -127,7 +140,8 @@ module _ (value : Premises → Info) (worldview : Premises) where
   -- what is left of such a row: the first of it is tried last, if the worldview has it
   first_tried : (P : Premises → Type 0) (many from : ℕ) →
       (contains worldview from ≡ true → P (tried value worldview (left_of value worldview (row (from + 1) many)) from)) →
-      (contains worldview from ≡ false → P (left_of value worldview (row (from + 1) many))) → P (left_of value worldview (row from (suc many)))
+      (contains worldview from ≡ false → P (left_of value worldview (row (from + 1) many))) →
+      P (left_of value worldview (row from (suc many)))
   first_tried P many from there passed = choose (contains worldview from) there passed where
     choose : (b : Bool) → (b ≡ true → P (tried value worldview (left_of value worldview (row (from + 1) many)) from)) →
         (b ≡ false → P (left_of value worldview (row (from + 1) many))) →
@@ -139,7 +153,7 @@ module _ (value : Premises → Info) (worldview : Premises) where
   untried : (many from q : ℕ) → q < from → contains (left_of value worldview (row from many)) q ≡ contains worldview q
   untried zero from q below = refl
   untried (suc many) from q below =
-      let later : contains (left_of value worldview (row (from + 1) many)) q ≡ contains worldview q = untried many (from + 1) q (omega arith) in
+      let later = untried many (from + 1) q (omega arith) in
       first_tried (λ s. contains s q ≡ contains worldview q) many from
       (λ has. tried_others (left_of value worldview (row (from + 1) many)) from q (λ e. omega arith) ∙ later) (λ lacks. later)
 
@@ -174,7 +188,8 @@ module _ (value : Premises → Info) (worldview : Premises) where
           (λ q above. contains-after worldview left n q above ∙ sym (tried_others left m q (λ e. omega arith)))
 
   -- so what is left has just those of the premises tried that are needed
-  kept : (many from n : ℕ) → from ≤ n → n < from + many → contains worldview n ≡ true → IsKeptIfNeeded n (left_of value worldview (row from many))
+  kept : (many from n : ℕ) → from ≤ n → n < from + many → contains worldview n ≡ true →
+      IsKeptIfNeeded n (left_of value worldview (row from many))
   kept zero from n low high here = absurd (omega arith)
   kept (suc many) from n low high here =
       let earlier = λ (q : ℕ) (within : q ≤ from). untried many (from + 1) q (omega arith) in
@@ -209,7 +224,8 @@ module _ (value : Premises → Info) (worldview : Premises) where
   reason_same = left_same (numbers_of worldview)
 
   -- it has just those premises of the worldview that are needed
-  pub reason_keeps : (premise : ℕ) → premise < most_premises → contains worldview premise ≡ true → IsKeptIfNeeded premise (reason_of value worldview)
+  pub reason_keeps : (premise : ℕ) → premise < most_premises → contains worldview premise ≡ true →
+      IsKeptIfNeeded premise (reason_of value worldview)
   unfolding reason_of numbers_of
   reason_keeps premise below here = kept most_premises 0 premise (omega arith) (omega arith) here
 
@@ -250,64 +266,61 @@ module _ (value : Premises → Info) (worldview : Premises) where
         | inr (inr after) ↦ in_worldview q (sym (contains-after worldview reason premise q after) ∙ has)
       ])
 
--- how far the trials have come: the premises that are still to come, with those that were tried after them, are those of the
--- worldview, and this is left of it
-pub record IsTriedSoFar (value : Premises → Info) (worldview left : Premises) (to_come : List ℕ) : Type 0 where
-  pub later : List ℕ
-  pub all : to_come ++ later ≡ numbers_of worldview
-  pub left_is : left ≡ left_of value worldview later
+-- ---- the trials, from the last premise to the first
+
+-- premises that come from the last to the first are a list turned round
+pub premises_fall : {s : Rev (List ℕ)} (premises : List ℕ) → rev_source s ≡ premises →
+    YieldsList (rev_steps (YieldsLast (λ left. left))) (λ n. n) s (reverse premises)
+premises_fall {s} premises is =
+    subst (λ (l : List ℕ). YieldsList (rev_steps (YieldsLast (λ left. left))) (λ n. n) s (reverse l)) is
+    (YieldsList-from_shown (rev_steps (YieldsLast (λ left. left))) (λ n. n) (λ t. reverse (rev_source t))
+    (λ t u none. length-reverse (rev_source t) ∙ ap length none.0)
+    (λ t n u last. ap reverse last ∙ reverse-append (rev_source u) (n ∷ [])) s)
 
 module _ (value : Premises → Info) (worldview : Premises) where
-  -- at first all are to come, and nothing was taken out
-  pub none_tried : (left : Premises) (to_come : List ℕ) → left ≡ worldview → to_come ≡ numbers_of worldview → IsTriedSoFar value worldview left to_come
-  none_tried left to_come same all = record { later = []; all = append-nil to_come ∙ all; left_is = same }
+  -- what is left once the premises that came so far, from the last on, were tried
+  abbrev pub left_after : List ℕ → Premises
+  left_after came = left_of value worldview (reverse came)
 
-  -- the last of those to come is tried
-  one_tried : (left : Premises) (to_come rest : List ℕ) (premise : ℕ) → to_come ≡ rest ++ premise ∷ [] → IsTriedSoFar value worldview left to_come →
-      IsTriedSoFar value worldview (tried value worldview left premise) rest
-  one_tried left to_come rest premise last so_far = record {
-    later = premise ∷ so_far.later;
-    all = sym (append_assoc rest (premise ∷ []) so_far.later) ∙ ap (λ (l : List ℕ). l ++ so_far.later) (sym last) ∙ so_far.all;
-    left_is = ap (λ (s : Premises). tried value worldview s premise) so_far.left_is;
-  }
+  -- the next premise is tried
+  one_tried : (came : List ℕ) (premise : ℕ) → left_after (came ++ premise ∷ []) ≡ tried value worldview (left_after came) premise
+  one_tried came premise = ap (left_of value worldview) (reverse-append came (premise ∷ []))
 
   -- it goes where the value without it implies the worldview's
-  pub taken_out : Grows value → (left without : Premises) (to_come rest : List ℕ) (premise : ℕ) → to_come ≡ rest ++ premise ∷ [] →
-      without ≡ remove left premise → IsTriedSoFar value worldview left to_come → Implies (value without) (value worldview) →
-      IsTriedSoFar value worldview without rest
-  taken_out grows left without to_come rest premise last is so_far implied =
-      subst (λ (s : Premises). IsTriedSoFar value worldview s rest) (goes ∙ sym is) (one_tried left to_come rest premise last so_far)
+  pub taken_out : Grows value → (left without : Premises) (came : List ℕ) (premise : ℕ) → left ≡ left_after came →
+      without ≡ remove left premise → Implies (value without) (value worldview) → without ≡ left_after (came ++ premise ∷ [])
+  taken_out grows left without came premise is less implied =
+      less ∙ ap (λ (b : Bool). if b then remove left premise else left)
+      (sym ((same_info_is (value (remove left premise)) (value worldview)).1
+      (ap value (sym less) ∙ implied_same value worldview grows without part implied)))
+      ∙ ap (λ (s : Premises). tried value worldview s premise) is ∙ sym (one_tried came premise)
     where
       part : is_subset without worldview ≡ true
-      part = ap (λ (s : Premises). is_subset s worldview) is
+      part = ap (λ (s : Premises). is_subset s worldview) less
           ∙ is_subset_trans _ _ _ (remove_is_subset left premise)
-          (ap (λ (s : Premises). is_subset s worldview) so_far.left_is ∙ left_part value worldview so_far.later)
-
-      goes : tried value worldview left premise ≡ remove left premise
-      goes = ap (λ (b : Bool). if b then remove left premise else left)
-          ((same_info_is (value (remove left premise)) (value worldview)).1 (ap value (sym is) ∙ implied_same value worldview grows without part implied))
+          (ap (λ (s : Premises). is_subset s worldview) is ∙ left_part value worldview (reverse came))
 
   -- and else it stays
-  pub left_in : (left without : Premises) (to_come rest : List ℕ) (premise : ℕ) → to_come ≡ rest ++ premise ∷ [] →
-      without ≡ remove left premise → IsTriedSoFar value worldview left to_come → (Implies (value without) (value worldview) → ⊥) →
-      IsTriedSoFar value worldview left rest
-  left_in left without to_come rest premise last is so_far not_implied =
-      subst (λ (s : Premises). IsTriedSoFar value worldview s rest)
-      (stays (same_info (value (remove left premise)) (value worldview)) (same_info_is (value (remove left premise)) (value worldview)))
-      (one_tried left to_come rest premise last so_far)
+  pub left_in : (left without : Premises) (came : List ℕ) (premise : ℕ) → left ≡ left_after came → without ≡ remove left premise →
+      (Implies (value without) (value worldview) → ⊥) → left ≡ left_after (came ++ premise ∷ [])
+  left_in left without came premise is less not_implied =
+      stays (same_info (value (remove left premise)) (value worldview)) (same_info_is (value (remove left premise)) (value worldview))
+      ∙ ap (λ (s : Premises). tried value worldview s premise) is ∙ sym (one_tried came premise)
     where
-      stays : (b : Bool) → Decides b (value (remove left premise) ≡ value worldview) → (if b then remove left premise else left) ≡ left
-      stays true decides = absurd (not_implied (λ v possible. subst (λ (i : Info). allows i v ≡ true) (ap value is ∙ decides.0 refl) possible))
+      stays : (b : Bool) → Decides b (value (remove left premise) ≡ value worldview) → left ≡ (if b then remove left premise else left)
+      stays true decides =
+          absurd (not_implied (λ v possible. subst (λ (i : Info). allows i v ≡ true) (ap value less ∙ decides.0 refl) possible))
       stays false decides = refl
 
-  -- at last what is left is the reason
-  pub all_tried : (left : Premises) (to_come : List ℕ) → to_come ≡ [] → IsTriedSoFar value worldview left to_come → left ≡ reason_of value worldview
+  -- once all came, what is left is the reason
+  pub all_tried : (left : Premises) (came : List ℕ) → left ≡ left_after came → came ≡ reverse (numbers_of worldview) →
+      left ≡ reason_of value worldview
   unfolding reason_of
-  all_tried left to_come none so_far = so_far.left_is
-      ∙ ap (left_of value worldview) (ap (λ (l : List ℕ). l ++ so_far.later) (sym none) ∙ so_far.all)
+  all_tried left came is all = is ∙ ap (left_of value worldview) (ap reverse all ∙ reverse-reverse (numbers_of worldview))
 
 -- values that agree on the parts of a worldview have one reason there
-pub reason_of_subsets : (f g : Premises → Info) (w : Premises) → ((s : Premises) → is_subset s w ≡ true → f s ≡ g s) → reason_of f w ≡ reason_of g w
+pub reason_of_subsets : (f g : Premises → Info) (w : Premises) → ((s : Premises) → is_subset s w ≡ true → f s ≡ g s) →
+    reason_of f w ≡ reason_of g w
 unfolding reason_of
 reason_of_subsets f g w same = lefts (numbers_of w) where
   lefts : (premises : List ℕ) → left_of f w premises ≡ left_of g w premises

@@ -43,15 +43,17 @@ module _ (procedures : List Procedure) (P : Source ℕ → Type 0) (a : Attached
 
   -- and the other way round
   joined : (b : Bool) (others : List Attached) → (b ≡ true → All P (propagators_of procedures (a.instance ∷ []))) →
-      All P (propagators_of procedures (map instance_in others)) → All P (propagators_of procedures (map instance_in (cond b (a ∷ others) others)))
+      All P (propagators_of procedures (map instance_in others)) →
+      All P (propagators_of procedures (map instance_in (cond b (a ∷ others) others)))
   joined true others first rest =
       subst (All P) (sym (one_more procedures a.instance (map instance_in others)))
       (All-append P (propagators_of procedures (a.instance ∷ [])) (propagators_of procedures (map instance_in others)) (first refl) rest)
   joined false others first rest = rest
 
 -- what holds of the sources of all instances that are visible in a worldview holds of those that are in a part of it
-fewer_seen : (procedures : List Procedure) (P : Source ℕ → Type 0) (part w : Premises) → is_subset part w ≡ true → (attached : List Attached) →
-    All P (propagators_of procedures (visible_instances attached w)) → All P (propagators_of procedures (visible_instances attached part))
+fewer_seen : (procedures : List Procedure) (P : Source ℕ → Type 0) (part w : Premises) → is_subset part w ≡ true →
+    (attached : List Attached) → All P (propagators_of procedures (visible_instances attached w)) →
+    All P (propagators_of procedures (visible_instances attached part))
 fewer_seen procedures P part w within [] all = All-nil P
 fewer_seen procedures P part w within (a ∷ attached) all =
     let parts = parted procedures P a (is_subset a.support w) (filter (λ (b : Attached). is_subset b.support w) attached) all in
@@ -62,11 +64,13 @@ fewer_seen procedures P part w within (a ∷ attached) all =
 
 -- what implies what is told in a worldview implies what is told in a part of it
 less_told : (store : Store) (known : ℕ → Info) (part w : Premises) → is_subset part w ≡ true → (cells : List ℕ) →
-    All (IsImplied known) (map (λ cell. Told cell (told_in store cell w)) cells) → All (IsImplied known) (map (λ cell. Told cell (told_in store cell part)) cells)
+    All (IsImplied known) (map (λ cell. Told cell (told_in store cell w)) cells) →
+    All (IsImplied known) (map (λ cell. Told cell (told_in store cell part)) cells)
 less_told store known part w within [] all = All-nil (IsImplied known)
 less_told store known part w within (cell ∷ cells) all =
     All-cons (IsImplied known) _ _
-    (λ v possible. larger_shown (cell_at store cell).kind part w (cell_at store cell).told within v (All-head (IsImplied known) _ _ all v possible))
+    (λ v possible. larger_shown (cell_at store cell).kind part w (cell_at store cell).told within v
+    (All-head (IsImplied known) _ _ all v possible))
     (less_told store known part w within cells (All-tail (IsImplied known) _ _ all))
 
 -- ---- the value
@@ -92,13 +96,17 @@ module _ (network : Network) (store : Store) (well : IsWellNetwork network) (sam
       All (IsImplied known) (sources_in network store part)
   less_said known part w within implied =
       All-append (IsImplied known) (told part) (seen part)
-      (less_told store known part w within (range_with_len 0 (length (kinds_in network))) (all_before (IsImplied known) (told w) (seen w) implied))
-      (fewer_seen network.declared.procedures (IsImplied known) part w within network.attached (all_after (IsImplied known) (told w) (seen w) implied))
+      (less_told store known part w within (range_with_len 0 (length (kinds_in network)))
+      (all_before (IsImplied known) (told w) (seen w) implied))
+      (fewer_seen network.declared.procedures (IsImplied known) part w within network.attached
+      (all_after (IsImplied known) (told w) (seen w) implied))
 
   -- the value of a cell of a network grows with the worldview
   pub value_grows : (cell : ℕ) → Grows (λ w. value_in network store w cell)
   value_grows cell = record {
-    kinds = λ s t. kind-fixpoint cells over (sources_in network store s) cell ∙ sym (kind-fixpoint cells over (sources_in network store t) cell);
-    more = λ part w within. fixpoint_above cells over over (sources_in network store part) (sources_in network store w) (are part).fit (are w)
+    kinds = λ s t.
+        kind-fixpoint cells over (sources_in network store s) cell ∙ sym (kind-fixpoint cells over (sources_in network store t) cell);
+    more = λ part w within.
+        fixpoint_above cells over over (sources_in network store part) (sources_in network store w) (are part).fit (are w)
         (λ known kinds implied. less_said known part w within implied) cell;
   }

@@ -1,4 +1,6 @@
 use Rattle.std.proofs.Common.{◌≡◌, ℕ, ◌<◌, true, false, refl, sym, ap, ◌∙◌, subst}
+use Rattle.std.proofs.lemmas.List.{map-id}
+use Rattle.std.proofs.lemmas.Iterator.Consumers.{YieldsList-end}
 use Rattle.pw_info.specs.declared.info.Info.{Info}
 use Rattle.pw_info.specs.Information.{Implies, kind_of}
 use Rattle.pw_premises.specs.Numbers.{numbers_of}
@@ -8,7 +10,7 @@ use Rattle.pw_network.specs.Fields.{network_by}
 use Rattle.pw_network.specs.Network.{Network, cells_in}
 use Rattle.pw_settle.specs.Settled.{Settled, IsSettled, info_at}
 use Rattle.pw_settle.specs.Values.{value_in}
-use Rattle.pw_reasons.proofs.ReasonLemmas.{all_tried, left_in, none_tried, taken_out}
+use Rattle.pw_reasons.proofs.ReasonLemmas.{all_tried, left_in, premises_fall, taken_out}
 use Rattle.pw_reasons.proofs.ValueGrows.{value_grows}
 use Rattle.pw_reasons.proofs.reasoning.reason.Goals as goal
 
@@ -21,29 +23,23 @@ found {network} {w = w} cell below same are is = is ∙ are.values cell below �
 implied : {a b c d : Info} → a ≡ b → c ≡ d → Implies a c → Implies b d
 implied {b = b} {c = c} p q implies = subst (Implies b) q (subst (λ (i : Info). Implies i c) p implies)
 
-pub loop-premise-init : goal.loop-premise-init
-loop-premise-init g c = record {
-  tried = none_tried (λ w. value_in (network_by c.args.network.now) c.args.store.now w c.args.cell) c.args.settled.now.worldview _ _ c.worldview.ensures
-      (ap (λ r. r.iter) c.into_iter-premise-iterator.ensures.into_iter_gives ∙ c.rev-premise-items.ensures.source ∙ c.numbers.ensures.list
-      ∙ ap numbers_of c.worldview.ensures);
-  store = refl;
-}
-
 pub implies-requires : goal.implies-requires
 implies-requires g c =
     let before = found c.args.cell c.requires.cell refl c.requires.settled c.value.ensures.info in
-    let after = found c.args.cell c.requires.cell c.loop-premise.invariant.store c.in_ok-settle.ensures.settled c.value-in-loop-premise-2.ensures.info in
+    let after = found c.args.cell c.requires.cell c.loop-premise.invariant.store c.in_ok-settle.ensures.settled
+    c.value-in-loop-premise-2.ensures.info in
     let grows = value_grows (network_by c.args.network.now) c.args.store.now c.args.network.now.well c.requires.kinds c.args.cell in
     ap kind_of after ∙ grows.kinds c.without-without.result c.args.settled.now.worldview ∙ sym (ap kind_of before)
 
 pub loop-premise-preserved-then-implies : goal.loop-premise-preserved-then-implies
 loop-premise-preserved-then-implies g c =
     let before = found c.args.cell c.requires.cell refl c.requires.settled c.value.ensures.info in
-    let after = found c.args.cell c.requires.cell c.loop-premise.invariant.store c.in_ok-settle.ensures.settled c.value-in-loop-premise-2.ensures.info in
+    let after = found c.args.cell c.requires.cell c.loop-premise.invariant.store c.in_ok-settle.ensures.settled
+    c.value-in-loop-premise-2.ensures.info in
     let grows = value_grows (network_by c.args.network.now) c.args.store.now c.args.network.now.well c.requires.kinds c.args.cell in
     record {
-      tried = taken_out _ c.args.settled.now.worldview grows c.loop-premise.left c.without-without.result c.loop-premise.premise-iterator.iter
-          c.next.new.self.iter c.in-Some.premise c.in-Some.ensures.steps c.without-without.ensures.removed c.loop-premise.invariant.tried
+      left = taken_out _ c.args.settled.now.worldview grows c.loop-premise.left c.without-without.result c.loop-premise.yielded
+          c.in-Some.premise c.loop-premise.invariant.left c.without-without.ensures.removed
           (implied after before (c.if-implies.ensures.0 refl));
       store = c.settle.ensures.store ∙ c.loop-premise.invariant.store;
     }
@@ -51,14 +47,19 @@ loop-premise-preserved-then-implies g c =
 pub loop-premise-preserved : goal.loop-premise-preserved
 loop-premise-preserved g c =
     let before = found c.args.cell c.requires.cell refl c.requires.settled c.value.ensures.info in
-    let after = found c.args.cell c.requires.cell c.loop-premise.invariant.store c.in_ok-settle.ensures.settled c.value-in-loop-premise-2.ensures.info in
+    let after = found c.args.cell c.requires.cell c.loop-premise.invariant.store c.in_ok-settle.ensures.settled
+    c.value-in-loop-premise-2.ensures.info in
     record {
-      tried = left_in _ c.args.settled.now.worldview c.loop-premise.left c.without-without.result c.loop-premise.premise-iterator.iter
-          c.next.new.self.iter c.in-Some.premise c.in-Some.ensures.steps c.without-without.ensures.removed c.loop-premise.invariant.tried
+      left = left_in (λ w. value_in (network_by c.args.network.now) c.args.store.now w c.args.cell) c.args.settled.now.worldview
+          c.loop-premise.left c.without-without.result c.loop-premise.yielded c.in-Some.premise c.loop-premise.invariant.left
+          c.without-without.ensures.removed
           (λ implies. let wrong : false ≡ true = c.if-implies.ensures.1 (implied (sym after) (sym before) implies) in absurd (cc));
       store = c.settle.ensures.store ∙ c.loop-premise.invariant.store;
     }
 
 pub returns-clause-reason : goal.returns-clause-reason
 returns-clause-reason g c =
-    all_tried _ c.args.settled.now.worldview c.loop-premise.left c.loop-premise.premise-iterator.iter c.in-None.ensures.steps.0 c.loop-premise.invariant.tried
+    let all = YieldsList-end (premises_fall (numbers_of c.args.settled.now.worldview) (cc))
+    c.loop-premise.yielded _ c.loop-premise.yielded_by _ _ c.in-None.is c.next.ensures.steps in
+    all_tried _ c.args.settled.now.worldview c.loop-premise.left c.loop-premise.yielded c.loop-premise.invariant.left
+    (sym (map-id c.loop-premise.yielded) ∙ all.0)
