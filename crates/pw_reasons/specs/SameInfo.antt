@@ -1,5 +1,5 @@
 -- The test of two informations for being one.
-use Rattle.std.specs.Prelude.{ℕ, Bool, true, false, ◌&&◌, nat_eq}
+use Rattle.std.specs.Prelude.{Bool, true, false, ◌&&◌, nat_eq}
 use Rattle.std.specs.Ordering.{int_eq}
 use Rattle.pw_kinds.specs.declared.exact.Exact.{Exact}
 use Rattle.pw_kinds.specs.declared.exact.Exact.TheVariants.{Any, One, Empty}
