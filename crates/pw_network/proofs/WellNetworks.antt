@@ -17,6 +17,7 @@ use Rattle.pw_decl.specs.Limits.{most_inner_cells}
 use Rattle.pw_network.specs.Network.{MayAttach}
 use Rattle.pw_network.specs.Network.{Attached, InnerCell, Network, cells_in, kind_in, inner_cells_from, attached_at, with_attached, IsWellNetwork}
 use Rattle.pw_decl.proofs.ExpansionFits.{expansion_speaks, expansion_fits}
+use Rattle.pw_network.proofs.LineLemmas.{lines_of_inner, order_more, past_more}
 
 -- ---- lists
 
@@ -137,6 +138,9 @@ module _ (network : Network) (line : ℕ) (callable : Callable) (cells : List �
         (subst (λ (l : List Kind). AcceptsKinds network.declared.procedures network.declared.compounds callable l) (sym (kinds_stay ∙ kinds_of_cells)) may.takes)
         new_kind)
 
+    later : network.last_line ≤ line
+    later = let next = may.next in omega arith
+
     -- all holds with a callable attached
     pub well_with_attached : IsWellNetwork after
     well_with_attached =
@@ -155,4 +159,8 @@ module _ (network : Network) (line : ℕ) (callable : Callable) (cells : List �
               (λ k d within. ∥∥₁_map (well.fits k d within) (still_fits (get_or network.attached k d).instance (well.here k d within)))
               (All-map (λ attached. ∥ FitsCells network.declared.procedures (kind_in after) attached.instance ∥₁) (attached_at line support) made
               (λ k d within. ∥∥₁_map new_fit (λ fits. fits k d within)));
+          order = order_more (λ (inner : InnerCell). inner.line) network.last_line line network.inner (inner_cells_from line 0 own) later
+              well.reached (lines_of_inner line 0 own) well.order;
+          reached = past_more (λ (inner : InnerCell). inner.line) network.last_line line network.inner (inner_cells_from line 0 own) later
+              well.reached (lines_of_inner line 0 own);
         }

@@ -1,5 +1,6 @@
 -- What a network is, and what an attachment adds to it.
 use Rattle.std.specs.Prelude.{ℕ, ◌+◌, ◌*◌, ◌<◌, ◌≤◌, List, [], ◌∷◌, ◌++◌, All, Option, Some, None, length, map, slice_index_or}
+use Rattle.std.specs.List.Sorted.{IsNonDecreasingBy}
 use Rattle.pw_info.specs.declared.kind.Kind.{Kind}
 use Rattle.pw_info.specs.declared.kind.Kind.TheVariants as kinds
 use Rattle.pw_premises.specs.Premises.{Premises}
@@ -81,6 +82,14 @@ abbrev pub InstancesFit : Network → Type 0
 InstancesFit network =
     All (λ attached. ∥ FitsCells network.declared.procedures (kind_in network) attached.instance ∥₁) network.attached
 
+-- the lines of the inner cells do not fall, in the order of the cells
+abbrev pub LinesInOrder : Network → Type 0
+LinesInOrder network = IsNonDecreasingBy (λ (inner : InnerCell). inner.line) network.inner
+
+-- none of them comes after the line of the last attachment
+abbrev pub LinesReached : Network → Type 0
+LinesReached network = All (λ inner. inner.line ≤ network.last_line) network.inner
+
 -- so it is, and the limits are kept
 pub record IsWellNetwork (network : Network) : Type 0 where
   pub declared : IsWellDeclared network.declared
@@ -88,6 +97,8 @@ pub record IsWellNetwork (network : Network) : Type 0 where
   pub few : length network.inner ≤ most_inner_cells * network.last_line
   pub here : InstancesStay network
   pub fits : InstancesFit network
+  pub order : LinesInOrder network
+  pub reached : LinesReached network
 
 -- ---- what may be attached
 

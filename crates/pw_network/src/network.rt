@@ -12,7 +12,8 @@ ghost use Rattle.pw_network.specs.Fields.{network_by};
 ghost use Rattle.pw_network.specs.Kept.{attached_of};
 ghost use Rattle.pw_network.specs.Limits.{most_cells_in, most_lines};
 ghost use Rattle.pw_network.specs.Network.{bare, cells_in, kind_in, origin_in, with_attached};
-ghost use Rattle.pw_network.specs.Network.{AreDeclared, InstancesFit, InstancesStay, MayAttach, TakesCells};
+ghost use Rattle.pw_network.specs.Network.{AreDeclared, InstancesFit, InstancesStay, LinesInOrder};
+ghost use Rattle.pw_network.specs.Network.{MayAttach, TakesCells};
 ghost use Rattle.pw_network.specs.Readers.{readers_of};
 
 use crate::attaching::{append_inner, append_instances};
@@ -83,10 +84,12 @@ impl<'d, 'r, A: Allocator + Copy> Network<'d, 'r, A> {
         self.inner[(cell - declared) as usize].kind
     }
 
-    /// Of an inner cell the line of its attachment and its number there, from 0; none of a declared cell.
+    /// Of an inner cell the line of its attachment and its number there, from 0; none of a declared cell. The lines do not
+    /// fall in the order of the cells.
     pub fn inner(&self, cell: u32) -> Option<(u32, u16)>
         requires { cell < cells_in (network_by self.now) }
-        ensures { result ≡ origin_in (network_by self.now) cell }
+        ensures origin { result ≡ origin_in (network_by self.now) cell }
+        ensures order { LinesInOrder (network_by self.now) }
     {
         let declared = self.declaration.cells();
         if cell < declared {

@@ -8,14 +8,14 @@ use Rattle.pw_network.proofs.network.holding.Network.inner.Goals as goal
 abbrev no_origin : Option (ℕ × ℕ)
 no_origin = None
 
-pub returns-then-cell-declared : goal.returns-then-cell-declared
-returns-then-cell-declared g c =
+pub returns-then-cell-declared-clause-origin : goal.returns-then-cell-declared-clause-origin
+returns-then-cell-declared-clause-origin g c =
     let network = network_by c.args.self.now in
     among_declared network.declared.cells (map (λ inner. Some (inner.line, inner.number)) network.inner) c.args.cell None
     (omega (arith, c.if-cell-declared.true, c.cells-declared.ensures.count))
 
-pub returns : goal.returns
-returns g c =
+pub returns-clause-origin : goal.returns-clause-origin
+returns-clause-origin g c =
     let network = network_by c.args.self.now in
     let inner = c.args.self.now.inner.items in
     let many = length-map inner inner_of in
