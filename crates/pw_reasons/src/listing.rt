@@ -1,8 +1,11 @@
 //! Which cells are contradictory, and in which attachments.
-ghost use Rattle.std.specs.Prelude.{◌≡◌, length, IfOk};
+ghost use Rattle.std.specs.Prelude.{◌≡◌, ◌↔◌, ℕ, Contains, filter, length, IfOk};
+ghost use Rattle.std.specs.List.{range_with_len};
+ghost use Rattle.std.specs.List.Sorted.{IsStrictlyIncreasing};
 ghost use Rattle.pw_network.specs.Fields.{network_by};
 ghost use Rattle.pw_network.specs.Network.{cells_in};
-ghost use Rattle.pw_reasons.specs.Conflicts.{AreConflicts};
+ghost use Rattle.pw_reasons.specs.Conflicts.{AreConflicts, HasConflict};
+ghost use Rattle.pw_reasons.specs.SameInfo.{is_contradiction};
 ghost use Rattle.pw_settle.specs.Settled.{info_at};
 
 use crate::conflicts::Conflicts;
@@ -25,5 +28,51 @@ pub fn list_conflicts<A: Allocator + Copy>(
     ensures { IfOk result (λ conflicts.
         AreConflicts (network_by network.now) (info_at settled.now.infos) conflicts) }
 {
-    Err(AllocError)
+    let cells = contradictory_cells(alloc, network, settled)?;
+    let lines = contradictory_lines(alloc, network, settled)?;
+    Ok(Conflicts { cells, lines })
+}
+
+// The declared cells whose value is a contradiction, in declared order.
+fn contradictory_cells<A: Allocator + Copy>(
+    alloc: A,
+    network: &Network<'_, '_, A>,
+    settled: &Settled<A>,
+) -> Result<Vec<u32, A>, AllocError>
+    requires { length settled.now.infos ≡ cells_in (network_by network.now) }
+    ensures { IfOk result (λ cells. cells.items
+        ≡ filter (λ cell. is_contradiction (info_at settled.now.infos cell))
+        (range_with_len 0 (length (network_by network.now).declared.cells))) }
+{
+    let mut cells = Vec::new(alloc);
+    for cell in 0..network.declaration().cells() {
+        if settled.value(cell).info.is_contradiction() {
+            cells.push(cell)?;
+        }
+    }
+    Ok(cells)
+}
+
+// The lines of the attachments that have an inner cell whose value is a contradiction, rising, each once. The lines of
+// inner cells do not fall, so a line that was pushed before is the last that was.
+fn contradictory_lines<A: Allocator + Copy>(
+    alloc: A,
+    network: &Network<'_, '_, A>,
+    settled: &Settled<A>,
+) -> Result<Vec<u32, A>, AllocError>
+    requires { length settled.now.infos ≡ cells_in (network_by network.now) }
+    ensures rising { IfOk result (λ lines. IsStrictlyIncreasing lines.items) }
+    ensures lines { IfOk result (λ lines. (line : ℕ) → Contains lines.items line
+        ↔ HasConflict (network_by network.now) (info_at settled.now.infos) line) }
+{
+    let mut lines: Vec<u32, A> = Vec::new(alloc);
+    for cell in network.declaration().cells()..network.cells() {
+        if settled.value(cell).info.is_contradiction()
+            && let Some((line, _)) = network.inner(cell)
+            && lines.last() != Some(&line)
+        {
+            lines.push(line)?;
+        }
+    }
+    Ok(lines)
 }
