@@ -1,17 +1,19 @@
 -- Which cells are contradictory, and in which attachments: what a list of them is so far, and how it grows.
 use Rattle.std.proofs.Common.{◌≡◌, ◌≢◌, ◌↔◌, ℕ, zero, suc, ◌+◌, ◌-◌, ◌<◌, ◌≤◌, ◌⊎◌, Bool, true, false, cond, inl, inr, List, [], ◌∷◌, ◌++◌, IsTrue, Option, Some, None, length, map, filter, get_or, refl, sym, ap, subst, ◌∙◌, arith, All, Contains, append-nil, length-append, map-id}
-use Rattle.std.specs.Prelude.{slice_get}
+use Rattle.std.specs.Prelude.{pos, slice_get}
 use Rattle.std.specs.List.{range_with_len}
 use Rattle.std.specs.List.Sorted.{IsStrictlyIncreasing}
-use Rattle.std.proofs.lemmas.Bool.{cases_lt}
-use Rattle.std.proofs.lemmas.Bool.Decides.{same_from_decides}
+use Rattle.std.proofs.lemmas.Bool.{cases_lt, false≢true}
+use Rattle.std.proofs.lemmas.Bool.Decides.{nat_tests, same_from_decides}
 use Rattle.std.proofs.lemmas.List.{get_or-append_right, get_or_append_left, get_or-map, get_or_past, length-map}
 use Rattle.std.proofs.lemmas.List.Elements.{All-contains, All-nil, All-push, All-weaker, Contains-append_left, Contains-push, filter-append}
 use Rattle.std.proofs.lemmas.List.FromFn.{map-range_with_len_more}
 use Rattle.std.proofs.lemmas.Option.{get_or_from_slice_get, same_Some, slice_get-get_or, slice_get_within}
 use Rattle.pw_info.specs.declared.info.Info.{Info}
+use Rattle.pw_info.specs.declared.kind.Kind.{Kind}
 use Rattle.pw_info.specs.declared.kind.Kind.TheVariants as kinds
-use Rattle.pw_info.specs.Information.{IsContradiction}
+use Rattle.pw_info.specs.Information.{IsContradiction, is_value, nothing}
+use Rattle.pw_info.proofs.Informations.{allows-nothing}
 use Rattle.pw_network.specs.Network.{InnerCell, LinesInOrder, Network, cells_in, origin_in}
 use Rattle.pw_network.proofs.CellLemmas.{among_declared}
 use Rattle.pw_reasons.specs.Conflicts.{AreConflicts, Conflicts, HasConflict}
@@ -68,6 +70,19 @@ passing_left p n before after fails so_far same =
 pub tested : (answer : Bool) (known value : Info) → (IsTrue answer ↔ IsContradiction known) → known ≡ value → answer ≡ is_contradiction value
 tested answer known value says is =
     same_from_decides answer (is_contradiction known) says (contradiction_is known) ∙ ap is_contradiction is
+
+-- ---- nothing is no contradiction
+
+-- each kind has a value that is written so
+zero_is_value : (k : Kind) → is_value k (pos 0) ≡ true
+zero_is_value kinds.Interval = refl
+zero_is_value (kinds.Members set) = let sized = set.sized in grind (arith, nat_tests)
+zero_is_value kinds.Exact = refl
+
+-- so where nothing is known of a value, that is no contradiction
+pub nothing_is_possible : (k : Kind) → is_contradiction (nothing k) ≡ true → ⊥
+nothing_is_possible k e =
+    false≢true (sym ((contradiction_is (nothing k)).0 e (pos 0)) ∙ allows-nothing k (pos 0) ∙ zero_is_value k)
 
 -- ---- inner cells
 
@@ -239,7 +254,7 @@ module _ (network : Network) (value : ℕ → Info) where
 -- ---- the values of the cells are all that counts
 
 -- where two say the same of the cells below a number, the same of them pass
-same_passing : (f g : ℕ → Info) (from n limit : ℕ) → from + n ≤ limit → ((cell : ℕ) → cell < limit → f cell ≡ g cell) →
+pub same_passing : (f g : ℕ → Info) (from n limit : ℕ) → from + n ≤ limit → ((cell : ℕ) → cell < limit → f cell ≡ g cell) →
     filter (λ cell. is_contradiction (f cell)) (range_with_len from n) ≡ filter (λ cell. is_contradiction (g cell)) (range_with_len from n)
 same_passing f g from zero limit most same = refl
 same_passing f g from (suc n) limit most same =

@@ -6,7 +6,9 @@ pub mod CarriedCommands
 pub mod EntriesRise
 pub mod EntryLemmas
 pub mod FurtherLines
+pub mod ListMembers
 pub mod NameMembers
+pub mod NamedConflicts
 pub mod NamedNetworks
 pub mod NamedSources
 pub mod NamedValues
