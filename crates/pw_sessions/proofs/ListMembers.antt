@@ -19,7 +19,8 @@ which_member x y xs (zero, within, is) = inl is
 which_member x y xs (suc k, within, is) = inr (k, omega (arith, within), is)
 
 -- what a map makes of a list is made of one of the list
-pub member_mapped : {X Y : Type 0} (f : X → Y) (xs : List X) (y : Y) → Contains (map f xs) y → (x : X) × Contains xs x × (f x ≡ y)
+pub member_mapped : {X Y : Type 0} (f : X → Y) (xs : List X) (y : Y) → Contains (map f xs) y →
+    (x : X) × Contains xs x × (f x ≡ y)
 member_mapped f [] y has = absurd (none_of_none y has)
 member_mapped f (x ∷ xs) y has =
     elim (which_member (f x) y (map f xs) has) [
@@ -82,8 +83,9 @@ same_pairs [] [] one other within back = refl
 same_pairs [] (y ∷ ys) one other within back = absurd (none_of_none y (back y (contains_first y ys)))
 same_pairs (x ∷ xs) [] one other within back = absurd (none_of_none x (within x (contains_first x xs)))
 same_pairs (x ∷ xs) (y ∷ ys) one other within back =
-    let same : x ≡ y =
-    omega (arith, not_below x y xs one (back y (contains_first y ys)), not_below y x ys other (within x (contains_first x xs))) in
+    let least : x ≤ y = not_below x y xs one (back y (contains_first y ys)) in
+    let most : y ≤ x = not_below y x ys other (within x (contains_first x xs)) in
+    let same : x ≡ y = omega arith in
     let rest : xs ≡ ys =
     same_pairs xs ys (rest_pairs x xs one) (rest_pairs y ys other) (rest_within x y xs ys same one within)
     (rest_within y x ys xs (sym same) other back) in

@@ -53,11 +53,12 @@ module _ {C : Type 0} (cells : Cells C) (c : C) where
       ∙ others_leave known info sources (All-tail (λ s. cell_of s ≡ c → ⊥) source sources others)
 
   -- so where no source informs the cell, nothing follows of it
-  nothing_follows : (over : List C) (sources : List (Source C)) → AreOver cells over sources → All (λ s. cell_of s ≡ c → ⊥) sources →
-      fixpoint cells over sources c ≡ nothing (cells.kind c)
+  nothing_follows : (over : List C) (sources : List (Source C)) → AreOver cells over sources →
+      All (λ s. cell_of s ≡ c → ⊥) sources → fixpoint cells over sources c ≡ nothing (cells.kind c)
   nothing_follows over sources are others =
       unwritten_told cells sources are.fit c
-      (All-weaker (λ s. cell_of s ≡ c → ⊥) (λ s. cell_of s ≡ c → is_propagator s ≡ true → ⊥) (λ s other same passes. other same) sources others)
+      (All-weaker (λ s. cell_of s ≡ c → ⊥) (λ s. cell_of s ≡ c → is_propagator s ≡ true → ⊥)
+      (λ s other same passes. other same) sources others)
       over are
       ∙ others_leave (nothing_known cells) (nothing (cells.kind c)) (filter (λ s. not (is_propagator s)) sources)
       (All-filter (λ s. not (is_propagator s)) (λ s. cell_of s ≡ c → ⊥) sources others)
@@ -95,12 +96,13 @@ made_by : (d : Declared) (entries : List Entry) (line number : ℕ) → Contains
     (entry : Entry) × Contains entries entry × Contains (inner_names_of d entry) (InnerCellOf line number)
 made_by d entries line number has =
     let numbers : List ℕ = range_with_len 0 (length d.cells) in
-    elim (Contains-append_cases (map DeclaredCell numbers) (flat_map (inner_names_of d) entries) (InnerCellOf line number) has) [
+    let name : Name = InnerCellOf line number in
+    elim (Contains-append_cases (map DeclaredCell numbers) (flat_map (inner_names_of d) entries) name has) [
       | inl declared ↦
-          let found = member_mapped DeclaredCell numbers (InnerCellOf line number) declared in
+          let found = member_mapped DeclaredCell numbers name declared in
           let wrong : DeclaredCell found.0 ≡ InnerCellOf line number = found.2 in
           absurd (cc)
-      | inr inner ↦ member_of_one (inner_names_of d) entries (InnerCellOf line number) inner
+      | inr inner ↦ member_of_one (inner_names_of d) entries name inner
     ]
 
 -- ---- lines of entries
@@ -168,7 +170,8 @@ module _ (d : Declared) (entries : List Entry) (network : Network) (store : Stor
       let own : AreOver (named_cells d shown) (names_after d shown) said =
       sources_over d shown well.kinds well.steps shown shown_fit shown_find (inner_named d shown) in
       value_follows cell here
-      ∙ nothing_follows (named_cells d entries) (name_in network cell) (names_after d entries) said (seen_over d well entries fit rise w)
+      ∙ nothing_follows (named_cells d entries) (name_in network cell) (names_after d entries) said
+      (seen_over d well entries fit rise w)
       (All-weaker (λ s. Contains (names_after d shown) (cell_of s)) (λ s. cell_of s ≡ name_in network cell → ⊥)
       (λ s among same. hidden (subst (Contains (names_after d shown)) same among)) said own.within)
 
@@ -198,7 +201,8 @@ module _ (d : Declared) (entries : List Entry) (network : Network) (store : Stor
       let conflict : has_conflict d shown found.0 ≡ true =
       any_member clashes (inner_names_of d found.0) (InnerCellOf line has.number) found.2 clash in
       subst (Contains (map line_of (filter (has_conflict d shown) shown))) (same_line d found.0 line has.number found.2)
-      (contains_map line_of (filter (has_conflict d shown) shown) found.0 (contains_filter (has_conflict d shown) shown found.0 conflict found.1))
+      (contains_map line_of (filter (has_conflict d shown) shown) found.0
+      (contains_filter (has_conflict d shown) shown found.0 conflict found.1))
 
   -- an inner cell of a visible entry is one of the network's, called by the line
   cell_named : (entry : Entry) (name : Name) → Contains shown entry → Contains (inner_names_of d entry) name →
@@ -209,11 +213,10 @@ module _ (d : Declared) (entries : List Entry) (network : Network) (store : Stor
       let among : Contains (names_after d entries) name =
       All-contains (Contains (names_after d entries)) (inner_names_of d entry) name
       (All-contains (AreNamed d entries) entries entry (inner_named d entries) of_all) has in
-      let found = member_mapped (name_in network) numbers name (subst (λ (l : List Name). Contains l name) (sym named.names) among) in (
-        found.0,
-        All-contains (λ c. c < cells_in network) numbers found.0 (range_below (cells_in network) (cells_in network) (omega arith)) found.1,
-        found.2,
-      )
+      let below : All (λ c. c < cells_in network) numbers = range_below (cells_in network) (cells_in network) (omega arith) in
+      let found =
+      member_mapped (name_in network) numbers name (subst (λ (l : List Name). Contains l name) (sym named.names) among) in
+      (found.0, All-contains (λ c. c < cells_in network) numbers found.0 below found.1, found.2)
 
   -- by name first
   line_had : (line : ℕ) → Contains (map line_of (filter (has_conflict d shown) shown)) line → HasConflict network value line
@@ -235,14 +238,15 @@ module _ (d : Declared) (entries : List Entry) (network : Network) (store : Stor
         here = found.1;
         origin = origin_from found.0 (origin_in network found.0) line number.0
             (found.2 ∙ number.1 ∙ ap (λ (n : ℕ). InnerCellOf n number.0) one.2);
-        contradictory = ap is_contradiction (value_shown found.0 found.1 (subst (Contains (names_after d shown)) (sym found.2) among))
+        contradictory =
+            ap is_contradiction (value_shown found.0 found.1 (subst (Contains (names_after d shown)) (sym found.2) among))
             ∙ ap clashes found.2 ∙ any.4;
       }
 
 -- what settles in the network that entries make, from a store that was told what they tell, has the conflicts of the visible
 -- entries
-pub conflicts_named : (d : Declared) (entries : List Entry) (network : Network) (store : Store) (w : Premises) (conflicts : Conflicts) →
-    IsWellDeclared d → All (FitsDeclared d) entries → RiseFrom 0 entries → network ≡ network_after d entries →
+pub conflicts_named : (d : Declared) (entries : List Entry) (network : Network) (store : Store) (w : Premises)
+    (conflicts : Conflicts) → IsWellDeclared d → All (FitsDeclared d) entries → RiseFrom 0 entries → network ≡ network_after d entries →
     WasTold d entries network store → AreConflicts network (values.value_in network store w) conflicts →
     conflicts ≡ conflicts_of d (visible_in entries w)
 conflicts_named d entries network store w conflicts well fit rise is told are =
