@@ -9,7 +9,8 @@ use Rattle.pw_info.specs.declared.kind.Kind.{Kind}
 use Rattle.pw_network.specs.Network.{InnerCell, inner_cells_from}
 
 -- the inner cells of an attachment have its line
-pub lines_of_inner : (line number : ℕ) (kinds : List Kind) → All (λ (inner : InnerCell). inner.line ≡ line) (inner_cells_from line number kinds)
+pub lines_of_inner : (line number : ℕ) (kinds : List Kind) →
+    All (λ (inner : InnerCell). inner.line ≡ line) (inner_cells_from line number kinds)
 lines_of_inner line number [] = All-nil (λ (inner : InnerCell). inner.line ≡ line)
 lines_of_inner line number (kind ∷ kinds) =
     All-cons (λ (inner : InnerCell). inner.line ≡ line) (record { line = line; number = number; kind = kind })

@@ -159,8 +159,8 @@ module _ (network : Network) (line : ℕ) (callable : Callable) (cells : List �
               (λ k d within. ∥∥₁_map (well.fits k d within) (still_fits (get_or network.attached k d).instance (well.here k d within)))
               (All-map (λ attached. ∥ FitsCells network.declared.procedures (kind_in after) attached.instance ∥₁) (attached_at line support) made
               (λ k d within. ∥∥₁_map new_fit (λ fits. fits k d within)));
-          order = order_more (λ (inner : InnerCell). inner.line) network.last_line line network.inner (inner_cells_from line 0 own) later
-              well.reached (lines_of_inner line 0 own) well.order;
-          reached = past_more (λ (inner : InnerCell). inner.line) network.last_line line network.inner (inner_cells_from line 0 own) later
-              well.reached (lines_of_inner line 0 own);
+          order = order_more (λ (inner : InnerCell). inner.line) network.last_line line network.inner (inner_cells_from line 0 own)
+              later well.reached (lines_of_inner line 0 own) well.order;
+          reached = past_more (λ (inner : InnerCell). inner.line) network.last_line line network.inner (inner_cells_from line 0 own)
+              later well.reached (lines_of_inner line 0 own);
         }

@@ -1,17 +1,19 @@
 -- Which cells are contradictory, and in which attachments: what a list of them is so far, and how it grows.
 use Rattle.std.proofs.Common.{◌≡◌, ◌≢◌, ◌↔◌, ℕ, zero, suc, ◌+◌, ◌-◌, ◌<◌, ◌≤◌, ◌⊎◌, Bool, true, false, cond, inl, inr, List, [], ◌∷◌, ◌++◌, IsTrue, Option, Some, None, length, map, filter, get_or, refl, sym, ap, subst, ◌∙◌, arith, All, Contains, append-nil, length-append, map-id}
-use Rattle.std.specs.Prelude.{slice_get}
+use Rattle.std.specs.Prelude.{pos, slice_get}
 use Rattle.std.specs.List.{range_with_len}
 use Rattle.std.specs.List.Sorted.{IsStrictlyIncreasing}
-use Rattle.std.proofs.lemmas.Bool.{cases_lt}
-use Rattle.std.proofs.lemmas.Bool.Decides.{same_from_decides}
+use Rattle.std.proofs.lemmas.Bool.{cases_lt, false≢true}
+use Rattle.std.proofs.lemmas.Bool.Decides.{nat_tests, same_from_decides}
 use Rattle.std.proofs.lemmas.List.{get_or-append_right, get_or_append_left, get_or-map, get_or_past, length-map}
 use Rattle.std.proofs.lemmas.List.Elements.{All-contains, All-nil, All-push, All-weaker, Contains-append_left, Contains-push, filter-append}
 use Rattle.std.proofs.lemmas.List.FromFn.{map-range_with_len_more}
 use Rattle.std.proofs.lemmas.Option.{get_or_from_slice_get, same_Some, slice_get-get_or, slice_get_within}
 use Rattle.pw_info.specs.declared.info.Info.{Info}
+use Rattle.pw_info.specs.declared.kind.Kind.{Kind}
 use Rattle.pw_info.specs.declared.kind.Kind.TheVariants as kinds
-use Rattle.pw_info.specs.Information.{IsContradiction}
+use Rattle.pw_info.specs.Information.{IsContradiction, is_value, nothing}
+use Rattle.pw_info.proofs.Informations.{allows-nothing}
 use Rattle.pw_network.specs.Network.{InnerCell, LinesInOrder, Network, cells_in, origin_in}
 use Rattle.pw_network.proofs.CellLemmas.{among_declared}
 use Rattle.pw_reasons.specs.Conflicts.{AreConflicts, Conflicts, HasConflict}
@@ -46,7 +48,8 @@ numbers_more n =
     ∙ ap (λ l. l ++ n ∷ []) (map-id (range_with_len 0 n))
 
 -- with one number more, it is there if it passes
-passing_more : (p : ℕ → Bool) (n : ℕ) → filter p (range_with_len 0 (n + 1)) ≡ filter p (range_with_len 0 n) ++ cond (p n) (n ∷ []) []
+passing_more : (p : ℕ → Bool) (n : ℕ) →
+    filter p (range_with_len 0 (n + 1)) ≡ filter p (range_with_len 0 n) ++ cond (p n) (n ∷ []) []
 passing_more p n = ap (filter p) (numbers_more n) ∙ filter-append p (range_with_len 0 n) (n ∷ [])
 
 -- with one number more that passes, and which the code pushes, and with one that fails
@@ -60,14 +63,29 @@ pub passing_left : (p : ℕ → Bool) (n : ℕ) (before after : List ℕ) → p 
     after ≡ before → after ≡ filter p (range_with_len 0 (n + 1))
 passing_left p n before after fails so_far same =
     same ∙ so_far
-    ∙ sym (passing_more p n ∙ ap (λ b. filter p (range_with_len 0 n) ++ cond b (n ∷ []) []) fails ∙ append-nil (filter p (range_with_len 0 n)))
+    ∙ sym (passing_more p n ∙ ap (λ b. filter p (range_with_len 0 n) ++ cond b (n ∷ []) []) fails
+    ∙ append-nil (filter p (range_with_len 0 n)))
 
 -- ---- the test in the code
 
 -- what the code says of the value of a cell is what the test says
-pub tested : (answer : Bool) (known value : Info) → (IsTrue answer ↔ IsContradiction known) → known ≡ value → answer ≡ is_contradiction value
+pub tested : (answer : Bool) (known value : Info) → (IsTrue answer ↔ IsContradiction known) → known ≡ value →
+    answer ≡ is_contradiction value
 tested answer known value says is =
     same_from_decides answer (is_contradiction known) says (contradiction_is known) ∙ ap is_contradiction is
+
+-- ---- nothing is no contradiction
+
+-- each kind has a value that is written so
+zero_is_value : (k : Kind) → is_value k (pos 0) ≡ true
+zero_is_value kinds.Interval = refl
+zero_is_value (kinds.Members set) = let sized = set.sized in grind (arith, nat_tests)
+zero_is_value kinds.Exact = refl
+
+-- so where nothing is known of a value, that is no contradiction
+pub nothing_is_possible : (k : Kind) → is_contradiction (nothing k) ≡ true → ⊥
+nothing_is_possible k e =
+    false≢true (sym ((contradiction_is (nothing k)).0 e (pos 0)) ∙ allows-nothing k (pos 0) ∙ zero_is_value k)
 
 -- ---- inner cells
 
@@ -121,8 +139,8 @@ inner_at network cell line number is =
     ]
 
 -- where a cell comes from the line that stands last, any line that it comes from is among the lines
-pub among_lines : (network : Network) (cell : ℕ) (lines : List ℕ) (last line number other place : ℕ) → slice_get lines last ≡ Some line →
-    Some (line, number) ≡ origin_in network cell → origin_in network cell ≡ Some (other, place) → Contains lines other
+pub among_lines : (network : Network) (cell : ℕ) (lines : List ℕ) (last line number other place : ℕ) →
+    slice_get lines last ≡ Some line → Some (line, number) ≡ origin_in network cell → origin_in network cell ≡ Some (other, place) → Contains lines other
 among_lines network cell lines last line number other place at first second =
     subst (Contains lines) (same_line line number other place (first ∙ second))
     (last, slice_get_within lines last line at, get_or_from_slice_get lines last line line at)
@@ -168,7 +186,18 @@ module _ (network : Network) (value : ℕ → Info) where
   -- what is below a number is below the next
   below_next : (limit line : ℕ) → HasConflictBelow network value limit line → HasConflictBelow network value (limit + 1) line
   below_next limit line has =
-      record { cell = has.cell; number = has.number; here = omega (arith, has.here); origin = has.origin; contradictory = has.contradictory }
+      record {
+        cell = has.cell;
+        number = has.number;
+        here = omega (arith, has.here);
+        origin = has.origin;
+        contradictory = has.contradictory;
+      }
+
+  still_sound : (limit : ℕ) (lines : List ℕ) → All (HasConflictBelow network value limit) lines →
+      All (HasConflictBelow network value (limit + 1)) lines
+  still_sound limit =
+      All-weaker (HasConflictBelow network value limit) (HasConflictBelow network value (limit + 1)) (below_next limit)
 
   -- what is below the next is below the number, or its cell is of this number
   which_below : (limit line : ℕ) → HasConflictBelow network value (limit + 1) line →
@@ -176,7 +205,13 @@ module _ (network : Network) (value : ℕ → Info) where
       ⊎ ((number : ℕ) × (origin_in network limit ≡ Some (line, number)) × (is_contradiction (value limit) ≡ true))
   which_below limit line has =
       elim (cases_lt has.cell limit) [
-        | inl old ↦ inl (record { cell = has.cell; number = has.number; here = old; origin = has.origin; contradictory = has.contradictory })
+        | inl old ↦ inl (record {
+          cell = has.cell;
+          number = has.number;
+          here = old;
+          origin = has.origin;
+          contradictory = has.contradictory;
+        })
         | inr new ↦
             let same : has.cell ≡ limit = omega (arith, has.here, new) in
             inr (
@@ -188,12 +223,12 @@ module _ (network : Network) (value : ℕ → Info) where
 
   -- the lines stay with one cell more which is no contradiction, or of which the line is among them
   pub same_lines : (limit : ℕ) (lines : List ℕ) → AreLinesBelow network value limit lines →
-      ((line number : ℕ) → origin_in network limit ≡ Some (line, number) → is_contradiction (value limit) ≡ true → Contains lines line) →
-      AreLinesBelow network value (limit + 1) lines
+      ((line number : ℕ) → origin_in network limit ≡ Some (line, number) → is_contradiction (value limit) ≡ true →
+      Contains lines line) → AreLinesBelow network value (limit + 1) lines
   same_lines limit lines are among =
       record {
         rising = are.rising;
-        sound = All-weaker (HasConflictBelow network value limit) (HasConflictBelow network value (limit + 1)) (below_next limit) lines are.sound;
+        sound = still_sound limit lines are.sound;
         complete = λ line has. elim (which_below limit line has) [
           | inl old ↦ are.complete line old
           | inr new ↦ among line new.0 new.1 new.2
@@ -201,27 +236,31 @@ module _ (network : Network) (value : ℕ → Info) where
       }
 
   -- and with a contradictory one of another line than the last, there is this line more
-  pub line_more : LinesInOrder network → (limit : ℕ) (lines after : List ℕ) (line number : ℕ) → AreLinesBelow network value limit lines →
-      origin_in network limit ≡ Some (line, number) → is_contradiction (value limit) ≡ true →
-      (slice_get lines (length lines - 1) ≡ Some line → ⊥) → after ≡ lines ++ line ∷ [] → AreLinesBelow network value (limit + 1) after
+  pub line_more : LinesInOrder network → (limit : ℕ) (lines after : List ℕ) (line number : ℕ) →
+      AreLinesBelow network value limit lines → origin_in network limit ≡ Some (line, number) →
+      is_contradiction (value limit) ≡ true → (slice_get lines (length lines - 1) ≡ Some line → ⊥) →
+      after ≡ lines ++ line ∷ [] → AreLinesBelow network value (limit + 1) after
   line_more order limit lines after line number are origin contradictory other pushed =
       let upto : All (λ l. l ≤ line) lines =
       All-weaker (HasConflictBelow network value limit) (λ l. l ≤ line)
-      (λ l has. line_not_lower network order has.cell limit l has.number line number (let h = has.here in omega arith) has.origin origin)
+      (λ l has. let here = has.here in
+      line_not_lower network order has.cell limit l has.number line number (omega arith) has.origin origin)
       lines are.sound in
       subst (AreLinesBelow network value (limit + 1)) (sym pushed) (record {
         rising = increasing_push lines line are.rising (λ some.
             let last : ℕ = get_or lines (length lines - 1) 0 in
             let below : last ≤ line = upto (length lines - 1) 0 (omega arith) in
-            let differs : last ≢ line = λ same. other (slice_get-get_or lines (length lines - 1) 0 (omega arith) ∙ ap Some same) in
+            let differs : last ≢ line =
+            λ same. other (slice_get-get_or lines (length lines - 1) 0 (omega arith) ∙ ap Some same) in
             omega (arith, below, differs));
         sound = All-push (HasConflictBelow network value (limit + 1)) lines line
-            (All-weaker (HasConflictBelow network value limit) (HasConflictBelow network value (limit + 1)) (below_next limit) lines are.sound)
+            (still_sound limit lines are.sound)
             (record { cell = limit; number = number; here = omega arith; origin = origin; contradictory = contradictory });
         complete = λ l has. elim (which_below limit l has) [
           | inl old ↦ Contains-append_left lines (line ∷ []) l (are.complete l old)
           | inr new ↦
-              subst (Contains (lines ++ line ∷ [])) (same_line line number l new.0 (sym origin ∙ new.1)) (Contains-push lines line)
+              subst (Contains (lines ++ line ∷ [])) (same_line line number l new.0 (sym origin ∙ new.1))
+                  (Contains-push lines line)
         ];
       })
 
@@ -231,16 +270,28 @@ module _ (network : Network) (value : ℕ → Info) where
   all_lines lines are line = (
     λ has.
         let found = All-contains (HasConflictBelow network value (cells_in network)) lines line are.sound has in
-        record { cell = found.cell; number = found.number; here = found.here; origin = found.origin; contradictory = found.contradictory },
-    λ has. are.complete line
-        (record { cell = has.cell; number = has.number; here = has.here; origin = has.origin; contradictory = has.contradictory }),
+        record {
+          cell = found.cell;
+          number = found.number;
+          here = found.here;
+          origin = found.origin;
+          contradictory = found.contradictory;
+        },
+    λ has. are.complete line (record {
+      cell = has.cell;
+      number = has.number;
+      here = has.here;
+      origin = has.origin;
+      contradictory = has.contradictory;
+    }),
   )
 
 -- ---- the values of the cells are all that counts
 
 -- where two say the same of the cells below a number, the same of them pass
-same_passing : (f g : ℕ → Info) (from n limit : ℕ) → from + n ≤ limit → ((cell : ℕ) → cell < limit → f cell ≡ g cell) →
-    filter (λ cell. is_contradiction (f cell)) (range_with_len from n) ≡ filter (λ cell. is_contradiction (g cell)) (range_with_len from n)
+pub same_passing : (f g : ℕ → Info) (from n limit : ℕ) → from + n ≤ limit → ((cell : ℕ) → cell < limit → f cell ≡ g cell) →
+    filter (λ cell. is_contradiction (f cell)) (range_with_len from n)
+    ≡ filter (λ cell. is_contradiction (g cell)) (range_with_len from n)
 same_passing f g from zero limit most same = refl
 same_passing f g from (suc n) limit most same =
     let rest = same_passing f g (from + 1) n limit (omega arith) same in
@@ -258,8 +309,8 @@ same_conflict network f g line same has =
     }
 
 -- where two say the same of each cell of the network, the conflicts by the one are those by the other
-pub conflicts_same : (network : Network) (f g : ℕ → Info) (conflicts : Conflicts) → ((cell : ℕ) → cell < cells_in network → f cell ≡ g cell) →
-    AreConflicts network f conflicts → AreConflicts network g conflicts
+pub conflicts_same : (network : Network) (f g : ℕ → Info) (conflicts : Conflicts) →
+    ((cell : ℕ) → cell < cells_in network → f cell ≡ g cell) → AreConflicts network f conflicts → AreConflicts network g conflicts
 conflicts_same network f g conflicts same are =
     record {
       cells = are.cells ∙ same_passing f g 0 (length network.declared.cells) (cells_in network) (omega arith) same;

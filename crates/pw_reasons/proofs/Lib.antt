@@ -1,4 +1,2 @@
 pub mod ConflictLemmas
-pub mod ReasonLemmas
 pub mod SameInfoLemmas
-pub mod ValueGrows

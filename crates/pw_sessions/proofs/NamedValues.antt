@@ -144,7 +144,7 @@ module _ (d : Declared) (entries : List Entry) (network : Network) (named : IsNa
       (visible_stay d entries network named w))
 
   -- what settles at a cell follows at its name from what the visible entries say, with what is told in one piece
-  value_by_number : (cell : ℕ) → cell < cells_in network → values.value_in network store w cell ≡
+  pub value_by_number : (cell : ℕ) → cell < cells_in network → values.value_in network store w cell ≡
       fixpoint (named_cells d entries) (names_after d entries)
       (told_in_one (names_after d entries) told_named (sources_after d (visible_in entries w))) (name_in network cell)
   value_by_number cell here =

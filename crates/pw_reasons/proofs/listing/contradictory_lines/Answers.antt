@@ -31,8 +31,9 @@ loop-cell-preserved g c =
     elim c.if-is_contradiction.branch [
       | then-is_contradiction+in-Some+then-ne+in_ok-push w ↦
           let other : slice_get lines (length lines - 1) ≡ Some w.in-Some.line → ⊥ = λ same. search rules in
-          let pushed : c.if-is_contradiction.lines.items ≡ lines ++ w.in-Some.line ∷ [] = rw w.lines-is w.in_ok-push.ensures.items in
-          line_more network value w.inner.ensures.order cell lines c.if-is_contradiction.lines.items w.in-Some.line w.in-Some.field-0-1 c.loop-cell.invariant
+          let after : List ℕ = c.if-is_contradiction.lines.items in
+          let pushed : after ≡ lines ++ w.in-Some.line ∷ [] = rw w.lines-is w.in_ok-push.ensures.items in
+          line_more network value w.inner.ensures.order cell lines after w.in-Some.line w.in-Some.field-0-1 c.loop-cell.invariant
           (sym w.in-Some.ensures.origin) (sym says ∙ w.if-is_contradiction.true) other pushed
       | else-is_contradiction w ↦
           subst (AreLinesBelow network value (cell + 1)) (ap (λ v. v.items) (sym w.lines-is))
@@ -45,7 +46,8 @@ loop-cell-preserved g c =
             | else-is_contradiction-via-then-is_contradiction+in-Some+else-ne v ↦
                 λ line number origin contradictory.
                 let last : slice_get lines (length lines - 1) ≡ Some v.in-Some.line = search rules in
-                among_lines network cell lines (length lines - 1) v.in-Some.line v.in-Some.field-0-1 line number last v.in-Some.ensures.origin origin
+                among_lines network cell lines (length lines - 1) v.in-Some.line v.in-Some.field-0-1 line number last
+                v.in-Some.ensures.origin origin
           ]))
     ]
 
