@@ -1,2 +1,4 @@
 pub mod ConflictLemmas
+pub mod ReasonLemmas
 pub mod SameInfoLemmas
+pub mod ValueGrows

@@ -6,6 +6,7 @@ pub mod CarriedCommands
 pub mod EntriesRise
 pub mod EntryLemmas
 pub mod FurtherLines
+pub mod GrowingValues
 pub mod ListMembers
 pub mod NameMembers
 pub mod NamedConflicts
