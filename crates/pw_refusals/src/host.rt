@@ -4,6 +4,7 @@ ghost use Rattle.std.specs.Prelude.{◌≡◌, IfSome};
 ghost use Rattle.std.specs.FinSet.{empty};
 ghost use Rattle.pw_decl.specs.Fields.{declared_by};
 ghost use Rattle.pw_refusals.specs.Host.{AreReplies, IsOfDeclared};
+ghost use Rattle.pw_sessions.specs.Reply.{reply_by};
 
 use pw_decl::{Callable, Declaration};
 use pw_facts::Fact;
@@ -119,10 +120,10 @@ pub fn asked_by_two<A: Allocator + Copy>(
     alloc: A,
     declaration: &Declaration<'_, A>,
     matter: &Matter,
-) -> Option<(Reply, Reply)>
+) -> Option<(Reply<A>, Reply<A>)>
     requires { IsOfDeclared (declared_by declaration.now) matter.now }
-    ensures { IfSome result (λ replies.
-        AreReplies (declared_by declaration.now) matter.now replies.0 replies.1) }
+    ensures { IfSome result (λ replies. AreReplies (declared_by declaration.now) matter.now
+        (reply_by replies.0) (reply_by replies.1)) }
 {
     let Ok(network) = Network::new(alloc, declaration) else {
         return None;

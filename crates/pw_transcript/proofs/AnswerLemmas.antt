@@ -1,8 +1,12 @@
 -- What a line that is held, or too long to be held, comes to.
-use Rattle.std.proofs.Common.{◌≡◌, ℕ, ◌+◌, ◌<◌, ◌≤◌, nat_le, true, false, List, [], ◌∷◌, ◌++◌, length, Option, Some, None, refl, sym, ap, ◌∙◌, subst, inl, inr, append-nil, length-append, arith}
-use Rattle.std.specs.Prelude.{is_some}
+use Rattle.std.proofs.Common.{◌≡◌, ℕ, ◌+◌, ◌<◌, ◌≤◌, nat_le, Bool, true, false, List, [], ◌∷◌, ◌++◌, length, Option, Some, None, refl, sym, ap, ◌∙◌, subst, inl, inr, append-nil, length-append, arith}
+use Rattle.std.specs.Prelude.{All, filter, is_some}
+use Rattle.std.specs.List.{range_with_len}
 use Rattle.std.proofs.lemmas.Bool.{cases_Bool, leb-false}
+use Rattle.std.proofs.lemmas.List.Elements.{All-filter}
+use Rattle.std.proofs.lemmas.List.FromFn.{get_or-range_with_len, length-range_with_len}
 use Rattle.pw_info.specs.declared.kind.Kind.TheVariants as kinds
+use Rattle.pw_info.specs.Information.{kind_of}
 use Rattle.pw_info.specs.SetNames.{IsNamed}
 use Rattle.pw_decl.specs.Declaration.{Declared, members_of}
 use Rattle.pw_decl.specs.WellDeclared.{IsWellDeclared}
@@ -12,7 +16,8 @@ use Rattle.pw_sessions.specs.Reply.{Reply}
 use Rattle.pw_sessions.specs.Reply as reply
 use Rattle.pw_sessions.specs.declared.reply.Refusal.{Refusal}
 use Rattle.pw_sessions.specs.declared.reply.Refusal.TheVariants as refusal
-use Rattle.pw_sessions.specs.Answer.{answer_to, reply_to, sources_after, user_of, visible_in}
+use Rattle.pw_reasons.specs.SameInfo.{is_contradiction}
+use Rattle.pw_sessions.specs.Answer.{answer_to, reply_to, sources_after, user_of, value_in, visible_in}
 use Rattle.pw_sessions.specs.Beliefs.{beliefs_at}
 use Rattle.pw_sessions.specs.Carrying.{CanBeCarriedOut, CarriesOut}
 use Rattle.pw_premises.specs.Premises.{Premises}
@@ -44,6 +49,14 @@ held_some held line e = elim (cases_Bool (nat_le (length line) 1024)) [
   | inl short ↦ let some : Some held ≡ Some line = rw short at e in cc
   | inr long ↦ let some : Some held ≡ None = rw long at e in absurd (cc)
 ]
+
+-- numbers that are listed below another are below it
+listed_below : (keeps : ℕ → Bool) (most : ℕ) → All (λ n. n < most) (filter keeps (range_with_len 0 most))
+listed_below keeps most =
+    All-filter keeps (λ n. n < most) (range_with_len 0 most)
+    (λ k d within.
+    let below : k < most = omega (arith, within, length-range_with_len 0 most) in
+    omega (arith, below, get_or-range_with_len 0 most k d below))
 
 -- with one line more the next number is the next line's
 one_more : (before : List LineReading) (reading : LineReading) (number : ℕ) → length before + 1 ≡ number → length (before ++ reading ∷ []) + 1 ≡ number + 1
@@ -121,13 +134,19 @@ module _ (d : Declared) (well : IsWellDeclared d) where
           names = IsDeclared-from_Reads d line command reads;
         }
 
+    -- the value of a declared cell has its names
+    named_value : (entries : List Entry) (cell : ℕ) → cell < length d.cells → IsNamed (members_of d) (kind_of (value_in d entries cell))
+    named_value entries cell below =
+        subst (IsNamed (members_of d))
+        (sym (kind-fixpoint (named_cells d entries) (names_after d entries) (sources_after d entries) (DeclaredCell cell)))
+        (well.known cell kinds.Interval (omega (arith, below, well.kinds)))
+
     -- what the command is answered with has its names
     named_answer : (entries : List Entry) (beliefs : Premises) (command : Command) → IsDeclared d (Says command) →
         IsReplyNamed d (answer_to d entries beliefs command)
-    named_answer entries beliefs (commands.Ask user cell) named =
-        subst (IsNamed (members_of d))
-        (sym (kind-fixpoint (named_cells d (visible_in entries beliefs)) (names_after d (visible_in entries beliefs)) (sources_after d (visible_in entries beliefs)) (DeclaredCell cell)))
-        (well.known cell kinds.Interval (omega (arith, named.1, well.kinds)))
+    named_answer entries beliefs (commands.Ask user cell) named = named_value (visible_in entries beliefs) cell named.1
+    named_answer entries beliefs (commands.Why user cell) named = named_value (visible_in entries beliefs) cell named.1
+    named_answer entries beliefs (commands.Conflicts user) named = listed_below (λ cell. is_contradiction (value_in d (visible_in entries beliefs) cell)) (length d.cells)
     named_answer entries beliefs (commands.Tell user cell fact) named = tt
     named_answer entries beliefs (commands.Attach user callable cells support) named = tt
     named_answer entries beliefs (commands.Believe user premises) named = tt

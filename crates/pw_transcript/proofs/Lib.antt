@@ -7,5 +7,6 @@ pub mod PremiseLists
 pub mod PremiseTexts
 pub mod ReadingLemmas
 pub mod ReplyLemmas
+pub mod RowTexts
 pub mod RunLemmas
 pub mod SentenceLemmas

@@ -32,7 +32,7 @@ first_parts n more =
     range_parts 0 n more ∙ ap (λ from. range_with_len 0 n ++ range_with_len from more) here
 
 -- names of which the last is this one are written with it at the end
-with_name : (names : List (List ℕ)) (name : List ℕ) → flat_map after_space (names ++ name ∷ []) ≡ flat_map after_space names ++ after_space name
+pub with_name : (names : List (List ℕ)) (name : List ℕ) → flat_map after_space (names ++ name ∷ []) ≡ flat_map after_space names ++ after_space name
 with_name names name =
     flat_map-append after_space names (name ∷ []) ∙ ap (λ l. flat_map after_space names ++ l) (append-nil (after_space name))
 

@@ -16,7 +16,7 @@ use Rattle.pw_info.specs.First.{IsFirstIn, HoldsOfNone}
 use Rattle.pw_decl.specs.declared.step.Callable.{Callable}
 use Rattle.pw_decl.specs.Declaration.{Declared, kind_at, members_of}
 use Rattle.pw_decl.specs.WellDeclared.{IsWellDeclared}
-use Rattle.pw_transcript.specs.Sentence.{Said, Tell, Attach, Believe, Doubt, Beliefs, Ask, Other, Sentence}
+use Rattle.pw_transcript.specs.Sentence.{Said, Tell, Attach, Believe, Doubt, Beliefs, Ask, Why, Conflicts, Other, Sentence}
 use Rattle.pw_transcript.specs.Steps.Forms.{sentence_form}
 use Rattle.pw_info.specs.Words.{words_of, is_idle, is_allowed}
 use Rattle.pw_transcript.specs.Reading.{premises_of, cells_named, MeansFor, Means, HasAnothersPremise, RefusalAppliesTo, IsRefusedWith, sentence_refusals, SaysSentence, RefusalAppliesToLine, RefusalApplies, line_refusals, Reads}
@@ -56,6 +56,8 @@ one_meaning_for d user (Believe premises) a b limits e e' = e ∙ sym e'
 one_meaning_for d user (Doubt premises) a b limits e e' = e ∙ sym e'
 one_meaning_for d user Beliefs a b limits e e' = e ∙ sym e'
 one_meaning_for d user (Ask cell) a b limits (c, at_c, e) (c', at_c', e') = e ∙ ap (λ x. commands.Ask user x) (one_place _ c c' at_c at_c') ∙ sym e'
+one_meaning_for d user (Why cell) a b limits (c, at_c, e) (c', at_c', e') = e ∙ ap (λ x. commands.Why user x) (one_place _ c c' at_c at_c') ∙ sym e'
+one_meaning_for d user Conflicts a b limits e e' = e ∙ sym e'
 one_meaning_for d user Other a b limits p q = absurd p
 
 -- a sentence means one command

@@ -5,7 +5,7 @@ use Rattle.pw_sessions.specs.declared.command.Command.{Command}
 use Rattle.pw_sessions.specs.Reply.{Reply}
 use Rattle.pw_sessions.specs.declared.reply.Refusal.TheVariants as refusal
 use Rattle.pw_decl.specs.Declaration.{Declared}
-use Rattle.pw_transcript.specs.Sentence.{Said, Tell, Attach, Believe, Doubt, Beliefs, Ask, Other}
+use Rattle.pw_transcript.specs.Sentence.{Said, Tell, Attach, Believe, Doubt, Beliefs, Ask, Why, Conflicts, Other}
 use Rattle.pw_transcript.specs.Reading.{MeansFor, Reads}
 use Rattle.pw_sessions.specs.LineReading.{LineReading, Refused, Says}
 use Rattle.pw_sessions.specs.Answer.{user_of, reply_to, replies_of}
@@ -129,6 +129,8 @@ module _ (d : Declared) where
   MeansFor-cell user (Doubt words) command is = rw is (refl, tt)
   MeansFor-cell user Beliefs command is = rw is (refl, tt)
   MeansFor-cell user (Ask cell_word) command (cell, at_cell, is) = rw is (refl, place_of_name-lt d.cells cell_word cell at_cell)
+  MeansFor-cell user (Why cell_word) command (cell, at_cell, is) = rw is (refl, place_of_name-lt d.cells cell_word cell at_cell)
+  MeansFor-cell user Conflicts command is = rw is (refl, tt)
   MeansFor-cell user Other command means = absurd means
 
   -- a line that says a command names what is declared

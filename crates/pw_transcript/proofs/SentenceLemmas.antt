@@ -3,9 +3,10 @@ use Rattle.std.proofs.Common.{◌≡◌, ◌≢◌, ℕ, ◌<◌, true, false, L
 use Rattle.std.specs.Prelude.{option_map, codes}
 use Rattle.std.proofs.lemmas.Bool.{cases_Bool, false≢true}
 use Rattle.std.proofs.lemmas.Slice.Eq.{bytes_eq-Decides}
+use Rattle.std.specs.List.{AllByRecursion}
 use Rattle.std.specs.Str.{bytes_eq}
-use Rattle.pw_transcript.specs.Sentence.{Said, Tell, Attach, Believe, Doubt, Beliefs, Ask, Other, Sentence, NamesNoCommand, IsUnder, AreNoUnder, IsSaid, IsSentence}
-use Rattle.pw_transcript.specs.Steps.Forms.{under_form, tell_form, before_under, from_under, attach_form, premises_form, beliefs_form, ask_form, said_form, sentence_by, sentence_form}
+use Rattle.pw_transcript.specs.Sentence.{Said, Tell, Attach, Believe, Doubt, Beliefs, Ask, Why, Conflicts, Other, Sentence, command_names, NamesNoCommand, IsUnder, AreNoUnder, IsSaid, IsSentence}
+use Rattle.pw_transcript.specs.Steps.Forms.{under_form, tell_form, before_under, from_under, attach_form, premises_form, bare_form, cell_form, said_form, sentence_by, sentence_form}
 
 -- words that differ are found to differ
 differ : (a b : List ℕ) → a ≢ b → bytes_eq a b ≡ false
@@ -17,6 +18,11 @@ differ a b apart = elim (cases_Bool (bytes_eq a b)) [
 -- words that are found to differ do
 apart : (a b : List ℕ) → bytes_eq a b ≡ false → a ≢ b
 apart a b other same = false≢true (sym other ∙ (bytes_eq-Decides a b).1 same)
+
+-- a word that is found to differ from all of these is none of them
+none_of : (word : List ℕ) (names : List (List ℕ)) → AllByRecursion (λ name. bytes_eq word name ≡ false) names → AllByRecursion (λ name. word ≢ name) names
+none_of word [] none = tt
+none_of word (name ∷ names) none = (apart word name none.0, none_of word names none.1)
 
 -- ---- the cells of an attach, and what comes after them
 
@@ -74,7 +80,7 @@ after_user [] = None
 after_user (name ∷ rest) = said_form name rest
 
 other_form : (name : List ℕ) (rest : List (List ℕ)) → NamesNoCommand name → said_form name rest ≡ Some Other
-other_form name rest (no_tell, (no_attach, (no_believe, (no_doubt, (no_beliefs, (no_ask, none)))))) =
+other_form name rest (no_tell, (no_attach, (no_believe, (no_doubt, (no_beliefs, (no_ask, (no_why, (no_conflicts, none)))))))) =
     rw (
       differ name (codes "tell") no_tell,
       differ name (codes "attach") no_attach,
@@ -82,6 +88,8 @@ other_form name rest (no_tell, (no_attach, (no_believe, (no_doubt, (no_beliefs, 
       differ name (codes "doubt") no_doubt,
       differ name (codes "beliefs") no_beliefs,
       differ name (codes "ask") no_ask,
+      differ name (codes "why") no_why,
+      differ name (codes "conflicts") no_conflicts,
     ) refl
 
 given_said : (words : List (List ℕ)) (said : Said) → IsSaid words said → after_user words ≡ Some said
@@ -91,6 +99,8 @@ given_said words (Believe premises) is = search rules
 given_said words (Doubt premises) is = search rules
 given_said words Beliefs is = search rules
 given_said words (Ask cell) is = search rules
+given_said words (Why cell) is = search rules
+given_said words Conflicts is = search rules
 given_said words Other (word, rest, is, none) = ap after_user is ∙ other_form word rest none
 
 form_after : (user : List ℕ) (rest : List (List ℕ)) → sentence_form (user ∷ rest) ≡ option_map (sentence_by user) (after_user rest)
@@ -129,11 +139,17 @@ found_believe rest said is = search rules
 found_doubt : (rest : List (List ℕ)) (said : Said) → premises_form Doubt rest ≡ Some said → IsSaid (codes "doubt" ∷ rest) said
 found_doubt rest said is = search rules
 
-found_beliefs : (rest : List (List ℕ)) (said : Said) → beliefs_form rest ≡ Some said → IsSaid (codes "beliefs" ∷ rest) said
+found_beliefs : (rest : List (List ℕ)) (said : Said) → bare_form Beliefs rest ≡ Some said → IsSaid (codes "beliefs" ∷ rest) said
 found_beliefs rest said is = search rules
 
-found_ask : (rest : List (List ℕ)) (said : Said) → ask_form rest ≡ Some said → IsSaid (codes "ask" ∷ rest) said
+found_ask : (rest : List (List ℕ)) (said : Said) → cell_form Ask rest ≡ Some said → IsSaid (codes "ask" ∷ rest) said
 found_ask rest said is = search rules
+
+found_why : (rest : List (List ℕ)) (said : Said) → cell_form Why rest ≡ Some said → IsSaid (codes "why" ∷ rest) said
+found_why rest said is = search rules
+
+found_conflicts : (rest : List (List ℕ)) (said : Said) → bare_form Conflicts rest ≡ Some said → IsSaid (codes "conflicts" ∷ rest) said
+found_conflicts rest said is = search rules
 
 -- a command that is found by its name
 named : (name word : List ℕ) (rest : List (List ℕ)) (said : Said) → bytes_eq name word ≡ true → IsSaid (word ∷ rest) said → IsSaid (name ∷ rest) said
@@ -153,24 +169,21 @@ found_said name rest said is = elim (cases_Bool (bytes_eq name (codes "tell"))) 
           | inr no_beliefs ↦ elim (cases_Bool (bytes_eq name (codes "ask"))) [
             | inl same ↦ named name (codes "ask") rest said same
                 (found_ask rest said (rw (no_tell, no_attach, no_believe, no_doubt, no_beliefs, same) at is))
-            | inr no_ask ↦
-                let other : Some Other ≡ Some said = rw (no_tell, no_attach, no_believe, no_doubt, no_beliefs, no_ask) at is in
-                let same : Other ≡ said = cc in
-                subst (IsSaid (name ∷ rest)) same (
-                  name,
-                  rest,
-                  refl,
-                  (
-                    apart name (codes "tell") no_tell,
-                    (
-                      apart name (codes "attach") no_attach,
-                      (
-                        apart name (codes "believe") no_believe,
-                        (apart name (codes "doubt") no_doubt, (apart name (codes "beliefs") no_beliefs, (apart name (codes "ask") no_ask, tt))),
-                      ),
-                    ),
-                  ),
-                )
+            | inr no_ask ↦ elim (cases_Bool (bytes_eq name (codes "why"))) [
+              | inl same ↦ named name (codes "why") rest said same
+                  (found_why rest said (rw (no_tell, no_attach, no_believe, no_doubt, no_beliefs, no_ask, same) at is))
+              | inr no_why ↦ elim (cases_Bool (bytes_eq name (codes "conflicts"))) [
+                | inl same ↦ named name (codes "conflicts") rest said same
+                    (found_conflicts rest said (rw (no_tell, no_attach, no_believe, no_doubt, no_beliefs, no_ask, no_why, same) at is))
+                | inr no_conflicts ↦
+                    let other : Some Other ≡ Some said =
+                    rw (no_tell, no_attach, no_believe, no_doubt, no_beliefs, no_ask, no_why, no_conflicts) at is in
+                    let same : Other ≡ said = cc in
+                    let none = none_of name command_names
+                    (no_tell, (no_attach, (no_believe, (no_doubt, (no_beliefs, (no_ask, (no_why, (no_conflicts, tt)))))))) in
+                    subst (IsSaid (name ∷ rest)) same (name, rest, refl, none)
+              ]
+            ]
           ]
         ]
       ]

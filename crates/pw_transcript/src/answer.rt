@@ -1,9 +1,10 @@
 // The answer to one line.
 
-ghost use Rattle.std.specs.Prelude.{◌≡◌, ◌+◌, ◌≤◌, true, false, IfSome, IfOk, OnOk, OnErr};
+ghost use Rattle.std.specs.Prelude.{◌≡◌, ◌+◌, ◌≤◌, true, false, IfSome, IfOk, OnOk, OnErr, option_map};
 ghost use Rattle.std.specs.Option.{option_copied};
 ghost use Rattle.pw_decl.specs.Fields.{declared_by};
 ghost use Rattle.pw_sessions.specs.Fields.{workbench_by};
+ghost use Rattle.pw_sessions.specs.Reply.{reply_by};
 ghost use Rattle.pw_transcript.specs.Limits.{most_lines};
 ghost use Rattle.pw_transcript.specs.Steps.Answering.{IsLeft, RepliesToHeld, PassesHeldReply, FailsInHeldReply};
 ghost use Rattle.pw_transcript.specs.ReplyText.{IsReplyNamed};
@@ -21,12 +22,13 @@ fn reply_to_line<A: Allocator + Copy>(
     number: u32,
     line: Option<&[u8]>,
     workbench: &mut Workbench<'_, '_, A>,
-) -> Option<Reply>
+) -> Option<Reply<A>>
     requires left { IsLeft (declared_by declaration.now) number (workbench_by workbench.old) }
     requires most { number ≤ most_lines }
-    ensures named { IfSome result (λ reply. IsReplyNamed (declared_by declaration.now) reply) }
+    ensures named { IfSome result (λ reply.
+        IsReplyNamed (declared_by declaration.now) (reply_by reply)) }
     ensures reply { RepliesToHeld (declared_by declaration.now) number (option_copied line.entry)
-        (workbench_by workbench.old) (workbench_by workbench.new) result }
+        (workbench_by workbench.old) (workbench_by workbench.new) (option_map reply_by result) }
     ensures left { IsLeft (declared_by declaration.now) (number + 1) (workbench_by workbench.new) }
 {
     // Cells have kinds whose members are named.

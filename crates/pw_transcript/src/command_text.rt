@@ -1,11 +1,12 @@
 //! Reading a line of a transcript: its form first, then its names, in the order in which refusals are tried.
 
-ghost use Rattle.std.specs.Prelude.{◌≡◌, ◌<◌, length, true, false, Some, IfOk, IfErr, IfNone, IfSome, OnOk, OnErr};
+ghost use Rattle.std.specs.Prelude.{◌≡◌, ◌<◌, length, true, false, None, Some, IfOk, IfErr, IfNone, IfSome, OnOk, OnErr};
 ghost use Rattle.std.specs.List.{list_all};
+ghost use Rattle.pw_procs.specs.Place.{place_of_name};
 ghost use Rattle.pw_procs.specs.Shapes.{most_cells};
 ghost use Rattle.pw_decl.specs.Fields.{declared_by};
 ghost use Rattle.pw_sessions.specs.LineReading.{LineReading};
-ghost use Rattle.pw_transcript.specs.Sentence.{Tell, Attach, Ask};
+ghost use Rattle.pw_transcript.specs.Sentence.{Tell, Attach};
 ghost use Rattle.pw_transcript.specs.Steps.Forms.{HasCells, before_under, said_in, sentence_in};
 ghost use Rattle.pw_transcript.specs.Steps.Resolving.{IsFree, IsRefusedFor};
 ghost use Rattle.pw_transcript.specs.Reading.{MeansFor};
@@ -204,20 +205,19 @@ fn resolve_attach<A: Allocator + Copy>(
     })
 }
 
-// What a user asks for.
-fn resolve_ask<A: Allocator + Copy>(
+// The cell that a user asks about, or the refusal of a word that names none.
+fn asked_cell<A: Allocator + Copy>(
     declaration: &Declaration<'_, A>,
-    user: u8,
-    cell: &[u8],
-) -> Result<Command, Refusal>
-    ensures ok { IfOk result (λ command.
-        MeansFor (declared_by declaration.now) user (Ask cell.now) command) }
-    ensures none { OnOk result (IsFree (declared_by declaration.now) user (Ask cell.now)) }
-    ensures err { IfErr result (λ refusal.
-        IsRefusedFor (declared_by declaration.now) user (Ask cell.now) refusal) }
+    word: &[u8],
+) -> Result<u32, Refusal>
+    ensures ok { IfOk result (λ cell.
+        place_of_name (declared_by declaration.now).cells word.now ≡ Some cell) }
+    ensures unknown { OnErr result
+        (place_of_name (declared_by declaration.now).cells word.now ≡ None) }
+    ensures err { IfErr result (λ refusal. refusal ≡ Refusal.UnknownCell) }
 {
-    match declaration.cell(cell) {
-        Some(cell) => Ok(Command::Ask { user, cell }),
+    match declaration.cell(word) {
+        Some(cell) => Ok(cell),
         None => Err(Refusal::UnknownCell),
     }
 }
@@ -255,7 +255,15 @@ fn resolve_said<A: Allocator + Copy>(
             Err(refusal) => Err(refusal),
         },
         Said::Beliefs => Ok(Command::Beliefs { user }),
-        Said::Ask { cell } => resolve_ask(declaration, user, cell),
+        Said::Ask { cell } => match asked_cell(declaration, cell) {
+            Ok(cell) => Ok(Command::Ask { user, cell }),
+            Err(refusal) => Err(refusal),
+        },
+        Said::Why { cell } => match asked_cell(declaration, cell) {
+            Ok(cell) => Ok(Command::Why { user, cell }),
+            Err(refusal) => Err(refusal),
+        },
+        Said::Conflicts => Ok(Command::Conflicts { user }),
         Said::Other => Err(Refusal::UnknownCommand),
     }
 }

@@ -1,16 +1,23 @@
 //! Writing replies.
 
-ghost use Rattle.std.specs.Prelude.{◌≡◌, ◌++◌, codes};
+ghost use Rattle.std.specs.Prelude.{◌≡◌, ◌<◌, ◌++◌, All, codes, length, map};
 ghost use Rattle.std.specs.Fmt.{decimal};
+ghost use Rattle.std.specs.List.{flat_map};
+ghost use Rattle.pw_info.specs.Information.{kind_of};
 ghost use Rattle.pw_info.specs.Passing.{Writes};
+ghost use Rattle.pw_info.specs.SetNames.{IsNamed, name_at};
+ghost use Rattle.pw_info.specs.Text.{text_of_info};
+ghost use Rattle.pw_decl.specs.Declaration.{members_of};
 ghost use Rattle.pw_decl.specs.Fields.{declared_by};
-ghost use Rattle.pw_transcript.specs.ReplyText.{IsReplyNamed, after_space, premise_names, text_of_names};
+ghost use Rattle.pw_sessions.specs.Reply.{reply_by};
+ghost use Rattle.pw_transcript.specs.ReplyText.{IsReplyNamed, after_space, conflict_names, premise_names, text_of_names};
 ghost use Rattle.pw_transcript.specs.ReplyText.{text_of_refusal, text_of_answer, text_of_reply};
 
 use itoa::Buffer;
 use pw_decl::Declaration;
-use pw_info::{Failed, Output, put_all, write_info};
+use pw_info::{Failed, Info, Output, put_all, write_info};
 use pw_premises::PremiseSet;
+use pw_reasons::Conflicts;
 use pw_sessions::{Refusal, Reply};
 use std::alloc::Allocator;
 
@@ -74,34 +81,125 @@ fn write_premises<A: Allocator + Copy, O: Output>(
     }
 }
 
-// Writes what a user believes.
-fn write_beliefs<A: Allocator + Copy, O: Output>(
+// Writes a word, and then the names of the premises.
+#[tactic(auto, using(pw_info::proofs::PassingFacts::first_fails, pw_info::proofs::PassingFacts::second_writes))]
+fn write_word_and_premises<A: Allocator + Copy, O: Output>(
+    word: &[u8],
     premises: PremiseSet,
     declaration: &Declaration<'_, A>,
     output: &mut O,
 ) -> Result<(), Failed>
-    ensures { Writes O.passes O.has_failed output.old output.new result (codes "believes"
+    ensures { Writes O.passes O.has_failed output.old output.new result (word.now
         ++ text_of_names (premise_names (declared_by declaration.now) premises)) }
 {
-    put_all(output, b"believes")?;
+    put_all(output, word)?;
     write_premises(premises, declaration, output)
+}
+
+// Writes a value, and the premises that it needs.
+#[tactic(auto, using(pw_info::proofs::PassingFacts::first_fails, pw_info::proofs::PassingFacts::second_writes))]
+fn write_because<A: Allocator + Copy, O: Output>(
+    info: &Info,
+    reason: PremiseSet,
+    declaration: &Declaration<'_, A>,
+    output: &mut O,
+) -> Result<(), Failed>
+    requires named { IsNamed (members_of (declared_by declaration.now)) (kind_of info.now) }
+    ensures { Writes O.passes O.has_failed output.old output.new result
+        (text_of_info (members_of (declared_by declaration.now)) info.now ++ codes " because"
+        ++ text_of_names (premise_names (declared_by declaration.now) reason)) }
+{
+    write_info(info, declaration, output)?;
+    write_word_and_premises(b" because", reason, declaration, output)
+}
+
+// Writes the names of cells, each after a space.
+fn write_cells<A: Allocator + Copy, O: Output>(
+    cells: &[u32],
+    declaration: &Declaration<'_, A>,
+    output: &mut O,
+) -> Result<(), Failed>
+    requires { All (λ cell. cell < length (declared_by declaration.now).cells) cells.now }
+    ensures { Writes O.passes O.has_failed output.old output.new result
+        (flat_map after_space (map (name_at (declared_by declaration.now).cells) cells.now)) }
+{
+    for &cell in cells {
+        write_after_space(declaration.cell_name(cell), output)?;
+    }
+    Ok(())
+}
+
+// Writes ` line ` and the number of a line.
+fn write_line<O: Output>(line: u32, output: &mut O) -> Result<(), Failed>
+    ensures { Writes O.passes O.has_failed output.old output.new result
+        (after_space (codes "line " ++ decimal line)) }
+{
+    let mut digits = Buffer::new();
+    put_all(output, b" line ")?;
+    put_all(output, digits.format(line).as_bytes())
+}
+
+// Writes ` line ` and its number for each of these lines.
+fn write_lines<O: Output>(lines: &[u32], output: &mut O) -> Result<(), Failed>
+    ensures { Writes O.passes O.has_failed output.old output.new result
+        (flat_map after_space (map (λ line. codes "line " ++ decimal line) lines.now)) }
+{
+    for &line in lines {
+        write_line(line, output)?;
+    }
+    Ok(())
+}
+
+// Writes the names of what is contradictory, or that nothing is.
+fn write_conflict_names<A: Allocator + Copy, O: Output>(
+    conflicts: &Conflicts<A>,
+    declaration: &Declaration<'_, A>,
+    output: &mut O,
+) -> Result<(), Failed>
+    requires { All (λ cell. cell < length (declared_by declaration.now).cells) conflicts.now.cells }
+    ensures { Writes O.passes O.has_failed output.old output.new result
+        (text_of_names (conflict_names (declared_by declaration.now) conflicts.now)) }
+{
+    if conflicts.cells().is_empty() && conflicts.lines().is_empty() {
+        return put_all(output, b" none");
+    }
+    write_cells(conflicts.cells(), declaration, output)?;
+    write_lines(conflicts.lines(), output)
+}
+
+// Writes what is contradictory.
+fn write_conflicts<A: Allocator + Copy, O: Output>(
+    conflicts: &Conflicts<A>,
+    declaration: &Declaration<'_, A>,
+    output: &mut O,
+) -> Result<(), Failed>
+    requires { All (λ cell. cell < length (declared_by declaration.now).cells) conflicts.now.cells }
+    ensures { Writes O.passes O.has_failed output.old output.new result (codes "conflicts"
+        ++ text_of_names (conflict_names (declared_by declaration.now) conflicts.now)) }
+{
+    put_all(output, b"conflicts")?;
+    write_conflict_names(conflicts, declaration, output)
 }
 
 // Writes what a reply says.
 fn write_answer<A: Allocator + Copy, O: Output>(
-    reply: &Reply,
+    reply: &Reply<A>,
     declaration: &Declaration<'_, A>,
     output: &mut O,
 ) -> Result<(), Failed>
-    requires named { IsReplyNamed (declared_by declaration.now) reply.now }
+    requires named { IsReplyNamed (declared_by declaration.now) (reply_by reply.now) }
     ensures { Writes O.passes O.has_failed output.old output.new result (text_of_answer
-        (declared_by declaration.now) reply.now) }
+        (declared_by declaration.now) (reply_by reply.now)) }
 {
-    match *reply {
+    match reply {
         Reply::Done => put_all(output, b"ok"),
-        Reply::Value(info) => write_info(&info, declaration, output),
-        Reply::Believes(premises) => write_beliefs(premises, declaration, output),
-        Reply::Refused(refusal) => write_refusal(refusal, output),
+        Reply::Value(info) => write_info(info, declaration, output),
+        Reply::Because(info, reason) => write_because(info, *reason, declaration, output),
+        Reply::Listed(conflicts) => write_conflicts(conflicts, declaration, output),
+        Reply::Believes(premises) => {
+            write_word_and_premises(b"believes", *premises, declaration, output)
+        }
+        Reply::Refused(refusal) => write_refusal(*refusal, output),
     }
 }
 
@@ -119,13 +217,13 @@ fn write_line_number<O: Output>(line: u32, output: &mut O) -> Result<(), Failed>
 // Writes what a reply says, and a line feed.
 #[tactic(auto, using(pw_info::proofs::PassingFacts::first_fails, pw_info::proofs::PassingFacts::second_writes))]
 fn write_answer_line<A: Allocator + Copy, O: Output>(
-    reply: &Reply,
+    reply: &Reply<A>,
     declaration: &Declaration<'_, A>,
     output: &mut O,
 ) -> Result<(), Failed>
-    requires named { IsReplyNamed (declared_by declaration.now) reply.now }
+    requires named { IsReplyNamed (declared_by declaration.now) (reply_by reply.now) }
     ensures { Writes O.passes O.has_failed output.old output.new result (text_of_answer
-        (declared_by declaration.now) reply.now ++ codes "\n") }
+        (declared_by declaration.now) (reply_by reply.now) ++ codes "\n") }
 {
     write_answer(reply, declaration, output)?;
     put_all(output, b"\n")
@@ -136,13 +234,13 @@ fn write_answer_line<A: Allocator + Copy, O: Output>(
 #[tactic(auto, using(pw_info::proofs::PassingFacts::first_fails, pw_info::proofs::PassingFacts::second_writes))]
 pub fn write_reply<A: Allocator + Copy, O: Output>(
     line: u32,
-    reply: &Reply,
+    reply: &Reply<A>,
     declaration: &Declaration<'_, A>,
     output: &mut O,
 ) -> Result<(), Failed>
-    requires named { IsReplyNamed (declared_by declaration.now) reply.now }
+    requires named { IsReplyNamed (declared_by declaration.now) (reply_by reply.now) }
     ensures { Writes O.passes O.has_failed output.old output.new result (text_of_reply
-        (declared_by declaration.now) line reply.now) }
+        (declared_by declaration.now) line (reply_by reply.now)) }
 {
     write_line_number(line, output)?;
     write_answer_line(reply, declaration, output)

@@ -1,9 +1,11 @@
 //! The form of a command line: who speaks, and what the words of the command are there for.
 
-ghost use Rattle.std.specs.Prelude.{◌≡◌, ◌<◌, [], None, Some, length, MatchOption, option_map};
+ghost use Rattle.std.specs.Prelude.{◌≡◌, ◌<◌, ℕ, [], List, None, Some, length, MatchOption, option_map};
+ghost use Rattle.std.specs.Option.{option_copied};
 ghost use Rattle.pw_info.specs.Words.{words_of};
+ghost use Rattle.pw_transcript.specs.Sentence as spec;
 ghost use Rattle.pw_transcript.specs.Steps.Forms.{TakesCell, before_under, from_under, under_form};
-ghost use Rattle.pw_transcript.specs.Steps.Forms.{tell_form, attach_form, ask_form, said_form, sentence_form};
+ghost use Rattle.pw_transcript.specs.Steps.Forms.{tell_form, attach_form, bare_form, cell_form, said_form, sentence_form};
 ghost use Rattle.pw_transcript.specs.Steps.Forms.{said_in, sentence_in};
 
 use pw_info::Words;
@@ -39,6 +41,12 @@ pub enum Said<'a> {
     Ask {
         cell: &'a [u8],
     },
+    /// `why CELL`
+    Why {
+        cell: &'a [u8],
+    },
+    /// `conflicts`
+    Conflicts,
     /// A word that names no command, whatever follows it.
     Other,
 }
@@ -122,15 +130,26 @@ fn read_attach<'a>(mut rest: Words<'a>) -> Option<Said<'a>>
     })
 }
 
-// What follows `ask`.
-fn read_ask<'a>(mut rest: Words<'a>) -> Option<Said<'a>>
-    ensures { option_map said_in result ≡ ask_form rest.entry }
+// What a word says that nothing may follow, as `beliefs` and `conflicts`.
+fn read_bare<'a>(said: Said<'a>, rest: Words<'a>) -> Option<Said<'a>>
+    ensures { option_map said_in result ≡ bare_form (said_in said.entry) rest.entry }
+{
+    if !rest.is_empty() {
+        return None;
+    }
+    Some(said)
+}
+
+// The cell that follows `ask` and `why`, alone.
+fn read_cell<'a>(mut rest: Words<'a>) -> Option<&'a [u8]>
+    ensures { (says : List ℕ → spec.Said) →
+        option_map says (option_copied result) ≡ cell_form says rest.entry }
 {
     let cell = rest.next()?;
     if rest.next().is_some() {
         return None;
     }
-    Some(Said::Ask { cell })
+    Some(cell)
 }
 
 // What is said by a word, and the words after it.
@@ -152,12 +171,15 @@ fn read_said<'a>(name: &[u8], rest: Words<'a>) -> Option<Said<'a>>
         }
         Some(Said::Doubt { premises: rest })
     } else if name == b"beliefs".as_slice() {
-        if !rest.is_empty() {
-            return None;
-        }
-        Some(Said::Beliefs)
+        read_bare(Said::Beliefs, rest)
     } else if name == b"ask".as_slice() {
-        read_ask(rest)
+        let cell = read_cell(rest)?;
+        Some(Said::Ask { cell })
+    } else if name == b"why".as_slice() {
+        let cell = read_cell(rest)?;
+        Some(Said::Why { cell })
+    } else if name == b"conflicts".as_slice() {
+        read_bare(Said::Conflicts, rest)
     } else {
         Some(Said::Other)
     }

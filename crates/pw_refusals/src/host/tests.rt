@@ -46,8 +46,10 @@ fn two_users_of_a_library(rt: HostRuntime) -> Result<(), Fail> {
         interval,
     };
     let replies = over_procedures(rt.alloc(), SOUND, copying)??;
-    let nothing = Reply::Value(Info::of_interval(Interval::whole()));
-    let known = Reply::Value(Info::of_interval(interval));
-    assert_eq!(rt; replies, Some((nothing, known)));
+    let Some((Reply::Value(first), Reply::Value(second))) = replies else {
+        return Err("no values".into());
+    };
+    assert_eq!(rt; first, Info::of_interval(Interval::whole()));
+    assert_eq!(rt; second, Info::of_interval(interval));
     Ok(())
 }
