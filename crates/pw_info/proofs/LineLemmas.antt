@@ -1,8 +1,10 @@
 -- The lines of a text, by their relation, and as a reader finds them piece by piece.
-use Rattle.std.proofs.Common.{◌≡◌, ◌≢◌, ℕ, true, eqb, List, [], ◌∷◌, ◌++◌, refl, sym, ap, ◌∙◌, subst, append-nil, append_assoc, inl, inr}
+use Rattle.std.proofs.Common.{◌≡◌, ◌≢◌, ℕ, suc, ◌+◌, ◌-◌, ◌<◌, true, eqb, List, [], ◌∷◌, ◌++◌, length, take, drop, arith, refl, sym, ap, ◌∙◌, subst, append-nil, append_assoc, inl, inr}
 use Rattle.std.proofs.lemmas.Bool.{cases_Bool, eqb-true, eqb-false, ne_eqb}
-use Rattle.std.specs.List.{onto_first, AllByRecursion}
-use Rattle.pw_info.specs.Lines.{lines_of, HasNoEnd, text_of_lines, last_line, AreLines}
+use Rattle.std.proofs.Math.Numerals.{one-add}
+use Rattle.std.proofs.lemmas.List.{take_all, take_rest}
+use Rattle.std.specs.List.{prefix_len, onto_first, AllByRecursion}
+use Rattle.pw_info.specs.Lines.{is_of_line, lines_of, HasNoEnd, BeginsWithLine, text_of_lines, last_line, AreLines}
 
 -- ---- one byte more at the front
 
@@ -11,6 +13,39 @@ lines_of-end byte text ends = rw ends refl
 
 lines_of-more : (byte : ℕ) (text : List ℕ) → byte ≢ 10 → lines_of (byte ∷ text) ≡ onto_first byte (lines_of text)
 lines_of-more byte text more = rw (ne_eqb byte 10 more) refl
+
+-- ---- up to the first line feed
+
+-- No line feed stands before the first one.
+none_before : (text : List ℕ) → HasNoEnd (take (prefix_len is_of_line text) text)
+none_before [] = tt
+none_before (byte ∷ text) = elim (cases_Bool (eqb byte 10)) [
+  | inl ends ↦ rw ends tt
+  | inr more ↦ rw (more, one-add) (eqb-false byte 10 more, none_before text)
+]
+
+-- A text in which none is found has none.
+pub none_found : (text : List ℕ) → prefix_len is_of_line text ≡ length text → HasNoEnd text
+none_found text all = subst HasNoEnd (take_all (prefix_len is_of_line text) text (omega (arith, all))) (none_before text)
+
+-- Where one is found the text goes on with it.
+found_end : (text : List ℕ) → prefix_len is_of_line text < length text → text ≡ take (prefix_len is_of_line text) text ++ 10 ∷ drop (suc (prefix_len is_of_line text)) text
+found_end [] some = absurd (omega (arith, some))
+found_end (byte ∷ text) some = elim (cases_Bool (eqb byte 10)) [
+  | inl ends ↦ rw ends (ap (λ (first : ℕ). first ∷ text) (eqb-true byte 10 ends))
+  | inr more ↦
+      let later : suc (prefix_len is_of_line text) < suc (length text) = rw (more, one-add) at some in
+      rw (more, one-add) (ap (λ (rest : List ℕ). byte ∷ rest) (found_end text (omega (arith, later))))
+]
+
+pub begins_with_line : (text : List ℕ) (end : ℕ) → end ≡ prefix_len is_of_line text → end < length text →
+    BeginsWithLine text (take end text) (take (length text - (end + 1)) (drop (end + 1) text))
+begins_with_line text end is some =
+    let line : HasNoEnd (take end text) = subst (λ n. HasNoEnd (take n text)) (sym is) (none_before text) in
+    let all : text ≡ take end text ++ 10 ∷ drop (suc end) text =
+    subst (λ n. text ≡ take n text ++ 10 ∷ drop (suc n) text) (sym is) (found_end text (omega (arith, is, some))) in
+    let same : suc end ≡ end + 1 = omega arith in
+    (all ∙ ap (λ n. take end text ++ 10 ∷ drop n text) same ∙ ap (λ rest. take end text ++ 10 ∷ rest) (sym (take_rest text (end + 1))), line)
 
 -- ---- what a reader holds
 

@@ -3,6 +3,7 @@ pub mod Cut
 pub mod ExampleNames
 pub mod First
 pub mod Information
+pub mod Lanes
 pub mod Lines
 pub mod MemberReading
 pub mod MemberWriting

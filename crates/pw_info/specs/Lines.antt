@@ -1,5 +1,5 @@
 -- A text as lines: each ends before a line feed, and what comes after the last line feed is a line if it is not empty.
-use Rattle.std.specs.Prelude.{◌≡◌, ◌≢◌, ℕ, ◌==◌, List, [], ◌∷◌, ◌++◌, if◌then◌else◌}
+use Rattle.std.specs.Prelude.{◌≡◌, ◌≢◌, ℕ, ◌==◌, Bool, not, List, [], ◌∷◌, ◌++◌, if◌then◌else◌}
 use Rattle.std.specs.List.{onto_first, AllByRecursion, flat_map}
 use Rattle.pw_info.specs.Bytes.{line_feed}
 
@@ -7,6 +7,10 @@ use Rattle.pw_info.specs.Bytes.{line_feed}
 abbrev pub lines_of : List ℕ → List (List ℕ)
 lines_of [] = []
 lines_of (byte ∷ text) = if byte == line_feed then [] ∷ lines_of text else onto_first byte (lines_of text)
+
+-- a byte of a line: no line feed
+abbrev pub is_of_line : ℕ → Bool
+is_of_line byte = not (byte == line_feed)
 
 -- no line feed stands in these bytes
 abbrev pub HasNoEnd : List ℕ → Type 0

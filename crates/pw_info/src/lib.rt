@@ -3,6 +3,7 @@
 
 mod info;
 mod kind;
+mod lanes;
 pub mod laws;
 mod lines;
 mod member_text;

@@ -4,6 +4,7 @@ ghost use Rattle.std.specs.Prelude.{◌≡◌, ℕ, ◌∷◌, ◌↔◌, ◌≤
 ghost use Rattle.std.specs.List.{prefix_len, list_all};
 ghost use Rattle.pw_info.specs.Words as spec;
 
+use crate::lanes::{LANES, before_blank};
 use std::marker::Model;
 
 // A space, a tab or a carriage return.
@@ -83,12 +84,18 @@ fn word_len(bytes: &[u8]) -> usize
     ensures value { result ≡ prefix_len spec.is_plain bytes.now }
     ensures within { result ≤ length bytes.now }
 {
-    for (i, byte) in bytes.iter().enumerate() {
-        if is_blank(*byte) {
-            return i;
+    let mut end = 0;
+    while bytes.len() - end >= LANES {
+        let run = before_blank(bytes, end);
+        end += run;
+        if run < LANES {
+            return end;
         }
     }
-    bytes.len()
+    while end < bytes.len() && !is_blank(bytes[end]) {
+        end += 1;
+    }
+    end
 }
 
 // The first word, and what comes after it.
