@@ -260,7 +260,7 @@ module _ (network : Network) (value : ℕ → Info) where
           | inl old ↦ Contains-append_left lines (line ∷ []) l (are.complete l old)
           | inr new ↦
               subst (Contains (lines ++ line ∷ [])) (same_line line number l new.0 (sym origin ∙ new.1))
-                  (Contains-push lines line)
+              (Contains-push lines line)
         ];
       })
 

@@ -98,7 +98,13 @@ fn refused_lines_are_blank<R: Abort + AllocGlobal>(
     let mut faults = 0u32;
     for at in 1..100u64 {
         let (ample, refusing) = (Refusing::nth(rt.alloc(), 0), Refusing::nth(rt.alloc(), at));
-        let (answer, written) = outcome(rt.alloc(), &ample, &refusing, declaration, whole.as_str())?;
+        let (answer, written) = outcome(
+            rt.alloc(),
+            &ample,
+            &refusing,
+            declaration,
+            whole.as_str(),
+        )?;
         if answer == Err(RunFault::Memory) {
             assert_eq!(rt; written.as_str(), "", "at {at}");
             faults = faults.saturating_add(1);
@@ -107,7 +113,13 @@ fn refused_lines_are_blank<R: Abort + AllocGlobal>(
         assert!(rt; answer.is_ok(), "at {at}");
         let (rest, refused) = without_refusals(rt.alloc(), written.as_str())?;
         let blank = blanked(rt.alloc(), lines, refused)?;
-        let (_, ample) = outcome(rt.alloc(), rt.alloc(), rt.alloc(), declaration, blank.as_str())?;
+        let (_, ample) = outcome(
+            rt.alloc(),
+            rt.alloc(),
+            rt.alloc(),
+            declaration,
+            blank.as_str(),
+        )?;
         assert_eq!(rt; rest.as_str(), ample.as_str(), "at {at}");
         if refused == [false; 8] {
             assert!(rt; refusing.calls() < at, "at {at}");
@@ -131,9 +143,7 @@ fn an_attachment_refused_for_memory_counts_as_blank(rt: HostRuntime) -> Result<(
 }
 
 #[test]
-fn a_question_refused_for_memory_is_answered_when_asked_again(
-    rt: HostRuntime,
-) -> Result<(), Fail> {
+fn a_question_refused_for_memory_is_answered_when_asked_again(rt: HostRuntime) -> Result<(), Fail> {
     refused_lines_are_blank(&rt, APART, EXPLAINING)
 }
 
