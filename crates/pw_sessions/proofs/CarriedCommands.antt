@@ -1,19 +1,19 @@
 -- A command is carried out: what it leaves, and its reply, are those of its line from scratch.
-use Rattle.std.proofs.Common.{◌≡◌, ◌≢◌, ℕ, ◌+◌, ◌<◌, true, List, [], ◌∷◌, ◌++◌, length, set, Option, Some, refl, sym, ap, ◌∙◌, subst, inl, inr}
+use Rattle.std.proofs.Common.{◌≡◌, ℕ, ◌+◌, ◌<◌, true, List, [], ◌∷◌, ◌++◌, length, set, Option, Some, refl, sym, ap, ◌∙◌, subst, inl, inr}
 use Rattle.std.specs.FinSet.{union, difference}
 use Rattle.pw_info.specs.declared.info.Info.{Info}
-use Rattle.pw_info.specs.Information.{meet}
 use Rattle.pw_premises.specs.Premises.{Premises}
 use Rattle.pw_facts.specs.declared.fact.Fact.{Fact}
-use Rattle.pw_facts.specs.Facts.{shows}
 use Rattle.pw_procs.specs.declared.arguments.Arguments.{Arguments}
 use Rattle.pw_procs.specs.Arguments.{cells_of}
-use Rattle.pw_cells.specs.Cells.{Store, cell_at, kinds_of, told_in}
+use Rattle.pw_cells.specs.Cells.{Store}
 use Rattle.pw_decl.specs.declared.step.Callable.{Callable}
 use Rattle.pw_decl.specs.Declaration.{Declared}
 use Rattle.pw_decl.specs.WellDeclared.{IsWellDeclared}
+use Rattle.pw_network.specs.Network.{IsWellNetwork}
 use Rattle.pw_settle.specs.Values as settled
 use Rattle.pw_reasons.specs.Reason.{reason_of}
+use Rattle.pw_sessions.specs.declared.command.Command.{Command}
 use Rattle.pw_sessions.specs.declared.command.Command.TheVariants as commands
 use Rattle.pw_sessions.specs.Reply.{Reply}
 use Rattle.pw_sessions.specs.Reply as reply
@@ -23,27 +23,38 @@ use Rattle.pw_sessions.specs.Beliefs.{beliefs_at}
 use Rattle.pw_sessions.specs.Entries.{entries_before}
 use Rattle.pw_sessions.specs.LineReading.{LineReading, Refused, Says}
 use Rattle.pw_sessions.specs.NamesDeclared.{IsDeclared}
-use Rattle.pw_sessions.specs.Steps.{AnswersAsk, AnswersConflicts, AnswersWhy, IsAsBefore, IsAttached, is_written}
+use Rattle.pw_sessions.specs.Steps.{AnswersAsk, AnswersConflicts, AnswersWhy, IsAsBefore, IsAttached, OnlyKeepsMore, is_written}
 use Rattle.pw_sessions.specs.Workbench.{Workbench, IsLeftBy, IsCarriedOut, beliefs_in}
 use Rattle.pw_sessions.proofs.EntriesRise.{rise_before}
 use Rattle.pw_sessions.proofs.NamedConflicts.{conflicts_named}
 use Rattle.pw_sessions.proofs.NamedValues.{value_is}
-use Rattle.pw_sessions.proofs.WorkbenchLemmas.{left_as_before, left_attached, left_believed, left_same, left_told}
+use Rattle.pw_sessions.proofs.SoundStores.{TakesFact}
+use Rattle.pw_sessions.proofs.WorkbenchLemmas.{left_as_before, left_attached, left_believed, left_keeping, left_same, left_told}
 use Rattle.pw_sessions.proofs.WrittenCells.{written_is}
 
 module _ (d : Declared) (well : IsWellDeclared d) (readings : List LineReading) (old : Workbench) (left : IsLeftBy d readings old) where
+  -- what was answered stays so where only more is kept
+  pub carried_keeping : (new : Workbench) (command : Command) (answer : Reply) → OnlyKeepsMore old new → IsCarriedOut d readings command old answer →
+      IsCarriedOut d readings command new answer
+  carried_keeping new command answer keeps carried =
+      record {
+        reading = carried.reading;
+        became = carried.became;
+        left = left_keeping d well.kinds (readings ++ carried.reading ∷ []) old new keeps carried.left;
+        replied = carried.replied;
+      }
+
   -- ---- a tell
 
   -- a fact that the store took
-  pub carried_tell : (store : Store) (user cell : ℕ) (fact : Fact) → IsDeclared d (Says (commands.Tell user cell fact)) →
-      ((w : Premises) → told_in store cell w ≡ meet (told_in old.store cell w) (shows w fact)) →
-      ((c : ℕ) → c ≢ cell → cell_at store c ≡ cell_at old.store c) → kinds_of store ≡ kinds_of old.store →
+  pub carried_tell : (store : Store) (user cell : ℕ) (fact : Fact) → IsWellNetwork old.network →
+      IsDeclared d (Says (commands.Tell user cell fact)) → TakesFact cell fact old.store store →
       IsCarriedOut d readings (commands.Tell user cell fact) (record old { store = store }) reply.Done
-  carried_tell store user cell fact named gained others still =
+  carried_tell store user cell fact network named takes =
       record {
         reading = Says (commands.Tell user cell fact);
         became = inl refl;
-        left = left_told d well.kinds readings old store user cell fact left named.1 gained others still;
+        left = left_told d well.kinds readings old store user cell fact network left named.1 takes;
         replied = refl;
       }
 
@@ -61,13 +72,13 @@ module _ (d : Declared) (well : IsWellDeclared d) (readings : List LineReading) 
 
   -- a callable that was attached
   pub carried_attach : (new : Workbench) (user line : ℕ) (callable : Callable) (on : Arguments) (support : Premises) →
-      IsDeclared d (Says (commands.Attach user callable on support)) → length readings + 1 ≡ line → IsAttached old line callable (cells_of on) support new →
+      IsWellNetwork old.network → IsWellNetwork new.network → IsDeclared d (Says (commands.Attach user callable on support)) → length readings + 1 ≡ line → IsAttached old line callable (cells_of on) support new →
       IsCarriedOut d readings (commands.Attach user callable on support) new reply.Done
-  carried_attach new user line callable on support named at attached =
+  carried_attach new user line callable on support network wider named at attached =
       record {
         reading = Says (commands.Attach user callable on support);
         became = inl refl;
-        left = left_attached d well.kinds readings old new user callable on support left named
+        left = left_attached d well.kinds readings old new user callable on support network wider left named
             (subst (λ n. IsAttached old n callable (cells_of on) support new) (sym at) attached);
         replied = refl;
       }

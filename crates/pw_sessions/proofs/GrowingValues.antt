@@ -1,5 +1,5 @@
 -- More is known where more is believed.
-use Rattle.std.proofs.Common.{◌≡◌, ℕ, suc, ◌+◌, ◌<◌, Bool, true, List, [], ◌∷◌, ◌++◌, length, filter, get_or, refl, sym, ap, subst, ◌∙◌, All, Contains, arith}
+use Rattle.std.proofs.Common.{◌≡◌, ℕ, suc, ◌+◌, ◌<◌, true, List, [], ◌∷◌, ◌++◌, length, get_or, sym, subst, ◌∙◌, All, Contains, arith}
 use Rattle.std.specs.List.{flat_map}
 use Rattle.std.specs.FinSet.{is_subset}
 use Rattle.std.proofs.lemmas.List.Elements.{All-append, All-contains, All-contains_itself, All-cons, All-filter, All-nil, All-weaker, Contains-append_left, Contains-append_right, filter_passes}

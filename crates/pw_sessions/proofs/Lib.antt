@@ -18,6 +18,8 @@ pub mod NetworkKinds
 pub mod NetworkNames
 pub mod NextLines
 pub mod StoreLemmas
+pub mod WiderNetworks
+pub mod SoundStores
 pub mod WorkbenchLemmas
 pub mod WrittenCells
 pub mod WrittenLemmas

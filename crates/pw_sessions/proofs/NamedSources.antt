@@ -1,19 +1,16 @@
 -- What entries say of cells by name: the propagators are those of their instances, they fit the kinds, and all stays on the names.
-use Rattle.std.proofs.Common.{◌≡◌, ℕ, ◌<◌, List, [], ◌∷◌, ◌++◌, Option, Some, None, filter, length, map, get_or, refl, sym, ap, subst, ◌∙◌, arith, All, Contains}
+use Rattle.std.proofs.Common.{◌≡◌, ℕ, ◌<◌, List, [], ◌∷◌, ◌++◌, Option, Some, filter, length, map, get_or, refl, sym, ap, subst, ◌∙◌, arith, All, Contains}
 use Rattle.std.proofs.Math.Logic.{∥∥₁_map}
 use Rattle.std.specs.Prelude.{slice_get}
 use Rattle.std.specs.List.{cons_option, filter_map, flat_map, range_with_len}
-use Rattle.std.specs.Option.{option_map}
 use Rattle.std.proofs.lemmas.List.Elements.{All-cons, All-contains, All-head, All-map, All-nil, All-tail, All-weaker, filter-append, filter_map-append}
 use Rattle.std.proofs.lemmas.Simd.{map-map}
-use Rattle.std.proofs.lemmas.Option.{get_or_from_slice_get, same_Some, slice_get-get_or}
+use Rattle.std.proofs.lemmas.Option.{get_or_from_slice_get, slice_get-get_or}
 use Rattle.pw_info.specs.declared.kind.Kind.{Kind}
 use Rattle.pw_info.specs.declared.kind.Kind.TheVariants as kinds
-use Rattle.pw_procs.specs.Procedure.{Procedure}
-use Rattle.pw_procs.specs.Signature.{Accepts}
 use Rattle.pw_decl.specs.Compound.{AcceptsKinds, AreCompoundsAfter, kinds_at}
 use Rattle.pw_decl.specs.Declaration.{Declared, kind_at}
-use Rattle.pw_decl.specs.Expansion.{FitsCells, Instance, SpeaksOf, expansion_of, inner_kinds_of, renamed}
+use Rattle.pw_decl.specs.Expansion.{FitsCells, expansion_of, inner_kinds_of}
 use Rattle.pw_decl.proofs.ExpansionFits.{expansion_fits, expansion_speaks}
 use Rattle.pw_network.specs.Names.{DeclaredCell, InnerCellOf}
 use Rattle.pw_settle.specs.Sources as sources

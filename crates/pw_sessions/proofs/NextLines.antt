@@ -1,5 +1,5 @@
 -- The next line comes after the lines of all attachments.
-use Rattle.std.proofs.Common.{◌≡◌, ℕ, ◌+◌, ◌<◌, ◌≤◌, List, [], ◌∷◌, All, fold, length, sym, subst, arith}
+use Rattle.std.proofs.Common.{◌≡◌, ℕ, ◌+◌, ◌<◌, List, [], ◌∷◌, All, fold, length, sym, subst, arith}
 use Rattle.std.proofs.lemmas.List.Elements.{All-cons, All-nil, All-head, All-tail}
 use Rattle.pw_decl.specs.Declaration.{Declared}
 use Rattle.pw_network.specs.Network.{Network, bare, with_attached}

@@ -1,36 +1,61 @@
 -- What a workbench holds is what the lines leave from scratch, line after line.
-use Rattle.std.proofs.Common.{◌≡◌, ◌≢◌, ℕ, ◌+◌, ◌<◌, eqb, List, [], ◌∷◌, ◌++◌, length, get_or, set, map, replicate, refl, sym, ap, ◌∙◌, subst, inl, inr, append-nil, arith}
-use Rattle.std.specs.Prelude.{All, if◌then◌else◌}
-use Rattle.std.specs.FinSet.{empty}
-use Rattle.std.proofs.lemmas.Bool.{cases_Bool, eqb-true, eqb-false}
+use Rattle.std.proofs.Common.{◌≡◌, ◌≢◌, ℕ, ◌+◌, ◌<◌, eqb, Bool, true, false, List, [], ◌∷◌, ◌++◌, length, get_or, set, map, replicate, refl, sym, ap, ◌∙◌, subst, inl, inr, append-nil, arith}
+use Rattle.std.specs.Prelude.{All, ◌||◌, if◌then◌else◌, nat_eq}
+use Rattle.std.specs.FinSet.{contains, empty}
+use Rattle.std.proofs.lemmas.Bool.{cases_Bool, eqb-true, eqb-false, or_left}
 use Rattle.std.proofs.lemmas.List.{length-set, get_or-replicate, length-replicate, get_or-set_same, get_or-set_other, get_or_append_left}
 use Rattle.std.proofs.lemmas.List.Elements.{All-nil, All-push}
+use Rattle.std.proofs.lemmas.List.Folds.{list_any-append}
 use Rattle.std.proofs.lemmas.List.Sums.{fold_push}
+use Rattle.pw_kinds.proofs.Order.{both_true}
 use Rattle.pw_info.specs.declared.kind.Kind.{Kind}
 use Rattle.pw_info.specs.declared.kind.Kind.TheVariants as kinds
-use Rattle.pw_info.specs.Information.{kind_of, meet}
+use Rattle.pw_info.specs.Information.{kind_of}
 use Rattle.pw_premises.specs.Premises.{Premises}
 use Rattle.pw_facts.specs.declared.fact.Fact.{Fact}
-use Rattle.pw_facts.specs.Facts.{shows}
 use Rattle.pw_procs.specs.declared.arguments.Arguments.{Arguments}
 use Rattle.pw_procs.specs.Arguments.{cells_of}
-use Rattle.pw_cells.specs.Cells.{Cell, Store, cell_at, kind_in_store, kinds_of, new_cell, told_in}
+use Rattle.pw_cells.specs.Cells.{Cell, Store, kind_in_store, kinds_of, new_cell}
 use Rattle.pw_decl.specs.declared.step.Callable.{Callable}
 use Rattle.pw_decl.specs.Declaration.{Declared, kind_at}
 use Rattle.pw_decl.specs.Expansion.{inner_kinds_of}
-use Rattle.pw_network.specs.Network.{Network, bare, with_attached}
+use Rattle.pw_network.specs.Network.{IsWellNetwork, Network, bare, with_attached}
+use Rattle.pw_settle.specs.NumberTest.{nat_eq_decides}
+use Rattle.pw_settle.specs.Sound.{IsSound, RestsUpstream}
 use Rattle.pw_settle.specs.Values.{kinds_in}
 use Rattle.pw_sessions.specs.declared.command.Command.TheVariants as commands
 use Rattle.pw_sessions.specs.Beliefs.{premises_below, believed_after, beliefs_at}
 use Rattle.pw_sessions.specs.Entries.{Entry, Told, Attached, FitsDeclared, entries_of, entries_before}
 use Rattle.pw_sessions.specs.LineReading.{LineReading, Says}
 use Rattle.pw_sessions.specs.NamesDeclared.{IsDeclared}
-use Rattle.pw_sessions.specs.Steps.{IsAsBefore, IsAttached}
-use Rattle.pw_sessions.specs.Workbench.{Workbench, IsLeftBy, IsSetUpFor, WasTold, beliefs_in, network_after, with_entry}
+use Rattle.pw_sessions.specs.Steps.{IsAsBefore, IsAttached, OnlyKeepsMore}
+use Rattle.pw_sessions.specs.Workbench.{Workbench, IsLeftBy, IsSetUpFor, WasTold, beliefs_in, is_told_on, network_after, tells_on, with_entry}
 use Rattle.pw_sessions.proofs.EntriesRise.{rise_before}
 use Rattle.pw_sessions.proofs.FurtherLines.{entries_before-snoc, beliefs_at-snoc}
 use Rattle.pw_sessions.proofs.NetworkKinds.{kinds_with_attached}
+use Rattle.pw_sessions.proofs.SoundStores.{TakesFact, rests_attached, rests_new, rests_same, rests_told, sound_attached, sound_new, sound_same, sound_told}
+use Rattle.pw_sessions.proofs.WiderNetworks.{IsWider, wide_attached}
 use Rattle.pw_sessions.proofs.StoreLemmas.{TellsEntries, WasTold-from_tells, kind_found, kinds_added, tells_attached, tells_from_WasTold, tells_more, tells_of_new}
+
+-- ---- premises of tells
+
+-- what was told on a premise was so with more entries
+told_on_more : (entries more : List Entry) (cell premise : ℕ) → is_told_on entries cell premise ≡ true → is_told_on (entries ++ more) cell premise ≡ true
+told_on_more entries more cell premise told =
+    list_any-append (tells_on cell premise) entries more ∙ or_left (is_told_on entries cell premise) (is_told_on more cell premise) told
+
+-- a fact that was told last was told on each of its premises
+told_on_last : (entries : List Entry) (line cell : ℕ) (fact : Fact) (premise : ℕ) → contains fact.support premise ≡ true →
+    is_told_on (entries ++ Told line cell fact ∷ []) cell premise ≡ true
+told_on_last entries line cell fact premise one =
+    list_any-append (tells_on cell premise) entries (Told line cell fact ∷ [])
+    ∙ or_right (is_told_on entries cell premise) (is_told_on (Told line cell fact ∷ []) cell premise)
+    (or_left (tells_on cell premise (Told line cell fact)) false
+    (both_true (nat_eq cell cell) (contains fact.support premise) ((nat_eq_decides cell cell).1 refl) one))
+  where
+    or_right : (x y : Bool) → y ≡ true → (x || y) ≡ true
+    or_right true y is = refl
+    or_right false y is = is
 
 module _ (d : Declared) (many : length d.kinds ≡ length d.cells) where
   -- ---- before the first line
@@ -42,8 +67,12 @@ module _ (d : Declared) (many : length d.kinds ≡ length d.cells) where
       record {
         users = ap length believed ∙ length-replicate users (premises_below premises) ∙ all;
         declared = ap (λ (n : Network). n.declared) is;
-        kinds = ap (λ (cs : List Cell). map (λ (c : Cell). c.kind) cs) new ∙ kinds_added [] d.kinds ∙ sym (append-nil d.kinds) ∙ ap kinds_in (sym is);
+        kinds = kinds;
+        sound = sound_new bench.network bench.store d.kinds kinds new;
       }
+    where
+      kinds : kinds_of bench.store ≡ kinds_in bench.network
+      kinds = ap (λ (cs : List Cell). map (λ (c : Cell). c.kind) cs) new ∙ kinds_added [] d.kinds ∙ sym (append-nil d.kinds) ∙ ap kinds_in (sym is)
 
   -- where nothing was attached, nothing told, and each user believes every premise
   pub IsLeftBy-new : (bench : Workbench) (users premises : ℕ) → bench.network ≡ bare d → bench.store.cells ≡ map new_cell d.kinds →
@@ -55,6 +84,7 @@ module _ (d : Declared) (many : length d.kinds ≡ length d.cells) where
         fit = All-nil (FitsDeclared d);
         network = is;
         told = WasTold-from_tells d many [] tt bench.network bench.store is fits.kinds (tells_of_new d bench.network bench.store d.kinds new);
+        upstream = rests_new bench.network (is_told_on []) bench.store d.kinds new;
         beliefs = λ user below.
             ap (λ (bs : List Premises). get_or bs user empty) believed
             ∙ get_or-replicate users user (premises_below premises) empty (omega arith)
@@ -73,9 +103,10 @@ module _ (d : Declared) (many : length d.kinds ≡ length d.cells) where
   left_after : (readings : List LineReading) (reading : LineReading) (new : Workbench) (added : List Entry) →
       entries_of (length readings + 1) reading ≡ added → IsSetUpFor d new → All (FitsDeclared d) (entries_before readings ++ added) →
       new.network ≡ network_after d (entries_before readings ++ added) → TellsEntries d (entries_before readings ++ added) new.network new.store →
+      RestsUpstream new.network (is_told_on (entries_before readings ++ added)) new.store →
       ((user : ℕ) → user < length d.users → beliefs_in new user ≡ believed_after user (beliefs_at d user readings) reading) →
       IsLeftBy d (readings ++ reading ∷ []) new
-  left_after readings reading new added own fits fit is tells believed =
+  left_after readings reading new added own fits fit is tells rests believed =
       let all : entries_before readings ++ added ≡ entries_before (readings ++ reading ∷ []) =
       ap (λ (l : List Entry). entries_before readings ++ l) (sym own) ∙ sym (entries_before-snoc readings reading) in
       let same : new.network ≡ network_after d (entries_before (readings ++ reading ∷ [])) = is ∙ ap (network_after d) all in
@@ -86,6 +117,7 @@ module _ (d : Declared) (many : length d.kinds ≡ length d.cells) where
         told = WasTold-from_tells d many (entries_before (readings ++ reading ∷ [])) (rise_before (readings ++ reading ∷ []))
             new.network new.store same fits.kinds
             (subst (λ (es : List Entry). TellsEntries d es new.network new.store) all tells);
+        upstream = subst (λ (es : List Entry). RestsUpstream new.network (is_told_on es) new.store) all rests;
         beliefs = λ user below. believed user below ∙ sym (beliefs_at-snoc d user readings reading);
       }
 
@@ -98,9 +130,10 @@ module _ (d : Declared) (many : length d.kinds ≡ length d.cells) where
       let es : List Entry = entries_before readings in
       let same : es ≡ es ++ [] = sym (append-nil es) in
       left_after readings reading (record old { beliefs = beliefs }) [] none
-      (record { users = all; declared = left.set_up.declared; kinds = left.set_up.kinds })
+      (record { users = all; declared = left.set_up.declared; kinds = left.set_up.kinds; sound = left.set_up.sound })
       (subst (All (FitsDeclared d)) same left.fit) (left.network ∙ ap (network_after d) same)
-      (subst (λ (l : List Entry). TellsEntries d l old.network old.store) same (left_tells readings old left)) believed
+      (subst (λ (l : List Entry). TellsEntries d l old.network old.store) same (left_tells readings old left))
+      (subst (λ (l : List Entry). RestsUpstream old.network (is_told_on l) old.store) same left.upstream) believed
 
   -- a line that adds no entry and changes no beliefs
   pub left_same : (readings : List LineReading) (reading : LineReading) (old : Workbench) → IsLeftBy d readings old →
@@ -118,12 +151,35 @@ module _ (d : Declared) (many : length d.kinds ≡ length d.cells) where
           users = ap length still.beliefs ∙ left.set_up.users;
           declared = ap (λ (n : Network). n.declared) still.network ∙ left.set_up.declared;
           kinds = ap (λ (cs : List Cell). map (λ (c : Cell). c.kind) cs) still.cells_are ∙ left.set_up.kinds ∙ ap kinds_in (sym still.network);
+          sound = subst (λ (n : Network). IsSound n new.store) (sym still.network) (sound_same old.network old.store new.store still.cells_are left.set_up.sound);
         };
         fit = left.fit;
         network = still.network ∙ left.network;
         told = subst (λ (n : Network). WasTold d (entries_before readings) n new.store) (sym still.network)
             (subst (λ (cs : List Cell). WasTold d (entries_before readings) old.network (record { cells = cs; room = 0 })) (sym still.cells_are) left.told);
+        upstream = subst (λ (n : Network). RestsUpstream n (is_told_on (entries_before readings)) new.store) (sym still.network)
+            (rests_same old.network (is_told_on (entries_before readings)) (is_told_on (entries_before readings)) old.store new.store still.cells_are
+            (λ c p given. given) left.upstream);
         beliefs = λ user below. ap (λ (bs : List Premises). get_or bs user empty) still.beliefs ∙ left.beliefs user below;
+      }
+
+  -- and so is what only keeps more
+  pub left_keeping : (readings : List LineReading) (old new : Workbench) → OnlyKeepsMore old new → IsLeftBy d readings old → IsLeftBy d readings new
+  left_keeping readings old new keeps left =
+      record {
+        set_up = record {
+          users = ap length keeps.beliefs ∙ left.set_up.users;
+          declared = ap (λ (n : Network). n.declared) keeps.network ∙ left.set_up.declared;
+          kinds = keeps.grows.kinds ∙ left.set_up.kinds ∙ ap kinds_in (sym keeps.network);
+          sound = subst (λ (n : Network). IsSound n new.store) (sym keeps.network) (keeps.grows.sound left.set_up.sound);
+        };
+        fit = left.fit;
+        network = keeps.network ∙ left.network;
+        told = subst (λ (n : Network). WasTold d (entries_before readings) n new.store) (sym keeps.network)
+            (λ cell w below. keeps.grows.told cell w ∙ left.told cell w below);
+        upstream = subst (λ (n : Network). RestsUpstream n (is_told_on (entries_before readings)) new.store) (sym keeps.network)
+            (keeps.upstream (is_told_on (entries_before readings)) left.upstream);
+        beliefs = λ user below. ap (λ (bs : List Premises). get_or bs user empty) keeps.beliefs ∙ left.beliefs user below;
       }
 
   -- ---- a line that tells a fact
@@ -137,44 +193,56 @@ module _ (d : Declared) (many : length d.kinds ≡ length d.cells) where
       ∙ get_or_append_left d.kinds inner kinds.Interval cell (omega (arith, below, many))
 
   -- the line leaves the store with one fact more
-  pub left_told : (readings : List LineReading) (old : Workbench) (store : Store) (user cell : ℕ) (fact : Fact) → IsLeftBy d readings old →
-      (cell < length d.cells) × (kind_of fact.info ≡ kind_at d cell) →
-      ((w : Premises) → told_in store cell w ≡ meet (told_in old.store cell w) (shows w fact)) →
-      ((c : ℕ) → c ≢ cell → cell_at store c ≡ cell_at old.store c) → kinds_of store ≡ kinds_of old.store →
+  pub left_told : (readings : List LineReading) (old : Workbench) (store : Store) (user cell : ℕ) (fact : Fact) → IsWellNetwork old.network →
+      IsLeftBy d readings old → (cell < length d.cells) × (kind_of fact.info ≡ kind_at d cell) → TakesFact cell fact old.store store →
       IsLeftBy d (readings ++ Says (commands.Tell user cell fact) ∷ []) (record old { store = store })
-  left_told readings old store user cell fact left named gained others still =
+  left_told readings old store user cell fact network left named takes =
       let line : ℕ = length readings + 1 in
       let es : List Entry = entries_before readings in
       let entry : Entry = Told line cell fact in
       left_after readings (Says (commands.Tell user cell fact)) (record old { store = store }) (entry ∷ []) refl
-      (record { users = left.set_up.users; declared = left.set_up.declared; kinds = still ∙ left.set_up.kinds })
+      (record {
+        users = left.set_up.users;
+        declared = left.set_up.declared;
+        kinds = takes.kinds ∙ left.set_up.kinds;
+        sound = sound_told old.network network old.store store cell fact left.set_up.kinds kind takes.told takes.kept takes.others takes.kinds left.set_up.sound;
+      })
       (All-push (FitsDeclared d) es entry left.fit named)
       (left.network ∙ sym (fold_push with_entry (bare d) es entry))
       (tells_more d many es (rise_before readings) old.network old.store left.network left.set_up.kinds store line cell fact left.set_up.declared named.0
-      (named.1 ∙ sym (store_kind old cell left.set_up named.0)) gained others still (left_tells readings old left))
+      kind takes.told takes.others takes.kinds (left_tells readings old left))
+      (rests_told old.network (is_told_on es) (is_told_on (es ++ entry ∷ [])) (λ c p given. told_on_more es (entry ∷ []) c p given) old.store store cell fact
+      (λ p one. told_on_last es line cell fact p one) takes.assimilates takes.others left.upstream)
       left.beliefs
+    where
+      kind : kind_of fact.info ≡ kind_in_store old.store cell
+      kind = named.1 ∙ sym (store_kind old cell left.set_up named.0)
 
   -- ---- a line that attaches a callable
 
   -- the line leaves the network one attachment further, with its inner cells in the store
   pub left_attached : (readings : List LineReading) (old new : Workbench) (user : ℕ) (callable : Callable) (on : Arguments) (support : Premises) →
-      IsLeftBy d readings old → IsDeclared d (Says (commands.Attach user callable on support)) →
+      IsWellNetwork old.network → IsWellNetwork new.network → IsLeftBy d readings old → IsDeclared d (Says (commands.Attach user callable on support)) →
       IsAttached old (length readings + 1) callable (cells_of on) support new →
       IsLeftBy d (readings ++ Says (commands.Attach user callable on support) ∷ []) new
-  left_attached readings old new user callable on support left named attached =
+  left_attached readings old new user callable on support network wider left named attached =
       let line : ℕ = length readings + 1 in
       let es : List Entry = entries_before readings in
       let entry : Entry = Attached line callable (cells_of on) support in
       let made : Network = with_attached old.network line callable (cells_of on) support in
       let own : List Kind = inner_kinds_of old.network.declared.compounds callable in
       let store_of : List Cell → Store = λ cs. record { cells = cs; room = 0 } in
+      let fits : kinds_of new.store ≡ kinds_in new.network =
+      ap (λ (cs : List Cell). map (λ (c : Cell). c.kind) cs) attached.cells_are ∙ kinds_added old.store.cells own
+      ∙ ap (λ (ks : List Kind). ks ++ own) left.set_up.kinds
+      ∙ sym (kinds_with_attached old.network line callable (cells_of on) support) ∙ ap kinds_in (sym attached.network) in
+      let wide : IsWider old.network new.network = subst (IsWider old.network) (sym attached.network) (wide_attached old.network line callable (cells_of on) support) in
       left_after readings (Says (commands.Attach user callable on support)) new (entry ∷ []) refl
       (record {
         users = ap length attached.beliefs ∙ left.set_up.users;
         declared = ap (λ (n : Network). n.declared) attached.network ∙ left.set_up.declared;
-        kinds = ap (λ (cs : List Cell). map (λ (c : Cell). c.kind) cs) attached.cells_are ∙ kinds_added old.store.cells own
-            ∙ ap (λ (ks : List Kind). ks ++ own) left.set_up.kinds
-            ∙ sym (kinds_with_attached old.network line callable (cells_of on) support) ∙ ap kinds_in (sym attached.network);
+        kinds = fits;
+        sound = sound_attached old.network new.network wide network wider old.store new.store own left.set_up.kinds fits attached.cells_are left.set_up.sound;
       })
       (All-push (FitsDeclared d) es entry left.fit named.1)
       (attached.network ∙ ap (λ (n : Network). with_entry n entry) left.network ∙ sym (fold_push with_entry (bare d) es entry))
@@ -182,6 +250,8 @@ module _ (d : Declared) (many : length d.kinds ≡ length d.cells) where
       (subst (λ (cs : List Cell). TellsEntries d (es ++ entry ∷ []) made (store_of cs)) (sym attached.cells_are)
       (tells_attached d many es (rise_before readings) old.network old.store left.network left.set_up.kinds line callable (cells_of on) support 0
       (left_tells readings old left))))
+      (rests_attached old.network new.network wide (is_told_on es) (is_told_on (es ++ entry ∷ [])) (λ c p given. told_on_more es (entry ∷ []) c p given)
+      old.store new.store own attached.cells_are left.upstream)
       (λ u below. ap (λ (bs : List Premises). get_or bs u empty) attached.beliefs ∙ left.beliefs u below)
 
   -- ---- a line that changes what its user believes

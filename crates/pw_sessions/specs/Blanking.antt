@@ -1,12 +1,12 @@
 -- Lines made blank that their reader's reply does not rest on.
-use Rattle.std.specs.Prelude.{ℕ, ◌==◌, Bool, true, false, List, map, if◌then◌else◌}
+use Rattle.std.specs.Prelude.{ℕ, ◌==◌, Bool, false, List, map, if◌then◌else◌}
 use Rattle.std.specs.FinSet.{is_subset}
 use Rattle.pw_premises.specs.Premises.{Premises}
 use Rattle.pw_decl.specs.Declaration.{Declared}
 use Rattle.pw_sessions.specs.declared.command.Command.TheVariants as commands
 use Rattle.pw_sessions.specs.Answer.{user_of}
 use Rattle.pw_sessions.specs.Beliefs.{beliefs_at}
-use Rattle.pw_sessions.specs.LineReading.{LineReading, Blank, Refused, Says}
+use Rattle.pw_sessions.specs.LineReading.{LineReading, Blank, Says}
 
 -- a user who believes this rests on the line: it tells or attaches under premises that are all believed, or it is the user's
 -- own and changes what is believed

@@ -9,6 +9,8 @@ use Rattle.pw_decl.specs.Declaration.{Declared}
 use Rattle.pw_decl.specs.Expansion.{inner_kinds_of}
 use Rattle.pw_network.specs.Limits.{most_lines}
 use Rattle.pw_network.specs.Network.{Attached, with_attached}
+use Rattle.pw_settle.specs.Growth.{KeepsMore, StaysUpstream}
+use Rattle.pw_settle.specs.Sound.{IsSound}
 use Rattle.pw_settle.specs.Values.{kinds_in, value_in}
 use Rattle.pw_reasons.specs.Conflicts.{Conflicts, AreConflicts}
 use Rattle.pw_reasons.specs.Reason.{reason_of}
@@ -33,9 +35,10 @@ CarriesOutNext old line command new reply =
     (d : Declared) (before : List LineReading) → IsLeftBy d before old → length before + 1 ≡ line → IsDeclared d (Says command)
     → IsCarriedOut d before command new reply
 
--- the store has the cells of the network, with their kinds
-abbrev pub StoreFits : Workbench → Type 0
-StoreFits workbench = kinds_of workbench.store ≡ kinds_in workbench.network
+-- the store has the cells of the network, with their kinds, and keeps nothing that does not follow
+pub record StoreFits (workbench : Workbench) : Type 0 where
+  pub kinds : kinds_of workbench.store ≡ kinds_in workbench.network
+  pub sound : IsSound workbench.network workbench.store
 
 -- an instance that is visible in the worldview writes the cell
 abbrev pub is_written : List Attached → ℕ → Premises → Bool
@@ -53,6 +56,13 @@ pub record IsAsBefore (old new : Workbench) : Type 0 where
   pub network : new.network ≡ old.network
   pub cells_are : new.store.cells ≡ old.store.cells
   pub beliefs : new.beliefs ≡ old.beliefs
+
+-- the same network, beliefs and told facts; more may be kept
+pub record OnlyKeepsMore (old new : Workbench) : Type 0 where
+  pub network : new.network ≡ old.network
+  pub beliefs : new.beliefs ≡ old.beliefs
+  pub grows : KeepsMore old.network old.store new.store
+  pub upstream : StaysUpstream old.network old.store new.store
 
 -- an ask of the cell by the user was answered: with what settles in the network under what the user believes; or, where a
 -- visible instance writes the cell, with want of memory

@@ -1,12 +1,15 @@
--- What is there between two lines: the network, what was told of each of its cells, and what each user believes now.
-use Rattle.std.specs.Prelude.{◌≡◌, ℕ, ◌<◌, List, [], ◌∷◌, ◌++◌, All, fold, length, Some, slice_index_or}
-use Rattle.std.specs.FinSet.{empty}
+-- What is there between two lines: the network, what was told of each of its cells and what is kept of it, and what each user
+-- believes now.
+use Rattle.std.specs.Prelude.{◌≡◌, ℕ, ◌<◌, Bool, false, ◌&&◌, List, [], ◌∷◌, ◌++◌, All, fold, length, nat_eq, Some, slice_index_or}
+use Rattle.std.specs.FinSet.{contains, empty}
+use Rattle.std.specs.List.{list_any}
 use Rattle.pw_premises.specs.Premises.{Premises}
 use Rattle.pw_cells.specs.Cells.{Store, kinds_of, told_in}
 use Rattle.pw_decl.specs.Declaration.{Declared}
 use Rattle.pw_network.specs.Names.{name_in}
 use Rattle.pw_network.specs.Network.{Network, bare, cells_in, with_attached}
 use Rattle.pw_settle.specs.Fixpoint.{told_of}
+use Rattle.pw_settle.specs.Sound.{IsSound, RestsUpstream}
 use Rattle.pw_settle.specs.Values.{kinds_in}
 use Rattle.pw_sessions.specs.declared.command.Command.{Command}
 use Rattle.pw_sessions.specs.Reply.{Reply}
@@ -19,7 +22,7 @@ use Rattle.pw_sessions.specs.TakesMemory.{MayBecome}
 
 pub record Workbench : Type 0 where
   pub network : Network
-  -- what was told
+  -- what was told, and what is kept
   pub store : Store
   -- of each user, by number
   pub beliefs : List Premises
@@ -43,11 +46,22 @@ WasTold d entries network store =
     (cell : ℕ) (w : Premises) → cell < cells_in network →
     told_in store cell w ≡ told_of (named_cells d entries) (sources_after d (visible_in entries w)) (name_in network cell)
 
--- it is set up for the declaration: each user has beliefs, and the store has the cells of the network, with their kinds
+-- a fact that an entry told of the cell rests on the premise
+abbrev pub tells_on : ℕ → ℕ → Entry → Bool
+tells_on cell premise (Told line at fact) = nat_eq at cell && contains fact.support premise
+tells_on cell premise (Attached line callable cells support) = false
+
+-- a fact that one of the entries told of the cell does
+abbrev pub is_told_on : List Entry → ℕ → ℕ → Bool
+is_told_on entries cell premise = list_any (tells_on cell premise) entries
+
+-- it is set up for the declaration: each user has beliefs, and the store has the cells of the network, with their kinds, and keeps
+-- nothing that does not follow
 pub record IsSetUpFor (d : Declared) (workbench : Workbench) : Type 0 where
   pub users : length workbench.beliefs ≡ length d.users
   pub declared : workbench.network.declared ≡ d
   pub kinds : kinds_of workbench.store ≡ kinds_in workbench.network
+  pub sound : IsSound workbench.network workbench.store
 
 -- it is what lines that read so leave: the network is what their entries attach, the store was told what they tell, and each
 -- user believes what own lines made of the beliefs
@@ -56,6 +70,8 @@ pub record IsLeftBy (d : Declared) (readings : List LineReading) (workbench : Wo
   pub fit : All (FitsDeclared d) (entries_before readings)
   pub network : workbench.network ≡ network_after d (entries_before readings)
   pub told : WasTold d (entries_before readings) workbench.network workbench.store
+  -- and what is kept rests on premises of tells and attachments upstream alone
+  pub upstream : RestsUpstream workbench.network (is_told_on (entries_before readings)) workbench.store
   pub beliefs : (user : ℕ) → user < length d.users → beliefs_in workbench user ≡ beliefs_at d user readings
 
 -- after lines that read so, the command was carried out: its line came to a reading, this is the reply that a line of this

@@ -1,4 +1,5 @@
-//! What the lines so far left: the network, what they told of each of its cells, and what each user believes.
+//! What the lines so far left: the network, what they told of each of its cells, what was derived from it so far, and what each
+//! user believes.
 
 ghost use Rattle.std.specs.Prelude.{◌≡◌, ◌<◌, ◌≤◌, [], List, length, map, slice_set, IfOk, OnOk, OnErr};
 ghost use Rattle.pw_decl.specs.Declaration.{Declared, IsCallable};
@@ -15,7 +16,7 @@ ghost use Rattle.pw_sessions.specs.Fields.{workbench_by};
 ghost use Rattle.pw_sessions.specs.LineReading.{LineReading};
 ghost use Rattle.pw_sessions.specs.Reply.{reply_by};
 ghost use Rattle.pw_sessions.specs.Steps.{AnswersAsk, AnswersConflicts, AnswersWhy, CanCarryOut, CarriesOutNext, IsAsBefore, IsAttached};
-ghost use Rattle.pw_sessions.specs.Steps.{StoreFits, is_written};
+ghost use Rattle.pw_sessions.specs.Steps.{OnlyKeepsMore, StoreFits, is_written};
 ghost use Rattle.pw_sessions.specs.Workbench.{IsLeftBy, beliefs_in};
 
 use crate::command::Command;
@@ -135,7 +136,7 @@ impl<'d, 'r, A: Allocator + Copy> Workbench<'d, 'r, A> {
         ensures answer { (d : Declared) (before : List LineReading)
             → IsLeftBy d before (workbench_by self.old)
             → AnswersAsk (workbench_by self.old) user cell (reply_by result) }
-        ensures stays { workbench_by self.new ≡ workbench_by self.old }
+        ensures grows { OnlyKeepsMore (workbench_by self.old) (workbench_by self.new) }
     {
         let beliefs = self.beliefs_of(user);
         if !is_written_by(self.network.instances(), cell, &beliefs) {
@@ -154,7 +155,7 @@ impl<'d, 'r, A: Allocator + Copy> Workbench<'d, 'r, A> {
         requires user { user < length (workbench_by self.old).beliefs }
         requires cell { cell < length (workbench_by self.old).network.declared.cells }
         ensures answer { AnswersWhy (workbench_by self.old) user cell (reply_by result) }
-        ensures stays { workbench_by self.new ≡ workbench_by self.old }
+        ensures grows { OnlyKeepsMore (workbench_by self.old) (workbench_by self.new) }
     {
         let alloc = *self.beliefs.allocator();
         let beliefs = self.beliefs_of(user);
@@ -172,7 +173,7 @@ impl<'d, 'r, A: Allocator + Copy> Workbench<'d, 'r, A> {
         requires fits { StoreFits (workbench_by self.old) }
         requires user { user < length (workbench_by self.old).beliefs }
         ensures answer { AnswersConflicts (workbench_by self.old) user (reply_by result) }
-        ensures stays { workbench_by self.new ≡ workbench_by self.old }
+        ensures grows { OnlyKeepsMore (workbench_by self.old) (workbench_by self.new) }
     {
         let alloc = *self.beliefs.allocator();
         let beliefs = self.beliefs_of(user);
@@ -230,7 +231,10 @@ impl<'d, 'r, A: Allocator + Copy> Workbench<'d, 'r, A> {
     ///
     /// The reply is the answer to the command from what the lines before it left, or `Refused(Memory)` where memory is refused
     /// to a tell, to an attach, to an ask of a cell that an instance writes whose premises are all believed, to a why, or to
-    /// conflicts; and then nothing changes. Commands on beliefs are never refused.
+    /// conflicts; and then nothing changes that a reply shows. Commands on beliefs are never refused.
+    ///
+    /// What a question derives is kept, each fact with the premises that it rests on, and serves the later questions of all
+    /// users. Nobody sees it: a reply is what it would be from scratch.
     pub fn command(&mut self, line: u32, command: &Command) -> Reply<A>
         requires { CanBeCarriedOut (workbench_by self.old) line command.now }
         ensures { CarriesOut (workbench_by self.old) line command.now (workbench_by self.new)

@@ -1,7 +1,13 @@
+pub mod Agenda
+pub mod Calls
 pub mod Fixpoint
+pub mod Growth
+pub mod Known
 pub mod NumberTest
-pub mod Passes
+pub mod Placed
+pub mod Progress
 pub mod Settled
 pub mod SettledCode
+pub mod Sound
 pub mod Sources
 pub mod Values

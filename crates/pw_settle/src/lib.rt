@@ -1,8 +1,10 @@
 //! What follows from what is told and from the propagators that are attached: the least informed fixpoint.
 #![tactic(auto)]
 
+mod agenda;
+mod known;
 pub mod laws;
-mod passing;
+mod propagating;
 mod settled;
 mod settling;
 

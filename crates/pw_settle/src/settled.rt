@@ -1,9 +1,9 @@
 //! The values of cells in a worldview.
 ghost use Rattle.std.specs.Prelude.{◌≡◌, ◌<◌, length};
-ghost use Rattle.pw_settle.specs.Settled.{info_at};
+ghost use Rattle.pw_settle.specs.Settled.{info_at, support_at};
 
+use crate::known::Known;
 use pw_facts::Fact;
-use pw_info::Info;
 use pw_premises::PremiseSet;
 use std::alloc::{Allocator, Global};
 use std::marker::Model;
@@ -11,32 +11,41 @@ use std::marker::Model;
 /// The value of each cell that a network had, in the worldview in which it was settled.
 #[derive(Drop)]
 pub struct Settled<A: Allocator = Global> {
-    pub(crate) infos: Vec<Info, A>,
+    pub(crate) known: Known<A>,
     pub(crate) worldview: PremiseSet,
+    pub(crate) calls: u128,
 }
 
 impl<A: Allocator> Model for Settled<A> {
     ghost use Rattle.pw_info.specs.contracts.info.Info as informations;
     ghost use Rattle.pw_settle.specs.Settled.{Settled};
     ghost use Rattle.pw_settle.specs.SettledCode.{settled_code};
+    ghost use Rattle.std.specs.Prelude.{◌≡◌, length};
 
     ghost Value = { Settled };
 
     ghost coded = { settled_code informations.the_row.coded };
 
-    ghost view = { λ a. record { infos = a.infos.items; worldview = a.worldview } };
+    ghost view = { λ a. record {
+      infos = a.known.infos.items;
+      supports = a.known.supports.items;
+      worldview = a.worldview;
+      calls = a.calls;
+    } };
+
+    ghost invariant = { λ a. length a.known.supports.items ≡ length a.known.infos.items };
 }
 
 impl<A: Allocator> Settled<A> {
-    /// The value of the cell, which the network had; it rests on the whole worldview.
+    /// The value of the cell, which the network had, with premises that it rests on.
     pub fn value(&self, cell: u32) -> Fact
         requires { cell < length self.now.infos }
         ensures info { result.info ≡ info_at self.now.infos cell }
-        ensures support { result.support ≡ self.now.worldview }
+        ensures support { result.support ≡ support_at self.now.supports cell }
     {
         Fact {
-            info: self.infos[cell as usize],
-            support: self.worldview,
+            info: self.known.infos[cell as usize],
+            support: self.known.supports[cell as usize],
         }
     }
 
@@ -45,5 +54,12 @@ impl<A: Allocator> Settled<A> {
         ensures { result.now ≡ self.now.worldview }
     {
         &self.worldview
+    }
+
+    /// How often procedures were called to find them.
+    pub fn calls(&self) -> u128
+        ensures { result ≡ self.now.calls }
+    {
+        self.calls
     }
 }

@@ -1,40 +1,168 @@
 //! Settling: the values of all cells of a network in a worldview.
-ghost use Rattle.std.specs.Prelude.{◌≡◌, map, IfOk};
-ghost use Rattle.pw_cells.specs.Cells.{kinds_of};
+ghost use Rattle.std.specs.Prelude.{◌≡◌, ◌+◌, ◌<◌, ◌≤◌, ◌⊎◌, ℕ, Bool, Contains, true, false, length, map, IfOk, OnOk};
+ghost use Rattle.std.specs.List.{count_by};
+ghost use Rattle.pw_cells.specs.Cells.{kept_in, kinds_of};
 ghost use Rattle.pw_network.specs.Fields.{network_by};
+ghost use Rattle.pw_network.specs.Kept.{attached_of};
+ghost use Rattle.pw_network.specs.Readers.{readers_of};
+ghost use Rattle.pw_settle.specs.Agenda.{is_set, tally};
+ghost use Rattle.pw_settle.specs.Calls.{gains, is_visible, reader_count, visible_at, visible_count};
+ghost use Rattle.pw_settle.specs.Growth.{KeepsMore, StaysUpstream};
+ghost use Rattle.pw_settle.specs.Known.{AreKept, AreUpstream};
+ghost use Rattle.pw_settle.specs.Progress.{AreOthersSatisfied, AreSatisfied, weight};
 ghost use Rattle.pw_settle.specs.Settled.{IsSettled};
-ghost use Rattle.pw_settle.specs.Values.{kinds_in, told_infos};
+ghost use Rattle.pw_settle.specs.Sound.{IsSound};
+ghost use Rattle.pw_settle.specs.Values.{kinds_in, value_in};
 
-use crate::passing::pass;
+use crate::agenda::Agenda;
+use crate::known::{Known, read_kept, take_in};
+use crate::propagating::news;
 use crate::settled::Settled;
 use pw_cells::CellStore;
-use pw_info::Info;
-use pw_network::Network;
+use pw_network::{Instance, Network};
 use pw_premises::PremiseSet;
 use std::alloc::{AllocError, Allocator};
 
-// What the store is told of each cell in the worldview. It fails only for want of memory.
-fn told<A: Allocator + Copy>(
+// Which instances are visible in the worldview, by their numbers. It fails only for want of memory.
+fn seen<A: Allocator + Copy>(
     alloc: A,
-    store: &CellStore<A>,
+    instances: &[Instance],
     worldview: &PremiseSet,
-) -> Result<Vec<Info, A>, AllocError>
-    ensures { IfOk result (λ infos. infos.items ≡ told_infos store.now worldview.now) }
+) -> Result<Vec<bool, A>, AllocError>
+    ensures { IfOk result (λ visible.
+        visible.items ≡ map (is_visible worldview.now) (map attached_of instances.now)) }
 {
-    let mut infos = Vec::with_capacity(alloc, store.cells() as usize)?;
-    for cell in 0..store.cells() {
-        let _ = infos.push(store.told(cell, worldview));
+    let mut visible = Vec::with_capacity(alloc, instances.len())?;
+    for instance in instances {
+        let _ = visible.push(instance.support.is_subset(worldview));
     }
-    Ok(infos)
+    Ok(visible)
+}
+
+// An agenda of the instances whose flags are set. It fails only for want of memory.
+fn agenda_of<A: Allocator + Copy>(alloc: A, visible: &[bool]) -> Result<Agenda<A>, AllocError>
+    ensures { IfOk result (λ agenda. agenda ≡ visible.now) }
+{
+    let mut agenda = Agenda::new(alloc, visible.len())?;
+    for number in 0..visible.len() {
+        if visible[number] {
+            agenda.add(number);
+        }
+    }
+    Ok(agenda)
+}
+
+// Queues the visible readers of a cell.
+fn queue_readers<A: Allocator + Copy>(
+    network: &Network<'_, '_, A>,
+    visible: &[bool],
+    agenda: &mut Agenda<A>,
+    cell: u32,
+)
+    requires flags { length agenda.old ≡ length (network_by network.now).attached }
+    requires all { length visible.now ≡ length (network_by network.now).attached }
+    ensures readers { (number : ℕ) → Contains (readers_of (network_by network.now) cell) number
+        → is_set visible.now number ≡ true → is_set agenda.new number ≡ true }
+    ensures stay { (number : ℕ) → is_set agenda.old number ≡ true → is_set agenda.new number ≡ true }
+    ensures others { (number : ℕ) → is_set agenda.new number ≡ true
+        → (is_set agenda.old number ≡ true) ⊎ (is_set visible.now number ≡ true) }
+    ensures most { tally agenda.new
+        ≤ tally agenda.old + count_by (is_set visible.now) (readers_of (network_by network.now) cell) }
+    ensures least { tally agenda.old ≤ tally agenda.new }
+    ensures flags { length agenda.new ≡ length agenda.old }
+{
+    for number in network.readers(cell) {
+        if visible[number] {
+            agenda.add(number);
+        }
+    }
+}
+
+// Calls the procedure of an instance, which is visible and not queued. Where what it answers is news, the store keeps it, and the
+// visible readers of the output are queued. It fails only for want of memory.
+fn call<A: Allocator + Copy>(
+    network: &Network<'_, '_, A>,
+    store: &mut CellStore<A>,
+    worldview: &PremiseSet,
+    known: &mut Known<A>,
+    visible: &[bool],
+    agenda: &mut Agenda<A>,
+    number: usize,
+) -> Result<(), AllocError>
+    requires kinds { kinds_of store.old ≡ kinds_in (network_by network.now) }
+    requires kept { AreKept store.old worldview.now known.old.infos.items known.old.supports.items }
+    requires visible { visible.now ≡ map (is_visible worldview.now) (network_by network.now).attached }
+    requires flags { length agenda.old ≡ length (network_by network.now).attached }
+    requires seen { (n : ℕ) → is_set agenda.old n ≡ true → visible_at (network_by network.now) worldview.now n ≡ true }
+    requires number { visible_at (network_by network.now) worldview.now number ≡ true }
+    requires others { AreOthersSatisfied (network_by network.now) worldview.now
+        (λ cell. kept_in store.old cell worldview.now) agenda.old number }
+    ensures grows { KeepsMore (network_by network.now) store.old store.new }
+    ensures upstream { (given : ℕ → ℕ → Bool)
+        → AreUpstream (network_by network.now) given store.old known.old.supports.items
+        → AreUpstream (network_by network.now) given store.new known.new.supports.items }
+    ensures kept { OnOk result (AreKept store.new worldview.now known.new.infos.items known.new.supports.items) }
+    ensures flags { length agenda.new ≡ length agenda.old }
+    ensures seen { (n : ℕ) → is_set agenda.new n ≡ true → visible_at (network_by network.now) worldview.now n ≡ true }
+    ensures satisfied { OnOk result (AreSatisfied (network_by network.now) worldview.now
+        (λ cell. kept_in store.new cell worldview.now) agenda.new) }
+    ensures least { tally agenda.old ≤ tally agenda.new }
+    ensures most { OnOk result (tally agenda.new + weight (network_by network.now) store.new worldview.now
+        ≤ tally agenda.old + weight (network_by network.now) store.old worldview.now) }
+{
+    if let Some((cell, fact)) = news(network, &known.infos, &known.supports, number) {
+        store.keep(cell, fact)?;
+        take_in(&mut known.infos, &mut known.supports, cell, &fact);
+        queue_readers(network, visible, agenda, cell);
+    }
+    Ok(())
+}
+
+// Calls what is queued until nothing is, and answers how often. It fails only for want of memory.
+fn work<A: Allocator + Copy>(
+    network: &Network<'_, '_, A>,
+    store: &mut CellStore<A>,
+    worldview: &PremiseSet,
+    known: &mut Known<A>,
+    visible: &[bool],
+    agenda: &mut Agenda<A>,
+) -> Result<u128, AllocError>
+    requires kinds { kinds_of store.old ≡ kinds_in (network_by network.now) }
+    requires kept { AreKept store.old worldview.now known.old.infos.items known.old.supports.items }
+    requires visible { visible.now ≡ map (is_visible worldview.now) (network_by network.now).attached }
+    requires flags { agenda.old ≡ visible.now }
+    ensures grows { KeepsMore (network_by network.now) store.old store.new }
+    ensures upstream { (given : ℕ → ℕ → Bool)
+        → AreUpstream (network_by network.now) given store.old known.old.supports.items
+        → AreUpstream (network_by network.now) given store.new known.new.supports.items }
+    ensures kept { OnOk result (AreKept store.new worldview.now known.new.infos.items known.new.supports.items) }
+    ensures satisfied { OnOk result (AreSatisfied (network_by network.now) worldview.now
+        (λ cell. kept_in store.new cell worldview.now) agenda.new) }
+    ensures done { OnOk result ((n : ℕ) → is_set agenda.new n ≡ false) }
+    ensures least { IfOk result (λ calls. tally agenda.old ≤ calls) }
+    ensures most { IfOk result (λ calls. calls + weight (network_by network.now) store.new worldview.now
+        ≤ tally agenda.old + weight (network_by network.now) store.old worldview.now) }
+{
+    // These bound the count.
+    let _cells = store.cells();
+    let _instances = visible.len();
+    let mut calls = 0;
+    while let Some(number) = agenda.take() {
+        calls += 1;
+        call(network, store, worldview, known, visible, agenda, number)?;
+    }
+    Ok(calls)
 }
 
 /// The values of the cells of a network in a worldview: what follows, at each cell, from what the store is told there and
-/// from the instances that are visible there. The store has the network's cells, with their kinds, and stays as it is. It
-/// fails only for want of memory.
+/// from the instances that are visible there, with premises of the worldview that it rests on. The store has the network's
+/// cells, with their kinds. It fails only for want of memory.
 ///
-/// It goes over the instances, again and again, until a pass brings no news. Information only grows, and a cell can gain no
-/// more often than it has possible values, so this ends. (Radul and Sussman, *The Art of the Propagator*, on propagators
-/// that run until nothing changes.)
+/// What follows is kept in the store, each fact with its premises, so that whoever settles later starts from it, in whatever
+/// worldview. What was told stays as it was, and the store stays sound: after a failure too, with perhaps more kept.
+///
+/// An instance is called once, and again where what is kept of one of its inputs has changed. (Radul and Sussman, *The Art of
+/// the Propagator*, on schedulers of propagators; Radul, *Propagation Networks*, on dependencies and worldviews.)
 pub fn settle<A: Allocator + Copy>(
     alloc: A,
     network: &Network<'_, '_, A>,
@@ -42,15 +170,24 @@ pub fn settle<A: Allocator + Copy>(
     worldview: &PremiseSet,
 ) -> Result<Settled<A>, AllocError>
     requires { kinds_of store.old ≡ kinds_in (network_by network.now) }
-    ensures settled { IfOk result (λ settled.
-        IsSettled (network_by network.now) store.old worldview.now settled) }
-    ensures store { store.new ≡ store.old }
+    ensures settled { IfOk result (λ settled. IsSound (network_by network.now) store.old
+        → IsSettled (network_by network.now) store.old worldview.now settled) }
+    ensures kept { OnOk result (IsSound (network_by network.now) store.old → (cell : ℕ)
+        → kept_in store.new cell worldview.now ≡ value_in (network_by network.now) store.old worldview.now cell) }
+    ensures grows { KeepsMore (network_by network.now) store.old store.new }
+    ensures upstream { StaysUpstream (network_by network.now) store.old store.new }
+    ensures least { IfOk result (λ settled. visible_count (network_by network.now) worldview.now ≤ settled.calls) }
+    ensures most { IfOk result (λ settled. settled.calls
+        ≤ visible_count (network_by network.now) worldview.now
+        + gains (network_by network.now) store.old store.new worldview.now) }
 {
-    let registry = network.declaration().registry();
-    let mut infos = told(alloc, store, worldview)?;
-    while pass(registry, network.instances(), worldview, &mut infos) {}
+    let visible = seen(alloc, network.instances(), worldview)?;
+    let mut agenda = agenda_of(alloc, &visible)?;
+    let mut known = read_kept(alloc, store, worldview)?;
+    let calls = work(network, store, worldview, &mut known, &visible, &mut agenda)?;
     Ok(Settled {
-        infos,
+        known,
         worldview: *worldview,
+        calls,
     })
 }

@@ -4,12 +4,12 @@ use pw_network::Network;
 use pw_premises::PremiseSet;
 use std::alloc::{Allocator, Global};
 
-/// What earlier lines left: the network, the facts that were told of its cells, and what each user believes now. Users and
-/// cells go by their numbers, from 0.
+/// What earlier lines left: the network, the facts that were told of its cells with those that were derived from them, and what
+/// each user believes now. Users and cells go by their numbers, from 0.
 #[derive(Drop)]
 pub struct Workbench<'d, 'r, A: Allocator = Global> {
     pub(super) network: Network<'d, 'r, A>,
-    // It has the cells of the network.
+    // It has the cells of the network, and keeps nothing that does not follow.
     pub(super) store: CellStore<A>,
     // Of each user, by number.
     pub(super) beliefs: Vec<PremiseSet, A>,

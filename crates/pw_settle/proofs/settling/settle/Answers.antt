@@ -1,55 +1,38 @@
-use Rattle.std.proofs.Common.{List, length, map, refl, sym, ap, subst, ◌∙◌, arith}
-use Rattle.pw_info.specs.declared.info.Info.{Info}
-use Rattle.pw_info.specs.Information.{kind_of}
-use Rattle.pw_procs.specs.Registry.{procedures_in}
-use Rattle.pw_network.specs.Kept.{attached_of}
-use Rattle.pw_network.specs.Fields.{network_by}
-use Rattle.pw_settle.specs.Passes.{IsPassed, IsSettling}
+use Rattle.std.proofs.Common.{◌≡◌, length, map, sym, ap, ◌∙◌, arith}
 use Rattle.std.proofs.lemmas.List.{length-map}
-use Rattle.pw_settle.specs.Settled.{info_at}
-use Rattle.pw_settle.proofs.SettledValues.{all_placed, came_back, infos_many, kinds_many, passed_in, placed_by, settled, settling_more, settling_start}
+use Rattle.pw_cells.specs.Cells.{Cell}
+use Rattle.pw_network.specs.Fields.{network_by}
+use Rattle.pw_settle.specs.Agenda.{tally}
+use Rattle.pw_settle.specs.Calls.{is_visible, visible_count}
+use Rattle.pw_settle.proofs.SettledStores.{calls_by_gains, kept_settled, settled_known, tally_visible}
 use Rattle.pw_settle.proofs.settling.settle.Goals as goal
 
-pub loop-registry-init : goal.loop-registry-init
-loop-registry-init g c =
-    let network = network_by c.args.network.now in
-    let placed = all_placed network c.args.network.now.well in
-    subst (IsSettling network c.args.store.now c.args.worldview.now) (sym c.in_ok-infos.ensures)
-    (settling_start network c.args.store.now c.args.worldview.now c.requires placed)
-
-pub pass-requires : goal.pass-requires
-pass-requires g c =
-    placed_by (network_by c.args.network.now) c.args.network.now.well (procedures_in c.registry-registry.result.now)
-    (map attached_of c.instances.result.now) (map kind_of c.deref_mut.result.now)
-    (c.registry-registry.ensures ∙ ap (λ d. d.procedures) c.declaration.ensures) c.instances.ensures.instances
-    (ap (map kind_of) c.deref_mut.ensures.value ∙ c.loop-registry.invariant.kinds_are)
-
-pub loop-registry-preserved : goal.loop-registry-preserved
-loop-registry-preserved g c =
-    let network = network_by c.args.network.now in
-    let placed = all_placed network c.args.network.now.well in
-    let passed = passed_in network c.args.worldview.now (procedures_in c.registry-registry.result.now) (map attached_of c.instances.result.now)
-    c.deref_mut.result.now c.pass.new.known c.loop-registry.infos.items c.pass.result
-    (c.registry-registry.ensures ∙ ap (λ d. d.procedures) c.declaration.ensures) c.instances.ensures.instances c.deref_mut.ensures.value c.pass.ensures in
-    let back = came_back c.pass.new.known c.loop-registry.infos.items c.loop-registry.infos.len (omega (arith, c.deref_mut.ensures.len, ap length c.deref_mut.ensures.value)) (infos_many _ c.loop-registry.infos.items c.pass.new.known c.pass.result passed) in
-    subst (IsSettling network c.args.store.now c.args.worldview.now) (sym back)
-    (settling_more network c.args.store.now c.args.worldview.now c.requires placed c.loop-registry.infos.items c.pass.new.known c.pass.result passed c.loop-registry.invariant)
+pub returns-in_err-calls-clause-upstream : goal.returns-in_err-calls-clause-upstream
+returns-in_err-calls-clause-upstream g c given rests =
+    (c.work.ensures.upstream given (record { kept = rests; known = c.in_ok-known.ensures.upstream (network_by c.args.network.now) given rests })).kept
 
 pub returns-clause-settled : goal.returns-clause-settled
-returns-clause-settled g c =
-    let network = network_by c.args.network.now in
-    let placed = all_placed network c.args.network.now.well in
-    let passed = passed_in network c.args.worldview.now (procedures_in c.registry-registry.result.now) (map attached_of c.instances.result.now)
-    c.deref_mut.result.now c.pass.new.known c.loop-registry.infos.items c.pass.result
-    (c.registry-registry.ensures ∙ ap (λ d. d.procedures) c.declaration.ensures) c.instances.ensures.instances c.deref_mut.ensures.value c.pass.ensures in
-    let quiet = subst (IsPassed _ c.loop-registry.infos.items c.pass.new.known) c.loop-registry-test.false passed in
-    let many = infos_many _ c.loop-registry.infos.items c.pass.new.known c.pass.result passed in
-    let back = came_back c.pass.new.known c.loop-registry.infos.items c.loop-registry.infos.len
-    (omega (arith, c.deref_mut.ensures.len, ap length c.deref_mut.ensures.value)) many in
-    record {
-      worldview_is = refl;
-      cells = ap length back ∙ many ∙ sym (length-map c.loop-registry.infos.items kind_of) ∙ ap length c.loop-registry.invariant.kinds_are
-          ∙ kinds_many network c.args.network.now.well;
-      values = λ cell below. ap (λ (l : List Info). info_at l cell) (back ∙ (quiet.known refl).0)
-          ∙ settled network c.args.store.now c.args.worldview.now c.requires placed c.loop-registry.infos.items c.pass.new.known quiet c.loop-registry.invariant cell;
-    }
+returns-clause-settled g c sound =
+    settled_known (network_by c.args.network.now) c.args.network.now.well c.args.store.now c.work.new.store c.args.worldview.now c.requires
+    c.work.ensures.grows c.in_ok-known.ensures.told c.work.new.agenda c.in_ok-calls.ensures.satisfied c.in_ok-calls.ensures.done sound
+    c.work.new.known.infos.items c.work.new.known.supports.items c.in_ok-calls.calls c.in_ok-calls.ensures.kept
+
+pub returns-clause-kept : goal.returns-clause-kept
+returns-clause-kept g c sound =
+    kept_settled (network_by c.args.network.now) c.args.network.now.well c.args.store.now c.work.new.store c.args.worldview.now c.requires
+    c.work.ensures.grows c.in_ok-known.ensures.told c.work.new.agenda c.in_ok-calls.ensures.satisfied c.in_ok-calls.ensures.done sound
+
+pub returns-clause-upstream : goal.returns-clause-upstream
+returns-clause-upstream g c given rests =
+    (c.work.ensures.upstream given (record { kept = rests; known = c.in_ok-known.ensures.upstream (network_by c.args.network.now) given rests })).kept
+
+pub returns-clause-most : goal.returns-clause-most
+returns-clause-most g c =
+    let same : length c.work.new.store.cells ≡ length c.args.store.now.cells =
+    sym (length-map c.work.new.store.cells (λ (x : Cell). x.kind)) ∙ ap length c.work.ensures.grows.kinds ∙ length-map c.args.store.now.cells (λ (x : Cell). x.kind) in
+    let bound = calls_by_gains (network_by c.args.network.now) c.args.store.now c.work.new.store c.args.worldview.now c.in_ok-calls.calls (tally c.in_ok-agenda.agenda)
+    same c.in_ok-calls.ensures.most in
+    let start : tally c.in_ok-agenda.agenda ≡ visible_count (network_by c.args.network.now) c.args.worldview.now =
+    ap tally (c.in_ok-agenda.ensures ∙ c.deref.ensures.value ∙ c.in_ok-visible.ensures ∙ ap (map (is_visible c.args.worldview.now)) c.instances.ensures.instances)
+    ∙ tally_visible (is_visible c.args.worldview.now) (network_by c.args.network.now).attached in
+    omega (arith, bound, start)

@@ -14,7 +14,7 @@ use Rattle.pw_sessions.proofs.workbench.holding.Workbench.ask.Goals as goal
 
 pub told-requires : goal.told-requires
 told-requires g c =
-    let same = cells_kept (network_by c.args.self.now.network) c.args.self.now.store c.args.self.now.network.well c.requires.fits in
+    let same = cells_kept (network_by c.args.self.now.network) c.args.self.now.store c.args.self.now.network.well c.requires.fits.kinds in
     omega (arith, c.requires.cell)
 
 pub returns-then-not-is_written_by-clause-answer : goal.returns-then-not-is_written_by-clause-answer
@@ -25,10 +25,10 @@ returns-then-not-is_written_by-clause-answer g c = λ d before left.
     (sym written ∙ c.if-not-is_written_by.true) told
 
 pub value-requires : goal.value-requires
-value-requires g c = omega (arith, c.in-Ok.ensures.settled.cells, c.requires.cell)
+value-requires g c = omega (arith, (c.in-Ok.ensures.settled c.requires.fits.sound).cells, c.requires.cell)
 
 pub returns-in-Ok-clause-answer : goal.returns-in-Ok-clause-answer
 returns-in-Ok-clause-answer g c = λ d before left.
     let there : c.args.cell < cells_in (network_by c.args.self.now.network) = omega (arith, c.requires.cell) in
     let settles : Premises → Info = λ w. value_in (network_by c.args.self.now.network) c.args.self.now.store w c.args.cell in
-    inl (ap (λ (i : Info). reply.Value i) (c.value.ensures.info ∙ c.in-Ok.ensures.settled.values c.args.cell there ∙ ap settles c.beliefs_of-beliefs.ensures))
+    inl (ap (λ (i : Info). reply.Value i) (c.value.ensures.info ∙ (c.in-Ok.ensures.settled c.requires.fits.sound).values c.args.cell there ∙ ap settles c.beliefs_of-beliefs.ensures))

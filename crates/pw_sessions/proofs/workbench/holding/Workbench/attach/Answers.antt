@@ -5,6 +5,6 @@ use Rattle.pw_sessions.proofs.workbench.holding.Workbench.attach.Goals as goal
 
 pub add_cells-requires : goal.add_cells-requires
 add_cells-requires g c =
-    let room = room_for_inner (network_by c.args.self.now.network) c.args.self.now.store c.args.self.now.network.well c.requires.fits in
+    let room = room_for_inner (network_by c.args.self.now.network) c.args.self.now.store c.args.self.now.network.well c.requires.fits.kinds in
     let same = ap length c.reserve.ensures.cells in
     omega (arith, c.inner_kinds-kinds.ensures.most)

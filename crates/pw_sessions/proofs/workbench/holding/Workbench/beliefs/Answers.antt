@@ -1,5 +1,4 @@
-use Rattle.std.proofs.Common.{◌<◌, length, sym, ◌∙◌, subst, arith}
-use Rattle.pw_decl.specs.Declaration.{Declared}
+use Rattle.std.proofs.Common.{◌∙◌}
 use Rattle.pw_sessions.specs.Fields.{workbench_by}
 use Rattle.pw_sessions.proofs.BlankLines.{user_is_there, user_is_declared}
 use Rattle.pw_sessions.proofs.workbench.holding.Workbench.beliefs.Goals as goal

@@ -13,7 +13,7 @@ use Rattle.pw_sessions.specs.LineReading.{Says}
 use Rattle.pw_sessions.specs.NamesDeclared.{IsDeclared}
 use Rattle.pw_sessions.specs.Workbench.{Workbench, IsCarriedOut}
 use Rattle.pw_sessions.proofs.AskedCells.{well_left}
-use Rattle.pw_sessions.proofs.CarriedCommands.{carried_ask, carried_attach, carried_beliefs, carried_believe, carried_conflicts, carried_doubt, carried_tell, carried_why, refused_attach, refused_tell}
+use Rattle.pw_sessions.proofs.CarriedCommands.{carried_ask, carried_attach, carried_beliefs, carried_believe, carried_conflicts, carried_doubt, carried_keeping, carried_tell, carried_why, refused_attach, refused_tell}
 use Rattle.pw_sessions.proofs.workbench.holding.Workbench.carry_out.Goals as goal
 
 pub returns-in_default : goal.returns-in_default
@@ -32,7 +32,8 @@ returns-in-Ok g c = λ d before left at named.
     let named' = subst (λ (x : Command). IsDeclared d (Says x)) c.in-Tell.is named in
     let told = c.in-Ok.ensures in
     subst (λ (x : Command). IsCarriedOut d before x (record bench { store = c.tell.new.self }) reply.Done) (sym c.in-Tell.is)
-    (carried_tell d well before bench left c.tell.new.self c.in-Tell.user c.in-Tell.cell c.in-Tell.fact named' told.told told.others told.kinds)
+    (carried_tell d well before bench left c.tell.new.self c.in-Tell.user c.in-Tell.cell c.in-Tell.fact c.args.self.now.network.well named'
+    (record { told = told.told; kept = told.kept; assimilates = told.assimilates; others = told.others; kinds = told.kinds }))
 
 pub returns-in_default-attach : goal.returns-in_default-attach
 returns-in_default-attach g c = λ d before left at named.
@@ -49,7 +50,7 @@ returns-in-Ok-attach g c = λ d before left at named.
     let named' = subst (λ (x : Command). IsDeclared d (Says x)) c.in-Attach.is named in
     subst (λ (x : Command). IsCarriedOut d before x (workbench_by c.attach.new.self) reply.Done) (sym c.in-Attach.is)
     (carried_attach d well before bench left (workbench_by c.attach.new.self) c.in-Attach.user c.args.line c.in-Attach.callable c.in-Attach.cells c.in-Attach.support
-    named' at c.in-Ok-attach.ensures.ok)
+    c.args.self.now.network.well c.attach.new.self.network.well named' at c.in-Ok-attach.ensures.ok)
 
 pub returns-in-Believe : goal.returns-in-Believe
 returns-in-Believe g c = λ d before left at named.
@@ -79,7 +80,7 @@ returns-in-Ask g c = λ d before left at named.
     let well = well_left d before bench c.args.self.now.network.well left in
     let named' = subst (λ (x : Command). IsDeclared d (Says x)) c.in-Ask.is named in
     subst (λ (x : Command). IsCarriedOut d before x (workbench_by c.ask.new.self) (reply_by c.ask.result)) (sym c.in-Ask.is)
-    (subst (λ (new : Workbench). IsCarriedOut d before (commands.Ask c.in-Ask.user c.in-Ask.cell) new (reply_by c.ask.result)) (sym c.ask.ensures.stays)
+    (carried_keeping d well before bench left (workbench_by c.ask.new.self) (commands.Ask c.in-Ask.user c.in-Ask.cell) (reply_by c.ask.result) c.ask.ensures.grows
     (carried_ask d well before bench left c.in-Ask.user c.in-Ask.cell (reply_by c.ask.result) named' (c.ask.ensures.answer d before left)))
 
 pub returns-in-Beliefs : goal.returns-in-Beliefs
@@ -96,7 +97,7 @@ returns-in-Why g c = λ d before left at named.
     let well = well_left d before bench c.args.self.now.network.well left in
     let named' = subst (λ (x : Command). IsDeclared d (Says x)) c.in-Why.is named in
     subst (λ (x : Command). IsCarriedOut d before x (workbench_by c.why.new.self) (reply_by c.why.result)) (sym c.in-Why.is)
-    (subst (λ (new : Workbench). IsCarriedOut d before (commands.Why c.in-Why.user c.in-Why.cell) new (reply_by c.why.result)) (sym c.why.ensures.stays)
+    (carried_keeping d well before bench left (workbench_by c.why.new.self) (commands.Why c.in-Why.user c.in-Why.cell) (reply_by c.why.result) c.why.ensures.grows
     (carried_why d well before bench left c.in-Why.user c.in-Why.cell (reply_by c.why.result) named' c.why.ensures.answer))
 
 pub returns-in-Conflicts : goal.returns-in-Conflicts
@@ -105,5 +106,5 @@ returns-in-Conflicts g c = λ d before left at named.
     let well = well_left d before bench c.args.self.now.network.well left in
     let named' = subst (λ (x : Command). IsDeclared d (Says x)) c.in-Conflicts.is named in
     subst (λ (x : Command). IsCarriedOut d before x (workbench_by c.conflicts.new.self) (reply_by c.conflicts.result)) (sym c.in-Conflicts.is)
-    (subst (λ (new : Workbench). IsCarriedOut d before (commands.Conflicts c.in-Conflicts.user) new (reply_by c.conflicts.result)) (sym c.conflicts.ensures.stays)
+    (carried_keeping d well before bench left (workbench_by c.conflicts.new.self) (commands.Conflicts c.in-Conflicts.user) (reply_by c.conflicts.result) c.conflicts.ensures.grows
     (carried_conflicts d well before bench left c.in-Conflicts.user (reply_by c.conflicts.result) named'.0 c.conflicts.ensures.answer))

@@ -17,7 +17,7 @@ returns-in-Ok-list_conflicts-clause-answer g c =
       c.in-Ok-list_conflicts.conflicts,
       refl,
       conflicts_same network (info_at c.in-Ok.settled.infos) (value_in network c.args.self.now.store beliefs) c.in-Ok-list_conflicts.conflicts
-          (λ cell here. c.in-Ok.ensures.settled.values cell here
+          (λ cell here. (c.in-Ok.ensures.settled c.requires.fits.sound).values cell here
           ∙ ap (λ w. value_in network c.args.self.now.store w cell) c.beliefs_of-beliefs.ensures)
           c.in-Ok-list_conflicts.ensures,
     )

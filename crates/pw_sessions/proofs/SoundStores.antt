@@ -1,0 +1,226 @@
+-- Stores stay sound: when they are new, when a fact is told, and when a callable is attached.
+use Rattle.std.proofs.Common.{◌≡◌, ℕ, ◌+◌, ◌<◌, ◌≤◌, Bool, true, List, ◌++◌, All, length, map, get_or, sym, ap, ◌∙◌, subst, arith, inl, inr}
+use Rattle.std.specs.Prelude.{◌-◌, nat_lt}
+use Rattle.std.specs.FinSet.{contains}
+use Rattle.std.proofs.Math.ListN.{get_or-map}
+use Rattle.std.proofs.lemmas.Bool.{cases_Bool, ltb-false, ltb-true}
+use Rattle.std.proofs.lemmas.List.{get_or_append_left, get_or-append-add, get_or_past, length-map}
+use Rattle.std.proofs.lemmas.List.Elements.{All-contains, All-nil}
+use Rattle.pw_info.specs.declared.kind.Kind.{Kind}
+use Rattle.pw_info.specs.declared.kind.Kind.TheVariants as kinds
+use Rattle.pw_info.specs.declared.info.Info.{Info}
+use Rattle.pw_info.specs.Information.{allows, kind_of, meet, nothing, Implies}
+use Rattle.pw_info.proofs.Informations.{implies_nothing, meet_comm}
+use Rattle.pw_premises.specs.Premises.{Premises}
+use Rattle.pw_facts.specs.declared.fact.Fact.{Fact}
+use Rattle.pw_facts.specs.Facts.{shows}
+use Rattle.pw_facts.proofs.Shown.{kind-shows}
+use Rattle.pw_cells.specs.Cells.{Cell, Store, cell_at, kept_at, kept_in, kept_of, kind_in_store, kinds_of, new_cell, told_in, told_of}
+use Rattle.pw_cells.specs.Changes.{AssimilatesAt, GainsKept, GainsTold, LeavesOthers}
+use Rattle.pw_cells.proofs.Together.{kind-shown_by, meet_first}
+use Rattle.pw_network.specs.Network.{Attached, Network, IsWellNetwork}
+use Rattle.pw_settle.specs.Growth.{KeepsMore}
+use Rattle.pw_settle.specs.Settled.{IsSettled, Settled, support_at}
+use Rattle.pw_settle.specs.Sound.{IsSound, LiesUpstream, RestsUpstream}
+use Rattle.pw_settle.specs.Values.{kinds_in, value_in}
+use Rattle.pw_settle.proofs.Growing.{same_value}
+use Rattle.pw_settle.proofs.KeptFacts.{also_implies, by_cell, implies_also, implies_merge, kind-in_value, kind-kept}
+use Rattle.pw_settle.proofs.Membership.{each_member}
+use Rattle.pw_sessions.proofs.WiderNetworks.{IsWider, still_attached, value_says_told, value_wider, wide_self}
+
+-- ---- what is kept follows
+
+-- where a cell is new, nothing is kept of it, and that follows
+keeps_nothing : (network : Network) (store : Store) → kinds_of store ≡ kinds_in network → (w : Premises) (c : ℕ) (k : Kind) → cell_at store c ≡ new_cell k →
+    Implies (value_in network store w c) (kept_in store c w)
+keeps_nothing network store same w c k none =
+    implies_also (value_in network store w c) (nothing k) (kept_in store c w) (sym (ap (λ (x : Cell). kept_of x w) none))
+    (implies_nothing (value_in network store w c) k (kind-in_value network store same w c ∙ ap (λ (x : Cell). x.kind) none))
+
+-- a store is sound where what is kept of the cells that are there follows
+sound_there : (network : Network) (store : Store) → kinds_of store ≡ kinds_in network →
+    ((w : Premises) (c : ℕ) → c < length (kinds_in network) → Implies (value_in network store w c) (kept_in store c w)) → IsSound network store
+sound_there network store same there w c =
+    elim (cases_Bool (nat_lt c (length (kinds_in network)))) [
+      | inl is ↦ there w c (ltb-true c (length (kinds_in network)) is)
+      | inr not ↦
+          let past = ltb-false c (length (kinds_in network)) not in
+          let many = length-map store.cells (λ (x : Cell). x.kind) in
+          keeps_nothing network store same w c kinds.Interval
+          (get_or_past store.cells c (new_cell kinds.Interval) (omega (arith, past, many, ap length same)))
+    ]
+
+-- the cells of new ones are new, whatever their number
+all_new : (store : Store) (ks : List Kind) → store.cells ≡ map new_cell ks → (c : ℕ) → cell_at store c ≡ new_cell (get_or ks c kinds.Interval)
+all_new store ks new c = ap (λ (l : List Cell). get_or l c (new_cell kinds.Interval)) new ∙ get_or-map new_cell ks c kinds.Interval
+
+-- a store of new cells is sound
+pub sound_new : (network : Network) (store : Store) (ks : List Kind) → kinds_of store ≡ kinds_in network → store.cells ≡ map new_cell ks → IsSound network store
+sound_new network store ks same new w c = keeps_nothing network store same w c (get_or ks c kinds.Interval) (all_new store ks new c)
+
+-- soundness is of the cells alone
+pub sound_same : (network : Network) (old new : Store) → new.cells ≡ old.cells → IsSound network old → IsSound network new
+sound_same network old new same sound =
+    subst (λ (cs : List Cell). IsSound network (record { cells = cs; room = 0 })) (sym same) sound
+
+-- of a cell that was added, nothing is kept
+cell_added : (old new : Store) (own : List Kind) → new.cells ≡ old.cells ++ map new_cell own → (c : ℕ) → length old.cells ≤ c →
+    cell_at new c ≡ new_cell (get_or own (c - length old.cells) kinds.Interval)
+cell_added old new own are c past =
+    let at : c ≡ length old.cells + (c - length old.cells) = omega (arith, past) in
+    ap (λ (l : List Cell). get_or l c (new_cell kinds.Interval)) are
+    ∙ ap (λ n. get_or (old.cells ++ map new_cell own) n (new_cell kinds.Interval)) at
+    ∙ get_or-append-add old.cells (map new_cell own) (c - length old.cells) (new_cell kinds.Interval)
+    ∙ get_or-map new_cell own (c - length old.cells) kinds.Interval
+
+-- and a cell that was there is as it was
+cell_stays : (old new : Store) (own : List Kind) → new.cells ≡ old.cells ++ map new_cell own → (c : ℕ) → c < length old.cells → cell_at new c ≡ cell_at old c
+cell_stays old new own are c there =
+    ap (λ (l : List Cell). get_or l c (new_cell kinds.Interval)) are ∙ get_or_append_left old.cells (map new_cell own) (new_cell kinds.Interval) c there
+
+-- a store stays sound where more is attached, and new cells are added
+pub sound_attached : (network wider : Network) → IsWider network wider → IsWellNetwork network → IsWellNetwork wider → (old new : Store) (own : List Kind) →
+    kinds_of old ≡ kinds_in network → kinds_of new ≡ kinds_in wider → new.cells ≡ old.cells ++ map new_cell own → IsSound network old → IsSound wider new
+sound_attached network wider wide well also old new own same fits are sound w c =
+    elim (cases_Bool (nat_lt c (length (kinds_in network)))) [
+      | inl is ↦
+          let below = ltb-true c (length (kinds_in network)) is in
+          implies_also (value_in wider new w c) (kept_in old c w) (kept_in new c w)
+          (sym (ap (λ (x : Cell). kept_of x w) (cell_stays old new own are c (omega (arith, below, many)))))
+          (λ v possible. sound w c v (value_wider network wider wide well also old new same fits w
+          (λ c there. also_implies (told_in old c w) (told_in old c w) (told_in new c w)
+          (sym (ap (λ (x : Cell). told_of x w) (cell_stays old new own are c (omega (arith, there, many))))) (λ v possible. possible))
+          c below v possible))
+      | inr not ↦
+          let past = ltb-false c (length (kinds_in network)) not in
+          keeps_nothing wider new fits w c (get_or own (c - length old.cells) kinds.Interval) (cell_added old new own are c (omega (arith, past, many)))
+    ]
+  where
+    many : length old.cells ≡ length (kinds_in network)
+    many = sym (length-map old.cells (λ (x : Cell). x.kind)) ∙ ap length same
+
+-- a merge implies the second of the two
+meet_second : (i j : Info) → kind_of i ≡ kind_of j → Implies (meet i j) j
+meet_second i j one_kind = also_implies j (meet j i) (meet i j) (meet_comm j i (sym one_kind)) (meet_first j i (sym one_kind))
+
+-- the store took a fact that was told of the cell
+pub record TakesFact (cell : ℕ) (fact : Fact) (old new : Store) : Type 0 where
+  pub told : GainsTold cell fact old new
+  pub kept : GainsKept cell fact old new
+  pub assimilates : AssimilatesAt cell fact old new
+  pub others : LeavesOthers cell old new
+  pub kinds : kinds_of new ≡ kinds_of old
+
+-- a store stays sound where a fact is told
+pub sound_told : (network : Network) → IsWellNetwork network → (old new : Store) (cell : ℕ) (fact : Fact) → kinds_of old ≡ kinds_in network →
+    kind_of fact.info ≡ kind_in_store old cell → GainsTold cell fact old new → GainsKept cell fact old new → LeavesOthers cell old new →
+    kinds_of new ≡ kinds_of old → IsSound network old → IsSound network new
+sound_told network well old new cell fact same kind gained gains others still sound =
+    sound_there network new fits (λ w c below.
+    by_cell (λ c. c < length (kinds_in network) → Implies (value_in network new w c) (kept_in new c w)) cell (here w)
+    (λ c other there. implies_also (value_in network new w c) (kept_in old c w) (kept_in new c w) (sym (ap (λ (x : Cell). kept_of x w) (others c other)))
+    (λ v possible. sound w c v (grown w c there v possible))) c below)
+  where
+    fits : kinds_of new ≡ kinds_in network
+    fits = still ∙ same
+
+    told_kinds : (w : Premises) → kind_of (told_in old cell w) ≡ kind_of (shows w fact)
+    told_kinds w = kind-shown_by (cell_at old cell).kind w (cell_at old cell).told ∙ sym kind ∙ sym (kind-shows w fact)
+
+    kept_kinds : (w : Premises) → kind_of (kept_in old cell w) ≡ kind_of (shows w fact)
+    kept_kinds w = kind-kept old cell w ∙ sym kind ∙ sym (kind-shows w fact)
+
+    more_told : (w : Premises) (c : ℕ) → Implies (told_in new c w) (told_in old c w)
+    more_told w c =
+        by_cell (λ c. Implies (told_in new c w) (told_in old c w)) cell
+        (also_implies (told_in old cell w) (meet (told_in old cell w) (shows w fact)) (told_in new cell w) (sym (gained w))
+        (meet_first (told_in old cell w) (shows w fact) (told_kinds w)))
+        (λ c other. also_implies (told_in old c w) (told_in old c w) (told_in new c w) (sym (ap (λ (x : Cell). told_of x w) (others c other)))
+        (λ v possible. possible)) c
+
+    grown : (w : Premises) (c : ℕ) → c < length (kinds_in network) → Implies (value_in network new w c) (value_in network old w c)
+    grown w = value_wider network network (wide_self network) well well old new same fits w (λ c there. more_told w c)
+
+    here : (w : Premises) → cell < length (kinds_in network) → Implies (value_in network new w cell) (kept_in new cell w)
+    here w there =
+        implies_also (value_in network new w cell) (meet (kept_in old cell w) (shows w fact)) (kept_in new cell w) (sym (gains w))
+        (implies_merge (value_in network new w cell) (kept_in old cell w) (shows w fact) (kept_kinds w)
+        (λ v possible. sound w cell v (grown w cell there v possible))
+        (λ v possible. meet_second (told_in old cell w) (shows w fact) (told_kinds w) v
+        (subst (λ (i : Info). allows i v ≡ true) (gained w) (value_says_told network new w well fits cell there v possible))))
+
+-- ---- what is kept rests on premises upstream
+
+-- premises that lie upstream do so where more is attached and more was given
+lie_still : (network wider : Network) → IsWider network wider → (given more : ℕ → ℕ → Bool) → ((c p : ℕ) → given c p ≡ true → more c p ≡ true) →
+    (cell : ℕ) (premises : Premises) → LiesUpstream network given cell premises → LiesUpstream wider more cell premises
+lie_still network wider wide given more all cell premises lies cells upstream has p one =
+    elim (lies cells
+    (each_member (λ (a : Attached). cells a.instance.output ≡ true → All (λ input. cells input ≡ true) a.instance.inputs) network.attached
+    (λ a there. All-contains (λ (a : Attached). cells a.instance.output ≡ true → All (λ input. cells input ≡ true) a.instance.inputs) wider.attached a upstream
+    (still_attached network wider wide a there)))
+    has p one) [
+      | inl (c, within, told) ↦ inl (c, within, all c p told)
+      | inr (a, there, writes, own) ↦ inr (a, still_attached network wider wide a there, writes, own)
+    ]
+
+-- of new cells nothing is kept
+pub rests_new : (network : Network) (given : ℕ → ℕ → Bool) (store : Store) (ks : List Kind) → store.cells ≡ map new_cell ks → RestsUpstream network given store
+rests_new network given store ks new cell =
+    subst (All (λ (f : Fact). LiesUpstream network given cell f.support)) (sym (ap (λ (x : Cell). x.kept) (all_new store ks new cell)))
+    (All-nil (λ (f : Fact). LiesUpstream network given cell f.support))
+
+-- it is a matter of the cells alone, and of what was given
+pub rests_same : (network : Network) (given more : ℕ → ℕ → Bool) (old new : Store) → new.cells ≡ old.cells → ((c p : ℕ) → given c p ≡ true → more c p ≡ true) →
+    RestsUpstream network given old → RestsUpstream network more new
+rests_same network given more old new same all rests cell =
+    subst (λ (cs : List Cell). All (λ (f : Fact). LiesUpstream network more cell f.support) (kept_at (record { cells = cs; room = 0 }) cell)) (sym same)
+    (λ k d within. lie_still network network (wide_self network) given more all cell (get_or (kept_at old cell) k d).support (rests cell k d within))
+
+-- where more is attached, and new cells are added
+pub rests_attached : (network wider : Network) → IsWider network wider → (given more : ℕ → ℕ → Bool) → ((c p : ℕ) → given c p ≡ true → more c p ≡ true) →
+    (old new : Store) (own : List Kind) → new.cells ≡ old.cells ++ map new_cell own → RestsUpstream network given old → RestsUpstream wider more new
+rests_attached network wider wide given more all old new own are rests cell =
+    elim (cases_Bool (nat_lt cell (length old.cells))) [
+      | inl is ↦
+          subst (All (λ (f : Fact). LiesUpstream wider more cell f.support))
+          (sym (ap (λ (x : Cell). x.kept) (cell_stays old new own are cell (ltb-true cell (length old.cells) is))))
+          (λ k d within. lie_still network wider wide given more all cell (get_or (kept_at old cell) k d).support (rests cell k d within))
+      | inr not ↦
+          subst (All (λ (f : Fact). LiesUpstream wider more cell f.support))
+          (sym (ap (λ (x : Cell). x.kept) (cell_added old new own are cell (ltb-false cell (length old.cells) not))))
+          (All-nil (λ (f : Fact). LiesUpstream wider more cell f.support))
+    ]
+
+-- where a fact is told, whose premises are given with its cell
+pub rests_told : (network : Network) (given more : ℕ → ℕ → Bool) → ((c p : ℕ) → given c p ≡ true → more c p ≡ true) → (old new : Store) (cell : ℕ) (fact : Fact) →
+    ((p : ℕ) → contains fact.support p ≡ true → more cell p ≡ true) → AssimilatesAt cell fact old new → LeavesOthers cell old new →
+    RestsUpstream network given old → RestsUpstream network more new
+rests_told network given more all old new cell fact own assimilates others rests =
+    by_cell (λ c. All (λ (f : Fact). LiesUpstream network more c f.support) (kept_at new c)) cell
+    (each_member (λ (f : Fact). LiesUpstream network more cell f.support) (kept_at new cell)
+    (λ f has. elim (assimilates.within f has) [
+      | inl is ↦ λ cells upstream within p one. inl (cell, within, own p (subst (λ (g : Fact). contains g.support p ≡ true) is one))
+      | inr was ↦ lie_still network network (wide_self network) given more all cell f.support
+          (All-contains (λ (g : Fact). LiesUpstream network given cell g.support) (kept_at old cell) f (rests cell) was)
+    ]))
+    (λ c other. subst (All (λ (f : Fact). LiesUpstream network more c f.support)) (sym (ap (λ (x : Cell). x.kept) (others c other)))
+    (λ k d within. lie_still network network (wide_self network) given more all c (get_or (kept_at old c) k d).support (rests c k d within)))
+
+-- ---- what settled is settled still
+
+-- the values stay where what is told does
+pub settled_still : (network : Network) (old new : Store) (w : Premises) (settled : Settled) → KeepsMore network old new →
+    IsSettled network old w settled → IsSettled network new settled.worldview settled
+settled_still network old new w settled grows is =
+    subst (λ (u : Premises). IsSettled network new u settled) (sym is.worldview_is)
+    (record {
+      worldview_is = is.worldview_is;
+      cells = is.cells;
+      values = λ cell below. is.values cell below ∙ sym (same_value network old new grows.told w cell);
+      supports = is.supports;
+      within = is.within;
+      enough = λ cell below.
+          same_value network old new grows.told (support_at settled.supports cell) cell ∙ is.enough cell below
+          ∙ sym (same_value network old new grows.told w cell);
+    })

@@ -1,0 +1,62 @@
+-- Queues of the numbers whose flags are set.
+use Rattle.std.proofs.Common.{◌≡◌, ◌≢◌, ℕ, ◌+◌, ◌<◌, suc, Bool, true, false, cond, eqb, inl, inr, List, [], ◌∷◌, ◌++◌, length, set, get_or, refl, sym, ap, ◌∙◌, subst, arith, length-append}
+use Rattle.std.proofs.lemmas.Bool.{cases_Bool, eqb-false, eqb-true}
+use Rattle.std.proofs.lemmas.List.{get_or-set_other, get_or-set_same, length-set}
+use Rattle.std.proofs.lemmas.List.Elements.{All-append, All-cons, All-head, All-nil, All-tail, All-weaker}
+use Rattle.std.proofs.lemmas.List.Quantifiers.{all_pairs_push}
+use Rattle.std.proofs.lemmas.List.Sums.{count_by-le-length, sum_by-set}
+use Rattle.pw_settle.specs.Agenda.{IsQueue, is_set, tally}
+use Rattle.pw_settle.proofs.TakenFlags.{taken_less}
+
+-- one flag more
+pub tally_more : (flags : List Bool) (one : ℕ) → one < length flags → is_set flags one ≡ false → tally (set flags one true) ≡ tally flags + 1
+tally_more flags one below free =
+    let sums = sum_by-set (λ b. cond b 1 0) flags one true false below in
+    let one_free : ℕ = cond (get_or flags one false) 1 0 in
+    let none : ℕ = 0 in
+    let was : one_free ≡ none = ap (λ b. cond b 1 0) free in
+    omega (arith, sums, was)
+
+-- where a flag is not set there are fewer that are than flags
+pub tally_room : (flags : List Bool) (one : ℕ) → one < length flags → is_set flags one ≡ false → tally flags < length flags
+tally_room flags one below free =
+    omega (arith, tally_more flags one below free, count_by-le-length (λ (b : Bool). b) (set flags one true), length-set flags one true)
+
+-- a number whose flag is not set is queued with its flag
+pub queue_more : (flags : List Bool) (queue : List ℕ) (capacity one : ℕ) → one < length flags → is_set flags one ≡ false → IsQueue flags queue capacity →
+    IsQueue (set flags one true) (queue ++ one ∷ []) capacity
+queue_more flags queue capacity one below free is = record {
+  flagged = All-append (λ n. is_set (set flags one true) n ≡ true) queue (one ∷ [])
+      (All-weaker (λ n. is_set flags n ≡ true) (λ n. is_set (set flags one true) n ≡ true) stays queue is.flagged)
+      (All-cons (λ n. is_set (set flags one true) n ≡ true) one [] (get_or-set_same flags one true false below) (All-nil (λ n. is_set (set flags one true) n ≡ true)));
+  once = all_pairs_push (λ m n. m ≢ n) queue one is.once (λ k d within same. other k d within same);
+  count = length-append queue (one ∷ []) ∙ counted;
+  room = omega (arith, is.room, length-set flags one true);
+} where
+  stays : (n : ℕ) → is_set flags n ≡ true → is_set (set flags one true) n ≡ true
+  stays n flag =
+      elim (cases_Bool (eqb n one)) [
+        | inl same ↦ ap (is_set (set flags one true)) (eqb-true n one same) ∙ get_or-set_same flags one true false below
+        | inr not ↦ get_or-set_other flags one n true false (eqb-false n one not) ∙ flag
+      ]
+
+  other : (k d : ℕ) → k < length queue → get_or queue k d ≡ one → ⊥
+  other k d within same = let flag = is.flagged k d within in let also = ap (is_set flags) same in absurd (cc)
+
+  counted : length queue + length (one ∷ []) ≡ tally (set flags one true)
+  counted = omega (arith, is.count, tally_more flags one below free)
+
+-- what is queued first leaves, and its flag is let down
+pub queue_less : (flags : List Bool) (queue rest : List ℕ) (capacity one : ℕ) → queue ≡ one ∷ rest → IsQueue flags queue capacity →
+    IsQueue (set flags one false) rest capacity
+queue_less flags queue rest capacity one is_first is_queue =
+    let is : IsQueue flags (one ∷ rest) capacity = subst (λ (l : List ℕ). IsQueue flags l capacity) is_first is_queue in
+    let flag : is_set flags one ≡ true = All-head (λ n. is_set flags n ≡ true) one rest is.flagged in
+    record {
+      flagged = λ k d within.
+          get_or-set_other flags one (get_or rest k d) false false (λ same. is.once 0 (suc k) d (omega arith) (omega (arith, within)) (sym same))
+          ∙ All-tail (λ n. is_set flags n ≡ true) one rest is.flagged k d within;
+      once = λ i j d less within. is.once (suc i) (suc j) d (omega (arith, less)) (omega (arith, within));
+      count = let many = is.count in omega (arith, many, taken_less flags (set flags one false) one refl flag);
+      room = omega (arith, is.room, length-set flags one false);
+    }

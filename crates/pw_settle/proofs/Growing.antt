@@ -1,0 +1,38 @@
+-- How stores that keep more follow on one another.
+use Rattle.std.proofs.Common.{◌≡◌, ℕ, ◌++◌, length, map, refl, ap, ◌∙◌}
+use Rattle.std.proofs.Math.Path.{fun_ext}
+use Rattle.std.specs.List.{range_with_len}
+use Rattle.pw_info.specs.declared.info.Info.{Info}
+use Rattle.pw_premises.specs.Premises.{Premises}
+use Rattle.pw_cells.specs.Cells.{Store, told_in}
+use Rattle.pw_network.specs.Network.{Network}
+use Rattle.pw_settle.specs.Growth.{KeepsMore}
+use Rattle.pw_settle.specs.Fixpoint.{fixpoint}
+use Rattle.pw_settle.specs.Sources.{Told}
+use Rattle.pw_settle.specs.Values.{kinds_in, numbered, numbers_of, propagators_of, value_in, visible_instances}
+
+-- the value of a cell is read off what is told
+pub same_value : (network : Network) (old new : Store) → ((cell : ℕ) (w : Premises) → told_in new cell w ≡ told_in old cell w) →
+    (w : Premises) (cell : ℕ) → value_in network new w cell ≡ value_in network old w cell
+same_value network old new told w cell =
+    ap (λ (tells : ℕ → Info). fixpoint (numbered (kinds_in network)) (numbers_of (kinds_in network))
+    (map (λ c. Told c (tells c)) (range_with_len 0 (length (kinds_in network)))
+    ++ propagators_of network.declared.procedures (visible_instances network.attached w)) cell) (fun_ext (λ c. told c w))
+
+-- a store keeps more than itself
+pub keeps_more_same : (network : Network) (store : Store) → KeepsMore network store store
+keeps_more_same network store = record {
+  kinds = refl;
+  told = λ cell w. refl;
+  more = λ cell w v possible. possible;
+  sound = λ sound. sound;
+}
+
+-- and more than what a store keeps that keeps more
+pub keeps_more_then : (network : Network) (a b c : Store) → KeepsMore network a b → KeepsMore network b c → KeepsMore network a c
+keeps_more_then network a b c first then = record {
+  kinds = then.kinds ∙ first.kinds;
+  told = λ cell w. then.told cell w ∙ first.told cell w;
+  more = λ cell w v possible. first.more cell w v (then.more cell w v possible);
+  sound = λ sound. then.sound (first.sound sound);
+}

@@ -1,0 +1,68 @@
+-- What an instance of a network makes of what is at hand.
+use Rattle.std.proofs.Common.{◌≡◌, ℕ, ◌<◌, List, [], ◌∷◌, All, length, map, get_or, sym, ap, ◌∙◌, subst, arith}
+use Rattle.std.proofs.Math.ListN.{get_or-map}
+use Rattle.std.proofs.lemmas.List.{get_or_default, length-map}
+use Rattle.pw_info.specs.declared.kind.Kind.{Kind}
+use Rattle.pw_info.specs.declared.kind.Kind.TheVariants as kinds
+use Rattle.pw_info.specs.declared.info.Info.{Info}
+use Rattle.pw_info.specs.Information.{kind_of, nothing, Implies}
+use Rattle.pw_procs.specs.Procedure.{Procedure}
+use Rattle.pw_network.specs.declared.instance.Instance.{Instance}
+use Rattle.pw_network.specs.Kept.{attached_of}
+use Rattle.pw_network.specs.Network.{Attached, Network, IsWellNetwork}
+use Rattle.pw_settle.specs.Placed.{IsPlaced}
+use Rattle.pw_settle.specs.Progress.{IsSatisfied, attached_no}
+use Rattle.pw_settle.specs.Settled.{info_at}
+use Rattle.pw_settle.specs.Sources.{IsImplied, said_by}
+use Rattle.pw_settle.specs.Values.{kinds_in, numbered, propagators_of}
+use Rattle.pw_settle.proofs.PlacedInstances.{all_sources, kind-info_at, the_source}
+use Rattle.pw_settle.proofs.SettledValues.{all_placed}
+
+-- the instance of this number as it is kept
+pub kept_instance : (network : Network) (instances : List Instance) (number : ℕ) (instance d : _) → map attached_of instances ≡ network.attached →
+    number < length network.attached → instance ≡ get_or instances number instance → attached_no network number d ≡ attached_of instance
+kept_instance network instances number instance d same below is =
+    sym (ap (λ l. get_or l number d) same)
+    ∙ get_or_default (map attached_of instances) number d (attached_of instance) (omega (arith, below, ap length same))
+    ∙ get_or-map attached_of instances number instance ∙ ap attached_of (sym is)
+
+module _ (network : Network) (well : IsWellNetwork network) (infos : List Info) (procedures : List Procedure) (number : ℕ) (a : Attached)
+    (same : procedures ≡ network.declared.procedures) (kinds_are : map kind_of infos ≡ kinds_in network)
+    (below : number < length network.attached) (is : (d : Attached) → attached_no network number d ≡ a) where
+  -- its cells are there
+  pub placed_here : IsPlaced procedures (map kind_of infos) a.instance
+  placed_here =
+      subst (λ (ps : List Procedure). IsPlaced ps (map kind_of infos) a.instance) (sym same)
+      (subst (λ (ks : List Kind). IsPlaced network.declared.procedures ks a.instance) (sym kinds_are)
+      (subst (λ (b : Attached). IsPlaced network.declared.procedures (kinds_in network) b.instance) (is a) (all_placed network well number a below)))
+
+  pub output_there : a.instance.output < length infos
+  output_there = omega (arith, placed_here.0.1, length-map infos kind_of)
+
+  pub inputs_there : (count : ℕ) → count ≡ length infos → All (λ input. input < count) a.instance.inputs
+  inputs_there count as_many i d within = omega (arith, placed_here.0.0 i d within, as_many, length-map infos kind_of)
+
+  -- what is at hand of its output, read with any default, and its kind
+  pub output_read : (info : Info) → get_or infos a.instance.output info ≡ info_at infos a.instance.output
+  output_read info = get_or_default infos a.instance.output info (nothing kinds.Interval) output_there
+
+  pub output_kind : (info : Info) → kind_of info ≡ (numbered (map kind_of infos)).kind a.instance.output →
+      kind_of info ≡ kind_of (info_at infos a.instance.output)
+  output_kind info kind = kind ∙ sym (kind-info_at infos a.instance.output)
+
+  -- what its procedure says
+  pub said_here : (info : Info) → All (λ source. said_by (info_at infos) source ≡ info) (propagators_of procedures (a.instance ∷ [])) → (d : Attached) →
+      All (λ source. said_by (info_at infos) source ≡ info) (propagators_of network.declared.procedures ((attached_no network number d).instance ∷ []))
+  said_here info says d =
+      subst (λ (b : Attached). All (λ source. said_by (info_at infos) source ≡ info) (propagators_of network.declared.procedures (b.instance ∷ []))) (sym (is d))
+      (subst (λ (ps : List Procedure). All (λ source. said_by (info_at infos) source ≡ info) (propagators_of ps (a.instance ∷ []))) same says)
+
+  -- where the output says it already, the instance is satisfied
+  pub satisfied_here : (info : Info) → All (λ source. said_by (info_at infos) source ≡ info) (propagators_of procedures (a.instance ∷ [])) →
+      Implies (info_at infos a.instance.output) info → (d : Attached) → IsSatisfied network (info_at infos) (attached_no network number d)
+  satisfied_here info says implied d =
+      subst (IsSatisfied network (info_at infos)) (sym (is d))
+      (subst (λ (ps : List Procedure). All (IsImplied (info_at infos)) (propagators_of ps (a.instance ∷ []))) same
+      (all_sources procedures (map kind_of infos) a.instance placed_here (IsImplied (info_at infos))
+      (subst (Implies (info_at infos a.instance.output))
+      (sym (the_source procedures (map kind_of infos) a.instance placed_here (λ source. said_by (info_at infos) source ≡ info) says)) implied)))

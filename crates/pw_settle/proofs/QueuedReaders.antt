@@ -1,0 +1,129 @@
+-- An agenda while the readers of a cell are queued, one after another.
+use Rattle.std.proofs.Common.{◌≡◌, ◌⊎◌, ℕ, zero, suc, ◌+◌, ◌-◌, ◌<◌, ◌≤◌, Bool, true, false, cond, eqb, inl, inr, List, [], ◌∷◌, All, Contains, length, map, get_or, set, refl, sym, ap, ◌∙◌, subst, arith}
+use Rattle.std.specs.List.{count_by}
+use Rattle.std.proofs.lemmas.Bool.{cases_Bool, eqb-false, eqb-true}
+use Rattle.std.proofs.lemmas.List.{get_or_default, get_or-set_other, get_or-set_same, length-set, same_lists}
+use Rattle.std.proofs.lemmas.List.Elements.{All-filter, All-head, All-tail}
+use Rattle.std.proofs.lemmas.List.Sums.{sum_by-cons, sum_by-set}
+use Rattle.pw_decl.proofs.FlatKept.{range_below}
+use Rattle.pw_network.specs.Network.{Network}
+use Rattle.pw_network.specs.Readers.{reads, readers_of}
+use Rattle.pw_settle.specs.Agenda.{is_set, tally}
+
+-- what reads a cell is an instance
+pub readers_below : (network : Network) (cell : ℕ) → All (λ n. n < length network.attached) (readers_of network cell)
+readers_below network cell =
+    All-filter (λ n. get_or (map (reads cell) network.attached) n false) (λ n. n < length network.attached) _
+    (range_below (length network.attached - 0) (length network.attached) (omega arith))
+
+-- a member is the first or another
+first_or_other : (x y : ℕ) (xs : List ℕ) → Contains (x ∷ xs) y → (x ≡ y) ⊎ Contains xs y
+first_or_other x y xs (zero, within, is) = inl is
+first_or_other x y xs (suc k, within, is) = inr (k, omega (arith, within), is)
+
+-- so far those of the readers that are not left were queued, where they are visible
+pub record AreQueuedBut (visible old now : List Bool) (readers left : List ℕ) (count : ℕ) : Type 0 where
+  pub queued : (n : ℕ) → Contains readers n → is_set visible n ≡ true → (is_set now n ≡ true) ⊎ Contains left n
+  pub stay : (n : ℕ) → is_set old n ≡ true → is_set now n ≡ true
+  pub others : (n : ℕ) → is_set now n ≡ true → (is_set old n ≡ true) ⊎ (is_set visible n ≡ true)
+  pub most : tally now + count_by (is_set visible) left ≤ tally old + count_by (is_set visible) readers
+  pub least : tally old ≤ tally now
+  pub flags : length now ≡ length old
+  pub below : All (λ n. n < count) left
+
+-- at first all are left
+pub all_left : (visible flags : List Bool) (readers left : List ℕ) (count : ℕ) → left ≡ readers → All (λ n. n < count) readers →
+    AreQueuedBut visible flags flags readers left count
+all_left visible flags readers left count all below = record {
+  queued = λ n reader seen. inr (subst (λ (l : List ℕ). Contains l n) (sym all) reader);
+  stay = λ n flag. flag;
+  others = λ n flag. inl flag;
+  most = omega (arith, ap (count_by (is_set visible)) all);
+  least = omega arith;
+  flags = refl;
+  below = subst (All (λ n. n < count)) (sym all) below;
+}
+
+module _ (visible old now : List Bool) (readers left : List ℕ) (count : ℕ) (so_far : AreQueuedBut visible old now readers left count)
+    (number : ℕ) (rest : List ℕ) (next : left ≡ number ∷ rest) where
+  all_below : All (λ n. n < count) (number ∷ rest)
+  all_below = subst (All (λ n. n < count)) next so_far.below
+
+  pub next_below : number < count
+  next_below = All-head (λ n. n < count) number rest all_below
+
+  counted : count_by (is_set visible) left ≡ cond (is_set visible number) 1 0 + count_by (is_set visible) rest
+  counted = ap (count_by (is_set visible)) next ∙ sum_by-cons (λ n. cond (is_set visible n) 1 0) number rest
+
+  -- the next is visible, and is queued
+  pub queued_one : count ≡ length old → is_set visible number ≡ true → AreQueuedBut visible old (set now number true) readers rest count
+  queued_one as_many seen = record {
+    queued = λ n reader visible_n. elim (so_far.queued n reader visible_n) [
+      | inl flag ↦ inl (stays n flag)
+      | inr waits ↦ elim (first_or_other number n rest (subst (λ (l : List ℕ). Contains l n) next waits)) [
+        | inl same ↦ inl (ap (is_set (set now number true)) (sym same) ∙ get_or-set_same now number true false there)
+        | inr other ↦ inr other
+      ]
+    ];
+    stay = λ n flag. stays n (so_far.stay n flag);
+    others = λ n flag. elim (cases_Bool (eqb n number)) [
+      | inl same ↦ inr (ap (is_set visible) (eqb-true n number same) ∙ seen)
+      | inr not ↦ so_far.others n (sym (get_or-set_other now number n true false (eqb-false n number not)) ∙ flag)
+    ];
+    most =
+        let counts : ℕ = cond (is_set visible number) 1 0 in
+        let one : ℕ = 1 in
+        let one_seen : counts ≡ one = ap (λ b. cond b 1 0) seen in
+        omega (arith, so_far.most, counted, one_seen, sum_by-set (λ b. cond b 1 0) now number true false there);
+    least = omega (arith, so_far.least, sum_by-set (λ b. cond b 1 0) now number true false there, flag_most (get_or now number false));
+    flags = length-set now number true ∙ so_far.flags;
+    below = All-tail (λ n. n < count) number rest all_below;
+  } where
+    there : number < length now
+    there = omega (arith, next_below, as_many, so_far.flags)
+
+    stays : (n : ℕ) → is_set now n ≡ true → is_set (set now number true) n ≡ true
+    stays n flag =
+        elim (cases_Bool (eqb n number)) [
+          | inl same ↦ ap (is_set (set now number true)) (eqb-true n number same) ∙ get_or-set_same now number true false there
+          | inr not ↦ get_or-set_other now number n true false (eqb-false n number not) ∙ flag
+        ]
+
+    flag_most : (b : Bool) → cond b 1 0 ≤ 1
+    flag_most true = omega arith
+    flag_most false = omega arith
+
+  -- the next is not visible, and is passed over
+  pub passed_one : is_set visible number ≡ false → AreQueuedBut visible old now readers rest count
+  passed_one hidden = record {
+    queued = λ n reader visible_n. elim (so_far.queued n reader visible_n) [
+      | inl flag ↦ inl flag
+      | inr waits ↦ elim (first_or_other number n rest (subst (λ (l : List ℕ). Contains l n) next waits)) [
+        | inl same ↦ let also = ap (is_set visible) same in absurd (cc)
+        | inr other ↦ inr other
+      ]
+    ];
+    stay = so_far.stay;
+    others = so_far.others;
+    most = omega (arith, so_far.most, counted);
+    least = so_far.least;
+    flags = so_far.flags;
+    below = All-tail (λ n. n < count) number rest all_below;
+  }
+
+-- when none is left, all that are visible are queued
+pub none_left : (visible old now : List Bool) (readers left : List ℕ) (count : ℕ) → AreQueuedBut visible old now readers left count → left ≡ [] →
+    (n : ℕ) → Contains readers n → is_set visible n ≡ true → is_set now n ≡ true
+none_left visible old now readers left count so_far none n reader seen =
+    elim (so_far.queued n reader seen) [
+      | inl flag ↦ flag
+      | inr (k, within, is) ↦ let empty = ap length none in absurd (omega (arith, within, empty))
+    ]
+
+-- flags that are the same below a number, past which there is none, are the same
+pub same_flags : (flags visible : List Bool) (number : ℕ) → length flags ≡ length visible → ((i : ℕ) → i < number → is_set flags i ≡ is_set visible i) →
+    length visible ≤ number → flags ≡ visible
+same_flags flags visible number many before past =
+    same_lists flags visible many
+    (λ k d within.
+    get_or_default flags k d false within ∙ before k (omega (arith, within, many, past)) ∙ get_or_default visible k false d (omega (arith, within, many)))

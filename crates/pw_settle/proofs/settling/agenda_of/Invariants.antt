@@ -1,0 +1,10 @@
+use Rattle.std.proofs.Common.{◌≡◌, ◌<◌, ◌≤◌, ℕ, false, length}
+use Rattle.pw_settle.specs.Agenda.{is_set}
+use Rattle.pw_settle.proofs.settling.agenda_of.Given as goal
+
+abbrev pub invariant-loop-number : goal.invariant-loop-number
+invariant-loop-number g l = record {
+  many : length l.agenda ≡ length l.visible;
+  before : (i : ℕ) → i < l.number → is_set l.agenda i ≡ is_set l.visible i;
+  after : (i : ℕ) → l.number ≤ i → is_set l.agenda i ≡ false;
+}

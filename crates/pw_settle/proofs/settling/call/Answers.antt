@@ -1,0 +1,106 @@
+use Rattle.std.proofs.Common.{◌≡◌, ◌<◌, Bool, List, ◌++◌, length, map, take, drop, sym, ap, subst, ◌∙◌, arith}
+use Rattle.std.specs.List.{count_by}
+use Rattle.std.proofs.lemmas.List.{length-set}
+use Rattle.pw_info.specs.declared.info.Info.{Info}
+use Rattle.pw_info.specs.Information.{kind_of}
+use Rattle.pw_premises.specs.Premises.{Premises}
+use Rattle.pw_cells.specs.Cells.{kept_in}
+use Rattle.pw_network.specs.Fields.{network_by}
+use Rattle.pw_network.specs.Readers.{readers_of}
+use Rattle.pw_settle.specs.Agenda.{is_set}
+use Rattle.pw_settle.specs.Calls.{reader_count}
+use Rattle.pw_settle.specs.Known.{AreUpstream, TakesIn}
+use Rattle.pw_settle.specs.Progress.{IsNews, IsSatisfied, attached_no}
+use Rattle.pw_settle.specs.Settled.{info_at}
+use Rattle.pw_settle.proofs.KeptFacts.{kind-kept}
+use Rattle.pw_settle.proofs.KeptProgress.{IsAfterNews, after_news, kinds_at_hand, no_instance, satisfied_all, satisfied_kept}
+use Rattle.pw_settle.proofs.SourceLists.{came_back}
+use Rattle.pw_settle.proofs.settling.call.Given as given
+use Rattle.pw_settle.proofs.settling.call.Goals as goal
+
+pub news-requires-clause-kinds : goal.news-requires-clause-kinds
+news-requires-clause-kinds g c =
+    ap (map kind_of) c.deref.ensures.value
+    ∙ kinds_at_hand c.args.store.now c.args.worldview.now c.args.known.now.infos.items c.args.known.now.supports.items c.requires.kept ∙ c.requires.kinds
+
+pub keep-requires-clause-kind : goal.keep-requires-clause-kind
+keep-requires-clause-kind g c =
+    c.in-Some.ensures.kind ∙ ap (λ (l : List Info). kind_of (info_at l c.in-Some.cell)) c.deref.ensures.value
+    ∙ ap kind_of (c.requires.kept.infos_are c.in-Some.cell) ∙ kind-kept c.args.store.now c.in-Some.cell c.args.worldview.now
+
+-- the news, of what is at hand
+news_is : (g : given.Over) (c : goal.After-queue_readers g) →
+    IsNews (network_by c.args.network.now) c.args.known.now.infos.items c.args.known.now.supports.items
+    (attached_no (network_by c.args.network.now) c.args.number no_instance) c.in-Some.cell c.in-Some.fact
+news_is g c =
+    subst (λ (l : List Info). IsNews (network_by c.args.network.now) l c.args.known.now.supports.items
+    (attached_no (network_by c.args.network.now) c.args.number no_instance) c.in-Some.cell c.in-Some.fact) c.deref.ensures.value
+    (subst (λ (l : List Premises). IsNews (network_by c.args.network.now) c.deref.result.now l
+    (attached_no (network_by c.args.network.now) c.args.number no_instance) c.in-Some.cell c.in-Some.fact) c.deref-2.ensures.value
+    (c.in-Some.ensures.news no_instance))
+
+-- and how they are taken in
+taken : (g : given.Over) (c : goal.After-queue_readers g) →
+    TakesIn c.in-Some.cell c.in-Some.fact c.args.known.now.infos.items c.take_in.new.infos c.args.known.now.supports.items c.take_in.new.supports
+taken g c =
+    subst (λ (l : List Info). TakesIn c.in-Some.cell c.in-Some.fact l c.take_in.new.infos c.args.known.now.supports.items c.take_in.new.supports)
+    c.deref_mut.ensures.value
+    (subst (λ (l : List Premises). TakesIn c.in-Some.cell c.in-Some.fact c.deref_mut.result.now c.take_in.new.infos l c.take_in.new.supports)
+    c.deref_mut-in-Some.ensures.value c.take_in.ensures)
+
+-- what there is afterwards
+after : (g : given.Over) (c : goal.After-queue_readers g) →
+    IsAfterNews (network_by c.args.network.now) c.args.store.now c.keep.new.self c.args.worldview.now c.take_in.new.infos
+    c.args.known.now.supports.items c.take_in.new.supports c.args.number c.in-Some.cell
+after g c =
+    after_news (network_by c.args.network.now) c.args.network.now.well c.args.store.now c.keep.new.self c.requires.kinds c.args.worldview.now
+    c.args.known.now.infos.items c.take_in.new.infos c.args.known.now.supports.items c.take_in.new.supports c.requires.kept
+    c.args.number c.requires.number c.in-Some.cell c.in-Some.fact (news_is g c)
+    (subst (λ (l : List Info). c.in-Some.cell < length l) c.deref.ensures.value c.in-Some.ensures.there)
+    (c.in-Some.ensures.kind ∙ ap (λ (l : List Info). kind_of (info_at l c.in-Some.cell)) c.deref.ensures.value)
+    c.in_ok-keep.ensures.told c.in_ok-keep.ensures.kept c.in_ok-keep.ensures.assimilates c.in_ok-keep.ensures.others c.in_ok-keep.ensures.kinds (taken g c)
+
+-- the lists at hand come back whole
+infos_back : (g : given.Over) (c : goal.After-queue_readers g) →
+    take c.args.known.now.infos.len (c.take_in.new.infos ++ drop (length c.take_in.new.infos) c.args.known.now.infos.items) ≡ c.take_in.new.infos
+infos_back g c =
+    came_back c.take_in.new.infos c.args.known.now.infos.items c.args.known.now.infos.len
+    (sym c.deref.ensures.len ∙ ap length c.deref.ensures.value) (ap length (taken g c).infos_are ∙ length-set c.args.known.now.infos.items c.in-Some.cell _)
+
+supports_back : (g : given.Over) (c : goal.After-queue_readers g) →
+    take c.args.known.now.supports.len (c.take_in.new.supports ++ drop (length c.take_in.new.supports) c.args.known.now.supports.items) ≡ c.take_in.new.supports
+supports_back g c =
+    came_back c.take_in.new.supports c.args.known.now.supports.items c.args.known.now.supports.len
+    (sym c.deref-2.ensures.len ∙ ap length c.deref-2.ensures.value) (ap length (taken g c).supports_are ∙ length-set c.args.known.now.supports.items c.in-Some.cell _)
+
+pub returns-in_ok-keep-clause-grows : goal.returns-in_ok-keep-clause-grows
+returns-in_ok-keep-clause-grows g c = (after g c).grows
+
+pub returns-in_ok-keep-clause-upstream : goal.returns-in_ok-keep-clause-upstream
+returns-in_ok-keep-clause-upstream g c given are =
+    subst (AreUpstream (network_by c.args.network.now) given c.keep.new.self) (sym (supports_back g c)) ((after g c).upstream given are)
+
+pub returns-in_ok-keep-clause-kept : goal.returns-in_ok-keep-clause-kept
+returns-in_ok-keep-clause-kept g c =
+    rw (infos_back g c, supports_back g c) (after g c).kept
+
+pub returns-in_ok-keep-clause-satisfied : goal.returns-in_ok-keep-clause-satisfied
+returns-in_ok-keep-clause-satisfied g c =
+    (after g c).satisfied c.args.agenda.now c.queue_readers.new.agenda c.requires.others
+    (λ n reader seen. c.queue_readers.ensures.readers n reader (ap (λ l. is_set l n) c.requires.visible ∙ seen)) c.queue_readers.ensures.stay
+
+pub returns-in_ok-keep-clause-most : goal.returns-in_ok-keep-clause-most
+returns-in_ok-keep-clause-most g c =
+    let readers : count_by (is_set c.args.visible.now) (readers_of (network_by c.args.network.now) c.in-Some.cell)
+    ≡ reader_count (network_by c.args.network.now) c.args.worldview.now c.in-Some.cell =
+    ap (λ (l : List Bool). count_by (is_set l) (readers_of (network_by c.args.network.now) c.in-Some.cell)) c.requires.visible in
+    omega (arith, c.queue_readers.ensures.most, readers, (after g c).weight_is)
+
+pub returns-in_default-clause-satisfied : goal.returns-in_default-clause-satisfied
+returns-in_default-clause-satisfied g c =
+    satisfied_all (network_by c.args.network.now) c.args.worldview.now (λ cell. kept_in c.args.store.now cell c.args.worldview.now) c.args.agenda.now c.args.number
+    c.requires.others
+    (λ d. satisfied_kept (network_by c.args.network.now) c.args.store.now c.args.worldview.now c.args.known.now.infos.items c.args.known.now.supports.items
+    c.requires.kept (attached_no (network_by c.args.network.now) c.args.number d)
+    (subst (λ (l : List Info). IsSatisfied (network_by c.args.network.now) (info_at l) (attached_no (network_by c.args.network.now) c.args.number d))
+    c.deref.ensures.value (c.in_default.ensures.none d)))

@@ -1,0 +1,66 @@
+use Rattle.std.proofs.Common.{◌≡◌, ◌+◌, Bool, false, List, length, ap, ◌∙◌, arith}
+use Rattle.std.proofs.lemmas.List.{length-map, length-set}
+use Rattle.std.proofs.lemmas.List.Sums.{count_by-le-length}
+use Rattle.pw_network.specs.Fields.{network_by}
+use Rattle.pw_settle.specs.Agenda.{is_set, tally}
+use Rattle.pw_settle.specs.Calls.{is_visible}
+use Rattle.pw_settle.specs.Progress.{weight}
+use Rattle.pw_settle.proofs.Growing.{keeps_more_then}
+use Rattle.pw_settle.proofs.SettledStores.{calls_fit, weight_most}
+use Rattle.pw_settle.proofs.TakenFlags.{taken_less, taken_others, tally_none}
+use Rattle.pw_settle.proofs.settling.work.Given as given
+use Rattle.pw_settle.proofs.settling.work.Goals as goal
+
+pub overflow_add-calls : goal.overflow_add-calls
+overflow_add-calls g c =
+    let counted = calls_fit c.loop-number.calls (tally c.loop-number.agenda) (weight (network_by c.args.network.now) c.loop-number.store c.args.worldview.now)
+    (tally c.args.agenda.now) (weight (network_by c.args.network.now) c.args.store.now c.args.worldview.now)
+    (length c.args.store.now.cells) (length (network_by c.args.network.now).attached) c.loop-number.invariant.most
+    (omega (
+      arith,
+      count_by-le-length (λ (flag : Bool). flag) c.args.agenda.now,
+      ap length c.requires.flags,
+      ap length c.requires.visible,
+      length-map (network_by c.args.network.now).attached (is_visible c.args.worldview.now),
+    ))
+    (weight_most (network_by c.args.network.now) c.args.store.now c.args.worldview.now)
+    (omega (arith, c.cells-cells.ensures)) (omega (
+      arith,
+      ap length c.requires.visible,
+      length-map (network_by c.args.network.now).attached (is_visible c.args.worldview.now),
+    )) in
+    omega (arith, counted)
+
+pub call-requires-clause-others : goal.call-requires-clause-others
+call-requires-clause-others g c n d below other seen free =
+    c.loop-number.invariant.satisfied n d below seen
+    (taken_others c.loop-number.agenda c.take.new.self c.in-Some.number n c.in-Some.ensures.some.1 other free)
+
+-- the one that was taken is one less
+less : (g : given.Over) (c : goal.In_ok-call g) → tally c.take.new.self + 1 ≡ tally c.loop-number.agenda
+less g c = taken_less c.loop-number.agenda c.take.new.self c.in-Some.number c.in-Some.ensures.some.1 c.in-Some.ensures.some.0
+
+pub loop-number-preserved : goal.loop-number-preserved
+loop-number-preserved g c = record {
+  grows = keeps_more_then (network_by c.args.network.now) c.args.store.now c.loop-number.store c.call.new.store c.loop-number.invariant.grows c.call.ensures.grows;
+  upstream = λ given are. c.call.ensures.upstream given (c.loop-number.invariant.upstream given are);
+  kept = c.in_ok-call.ensures.kept;
+  flags = c.call.ensures.flags ∙ ap length c.in-Some.ensures.some.1 ∙ length-set c.loop-number.agenda c.in-Some.number false ∙ c.loop-number.invariant.flags;
+  seen = c.call.ensures.seen;
+  satisfied = c.in_ok-call.ensures.satisfied;
+  least = omega (arith, c.loop-number.invariant.least, c.call.ensures.least, less g c);
+  most = omega (arith, c.loop-number.invariant.most, c.in_ok-call.ensures.most, less g c);
+}
+
+pub returns-in_err-call-clause-grows : goal.returns-in_err-call-clause-grows
+returns-in_err-call-clause-grows g c =
+    keeps_more_then (network_by c.args.network.now) c.args.store.now c.loop-number.store c.call.new.store c.loop-number.invariant.grows c.call.ensures.grows
+
+pub returns-in_err-call-clause-upstream : goal.returns-in_err-call-clause-upstream
+returns-in_err-call-clause-upstream g c given are = c.call.ensures.upstream given (c.loop-number.invariant.upstream given are)
+
+pub returns-clause-done : goal.returns-clause-done
+returns-clause-done g c n = ap (λ (l : List Bool). is_set l n) c.in_default.ensures.left ∙ c.in_default.ensures.none n
+
+pub returns-clause-least : goal.returns-clause-least
+returns-clause-least g c = omega (arith, c.loop-number.invariant.least, tally_none c.loop-number.agenda c.in_default.ensures.none)

@@ -1,0 +1,35 @@
+-- How often a settling calls procedures.
+use Rattle.std.specs.Prelude.{ℕ, zero, suc, ◌+◌, ◌-◌, ◌*◌, Bool, false, length, map, slice_index_or}
+use Rattle.std.specs.FinSet.{is_subset}
+use Rattle.std.specs.List.{count_by}
+use Rattle.pw_info.specs.Rank.{rank_of}
+use Rattle.pw_premises.specs.Premises.{Premises}
+use Rattle.pw_cells.specs.Cells.{Store, kept_in}
+use Rattle.pw_network.specs.Network.{Attached, Network}
+use Rattle.pw_network.specs.Readers.{readers_of}
+
+-- all premises under which the instance was attached are in the worldview
+abbrev pub is_visible : Premises → Attached → Bool
+is_visible w attached = is_subset attached.support w
+
+-- the same of the instance of this number
+abbrev pub visible_at : Network → Premises → ℕ → Bool
+visible_at network w number = slice_index_or (map (is_visible w) network.attached) number false
+
+-- how many instances are visible in the worldview
+abbrev pub visible_count : Network → Premises → ℕ
+visible_count network w = count_by (is_visible w) network.attached
+
+-- how many visible instances read the cell
+abbrev pub reader_count : Network → Premises → ℕ → ℕ
+reader_count network w cell = count_by (visible_at network w) (readers_of network cell)
+
+-- the sum over the numbers below this one
+abbrev pub sum_below : ℕ → (ℕ → ℕ) → ℕ
+sum_below zero f = 0
+sum_below (suc n) f = sum_below n f + f n
+
+-- what is gained from one store to another: over the cells, the rank that what is kept has lost, times the visible readers
+abbrev pub gains : Network → Store → Store → Premises → ℕ
+gains network old new w =
+    sum_below (length old.cells) (λ cell. (rank_of (kept_in old cell w) - rank_of (kept_in new cell w)) * reader_count network w cell)

@@ -1,0 +1,62 @@
+//! The instances that wait to be called.
+ghost use Rattle.std.specs.Prelude.{◌≡◌, ◌<◌, false, true, length, IfNone, IfOk, IfSome, replicate, slice_set, ℕ};
+ghost use Rattle.pw_settle.specs.Agenda.{is_set};
+
+use std::alloc::{AllocError, Allocator, Global};
+use std::collections::VecDeque;
+use std::marker::Model;
+
+// Numbers of instances, each at most once, in the order in which they came. Which one is taken next is free: no contract
+// speaks of it. (First in, first out calls an instance once for the news of several of its inputs.)
+#[derive(Drop)]
+pub(crate) struct Agenda<A: Allocator = Global> {
+    queued: Vec<bool, A>,
+    queue: VecDeque<usize, A>,
+}
+
+impl<A: Allocator> Model for Agenda<A> {
+    ghost use Rattle.std.specs.Prelude.{Bool, List};
+    ghost use Rattle.std.specs.VecDeque.{deque_capacity};
+    ghost use Rattle.pw_settle.specs.Agenda.{IsQueue};
+
+    ghost Value = { List Bool };
+
+    ghost view = { λ a. a.queued.items };
+
+    ghost invariant = { λ a. IsQueue a.queued.items a.queue.items (deque_capacity a.queue) };
+}
+
+impl<A: Allocator + Copy> Agenda<A> {
+    // An empty one for so many instances, with room for all of them. It fails only for want of memory.
+    pub(crate) fn new(alloc: A, count: usize) -> Result<Agenda<A>, AllocError>
+        ensures { IfOk result (λ agenda. agenda ≡ replicate count false) }
+    {
+        Ok(Agenda {
+            queued: vec![in alloc; false; count]?,
+            queue: VecDeque::with_capacity(alloc, count)?,
+        })
+    }
+
+    // Queues an instance, unless it is queued.
+    pub(crate) fn add(&mut self, number: usize)
+        requires { number < length self.old }
+        ensures { self.new ≡ slice_set self.old number true }
+    {
+        if !self.queued[number] {
+            self.queued[number] = true;
+            let _ = self.queue.push_back(number);
+        }
+    }
+
+    // Takes one that is queued, if there is one.
+    pub(crate) fn take(&mut self) -> Option<usize>
+        ensures some { IfSome result (λ number. (is_set self.old number ≡ true)
+            × (self.new ≡ slice_set self.old number false)) }
+        ensures none { IfNone result ((number : ℕ) → is_set self.old number ≡ false) }
+        ensures left { IfNone result (self.new ≡ self.old) }
+    {
+        let number = self.queue.pop_front()?;
+        self.queued[number] = false;
+        Some(number)
+    }
+}

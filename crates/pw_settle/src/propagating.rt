@@ -1,0 +1,68 @@
+//! Calls of procedures on what is known of the inputs of their instances.
+ghost use Rattle.std.specs.Prelude.{◌≡◌, ◌<◌, ◌∷◌, [], All, IfNone, IfSome, length, map};
+ghost use Rattle.pw_info.specs.Information.{kind_of};
+ghost use Rattle.pw_network.specs.Fields.{network_by};
+ghost use Rattle.pw_network.specs.Kept.{attached_of};
+ghost use Rattle.pw_procs.specs.Registry.{procedures_in};
+ghost use Rattle.pw_settle.specs.Placed.{IsPlaced};
+ghost use Rattle.pw_settle.specs.Progress.{IsNews, IsSatisfied, attached_no};
+ghost use Rattle.pw_settle.specs.Settled.{info_at};
+ghost use Rattle.pw_settle.specs.Sources.{said_by};
+ghost use Rattle.pw_settle.specs.Values.{kinds_in, numbered, propagators_of};
+
+use crate::known::joined_support;
+use pw_facts::Fact;
+use pw_info::{Info, Kind};
+use pw_network::{Instance, Network};
+use pw_premises::PremiseSet;
+use pw_procs::Registry;
+use std::alloc::Allocator;
+
+// The most inputs that a procedure has.
+const MOST_INPUTS: usize = 8;
+
+// What the instance's procedure makes of what is known of its inputs. Nothing else calls procedures.
+fn answer(registry: &Registry, instance: &Instance, known: &[Info]) -> Info
+    requires { IsPlaced (procedures_in registry.now) (map kind_of known.now)
+        (attached_of instance.now).instance }
+    ensures says { All (λ source. said_by (info_at known.now) source ≡ result)
+        (propagators_of (procedures_in registry.now) ((attached_of instance.now).instance ∷ [])) }
+    ensures kind { kind_of result ≡ (numbered (map kind_of known.now)).kind instance.now.output }
+{
+    let mut inputs = [Info::nothing(Kind::Interval); MOST_INPUTS];
+    let cells = instance.inputs.as_slice();
+    for place in 0..cells.len() {
+        inputs[place] = known[cells[place] as usize];
+    }
+    registry
+        .get(instance.procedure)
+        .call(&inputs[..cells.len()])
+}
+
+// What an instance makes of what is known of its inputs, as a fact about its output, where it is news there.
+pub(crate) fn news<A: Allocator + Copy>(
+    network: &Network<'_, '_, A>,
+    infos: &[Info],
+    supports: &[PremiseSet],
+    number: usize,
+) -> Option<(u32, Fact)>
+    requires there { number < length (network_by network.now).attached }
+    requires kinds { map kind_of infos.now ≡ kinds_in (network_by network.now) }
+    requires as_many { length supports.now ≡ length infos.now }
+    ensures news { IfSome result (λ (cell, fact). (d : _)
+        → IsNews (network_by network.now) infos.now supports.now
+        (attached_no (network_by network.now) number d) cell fact) }
+    ensures there { IfSome result (λ (cell, fact). cell < length infos.now) }
+    ensures kind { IfSome result (λ (cell, fact). kind_of fact.info ≡ kind_of (info_at infos.now cell)) }
+    ensures none { IfNone result ((d : _)
+        → IsSatisfied (network_by network.now) (info_at infos.now)
+        (attached_no (network_by network.now) number d)) }
+{
+    let instance = &network.instances()[number];
+    let info = answer(network.declaration().registry(), instance, infos);
+    if infos[instance.output as usize].implies(&info) {
+        return None;
+    }
+    let support = joined_support(instance, supports);
+    Some((instance.output, Fact { info, support }))
+}
