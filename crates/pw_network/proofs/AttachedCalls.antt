@@ -1,9 +1,11 @@
 -- What an attachment of a compound appends is its expansion.
-use Rattle.std.proofs.Common.{◌≡◌, ℕ, ◌+◌, ◌<◌, ◌≤◌, List, [], ◌∷◌, ◌++◌, Some, length, map, Bool, true, IsTrue, ◌↔◌, sym, ap, subst, ◌∙◌, arith, append-nil}
+use Rattle.std.proofs.Common.{◌≡◌, ℕ, zero, suc, ◌+◌, ◌<◌, ◌≤◌, List, [], ◌∷◌, ◌++◌, Some, length, map, Bool, true, IsTrue, ◌↔◌, sym, ap, subst, ◌∙◌, arith, append-nil}
 use Rattle.std.specs.Prelude.{All}
 use Rattle.std.proofs.lemmas.List.{length-map, map_push}
+use Rattle.std.proofs.lemmas.List.Elements.{All-tail, All-weaker}
 use Rattle.pw_info.specs.declared.kind.Kind.{Kind}
 use Rattle.pw_premises.specs.Premises.{Premises}
+use Rattle.pw_procs.specs.Arguments.{cells_of}
 use Rattle.pw_decl.specs.declared.flat_call.FlatCall.{FlatCall}
 use Rattle.pw_decl.specs.declared.step.Callable.{Callable}
 use Rattle.pw_decl.specs.declared.step.Callable.TheVariants as callables
@@ -13,7 +15,7 @@ use Rattle.pw_decl.specs.Expansion.{instance_on, expansion_of, inner_kinds_of, o
 use Rattle.pw_decl.specs.Limits.{most_inner_cells}
 use Rattle.pw_network.specs.declared.inner_cell.InnerCell.{InnerCell as InnerKept}
 use Rattle.pw_network.specs.declared.instance.Instance.{Instance as InstanceKept}
-use Rattle.pw_decl.specs.Flat.{AreCallsOf, instances_of}
+use Rattle.pw_decl.specs.Flat.{AreCallsOf, IsBelow, instances_of}
 use Rattle.pw_network.specs.Kept.{attached_of, inner_of, network_from}
 use Rattle.pw_network.specs.Network.{MayAttach}
 use Rattle.pw_network.specs.Limits.{most_lines}
@@ -46,6 +48,30 @@ calls_placed network line number calls cells support well are may few first is =
     ∙ ap (map (renamed (at_place cells (λ j. cells_in network + j))))
     (are.calls_are ∙ ap (on_places (expansion_of network.declared.compounds (callables.Compound number))) (as_many network line number calls cells support well are may few))
     ∙ sym (expansion_placed network.declared.compounds (callables.Compound number) cells (λ j. cells_in network + j))
+
+-- what stands at a place is a cell that is there
+placed_here : (cells : List ℕ) (first place inner many : ℕ) → place < length cells + inner → All (λ cell. cell < many) cells → first + inner ≤ many →
+    at_place cells (λ j. first + j) place < many
+placed_here [] first place inner many below here room = omega arith
+placed_here (cell ∷ cells) first zero inner many below here room = here zero cell (omega arith)
+placed_here (cell ∷ cells) first (suc place) inner many below here room =
+    placed_here cells first place inner many (omega arith) (All-tail (λ cell. cell < many) cell cells here) room
+
+-- and so are all cells of the placed calls
+pub calls_here : (network : Network) (line number : ℕ) (calls : List FlatCall) (cells : List ℕ) (support : Premises) → IsWellNetwork network →
+    AreCallsOf network.declared.compounds number calls → MayAttach network line (callables.Compound number) cells →
+    length (inner_kinds_of network.declared.compounds (callables.Compound number)) ≤ most_inner_cells → (first many : ℕ) → first ≡ cells_in network →
+    many ≡ cells_in network + length (inner_kinds_of network.declared.compounds (callables.Compound number)) →
+    All (λ call. All (λ place. at_place cells (λ j. first + j) place < many) (cells_of call.places)) calls
+calls_here network line number calls cells support well are may few first many is are_many =
+    let inner = length (inner_kinds_of network.declared.compounds (callables.Compound number)) in
+    let count = length are.compound.parameters in
+    let parameters : count ≡ length cells = as_many network line number calls cells support well are may few in
+    let here = All-weaker (λ cell. cell < length network.declared.cells) (λ cell. cell < many) (λ cell declared. omega (arith, are_many)) cells may.here in
+    All-weaker (IsBelow (count + inner)) (λ call. All (λ place. at_place cells (λ j. first + j) place < many) (cells_of call.places))
+    (λ call below. All-weaker (λ place. place < count + inner) (λ place. at_place cells (λ j. first + j) place < many)
+    (λ place within. placed_here cells first place inner many (omega (arith, parameters)) here (omega (arith, is, are_many))) (cells_of call.places) below)
+    calls are.below
 
 -- what the code has after it appended is the network with the compound attached
 pub compound_attached : (declared : Declared) (inner inner_room inner_after : List InnerKept) (instances instances_room instances_after : List InstanceKept)

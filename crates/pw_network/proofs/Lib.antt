@@ -1,7 +1,10 @@
+pub mod AppendedLemmas
 pub mod AttachedCalls
 pub mod AttachedCells
 pub mod CellLemmas
 pub mod LineLemmas
+pub mod LinkLemmas
 pub mod NameLemmas
 pub mod ReaderLemmas
+pub mod WalkLemmas
 pub mod WellNetworks

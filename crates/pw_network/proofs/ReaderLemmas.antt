@@ -1,42 +1,83 @@
--- The readers of a cell, one after another.
-use Rattle.std.proofs.Common.{◌≡◌, ℕ, suc, ◌+◌, ◌-◌, ◌<◌, ◌≤◌, Bool, true, false, cond, List, [], ◌∷◌, length, map, get_or, refl, sym, ap, ◌∙◌, arith}
-use Rattle.std.specs.Prelude.{filter}
-use Rattle.std.specs.List.{range_with_len}
-use Rattle.std.proofs.lemmas.List.{length-map, get_or-map}
-use Rattle.pw_network.specs.Readers.{reads, readers_from}
+-- The readers of a cell, with one more instance.
+use Rattle.std.proofs.Common.{◌≡◌, ℕ, zero, suc, ◌+◌, ◌-◌, ◌<◌, Bool, true, false, cond, List, [], ◌∷◌, ◌++◌, length, map, take, get_or, eqb, refl, sym, ap, subst, ◌∙◌, arith}
+use Rattle.std.specs.Prelude.{All, filter}
+use Rattle.std.specs.List.{list_any, range_with_len}
+use Rattle.std.proofs.lemmas.List.{get_or_append_left, get_or_push, length-map, length_push, map_push}
+use Rattle.std.proofs.lemmas.List.Elements.{All-map, All-same, All-take}
+use Rattle.pw_procs.specs.Arguments.{cells_of}
+use Rattle.pw_decl.specs.declared.flat_call.FlatCall.{FlatCall}
 use Rattle.pw_network.specs.declared.instance.Instance.{Instance as InstanceKept}
 use Rattle.pw_network.specs.Kept.{attached_of}
+use Rattle.pw_network.specs.Network.{Attached}
+use Rattle.pw_network.specs.ReaderLists.{Reading, numbers_of}
+use Rattle.pw_network.specs.Readers.{AreReaders, reads, readers_from}
 
--- past the end there are no more
-pub no_more_readers : (instances : List InstanceKept) (cell number : ℕ) → length instances ≤ number →
-    readers_from (map attached_of instances) cell number ≡ []
-no_more_readers instances cell number past =
-    let l = length-map instances attached_of in
-    let none : length (map attached_of instances) - number ≡ 0 = omega arith in
-    rw none refl
+-- ---- numbers that pass a test, of those in a row
 
-from_suc : (p : ℕ → Bool) (number n m : ℕ) (b : Bool) → n ≡ suc m → p number ≡ b →
-    filter p (range_with_len number n) ≡ cond b (number ∷ filter p (range_with_len (number + 1) m)) (filter p (range_with_len (number + 1) m))
-from_suc p number n m b long is = rw long (rw is refl)
+cond_append : (b : Bool) (number : ℕ) (rest before last : List ℕ) → rest ≡ before ++ last →
+    cond b (number ∷ rest) rest ≡ cond b (number ∷ before) before ++ last
+cond_append true number rest before last same = ap (λ l. number ∷ l) same
+cond_append false number rest before last same = same
 
--- the next instance reads the cell, or it does not
-next_from : (instances : List InstanceKept) (cell number : ℕ) (x : InstanceKept) (b : Bool) → number < length instances →
-    b ≡ reads cell (attached_of (get_or instances number x)) →
-    readers_from (map attached_of instances) cell number
-    ≡ cond b (number ∷ readers_from (map attached_of instances) cell (number + 1)) (readers_from (map attached_of instances) cell (number + 1))
-next_from instances cell number x b there is =
-    let l = length-map instances attached_of in
-    from_suc (λ n. get_or (map (reads cell) (map attached_of instances)) n false) number
-    (length (map attached_of instances) - number) (length (map attached_of instances) - (number + 1)) b (omega arith)
-    (get_or-map (reads cell) (map attached_of instances) number (attached_of x) false (omega arith)
-    ∙ ap (reads cell) (get_or-map attached_of instances number x (attached_of x) there) ∙ sym is)
+-- one more
+filter_more : (p : ℕ → Bool) (a n j : ℕ) → a + n ≡ j →
+    filter p (range_with_len a (suc n)) ≡ filter p (range_with_len a n) ++ cond (p j) (j ∷ []) []
+filter_more p a zero j is = let same : a ≡ j = omega arith in ap (λ k. cond (p k) (k ∷ []) []) same
+filter_more p a (suc n) j is =
+    cond_append (p a) a (filter p (range_with_len (a + 1) (suc n))) (filter p (range_with_len (a + 1) n)) (cond (p j) (j ∷ []) [])
+    (filter_more p (a + 1) n j (omega arith))
 
-pub next_reads : (instances : List InstanceKept) (cell number : ℕ) (x : InstanceKept) (b : Bool) → number < length instances →
-    b ≡ reads cell (attached_of (get_or instances number x)) → b ≡ true →
-    readers_from (map attached_of instances) cell number ≡ number ∷ readers_from (map attached_of instances) cell (number + 1)
-next_reads instances cell number x b there is reading = let step = next_from instances cell number x b there is in rw reading at step
+-- two tests that agree there
+filter_alike : (p q : ℕ → Bool) (a n : ℕ) → ((k : ℕ) → k < a + n → p k ≡ q k) → filter p (range_with_len a n) ≡ filter q (range_with_len a n)
+filter_alike p q a zero alike = refl
+filter_alike p q a (suc n) alike =
+    (λ i. cond (alike a (omega arith) i) (a ∷ filter p (range_with_len (a + 1) n)) (filter p (range_with_len (a + 1) n)))
+    ∙ ap (λ l. cond (q a) (a ∷ l) l) (filter_alike p q (a + 1) n (λ k within. alike k (omega arith)))
 
-pub next_does_not : (instances : List InstanceKept) (cell number : ℕ) (x : InstanceKept) (b : Bool) → number < length instances →
-    b ≡ reads cell (attached_of (get_or instances number x)) → b ≡ false →
-    readers_from (map attached_of instances) cell number ≡ readers_from (map attached_of instances) cell (number + 1)
-next_does_not instances cell number x b there is idle = let step = next_from instances cell number x b there is in rw idle at step
+-- ---- one more instance
+
+readers_push : (attached : List Attached) (x : Attached) (cell number : ℕ) → number ≡ length attached →
+    readers_from (attached ++ x ∷ []) cell 0 ≡ readers_from attached cell 0 ++ cond (reads cell x) (number ∷ []) []
+readers_push attached x cell number is =
+    let before : ℕ → Bool = λ k. get_or (map (reads cell) attached) k false in
+    let after : ℕ → Bool = λ k. get_or (map (reads cell) (attached ++ x ∷ [])) k false in
+    let many = length-map attached (reads cell) in
+    let more : length (attached ++ x ∷ []) - 0 ≡ suc number = let l = length_push attached x in omega arith in
+    let as_many : number ≡ length attached - 0 = omega arith in
+    let old : (k : ℕ) → k < 0 + number → after k ≡ before k = λ k within.
+    ap (λ l. get_or l k false) (map_push (reads cell) attached x)
+    ∙ get_or_append_left (map (reads cell) attached) (reads cell x ∷ []) false k (omega arith) in
+    let new : after number ≡ reads cell x =
+    ap (λ l. get_or l number false) (map_push (reads cell) attached x)
+    ∙ get_or_push (map (reads cell) attached) (reads cell x) false number (omega arith) in
+    ap (λ n. filter after (range_with_len 0 n)) more
+    ∙ filter_more after 0 number number (omega arith)
+    ∙ (λ i. filter_alike after before 0 number old i ++ cond (new i) (number ∷ []) [])
+    ∙ ap (λ n. filter before (range_with_len 0 n) ++ cond (reads cell x) (number ∷ []) []) as_many
+
+-- lists that an instance is appended to, as its inputs say, list the readers with it
+pub readers_more : (old new : List Reading) (instances after : List InstanceKept) (x : InstanceKept) (number : ℕ) (inputs : List ℕ) →
+    number ≡ length instances → inputs ≡ x.inputs.items → after ≡ instances ++ x ∷ [] →
+    ((cell : ℕ) → numbers_of cell new ≡ numbers_of cell old ++ cond (list_any (eqb cell) inputs) (number ∷ []) []) →
+    AreReaders old (map attached_of instances) → AreReaders new (map attached_of after)
+readers_more old new instances after x number inputs numbered are_inputs pushed appended readers cell =
+    appended cell
+    ∙ (λ i. readers cell i ++ cond (list_any (eqb cell) (are_inputs i)) (number ∷ []) [])
+    ∙ sym (ap (λ l. readers_from l cell 0) (ap (map attached_of) pushed ∙ map_push attached_of instances x)
+    ∙ readers_push (map attached_of instances) (attached_of x) cell number (numbered ∙ sym (length-map instances attached_of)))
+
+-- ---- the cells that are read are there
+
+pub inputs_here : (calls : List FlatCall) (i : ℕ) (call : FlatCall) (name : ℕ → ℕ) (placed inputs : List ℕ) (cells many : ℕ) →
+    i < length calls → call ≡ get_or calls i call → placed ≡ map name (cells_of call.places) →
+    inputs ≡ take (length placed - 1) placed → many ≡ cells →
+    All (λ call. All (λ place. name place < cells) (cells_of call.places)) calls → All (λ cell. cell < many) inputs
+inputs_here calls i call name placed inputs cells many there read at taken same here =
+    let own : All (λ place. name place < cells) (cells_of call.places) =
+    subst (λ (c : FlatCall). All (λ place. name place < cells) (cells_of c.places)) (sym read) (here i call there) in
+    let all : All (λ cell. cell < cells) inputs =
+    All-same (λ cell. cell < cells) inputs (take (length placed - 1) placed) taken
+    (All-take (λ cell. cell < cells) (length placed - 1) placed
+    (All-same (λ cell. cell < cells) placed (map name (cells_of call.places)) at
+    (All-map (λ cell. cell < cells) name (cells_of call.places) own))) in
+    subst (λ n. All (λ cell. cell < n) inputs) (sym same) all

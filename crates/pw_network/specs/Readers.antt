@@ -1,7 +1,8 @@
 -- Which instances read a cell.
-use Rattle.std.specs.Prelude.{ℕ, ◌-◌, Bool, false, List, length, map, nat_eq, filter, slice_index_or}
+use Rattle.std.specs.Prelude.{◌≡◌, ℕ, ◌-◌, Bool, false, List, length, map, nat_eq, filter, slice_index_or}
 use Rattle.std.specs.List.{list_any, range_with_len}
 use Rattle.pw_network.specs.Network.{Attached, Network}
+use Rattle.pw_network.specs.ReaderLists.{Reading, numbers_of}
 
 -- the instance has the cell among its inputs
 abbrev pub reads : ℕ → Attached → Bool
@@ -15,3 +16,7 @@ readers_from attached cell number =
 -- the numbers of all that do, rising
 abbrev pub readers_of : Network → ℕ → List ℕ
 readers_of network cell = readers_from network.attached cell 0
+
+-- of each cell these list the readers
+abbrev pub AreReaders : List Reading → List Attached → Type 0
+AreReaders readings attached = (cell : ℕ) → numbers_of cell readings ≡ readers_from attached cell 0

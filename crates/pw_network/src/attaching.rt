@@ -1,23 +1,52 @@
 //! The lists of a network grow, where there is room.
-ghost use Rattle.std.specs.Prelude.{◌≡◌, ◌+◌, ◌≤◌, ◌++◌, All, length, map, vec_len, vec_capacity};
+ghost use Rattle.std.specs.Prelude.{◌≡◌, ◌+◌, ◌*◌, ◌<◌, ◌≤◌, ◌++◌, ◌∷◌, [], All, length, map, vec_len, vec_capacity};
 ghost use Rattle.pw_procs.specs.Arguments.{cells_of};
 ghost use Rattle.pw_decl.specs.Expansion.{at_place, renamed};
 ghost use Rattle.pw_decl.specs.Flat.{instances_of};
 ghost use Rattle.pw_network.specs.Kept.{attached_of, inner_of};
 ghost use Rattle.pw_network.specs.Network.{attached_at, inner_cells_from};
+ghost use Rattle.pw_network.specs.ReaderLists.{reading_of};
+ghost use Rattle.pw_network.specs.Readers.{AreReaders};
 
 use crate::inner_cell::InnerCell;
 use crate::instance::Instance;
+use crate::reader_lists::ReaderLists;
 use pw_decl::{FlatCall, place_cells};
 use pw_info::Kind;
 use pw_premises::PremiseSet;
 use std::alloc::{Allocator, Global};
 
+// Appends an instance, and its number to the lists of the cells that it reads.
+pub(crate) fn append_instance<A: Allocator + Copy>(
+    instances: &mut Vec<Instance, A>,
+    lists: &mut ReaderLists<A>,
+    instance: Instance,
+)
+    requires room { vec_len instances.old < vec_capacity instances.old }
+    requires list_room { vec_len lists.old.links + 8 ≤ vec_capacity lists.old.links }
+    requires few { length instance.inputs.items ≤ 8 }
+    requires here { All (λ cell. cell < vec_len lists.old.ends) instance.inputs.items }
+    requires readers { AreReaders (map reading_of lists.old.links.items)
+        (map attached_of instances.old.items) }
+    ensures items { instances.new.items ≡ instances.old.items ++ instance ∷ [] }
+    ensures readers { AreReaders (map reading_of lists.new.links.items)
+        (map attached_of instances.new.items) }
+    ensures cells { vec_len lists.new.ends ≡ vec_len lists.old.ends }
+    ensures links { vec_len lists.new.links ≤ vec_len lists.old.links + 8 }
+    ensures list_room { vec_capacity lists.old.links ≤ vec_capacity lists.new.links }
+    ensures len { vec_len instances.new ≡ vec_len instances.old + 1 }
+    ensures room { vec_capacity instances.old ≤ vec_capacity instances.new }
+{
+    lists.append(instances.len(), instance.inputs.as_slice());
+    let _ = instances.push(instance);
+}
+
 // Appends the instances of calls: a place stands for one of these cells, and past their end for an inner cell, of which the
 // first has the number `first`.
-pub(crate) fn append_instances<A: Allocator>(
+pub(crate) fn append_instances<A: Allocator + Copy>(
     alloc: Global,
     instances: &mut Vec<Instance, A>,
+    lists: &mut ReaderLists<A>,
     calls: &[FlatCall],
     cells: &[u32],
     first: u32,
@@ -27,13 +56,23 @@ pub(crate) fn append_instances<A: Allocator>(
     requires room { vec_len instances.old + length calls.now ≤ vec_capacity instances.old }
     requires numbers { All (λ call. All (λ place. first + place ≤ 4294967295)
         (cells_of call.places)) calls.now }
-    ensures { map attached_of instances.new.items ≡ map attached_of instances.old.items
+    requires list_room { vec_len lists.old.links + 8 * length calls.now
+        ≤ vec_capacity lists.old.links }
+    requires here { All (λ call. All (λ place. at_place cells.now (λ j. first + j) place
+        < vec_len lists.old.ends) (cells_of call.places)) calls.now }
+    requires readers { AreReaders (map reading_of lists.old.links.items)
+        (map attached_of instances.old.items) }
+    ensures items { map attached_of instances.new.items ≡ map attached_of instances.old.items
         ++ map (attached_at line support)
         (map (renamed (at_place cells.now (λ j. first + j))) (instances_of calls.now)) }
+    ensures readers { AreReaders (map reading_of lists.new.links.items)
+        (map attached_of instances.new.items) }
+    ensures cells { vec_len lists.new.ends ≡ vec_len lists.old.ends }
 {
     for call in calls {
         let placed = place_cells(call.places, cells, first);
-        let _ = instances.push(Instance::new(alloc, call.procedure, placed, support, line));
+        let instance = Instance::new(alloc, call.procedure, placed, support, line);
+        append_instance(instances, lists, instance);
     }
 }
 

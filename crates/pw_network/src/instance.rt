@@ -1,5 +1,5 @@
 //! Procedures between cells, as attachments make them.
-ghost use Rattle.std.specs.Prelude.{◌≡◌, ◌∷◌, []};
+ghost use Rattle.std.specs.Prelude.{◌≡◌, ◌-◌, ◌≤◌, ◌∷◌, [], length, take};
 ghost use Rattle.pw_procs.specs.Arguments.{cells_of};
 ghost use Rattle.pw_decl.specs.Expansion.{instance_on};
 ghost use Rattle.pw_network.specs.Kept.{attached_of};
@@ -9,6 +9,9 @@ use pw_premises::PremiseSet;
 use pw_procs::Arguments;
 use smallvec::SmallVec;
 use std::alloc::Global;
+
+// A procedure reads eight cells at most.
+pub(crate) const MOST_INPUTS: usize = 8;
 
 /// A procedure between cells. A cell goes by its number in the network.
 #[derive(Debug, Drop)]
@@ -36,6 +39,8 @@ impl Instance {
     ) -> Instance
         ensures instance { instance_on procedure (cells_of cells)
             ≡ (attached_of result).instance ∷ [] }
+        ensures inputs { result.inputs.items ≡ take (length (cells_of cells) - 1) (cells_of cells) }
+        ensures few { length result.inputs.items ≤ 8 }
         ensures line { result.line ≡ line }
         ensures support { result.support ≡ support }
     {

@@ -5,8 +5,10 @@ mod attaching;
 mod inner_cell;
 mod instance;
 pub mod laws;
+mod link;
 mod network;
 mod network_fault;
+mod reader_lists;
 mod readers;
 
 pub use instance::Instance;

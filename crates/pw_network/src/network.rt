@@ -16,9 +16,10 @@ ghost use Rattle.pw_network.specs.Network.{AreDeclared, InstancesFit, InstancesS
 ghost use Rattle.pw_network.specs.Network.{MayAttach, TakesCells};
 ghost use Rattle.pw_network.specs.Readers.{readers_of};
 
-use crate::attaching::{append_inner, append_instances};
-use crate::instance::Instance;
+use crate::attaching::{append_inner, append_instance, append_instances};
+use crate::instance::{Instance, MOST_INPUTS};
 use crate::network_fault::NetworkFault;
+use crate::reader_lists::ReaderLists;
 use crate::readers::Readers;
 use pw_decl::{Callable, Declaration, FlatCall};
 use pw_info::Kind;
@@ -43,6 +44,7 @@ impl<'d, 'r, A: Allocator + Copy> Network<'d, 'r, A> {
             declaration,
             inner: Vec::new(alloc),
             instances: Vec::new(alloc),
+            lists: ReaderLists::new(alloc, declaration.cells() as usize)?,
             last_line: 0,
         })
     }
@@ -111,7 +113,7 @@ impl<'d, 'r, A: Allocator + Copy> Network<'d, 'r, A> {
     pub fn readers(&self, cell: u32) -> Readers<'_>
         ensures { result ≡ readers_of (network_by self.now) cell }
     {
-        Readers::new(&self.instances, cell)
+        self.lists.readers(cell)
     }
 
     /// Attaches a callable, which is there, to declared cells under these premises, at a line after the last: its instances,
@@ -171,9 +173,10 @@ impl<'d, 'r, A: Allocator + Copy> Network<'d, 'r, A> {
         ensures err { OnErr result (network_by self.new ≡ network_by self.old) }
     {
         self.instances.reserve(1)?;
+        self.lists.reserve(0, MOST_INPUTS)?;
         let alloc = self.declaration.registry().allocator();
         let instance = Instance::new(alloc, procedure, cells, support, line);
-        self.instances.push(instance).unwrap();
+        append_instance(&mut self.instances, &mut self.lists, instance);
         self.last_line = line;
         Ok(())
     }
@@ -204,10 +207,13 @@ impl<'d, 'r, A: Allocator + Copy> Network<'d, 'r, A> {
         let first = self.cells();
         self.inner.reserve(kinds.len())?;
         self.instances.reserve(calls.len())?;
+        self.lists.reserve(kinds.len(), calls.len() * MOST_INPUTS)?;
         let alloc = self.declaration.registry().allocator();
+        self.lists.add_cells(kinds.len());
         append_instances(
             alloc,
             &mut self.instances,
+            &mut self.lists,
             calls,
             cells.cells(),
             first,

@@ -1,41 +1,39 @@
 //! The readers of a cell, one after another.
-ghost use Rattle.std.specs.Prelude.{◌≡◌, map};
+ghost use Rattle.std.specs.Prelude.{◌≡◌, drop, map};
 ghost use Rattle.std.specs.Iterator.{YieldsFirst, item_count};
-ghost use Rattle.pw_network.specs.Kept.{attached_of};
-ghost use Rattle.pw_network.specs.Readers.{readers_from};
+ghost use Rattle.pw_network.specs.ReaderLists.{IsWalk, next_of, numbers_of, reading_of};
 
-use crate::instance::Instance;
+use crate::link::Link;
 use std::marker::Model;
 
 /// The numbers of the instances that read a cell and are still to come, in rising order.
 #[derive(Drop)]
 pub struct Readers<'n> {
-    instances: &'n [Instance],
+    links: &'n [Link],
     cell: u32,
-    number: usize,
+    // Where the next one stands among the links: past their end where none is left.
+    at: usize,
 }
 
 impl<'n> Model for Readers<'n> {
-    ghost use Rattle.std.specs.Prelude.{ℕ, List, map};
+    ghost use Rattle.std.specs.Prelude.{ℕ, List, drop, map};
 
     ghost Value = { List ℕ };
 
-    ghost use Rattle.pw_network.specs.Kept.{attached_of};
-    ghost use Rattle.pw_network.specs.Readers.{readers_from};
+    ghost use Rattle.pw_network.specs.ReaderLists.{IsWalk, next_of, numbers_of, reading_of};
 
-    ghost view = { λ a. readers_from (map attached_of a.instances.now) a.cell a.number };
+    ghost view = { λ a. numbers_of a.cell (drop a.at (map reading_of a.links.now)) };
+
+    ghost invariant = { λ a. IsWalk (map reading_of a.links.now) (map next_of a.links.now) a.cell a.at };
 }
 
 impl<'n> Readers<'n> {
-    // The numbers of those that read the cell.
-    pub(crate) fn new(instances: &'n [Instance], cell: u32) -> Readers<'n>
-        ensures { result ≡ readers_from (map attached_of instances.now) cell 0 }
+    // The numbers of those that read the cell, from this place on, where one of them stands if there is any.
+    pub(crate) fn new(links: &'n [Link], cell: u32, at: usize) -> Readers<'n>
+        requires { IsWalk (map reading_of links.now) (map next_of links.now) cell at }
+        ensures { result ≡ numbers_of cell (drop at (map reading_of links.now)) }
     {
-        Readers {
-            instances,
-            cell,
-            number: 0,
-        }
+        Readers { links, cell, at }
     }
 }
 
@@ -47,13 +45,12 @@ impl Iterator for Readers<'_> {
     ghost remaining = { item_count (λ left. left) };
 
     fn next(&mut self) -> Option<usize> {
-        while self.number < self.instances.len() {
-            let number = self.number;
-            self.number += 1;
-            if self.instances[number].reads(self.cell) {
-                return Some(number);
-            }
+        if self.at < self.links.len() {
+            let link = self.links[self.at];
+            self.at = link.next;
+            Some(link.number)
+        } else {
+            None
         }
-        None
     }
 }

@@ -1,18 +1,17 @@
 use Rattle.std.proofs.Common.{sym, ◌∙◌, arith}
-use Rattle.pw_network.proofs.ReaderLemmas.{next_reads, next_does_not}
+use Rattle.pw_network.specs.declared.link.Link.{Link}
+use Rattle.pw_network.proofs.WalkLemmas.{walk_on, walk_steps}
 use Rattle.pw_network.proofs.readers.ReadersIterator.next.Goals as goal
 
-pub returns-then-reads-clause-steps : goal.returns-then-reads-clause-steps
-returns-then-reads-clause-steps c =
-    sym c.loop-self.invariant
-    ∙ next_reads c.loop-self.self-inside.instances.now c.loop-self.self-inside.cell c.loop-self.self-inside.number c.index-self-number.result
-    c.reads.result c.loop-self-test.true c.reads.ensures c.if-reads.true
+abbrev no_link : Link
+no_link = record { cell = 0; number = 0; next = 0 }
 
-pub returns-then-reads-clause-goes : goal.returns-then-reads-clause-goes
-returns-then-reads-clause-goes c = let steps = returns-then-reads-clause-steps c in grind (arith, steps)
+pub invariant_of-self : goal.invariant_of-self
+invariant_of-self c = walk_on c.self.inside.links.now c.self.inside.cell c.self.inside.at no_link c.if-self.true c.self.invariant
 
-pub loop-self-preserved : goal.loop-self-preserved
-loop-self-preserved c =
-    sym (next_does_not c.loop-self.self-inside.instances.now c.loop-self.self-inside.cell c.loop-self.self-inside.number c.index-self-number.result
-    c.reads.result c.loop-self-test.true c.reads.ensures c.if-reads.false)
-    ∙ c.loop-self.invariant
+pub returns-then-self-clause-steps : goal.returns-then-self-clause-steps
+returns-then-self-clause-steps c =
+    sym c.self.view_is ∙ walk_steps c.self.inside.links.now c.self.inside.cell c.self.inside.at no_link c.if-self.true c.self.invariant
+
+pub returns-then-self-clause-goes : goal.returns-then-self-clause-goes
+returns-then-self-clause-goes c = let steps = returns-then-self-clause-steps c in grind (arith, steps)

@@ -1,0 +1,18 @@
+use Rattle.std.proofs.Common.{◌+◌, ◌<◌, refl, arith}
+use Rattle.pw_network.specs.declared.link.Ends.{Ends}
+use Rattle.pw_network.specs.ReaderLists.{no_place}
+use Rattle.pw_network.proofs.LinkLemmas.{linked_resized}
+use Rattle.pw_network.proofs.reader_lists.ReaderLists.add_cells.Goals as goal
+
+pub invariant_of-self : goal.invariant_of-self
+invariant_of-self g c =
+    let none : Ends = record { first = no_place; last = no_place } in
+    let ends = c.args.self.now.ends in
+    let links = c.args.self.now.links in
+    let done = c.resize.ensures.succeeds (omega (arith, c.requires.room, c.len.ensures)) in
+    let small : links.cap < 9223372036854775808 = links.small in
+    record {
+      linked = linked_resized links.items ends.items c.resize.new.self.items none ends.len (c.len.result + c.args.count) c.args.count
+          (omega (arith, links.ok.0, links.ok.1)) refl refl ends.ok.0 (omega (arith, c.len.ensures))
+          (rw done at c.resize.ensures.items) c.args.self.now.linked;
+    }

@@ -1,0 +1,25 @@
+use Rattle.std.proofs.Common.{◌<◌, length, map, arith}
+use Rattle.std.proofs.lemmas.List.{length-map}
+use Rattle.pw_network.specs.ReaderLists.{next_of, no_place, reading_of}
+use Rattle.pw_network.proofs.WalkLemmas.{first_all, first_walk, past_all}
+use Rattle.pw_network.proofs.reader_lists.ReaderLists.first.Goals as goal
+
+pub returns-then-cell-len-clause-all : goal.returns-then-cell-len-clause-all
+returns-then-cell-len-clause-all g c =
+    let links = c.args.self.now.links.items in
+    let small : c.args.self.now.links.cap < 9223372036854775808 = c.args.self.now.links.small in
+    past_all (map reading_of links) (map next_of links) c.args.self.now.ends.items c.args.self.now.linked c.args.cell no_place
+    (omega (arith, length-map links reading_of, c.args.self.now.links.ok.0, c.args.self.now.links.ok.1))
+    (omega (arith, c.if-cell-len.true, c.len.ensures, c.args.self.now.ends.ok.0))
+
+pub returns : goal.returns
+returns g c =
+    let links = c.args.self.now.links.items in
+    let ends = c.args.self.now.ends.items in
+    let e = c.index.result.now in
+    let there : c.args.cell < length ends = omega (arith, c.if-cell-len.false, c.len.ensures, c.args.self.now.ends.ok.0) in
+    let linked = c.args.self.now.linked in
+    record {
+      walk = first_walk (map reading_of links) (map next_of links) ends linked c.args.cell e there c.index.ensures;
+      all = first_all (map reading_of links) (map next_of links) ends linked c.args.cell e there c.index.ensures;
+    }

@@ -1,0 +1,154 @@
+//! The readers of each cell, listed as instances are attached.
+ghost use Rattle.std.proofs.Props.{props};
+ghost use Rattle.std.specs.Prelude.{◌≡◌, ℕ, ◌+◌, ◌<◌, ◌≤◌, ◌++◌, ◌∷◌, [], All, cond, drop, length, map, slice_set};
+ghost use Rattle.std.specs.Prelude.{IfOk, OnOk, nat_eq, vec_len, vec_capacity};
+ghost use Rattle.std.specs.List.{list_any};
+ghost use Rattle.pw_network.specs.ReaderLists.{AreLinked, IsWalk, Reading, next_of, numbers_of, reading_of};
+
+use crate::link::{Ends, Link};
+use crate::readers::Readers;
+use std::alloc::{AllocError, Allocator, Global};
+
+// Stands for a link where there is none: no table is so long.
+const NONE: usize = usize::MAX;
+
+// A list of readers for each cell, in the order in which they were appended. The lists go through one table, so that room
+// in it is room for any of them.
+#[derive(Drop)]
+pub(crate) struct ReaderLists<A: Allocator = Global> {
+    links: Vec<Link, A>,
+    ends: Vec<Ends, A>,
+    ghost linked: { AreLinked (map reading_of links.items) (map next_of links.items) ends.items } by { Prim.hlevel props },
+}
+
+impl<A: Allocator + Copy> ReaderLists<A> {
+    // Lists of so many cells, all empty. It fails only for want of memory.
+    pub(crate) fn new(alloc: A, cells: usize) -> Result<ReaderLists<A>, AllocError>
+        ensures links { IfOk result (λ lists. lists.links.items ≡ []) }
+        ensures cells { IfOk result (λ lists. vec_len lists.ends ≡ cells) }
+    {
+        let none = Ends {
+            first: NONE,
+            last: NONE,
+        };
+        Ok(ReaderLists {
+            links: Vec::new(alloc),
+            ends: vec![in alloc; none; cells]?,
+        })
+    }
+
+    // Makes room for so many cells more, and so many readers. It fails only for want of memory; the lists stay as they are.
+    pub(crate) fn reserve(&mut self, cells: usize, readers: usize) -> Result<(), AllocError>
+        ensures links { self.new.links.items ≡ self.old.links.items }
+        ensures cells { vec_len self.new.ends ≡ vec_len self.old.ends }
+        ensures room_for_links { OnOk result (vec_len self.new.links + readers ≤ vec_capacity self.new.links) }
+        ensures room_for_cells { OnOk result (vec_len self.new.ends + cells ≤ vec_capacity self.new.ends) }
+    {
+        self.links.reserve(readers)?;
+        self.ends.reserve(cells)?;
+        Ok(())
+    }
+
+    // Adds so many cells that nothing reads yet.
+    pub(crate) fn add_cells(&mut self, count: usize)
+        requires room { vec_len self.old.ends + count ≤ vec_capacity self.old.ends }
+        ensures links { self.new.links ≡ self.old.links }
+        ensures cells { vec_len self.new.ends ≡ vec_len self.old.ends + count }
+    {
+        let none = Ends {
+            first: NONE,
+            last: NONE,
+        };
+        let _ = self.ends.resize(self.ends.len() + count, none);
+    }
+
+    // Appends a reader to the list of each of these cells, once where a cell is named twice.
+    pub(crate) fn append(&mut self, number: usize, cells: &[u32])
+        requires here { All (λ cell. cell < vec_len self.old.ends) cells.now }
+        requires room { vec_len self.old.links + length cells.now ≤ vec_capacity self.old.links }
+        ensures lists { (cell : ℕ) → numbers_of cell (map reading_of self.new.links.items)
+            ≡ numbers_of cell (map reading_of self.old.links.items)
+            ++ cond (list_any (nat_eq cell) cells.now) (number ∷ []) [] }
+        ensures cells { vec_len self.new.ends ≡ vec_len self.old.ends }
+        ensures ends_room { vec_capacity self.old.ends ≤ vec_capacity self.new.ends }
+        ensures links { vec_len self.new.links ≤ vec_len self.old.links + length cells.now }
+        ensures room { vec_capacity self.old.links ≤ vec_capacity self.new.links }
+    {
+        for place in 0..cells.len() {
+            let cell = cells[place];
+            if has(&cells[..place], cell) {
+                continue;
+            }
+            self.link(number, cell);
+        }
+    }
+
+    // Appends a reader to the list of a cell.
+    fn link(&mut self, number: usize, cell: u32)
+        requires here { cell < vec_len self.old.ends }
+        requires room { vec_len self.old.links < vec_capacity self.old.links }
+        ensures readings { map reading_of self.new.links.items
+            ≡ map reading_of self.old.links.items ++ record { cell = cell; number = number } ∷ [] }
+        ensures cells { vec_len self.new.ends ≡ vec_len self.old.ends }
+        ensures ends_room { vec_capacity self.old.ends ≤ vec_capacity self.new.ends }
+        ensures links { vec_len self.new.links ≡ vec_len self.old.links + 1 }
+        ensures room { vec_capacity self.old.links ≤ vec_capacity self.new.links }
+    {
+        let at = self.links.len();
+        let ends = self.ends[cell as usize];
+        lead(&mut self.links, ends.last, at);
+        self.ends[cell as usize] = Ends {
+            first: ends.first.min(at),
+            last: at,
+        };
+        let _ = self.links.push(Link {
+            cell,
+            number,
+            next: NONE,
+        });
+    }
+
+    // The readers of a cell, in the order in which they were appended.
+    pub(crate) fn readers(&self, cell: u32) -> Readers<'_>
+        ensures { result ≡ numbers_of cell (map reading_of self.now.links.items) }
+    {
+        let first = self.first(cell);
+        Readers::new(&self.links, cell, first)
+    }
+
+    // Where the first reader of a cell stands among the links.
+    fn first(&self, cell: u32) -> usize
+        ensures walk { IsWalk (map reading_of self.now.links.items) (map next_of self.now.links.items) cell result }
+        ensures all { numbers_of cell (drop result (map reading_of self.now.links.items))
+            ≡ numbers_of cell (map reading_of self.now.links.items) }
+    {
+        if cell as usize >= self.ends.len() {
+            return NONE;
+        }
+        self.ends[cell as usize].first
+    }
+}
+
+// Whether the cell is one of these.
+fn has(cells: &[u32], cell: u32) -> bool
+    ensures { result ≡ list_any (nat_eq cell) cells.now }
+{
+    cells.iter().any(|other| cell == *other)
+}
+
+// Lets the link at a place lead to another one, where there is a link at that place.
+fn lead<A: Allocator>(links: &mut Vec<Link, A>, place: usize, next: usize)
+    ensures readings { map reading_of links.new.items ≡ map reading_of links.old.items }
+    ensures nexts { map next_of links.new.items ≡ slice_set (map next_of links.old.items) place next }
+    ensures len { vec_len links.new ≡ vec_len links.old }
+    ensures room { vec_capacity links.new ≡ vec_capacity links.old }
+{
+    if place < links.len() {
+        let link = links[place];
+        links[place] = Link {
+            cell: link.cell,
+            number: link.number,
+            next,
+        };
+    }
+}
