@@ -44,6 +44,16 @@ merge_second a b k p smaller =
       both = λ _ ne. absurd (ne is);
     }
 
+-- so it is the first, or the second
+pub merge_is_first : (a b : Fact) → kind_of a.info ≡ kind_of b.info → Implies a.info b.info → (Implies b.info a.info → is_subset b.support a.support ≡ false) → IsMerge a b a
+merge_is_first a b k p larger =
+    subst (λ (i : Info). IsMerge a b (record { info = i; support = a.support })) (meet_implied a.info b.info k p) (merge_first a b k p larger)
+
+pub merge_is_second : (a b : Fact) → kind_of a.info ≡ kind_of b.info → Implies b.info a.info → (Implies a.info b.info → is_subset b.support a.support ≡ true) → IsMerge a b b
+merge_is_second a b k p smaller =
+    subst (λ (i : Info). IsMerge a b (record { info = i; support = b.support })) (meet_comm a.info b.info k ∙ meet_implied b.info a.info (sym k) p)
+    (merge_second a b k p smaller)
+
 -- where neither says what the merge says, on what both rest on
 pub merge_both : (a b : Fact) → kind_of a.info ≡ kind_of b.info → (Implies a.info b.info → ⊥) → (Implies b.info a.info → ⊥)
     → IsMerge a b (meet_under a b (union a.support b.support))

@@ -19,19 +19,6 @@ pub struct Fact {
     pub support: PremiseSet,
 }
 
-// What the merge of two facts rests on.
-fn merged_support(a: &Fact, b: &Fact) -> PremiseSet
-    requires { kind_of a.now.info ≡ kind_of b.now.info }
-    ensures { IsMerge a.now b.now (record { info = meet a.now.info b.now.info; support = result }) }
-{
-    match (a.info.implies(&b.info), b.info.implies(&a.info)) {
-        (true, true) if b.support.is_subset(&a.support) => b.support,
-        (true, _) => a.support,
-        (false, true) => b.support,
-        (false, false) => a.support.join(b.support),
-    }
-}
-
 /// The merge of two facts of one kind: it says what both say. Where they say the same it rests on what `b` rests on if
 /// that is a subset of what `a` rests on, else on what `a` rests on; where one says what the merge says it rests on
 /// what that one rests on; else it rests on what both rest on.
@@ -44,9 +31,18 @@ pub fn merge_facts(a: &Fact, b: &Fact) -> Fact
     // It rests on nothing that neither rests on.
     ensures rests { is_subset result.support (union a.now.support b.now.support) ≡ true }
 {
+    if a.info.implies(&b.info) {
+        if b.support.is_subset(&a.support) && b.info.implies(&a.info) {
+            return *b;
+        }
+        return *a;
+    }
+    if b.info.implies(&a.info) {
+        return *b;
+    }
     Fact {
         info: a.info.meet(&b.info),
-        support: merged_support(a, b),
+        support: a.support.join(b.support),
     }
 }
 
