@@ -1,2 +1,3 @@
 pub mod Host
 pub mod Refused
+pub mod Settling

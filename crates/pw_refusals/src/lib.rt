@@ -123,6 +123,8 @@ mod run;
 #[cfg(test)]
 mod sessions;
 #[cfg(test)]
+mod settling;
+#[cfg(test)]
 mod store;
 #[cfg(test)]
 mod texts;

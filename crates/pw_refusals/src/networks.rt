@@ -3,9 +3,11 @@
 mod attaching;
 mod refused;
 
-ghost use Rattle.std.specs.Prelude.{◌<◌, All, length, IfSome};
+ghost use Rattle.std.specs.Prelude.{◌≡◌, ◌<◌, All, length, IfOk, IfSome};
 ghost use Rattle.pw_procs.specs.Arguments.{cells_of};
 ghost use Rattle.pw_decl.specs.Fields.{declared_by};
+ghost use Rattle.pw_network.specs.Fields.{network_by};
+ghost use Rattle.pw_settle.specs.Values.{kinds_in};
 
 use crate::procedures::{OverRegistry, SOUND, over_procedures};
 use pw_decl::{Declaration, read_declaration};
@@ -48,8 +50,8 @@ pub fn at_line<'a>(line: u32, callable: &'a str, cells: &'a [&'a str]) -> Attach
     }
 }
 
-// The cells of these names, one to four, if there are such.
-fn cells_named<A: Allocator + Copy>(
+/// The cells of these names, one to four, if there are such.
+pub fn cells_named<A: Allocator + Copy>(
     declaration: &Declaration<'_, A>,
     names: &[&str],
 ) -> Option<Arguments>
@@ -157,11 +159,13 @@ fn readers_of<A: Allocator + Copy>(
     Ok(text)
 }
 
-// The kinds of all cells of a network.
-fn kinds_of<A: Allocator + Copy>(
+/// The kinds of all cells of a network.
+pub fn kinds_of<A: Allocator + Copy>(
     alloc: Global,
     network: &Network<'_, '_, A>,
-) -> Result<Vec<Kind>, AllocError> {
+) -> Result<Vec<Kind>, AllocError>
+    ensures { IfOk result (λ kinds. kinds.items ≡ kinds_in (network_by network.now)) }
+{
     let mut kinds = Vec::new(alloc);
     for cell in 0..network.cells() {
         kinds.push(network.kind(cell))?;

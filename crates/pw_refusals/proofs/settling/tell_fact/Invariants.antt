@@ -1,0 +1,6 @@
+use Rattle.pw_network.specs.Fields.{network_by}
+use Rattle.pw_refusals.specs.Settling.{IsReady}
+use Rattle.pw_refusals.proofs.settling.tell_fact.Given as goal
+
+abbrev pub invariant-loop : goal.invariant-loop
+invariant-loop g l = IsReady (network_by l.network) l.store

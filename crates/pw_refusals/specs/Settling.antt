@@ -1,0 +1,11 @@
+-- When a store can be settled over a network.
+use Rattle.std.specs.Prelude.{◌≡◌}
+use Rattle.pw_cells.specs.Cells.{Store, kinds_of}
+use Rattle.pw_network.specs.Network.{Network}
+use Rattle.pw_settle.specs.Sound.{IsSound}
+use Rattle.pw_settle.specs.Values.{kinds_in}
+
+-- it has the cells of the network, with their kinds, and keeps nothing that does not follow
+pub record IsReady (network : Network) (store : Store) : Type 0 where
+  pub kinds : kinds_of store ≡ kinds_in network
+  pub sound : IsSound network store
