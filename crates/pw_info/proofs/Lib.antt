@@ -4,7 +4,6 @@ pub mod Dots
 pub mod ExampleNames
 pub mod FirstLemmas
 pub mod Informations
-pub mod AllowedLemmas
 pub mod LaneLemmas
 pub mod LineLemmas
 pub mod MemberTexts

@@ -1,10 +1,10 @@
 // The words of a line, and the lines that say nothing.
 
-ghost use Rattle.std.specs.Prelude.{◌≡◌, ℕ, ◌∷◌, ◌↔◌, ◌<◌, ◌≤◌, [], List, length, drop, MatchOption};
+ghost use Rattle.std.specs.Prelude.{◌≡◌, ℕ, ◌∷◌, ◌↔◌, ◌≤◌, [], List, length, drop, MatchOption};
 ghost use Rattle.std.specs.List.{prefix_len, list_all};
 ghost use Rattle.pw_info.specs.Words as spec;
 
-use crate::lanes::{FEW_LANES, LANES, before_blank, before_unallowed, before_unallowed_of_few};
+use crate::lanes::{LANES, before_blank};
 use std::marker::Model;
 
 // A space, a tab or a carriage return.
@@ -14,7 +14,7 @@ fn is_blank(byte: u8) -> bool
     byte == b' ' || byte == b'\t' || byte == b'\r'
 }
 
-// A blank or a visible ASCII character.
+// A blank or a visible ASCII character. No branch depends on the byte, so that many bytes can be tested at once.
 fn is_allowed(byte: u8) -> bool
     ensures { result ≡ spec.is_allowed byte }
 {
@@ -33,34 +33,16 @@ pub fn idles(line: &[u8]) -> bool
     true
 }
 
-// Whether each byte of a line, which has fewer bytes than are tested together, is a blank or a visible ASCII character. Its first
-// and its last ones are tested, some of them twice.
-fn allows_few(line: &[u8]) -> bool
-    requires { length line.now < 16 }
-    ensures { result ≡ list_all spec.is_allowed line.now }
-{
-    if line.len() < FEW_LANES {
-        return line.iter().all(|byte| is_allowed(*byte));
-    }
-    before_unallowed_of_few(line, 0) == FEW_LANES
-        && before_unallowed_of_few(line, line.len() - FEW_LANES) == FEW_LANES
-}
-
 /// Whether each byte of the line is a blank or a visible ASCII character.
 pub fn allows_all(line: &[u8]) -> bool
     ensures { result ≡ list_all spec.is_allowed line.now }
 {
-    if line.len() < LANES {
-        return allows_few(line);
+    // It goes on past a byte that is not allowed: a loop that may end early tests one byte at a time.
+    let mut all = true;
+    for byte in line {
+        all &= is_allowed(*byte);
     }
-    let mut at = 0;
-    while line.len() - at >= LANES {
-        if before_unallowed(line, at) < LANES {
-            return false;
-        }
-        at += LANES;
-    }
-    before_unallowed(line, line.len() - LANES) == LANES
+    all
 }
 
 // Spaces at the end of a line are passed over so many at once.
