@@ -146,10 +146,7 @@ fn read_cell<'a>(mut rest: Words<'a>) -> Option<&'a [u8]>
         option_map says (option_copied result) ≡ cell_form says rest.entry }
 {
     let cell = rest.next()?;
-    if rest.next().is_some() {
-        return None;
-    }
-    Some(cell)
+    rest.is_empty().then_some(cell)
 }
 
 // What is said by a word, and the words after it.
