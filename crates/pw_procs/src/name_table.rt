@@ -63,11 +63,19 @@ impl<A: Allocator + Copy> NameTable<A> {
         ensures number { result ≡ place_of_name self.now word.now }
         ensures within { IfSome result (λ number. number < length self.now) }
     {
-        let set = &self.set;
-        if set.len() <= FEW {
-            return place_among(set.as_slice(), word);
+        if self.set.len() <= FEW {
+            return place_among(self.set.as_slice(), word);
         }
-        set.get_index_of(&Name::Sought(word))
+        self.find_by_hash(word)
+    }
+
+    // The same, by the hash of the word. It stands alone, so that little is done for a few names.
+    #[inline(never)]
+    fn find_by_hash(&self, word: &[u8]) -> Option<usize>
+        ensures number { result ≡ place_of_name self.now word.now }
+        ensures within { IfSome result (λ number. number < length self.now) }
+    {
+        self.set.get_index_of(&Name::Sought(word))
     }
 
     /// The name of this number.

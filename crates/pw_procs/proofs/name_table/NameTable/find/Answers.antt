@@ -4,9 +4,6 @@ use Rattle.pw_procs.specs.Name.{name_bytes}
 use Rattle.pw_procs.proofs.PlaceLemmas.{place}
 use Rattle.pw_procs.proofs.name_table.NameTable.find.Goals as goal
 
-pub returns-clause-number : goal.returns-clause-number
-returns-clause-number g c = rw (← c.self.view_is) (c.get_index_of.ensures.index ∙ place name_bytes c.args.word.now c.self.inside.set.keys)
-
 pub returns-then-len-le-FEW-clause-number : goal.returns-then-len-le-FEW-clause-number
 returns-then-len-le-FEW-clause-number g c =
     let keys = c.self.inside.set.keys in
