@@ -73,6 +73,8 @@ fn read_exact(word: &[u8]) -> Option<Info>
 
 /// Writes the text of an information. On `Failed` a front of the text was passed. A set kind is named there with all
 /// its places.
+// Inlined, so that an information that was just found need not be stored to be written.
+#[inline(always)]
 pub fn write_info<N: KindNames, O: Output>(
     info: &Info,
     names: &N,
