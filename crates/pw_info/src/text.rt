@@ -137,7 +137,8 @@ fn write_end<O: Output>(number: i64, output: &mut O) -> Result<(), Failed>
     write_number(number, output)
 }
 
-// Writes a number.
+// Writes a number. Inlined as what calls it is.
+#[inline(always)]
 fn write_number<O: Output>(number: i64, output: &mut O) -> Result<(), Failed>
     ensures { Writes O.passes O.has_failed output.old output.new result (signed_decimal number) }
 {
