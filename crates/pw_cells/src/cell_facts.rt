@@ -122,7 +122,8 @@ fn place_of(told: &[Fact], support: &PremiseSet) -> Option<usize>
     told.iter().position(|held| held.support == *support)
 }
 
-// Whether a kept fact subsumes this one.
+// Whether a kept fact subsumes this one. Inlined, as `assimilate` is, so that a fact that is told is taken as it stands.
+#[inline(always)]
 fn is_subsumed(kept: &[Fact], fact: &Fact) -> bool
     requires { AreOfKind (kind_of fact.now.info) kept.now }
     ensures { IsTrue result ↔ IsSubsumedBy kept.now fact.now }
@@ -163,6 +164,7 @@ fn add_told<A: Allocator>(told: &mut Vec<Fact, A>, place: Option<usize>, fact: &
 }
 
 // Keeps a fact where there is room and drops those that it subsumes, unless it is known: then a kept fact subsumes it.
+#[inline(always)]
 fn assimilate<A: Allocator>(kept: &mut Vec<Fact, A>, known: bool, fact: &Fact)
     requires kinds { AreOfKind (kind_of fact.now.info) kept.old.items }
     requires known { IsTrue known ↔ IsSubsumedBy kept.old.items fact.now }
