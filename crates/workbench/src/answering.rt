@@ -24,7 +24,23 @@ fn answer<R: Print + AllocGlobal, T: Read + Drop>(
     Ok(())
 }
 
-// Reads the declaration, and answers the transcript over it: the file of this name, or standard input.
+// Answers the transcript over the declaration: the file of this name, or standard input.
+fn answer_over<'a, R: Files + Input + Print + AllocGlobal>(
+    rt: &R,
+    declaration: &Declaration<'_>,
+    transcript: Option<&'a str>,
+) -> Result<(), Fault<'a>> {
+    match transcript {
+        Some(name) => match fs::open(rt, name) {
+            Ok(file) => answer(rt, declaration, file)?,
+            Err(_) => return Err(Fault::CannotRead(name)),
+        },
+        None => answer(rt, declaration, rt.reader())?,
+    }
+    Ok(())
+}
+
+// Reads the declaration, and answers the transcript over it.
 fn answer_transcript<'a, R: Files + Input + Print + AllocGlobal>(
     rt: &R,
     registry: &Registry,
@@ -33,14 +49,7 @@ fn answer_transcript<'a, R: Files + Input + Print + AllocGlobal>(
 ) -> Result<(), Fault<'a>> {
     let text = declaration_text(rt, declaration)?;
     let declaration = read_declaration(rt.alloc(), &text, registry)?;
-    match transcript {
-        Some(name) => match fs::open(rt, name) {
-            Ok(file) => answer(rt, &declaration, file)?,
-            Err(_) => return Err(Fault::CannotRead(name)),
-        },
-        None => answer(rt, &declaration, rt.reader())?,
-    }
-    Ok(())
+    answer_over(rt, &declaration, transcript)
 }
 
 // Reads the declaration, and says on standard output how much it declares.

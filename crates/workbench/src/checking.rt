@@ -4,9 +4,22 @@ ghost use Rattle.pw_procs.specs.Registry.{procedures_in};
 ghost use Rattle.workbench.specs.Checking.{IsDeclaration, IsToldOfText};
 
 use crate::fault::Fault;
-use pw_decl::read_declaration;
+use pw_decl::{Declaration, read_declaration};
 use pw_procs::Registry;
-use std::alloc::Allocator;
+use std::alloc::{AllocError, Allocator};
+
+// The line that says how much is declared, without its line end.
+fn count_line<A: Allocator + Copy>(
+    alloc: A,
+    declaration: &Declaration<'_, A>,
+) -> Result<String<A>, AllocError> {
+    let (users, premises) = (declaration.users(), declaration.premises());
+    let (cells, sets) = (declaration.cells(), declaration.sets());
+    let compounds = declaration.compounds();
+    format!(in alloc;
+        "ok users {users} premises {premises} cells {cells} sets {sets} compounds {compounds}"
+    )
+}
 
 /// The line that says how much a declaration of this text declares, without its line end; or the fault.
 pub fn check_line<A: Allocator + Copy>(
@@ -21,12 +34,7 @@ pub fn check_line<A: Allocator + Copy>(
         Ok(declaration) => declaration,
         Err(fault) => return Err(Fault::Declaration(fault)),
     };
-    let (users, premises) = (declaration.users(), declaration.premises());
-    let (cells, sets) = (declaration.cells(), declaration.sets());
-    let compounds = declaration.compounds();
-    match format!(in alloc;
-        "ok users {users} premises {premises} cells {cells} sets {sets} compounds {compounds}"
-    ) {
+    match count_line(alloc, &declaration) {
         Ok(line) => Ok(line),
         Err(_) => Err(Fault::Memory),
     }
