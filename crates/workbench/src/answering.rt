@@ -3,6 +3,7 @@
 use crate::checking::check_line;
 use crate::fault::Fault;
 use crate::files::declaration_text;
+use crate::procedures::{OverProcedures, over_procedures};
 use pw_arguments::Job;
 use pw_decl::{Declaration, read_declaration};
 use pw_info::Writing;
@@ -66,17 +67,31 @@ fn check<'a, R: Files + Print + AllocGlobal>(
     }
 }
 
-/// Does the job over the registry.
-pub fn do_over<'a, R: Files + Input + Print + AllocGlobal>(
+// A job that is to be done.
+#[derive(Drop)]
+struct Doing<'r, 'a, R> {
+    rt: &'r R,
+    job: &'r Job<'a>,
+}
+
+impl<'a, R: Files + Input + Print + AllocGlobal> OverProcedures for Doing<'_, 'a, R> {
+    type Answer = Result<(), Fault<'a>>;
+
+    fn over(self, registry: &Registry) -> Result<(), Fault<'a>> {
+        match *self.job {
+            Job::Run {
+                declaration,
+                transcript,
+            } => answer_transcript(self.rt, registry, declaration, transcript),
+            Job::Check { declaration } => check(self.rt, registry, declaration),
+        }
+    }
+}
+
+/// Does the job over the program's procedures. The memory for them may be wanting.
+pub fn do_job<'a, R: Files + Input + Print + AllocGlobal>(
     rt: &R,
-    registry: &Registry,
     job: &Job<'a>,
 ) -> Result<(), Fault<'a>> {
-    match *job {
-        Job::Run {
-            declaration,
-            transcript,
-        } => answer_transcript(rt, registry, declaration, transcript),
-        Job::Check { declaration } => check(rt, registry, declaration),
-    }
+    over_procedures(rt.alloc(), Doing { rt, job })?
 }

@@ -8,8 +8,8 @@ mod fault;
 mod files;
 mod procedures;
 
+use answering::do_job;
 use ending::{Stop, conclude};
-use procedures::do_job;
 use pw_arguments::{given_arguments, read_arguments};
 use std::process::ExitCode;
 use std::rt::Files;

@@ -7,9 +7,7 @@ ghost use Rattle.pw_procs.specs.Procedure.{procedures_of};
 ghost use Rattle.pw_procs.specs.Registry.{procedures_in};
 ghost use Rattle.workbench.specs.Procedures.{AreOfProgram};
 
-use crate::answering::do_over;
 use crate::fault::Fault;
-use pw_arguments::Job;
 use pw_info::{Info, Kind, SetKind};
 use pw_kinds::Interval;
 use pw_procs::bodies::{self, by_rules};
@@ -18,7 +16,6 @@ use pw_procs::{
     copied, members_of_mask,
 };
 use std::alloc::{AllocError, Global};
-use std::rt::Files;
 
 // The places of the signs in their set, as bits.
 const NEGATIVE: u64 = 1;
@@ -139,14 +136,20 @@ fn registry_of<'a>(alloc: Global, list: Vec<Stored>) -> Result<Registry, Fault<'
     }
 }
 
-/// Makes the procedures and a registry of them, and then does the job over it.
+/// What is done over the registry of the program's procedures.
+pub trait OverProcedures {
+    type Answer;
+
+    fn over(self, registry: &Registry) -> Self::Answer;
+}
+
+/// Makes the procedures and a registry of them, which it lends to a task; what the task answers.
 ///
 /// The memory for them may be wanting. What holds a boxed closure stays inside this function.
-pub fn do_job<'a, R: Files + Input + Print + AllocGlobal>(
-    rt: &R,
-    job: &Job<'a>,
-) -> Result<(), Fault<'a>> {
-    let alloc = rt.alloc();
+pub fn over_procedures<'a, T: OverProcedures + Drop>(
+    alloc: Global,
+    task: T,
+) -> Result<T::Answer, Fault<'a>> {
     let mut list = Vec::new(alloc);
     let set = sign_set();
     let sign = Kind::Members(set);
@@ -170,7 +173,7 @@ pub fn do_job<'a, R: Files + Input + Print + AllocGlobal>(
     )?;
     add_table!(alloc, &mut list);
     let registry = registry_of(alloc, list)?;
-    do_over(rt, &registry, job)
+    Ok(task.over(&registry))
 }
 
 #[cfg(test)]
@@ -178,6 +181,7 @@ mod tests {
     use super::*;
     use crate::checking::tests::texts_are_checked;
     use pw_kinds::Exact;
+    use std::process::Abort;
     use std::test::Fail;
 
     #[test]
@@ -263,44 +267,36 @@ mod tests {
         Some(procedure.call(inputs))
     }
 
-    // What is tested of the registry stands in one function, since each that makes the boxes takes minutes to prove.
-    #[test]
-    fn procedures_by_name(rt: HostRuntime) -> Result<(), Fail> {
-        let alloc = rt.alloc();
-        let mut list = Vec::new(alloc);
-        let set = sign_set();
-        let sign = Kind::Members(set);
-        let rules = sign_rules(alloc, set)?;
-        let table = table_of(alloc, &rules, sign)?;
-        let body: Body = Box::new(
-            alloc,
-            move |numbers: &[Info]| -> Info
-                requires kinds { map kind_of numbers.now ≡ Kind.Interval ∷ [] }
-                requires rules { AreRules (Kind.Interval ∷ []) sign table.items }
-                ensures { result ≡ value_of_rules sign table.items numbers.now }
-            { by_rules(sign, &table, numbers) },
-        )?;
-        add_by_rules(
-            alloc,
-            &mut list,
-            "sign",
-            (Kind::Interval, sign),
-            rules,
-            body,
-        )?;
-        add_table!(alloc, &mut list);
-        let Ok(registry) = Registry::new(alloc, list) else {
-            return Err("no registry".into());
-        };
+    // That the registry has fifteen procedures, and that each is found by its name and gives its value.
+    fn has_procedures<R: Abort + AllocGlobal>(rt: &R, registry: &Registry) {
         assert_eq!(rt; registry.len(), 15);
         for (name, inputs, count, want) in calls() {
             assert_eq!(rt;
-                call(&registry, name, front(&inputs, count)),
+                call(registry, name, front(&inputs, count)),
                 Some(want),
                 "{name}"
             );
         }
         assert_eq!(rt; registry.find(b"sum"), None);
-        texts_are_checked(&rt, &registry)
+    }
+
+    // What is tested over the registry.
+    #[derive(Drop)]
+    struct Tried<'r, R> {
+        rt: &'r R,
+    }
+
+    impl<R: Abort + AllocGlobal> OverProcedures for Tried<'_, R> {
+        type Answer = Result<(), Fail>;
+
+        fn over(self, registry: &Registry) -> Result<(), Fail> {
+            has_procedures(self.rt, registry);
+            texts_are_checked(self.rt, registry)
+        }
+    }
+
+    #[test]
+    fn procedures_by_name(rt: HostRuntime) -> Result<(), Fail> {
+        over_procedures(rt.alloc(), Tried { rt: &rt })?
     }
 }

@@ -3,7 +3,7 @@ use Rattle.pw_procs.specs.Meaning.{is_given_by_rules}
 use Rattle.pw_procs.specs.Procedure.{procedure_of, procedures_of}
 use Rattle.pw_procs.proofs.AddedProcedures.{procedures-added}
 use Rattle.workbench.proofs.Program.{HasTable, one_more}
-use Rattle.workbench.proofs.procedures.do_job.Goals as goal
+use Rattle.workbench.proofs.procedures.over_procedures.Goals as goal
 
 pub registry_of-requires : goal.registry_of-requires
 registry_of-requires g c =
