@@ -7,14 +7,14 @@ mod questions;
 mod reading_back;
 mod sets;
 
-use crate::procedures::{OverRegistry, SOUND, over_procedures};
-use pw_decl::{DeclFault, DeclFaultKind, read_declaration};
-use pw_procs::Registry;
+use crate::procedures::SOUND;
+use crate::worlds::{OverDeclaration, over_declaration};
+use pw_decl::{DeclFault, DeclFaultKind, Declaration};
 use std::alloc::{Allocator, Global};
 use std::test::Fail;
 
 /// How much is declared.
-#[derive(Clone, Copy, Debug, PartialEq, Eq)]
+#[derive(Clone, Copy, PartialEq, Eq)]
 pub struct Counts {
     pub users: u8,
     pub premises: u8,
@@ -23,25 +23,21 @@ pub struct Counts {
     pub compounds: u8,
 }
 
-// A declaration is read, and what it declares is counted.
+// What a declaration declares is counted.
 #[derive(Drop)]
-struct Counting<'a, A: Allocator> {
-    memory: A,
-    text: &'a str,
-}
+struct Counting;
 
-impl<A: Allocator + Copy> OverRegistry for Counting<'_, A> {
-    type Answer = Result<Counts, DeclFault>;
+impl<A: Allocator + Copy> OverDeclaration<A> for Counting {
+    type Answer = Counts;
 
-    fn over(self, registry: &Registry) -> Result<Counts, DeclFault> {
-        let declaration = read_declaration(self.memory, self.text.as_bytes(), registry)?;
-        Ok(Counts {
+    fn over(self, declaration: &Declaration<'_, A>) -> Counts {
+        Counts {
             users: declaration.users(),
             premises: declaration.premises(),
             cells: declaration.cells(),
             sets: declaration.sets(),
             compounds: declaration.compounds(),
-        })
+        }
     }
 }
 
@@ -53,7 +49,7 @@ pub fn counted<A: Allocator + Copy>(
     names: [&str; 2],
     text: &str,
 ) -> Result<Result<Counts, DeclFault>, Fail> {
-    over_procedures(alloc, names, Counting { memory, text })
+    over_declaration(alloc, memory, names, text, Counting)
 }
 
 /// The line and the reason of the first fault, if there is one.

@@ -1,5 +1,5 @@
 //! For tests alone: an allocator that refuses the growths that a test chooses, a host that uses the workbench as a library, and
-//! the tests that need the allocator or cross crates: helpers first (`texts`, `procedures`, `sessions`, `ends`, `facts`), then a
+//! the tests that need the allocator or cross crates: helpers first (`texts`, `procedures`, `worlds`, `sessions`, `ends`, `facts`), then a
 //! folder for each thing tested.
 #![tactic(auto)]
 
@@ -128,3 +128,5 @@ mod settling;
 mod store;
 #[cfg(test)]
 mod texts;
+#[cfg(test)]
+mod worlds;

@@ -3,22 +3,25 @@
 mod attaching;
 mod refused;
 
-ghost use Rattle.std.specs.Prelude.{◌≡◌, ◌<◌, All, length, IfOk, IfSome};
+ghost use Rattle.std.specs.Prelude.{◌≡◌, ◌<◌, ◌≤◌, All, length, IfOk, IfSome, IsSome};
 ghost use Rattle.pw_procs.specs.Arguments.{cells_of};
+ghost use Rattle.pw_decl.specs.Declaration.{IsCallable};
 ghost use Rattle.pw_decl.specs.Fields.{declared_by};
 ghost use Rattle.pw_network.specs.Fields.{network_by};
+ghost use Rattle.pw_network.specs.Limits.{most_lines};
+ghost use Rattle.pw_network.specs.Network.{AreDeclared};
 ghost use Rattle.pw_settle.specs.Values.{kinds_in};
 
-use crate::procedures::{OverRegistry, SOUND, over_procedures};
-use pw_decl::{Declaration, read_declaration};
+use crate::worlds::{OverDeclaration, over_text};
+use pw_decl::{Callable, Declaration};
 use pw_info::Kind;
 use pw_network::{Instance, Network, NetworkFault};
 use pw_premises::PremiseSet;
-use pw_procs::{Arguments, Registry};
+use pw_procs::Arguments;
 use std::alloc::{AllocError, Allocator, Global};
 use std::test::Fail;
 
-// The names of the procedures of `over_procedures`, by their numbers.
+// The names of the procedures of tests, by their numbers.
 const PROCEDURES: [&str; 9] = [
     "light",
     "adder",
@@ -32,7 +35,7 @@ const PROCEDURES: [&str; 9] = [
 ];
 
 /// What a test attaches: a callable to declared cells, by their names, at a line and under premises.
-#[derive(Clone, Copy, Debug)]
+#[derive(Clone, Copy)]
 pub struct Attachment<'a> {
     pub line: u32,
     pub callable: &'a str,
@@ -80,6 +83,26 @@ pub fn cells_named<A: Allocator + Copy>(
     }
 }
 
+/// The callable and the cells of an attachment, by their names; none where they are not declared, or where its line does not come
+/// after the last.
+pub fn named_in<A: Allocator + Copy>(
+    network: &Network<'_, '_, A>,
+    attachment: &Attachment<'_>,
+) -> Option<(Callable, Arguments)>
+    ensures there { IfSome result (λ named. IsCallable (network_by network.now).declared named.0) }
+    ensures cells { IfSome result (λ named. AreDeclared (network_by network.now) (cells_of named.1)) }
+    ensures next { IsSome result → (network_by network.now).last_line < attachment.now.line }
+    ensures most { IsSome result → attachment.now.line ≤ most_lines }
+{
+    let declared = network.declaration();
+    let callable = declared.callable(attachment.callable.as_bytes())?;
+    let cells = cells_named(declared, attachment.cells)?;
+    if attachment.line <= network.last_line() || attachment.line > 1_000_000 {
+        return None;
+    }
+    Some((callable, cells))
+}
+
 // Adds the cell to the text: a declared one by its name, an inner one by its line and its number there.
 fn show_cell<A: Allocator + Copy>(
     text: &mut String,
@@ -99,6 +122,20 @@ fn show_cell<A: Allocator + Copy>(
     }
 }
 
+// Adds what an instance reads and writes.
+fn show_cells<A: Allocator + Copy>(
+    text: &mut String,
+    network: &Network<'_, '_, A>,
+    instance: &Instance,
+) -> Result<(), AllocError> {
+    for cell in instance.inputs.as_slice() {
+        text.push(' ')?;
+        show_cell(text, network, *cell)?;
+    }
+    text.push_str(" -> ")?;
+    show_cell(text, network, instance.output)
+}
+
 // Adds a line: the instance's line, its procedure, what it reads and writes, and the numbers of its premises.
 fn show_instance<A: Allocator + Copy>(
     text: &mut String,
@@ -109,12 +146,7 @@ fn show_instance<A: Allocator + Copy>(
         .get(usize::from(instance.procedure))
         .unwrap_or(&"no procedure");
     write!(text, "{}: {name}", instance.line)?;
-    for cell in instance.inputs.as_slice() {
-        text.push(' ')?;
-        show_cell(text, network, *cell)?;
-    }
-    text.push_str(" -> ")?;
-    show_cell(text, network, instance.output)?;
+    show_cells(text, network, instance)?;
     for premise in instance.support.numbers() {
         write!(text, " under {premise}")?;
     }
@@ -174,7 +206,7 @@ pub fn kinds_of<A: Allocator + Copy>(
 }
 
 /// What a network shows.
-#[derive(Debug, Drop)]
+#[derive(Drop)]
 pub struct Shown {
     pub instances: String,
     pub readers: String,
@@ -184,14 +216,11 @@ pub struct Shown {
     pub fault: Option<(u32, NetworkFault)>,
 }
 
-// Callables are attached to a network over a declaration, and it is shown. The growths of the declaration are those of
-// `reading`, and those of the network are those of `memory`.
+// Callables are attached to a network over a declaration, and it is shown. The growths of the network are those of `memory`.
 #[derive(Drop)]
 struct AttachingAll<'a, A: Allocator> {
     alloc: Global,
-    reading: A,
     memory: A,
-    text: &'a str,
     attachments: &'a [Attachment<'a>],
 }
 
@@ -205,15 +234,8 @@ fn attach_all<A: Allocator + Copy>(
     let mut network = Network::new(memory, declaration)?;
     let mut fault = None;
     for attachment in attachments {
-        let declared = network.declaration();
-        let callable = declared
-            .callable(attachment.callable.as_bytes())
-            .ok_or("no callable")?;
-        let cells = cells_named(declared, attachment.cells).ok_or("no cells")?;
+        let (callable, cells) = named_in(&network, attachment).ok_or("wrong names")?;
         let line = attachment.line;
-        if line <= network.last_line() || line > 1_000_000 {
-            return Err("no line".into());
-        }
         if let Err(refused) = network.attach(line, callable, cells, attachment.support) {
             fault = Some((line, refused));
         }
@@ -227,14 +249,11 @@ fn attach_all<A: Allocator + Copy>(
     })
 }
 
-impl<A: Allocator + Copy> OverRegistry for AttachingAll<'_, A> {
+impl<A: Allocator + Copy> OverDeclaration<A> for AttachingAll<'_, A> {
     type Answer = Result<Shown, Fail>;
 
-    fn over(self, registry: &Registry) -> Result<Shown, Fail> {
-        let Ok(declaration) = read_declaration(self.reading, self.text.as_bytes(), registry) else {
-            return Err("no declaration".into());
-        };
-        attach_all(self.alloc, &declaration, self.memory, self.attachments)
+    fn over(self, declaration: &Declaration<'_, A>) -> Result<Shown, Fail> {
+        attach_all(self.alloc, declaration, self.memory, self.attachments)
     }
 }
 
@@ -249,12 +268,10 @@ pub fn attached_in<A: Allocator + Copy>(
 ) -> Result<Shown, Fail> {
     let task = AttachingAll {
         alloc,
-        reading,
         memory,
-        text,
         attachments,
     };
-    over_procedures(alloc, SOUND, task)?
+    over_text(alloc, reading, text, task)?
 }
 
 /// The same with ample memory.

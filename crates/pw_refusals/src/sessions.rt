@@ -1,57 +1,35 @@
 //! Sessions: rows of what is said and what is answered. A row whose answer is empty gets no reply.
 
-use crate::procedures::{OverRegistry, SOUND, over_procedures};
 use crate::texts::{ended, joined};
-use pw_decl::read_declaration;
+use crate::worlds::{OverDeclaration, over_text};
+use pw_decl::Declaration;
 use pw_info::{Output, Writing};
-use pw_procs::Registry;
 use pw_transcript::{Input, Lines, Reading, RunFault, run};
 use std::alloc::{AllocError, Allocator, Global};
 use std::process::Abort;
 use std::test::Fail;
 
-/// Two users, and two interval cells.
-pub const WORLD: &str = "workbench 1
-# general
-user ann
-user bob
-premise a
-premise b
-premise c
-premise mine of bob
-cell x interval
-cell y interval
-";
-
-// A declaration is read, and a transcript is answered over it. The growths of the declaration are those of `reading`, and
-// the run's own are those of `memory`.
+// A transcript is answered over a declaration. The run's growths are those of `memory`.
 #[derive(Drop)]
 struct Running<'a, A: Allocator, I, O> {
-    reading: A,
     memory: A,
-    declaration: &'a str,
     input: &'a mut I,
     output: &'a mut O,
 }
 
-impl<A: Allocator + Copy, I: Input, O: Output> OverRegistry for Running<'_, A, I, O> {
+impl<A: Allocator + Copy, I: Input, O: Output> OverDeclaration<A> for Running<'_, A, I, O> {
     type Answer = Result<Result<Lines, RunFault>, Fail>;
 
-    fn over(self, registry: &Registry) -> Result<Result<Lines, RunFault>, Fail> {
+    fn over(self, declaration: &Declaration<'_, A>) -> Result<Result<Lines, RunFault>, Fail> {
         let Running {
-            reading,
             memory,
-            declaration,
             input,
             output,
         } = self;
-        let Ok(world) = read_declaration(reading, declaration.as_bytes(), registry) else {
-            return Err("no declaration".into());
-        };
         if input.failed() || input.ended() || output.failed() {
             return Err("an end does not work".into());
         }
-        Ok(run(memory, &world, input, output))
+        Ok(run(memory, declaration, input, output))
     }
 }
 
@@ -65,17 +43,12 @@ pub fn run_over<A: Allocator + Copy, I: Input, O: Output>(
     input: &mut I,
     output: &mut O,
 ) -> Result<Result<Lines, RunFault>, Fail> {
-    over_procedures(
-        alloc,
-        SOUND,
-        Running {
-            reading,
-            memory,
-            declaration,
-            input,
-            output,
-        },
-    )?
+    let running = Running {
+        memory,
+        input,
+        output,
+    };
+    over_text(alloc, reading, declaration, running)?
 }
 
 /// What a run over the declaration of this text came to, and what it wrote. Its own growths are those of `memory`, and those

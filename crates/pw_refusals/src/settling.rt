@@ -14,47 +14,20 @@ ghost use Rattle.pw_network.specs.Network.{cells_in};
 ghost use Rattle.pw_refusals.specs.Settling.{IsReady};
 
 use crate::facts::{fact, is_of_kind};
-use crate::networks::{Attachment, cells_named, kinds_of};
-use crate::procedures::{OverRegistry, SOUND, over_procedures};
+use crate::networks::{Attachment, kinds_of, named_in};
+use crate::worlds::{OverDeclaration, over_text};
 use pw_cells::CellStore;
-use pw_decl::{Declaration, read_declaration};
+use pw_decl::Declaration;
 use pw_facts::Fact;
 use pw_info::Info;
 use pw_network::Network;
 use pw_premises::PremiseSet;
-use pw_procs::Registry;
 use pw_settle::{Settled, settle};
 use std::alloc::{AllocError, Allocator, Global};
 use std::test::Fail;
 
-/// Cells of each kind.
-pub const GENERAL: &str = "workbench 1
-# general
-user ann
-user bob
-premise a
-premise b
-premise c
-premise mine of bob
-set color red green blue
-cell x interval
-cell y interval
-cell t interval
-cell k exact
-cell m exact
-cell e bool
-cell g color
-cell w color
-cell q sign
-compound apart p interval q interval
-local d interval
-copy p d
-copy q d
-end
-";
-
 /// A fact that a test tells of a declared cell, by its name.
-#[derive(Clone, Copy, Debug)]
+#[derive(Clone, Copy)]
 pub struct Tell<'a> {
     pub cell: &'a str,
     pub fact: Fact,
@@ -69,7 +42,7 @@ pub fn told<'a>(cell: &'a str, lo: i64, hi: i64, support: PremiseSet) -> Tell<'a
 }
 
 /// A declaration, what is attached to its cells, and what is told of them.
-#[derive(Clone, Copy, Debug)]
+#[derive(Clone, Copy)]
 pub struct Matter<'a> {
     pub text: &'a str,
     pub attachments: &'a [Attachment<'a>],
@@ -77,14 +50,14 @@ pub struct Matter<'a> {
 }
 
 /// What a settling answered: how often procedures were called, and the value of each cell.
-#[derive(Debug, Drop)]
+#[derive(Drop)]
 pub struct Answer {
     pub calls: u128,
     pub values: Vec<Fact>,
 }
 
 /// What several settlings over one store came to.
-#[derive(Debug, Drop)]
+#[derive(Drop)]
 pub struct Shown {
     /// What each answered, once there was memory.
     pub answers: Vec<Answer>,
@@ -300,34 +273,19 @@ fn settle_over<A: Allocator + Copy>(
 ) -> Result<Shown, Fail> {
     let mut network = Network::new(task.ample, declaration)?;
     for attachment in task.matter.attachments {
-        let declared = network.declaration();
-        let callable = declared
-            .callable(attachment.callable.as_bytes())
-            .ok_or("no callable")?;
-        let cells = cells_named(declared, attachment.cells).ok_or("no cells")?;
-        let line = attachment.line;
-        if line <= network.last_line() || line > 1_000_000 {
-            return Err("no line".into());
-        }
-        if network
-            .attach(line, callable, cells, attachment.support)
-            .is_err()
-        {
-            return Err("not attached".into());
-        }
+        let (callable, cells) = named_in(&network, attachment).ok_or("wrong names")?;
+        network
+            .attach(attachment.line, callable, cells, attachment.support)
+            .map_err(|_| "not attached")?;
     }
     task.settle_all(&network)
 }
 
-impl<A: Allocator + Copy> OverRegistry for Settling<'_, A> {
+impl<A: Allocator + Copy> OverDeclaration<A> for Settling<'_, A> {
     type Answer = Result<Shown, Fail>;
 
-    fn over(self, registry: &Registry) -> Result<Shown, Fail> {
-        let Ok(declaration) = read_declaration(self.ample, self.matter.text.as_bytes(), registry)
-        else {
-            return Err("no declaration".into());
-        };
-        settle_over(&self, &declaration)
+    fn over(self, declaration: &Declaration<'_, A>) -> Result<Shown, Fail> {
+        settle_over(&self, declaration)
     }
 }
 
@@ -349,7 +307,7 @@ pub fn settled_in<A: Allocator + Copy>(
         worldviews,
         asked,
     };
-    over_procedures(alloc, SOUND, task)?
+    over_text(alloc, ample, matter.text, task)?
 }
 
 /// The same with ample memory.

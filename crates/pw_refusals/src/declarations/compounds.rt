@@ -28,11 +28,8 @@ fn declares<R: Abort + AllocGlobal>(rt: &R, text: &str, compounds: u8) -> Result
         sets: 0,
         compounds,
     };
-    assert_eq!(rt;
-        counted(rt.alloc(), rt.alloc(), SOUND, text)?,
-        Ok(counts),
-        "{text}"
-    );
+    let declared = counted(rt.alloc(), rt.alloc(), SOUND, text)?;
+    assert!(rt; declared == Ok(counts), "{text}");
     Ok(())
 }
 
@@ -535,10 +532,8 @@ fn registries_that_lack_an_adder(rt: HostRuntime) -> Result<(), Fail> {
         (["plus", "adder"], DeclFaultKind::WrongArguments),
     ] {
         for text in ["workbench 1\n", "workbench 3\n"] {
-            assert_eq!(rt;
-                counted(rt.alloc(), rt.alloc(), names, text)?,
-                Err(DeclFault { line: 0, why })
-            );
+            let declared = counted(rt.alloc(), rt.alloc(), names, text)?;
+            assert!(rt; declared == Err(DeclFault { line: 0, why }));
         }
     }
     Ok(())

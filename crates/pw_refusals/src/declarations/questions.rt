@@ -1,15 +1,14 @@
 //! Questions to a declaration, each answered by one value.
 
-use crate::procedures::{OverRegistry, SOUND, over_procedures};
 use crate::texts::joined;
-use pw_decl::{Callable, Declaration, Step, read_declaration};
+use crate::worlds::{OverDeclaration, over_text};
+use pw_decl::{Callable, Declaration, Step};
 use pw_info::{Kind, KindNames};
-use pw_procs::Registry;
 use std::alloc::Global;
 use std::test::Fail;
 
 /// What is asked of a declaration. What has a number is looked up by its name, and the name by the number again.
-#[derive(Clone, Copy, Debug)]
+#[derive(Clone, Copy)]
 pub enum Question<'a> {
     /// The number of the user of this name.
     User(&'a str),
@@ -32,7 +31,7 @@ pub enum Question<'a> {
 }
 
 /// What is answered.
-#[derive(Clone, Copy, Debug, PartialEq, Eq)]
+#[derive(Clone, Copy, PartialEq, Eq)]
 pub enum Answer {
     Number(u32),
     Kind(Kind),
@@ -91,30 +90,27 @@ fn step(declaration: &Declaration<'_>, name: &str, line: usize) -> Option<Answer
     Some(Answer::Step(*step))
 }
 
-// A declaration is read, and asked.
+// A declaration is asked.
 #[derive(Drop)]
 struct Asking<'a> {
-    alloc: Global,
-    text: &'a str,
     question: Question<'a>,
 }
 
-impl OverRegistry for Asking<'_> {
-    type Answer = Result<Option<Answer>, Fail>;
+impl OverDeclaration<Global> for Asking<'_> {
+    type Answer = Option<Answer>;
 
-    fn over(self, registry: &Registry) -> Result<Option<Answer>, Fail> {
-        let declaration = read_declaration(self.alloc, self.text.as_bytes(), registry)?;
-        Ok(match self.question {
-            Question::User(name) => user(&declaration, name),
-            Question::Premise(name) => premise(&declaration, name),
-            Question::Owner(name) => owner(&declaration, name),
-            Question::Cell(name) => cell(&declaration, name),
-            Question::KindOf(name) => kind_of(&declaration, name),
-            Question::Place(set, name) => place(&declaration, set, name),
-            Question::Callable(name) => callable(&declaration, name),
-            Question::Accepts(name, kinds) => accepts(&declaration, name, kinds),
-            Question::Step(name, line) => step(&declaration, name, line),
-        })
+    fn over(self, declaration: &Declaration<'_>) -> Option<Answer> {
+        match self.question {
+            Question::User(name) => user(declaration, name),
+            Question::Premise(name) => premise(declaration, name),
+            Question::Owner(name) => owner(declaration, name),
+            Question::Cell(name) => cell(declaration, name),
+            Question::KindOf(name) => kind_of(declaration, name),
+            Question::Place(set, name) => place(declaration, set, name),
+            Question::Callable(name) => callable(declaration, name),
+            Question::Accepts(name, kinds) => accepts(declaration, name, kinds),
+            Question::Step(name, line) => step(declaration, name, line),
+        }
     }
 }
 
@@ -125,14 +121,5 @@ pub fn asked(
     question: Question<'_>,
 ) -> Result<Option<Answer>, Fail> {
     let text = joined(alloc, lines)?;
-    let text = text.as_str();
-    over_procedures(
-        alloc,
-        SOUND,
-        Asking {
-            alloc,
-            text,
-            question,
-        },
-    )?
+    over_text(alloc, alloc, text.as_str(), Asking { question })
 }

@@ -60,12 +60,9 @@ fn answers<R: Abort + AllocGlobal>(
     lines: &[&str],
     rows: &[(Question<'_>, Option<Answer>)],
 ) -> Result<(), Fail> {
-    for (question, answer) in rows {
-        assert_eq!(rt;
-            asked(rt.alloc(), lines, *question)?,
-            *answer,
-            "{question:?}"
-        );
+    for (row, (question, answer)) in rows.iter().enumerate() {
+        let given = asked(rt.alloc(), lines, *question)?;
+        assert!(rt; given == *answer, "question {row}");
     }
     Ok(())
 }
@@ -84,7 +81,10 @@ fn reads_counts_back(rt: HostRuntime) -> Result<(), Fail> {
             sets,
             compounds,
         };
-        assert_eq!(rt; counts(&rt, lines)?, Some(wanted));
+        assert!(rt;
+            counts(&rt, lines)? == Some(wanted),
+            "{users} users, {sets} sets"
+        );
     }
     Ok(())
 }

@@ -1,12 +1,11 @@
 //! Two users of the library, over a declaration.
 
 use super::{Matter, asked_by_two};
-use crate::procedures::{OverRegistry, SOUND, over_procedures};
-use pw_decl::read_declaration;
+use crate::worlds::{OverDeclaration, over_text};
+use pw_decl::Declaration;
 use pw_info::Info;
 use pw_kinds::Interval;
 use pw_premises::PremiseSet;
-use pw_procs::Registry;
 use pw_sessions::Reply;
 use std::alloc::Global;
 use std::test::Fail;
@@ -18,23 +17,29 @@ struct Copying {
     interval: Interval,
 }
 
-impl OverRegistry for Copying {
-    type Answer = Result<Option<(Reply, Reply)>, Fail>;
+impl OverDeclaration<Global> for Copying {
+    type Answer = Result<Option<(Info, Info)>, Fail>;
 
-    fn over(self, registry: &Registry) -> Result<Option<(Reply, Reply)>, Fail> {
-        let text = "workbench 1\nuser ann\nuser bob\npremise p\ncell x interval\ncell y interval\n";
-        let Ok(declaration) = read_declaration(self.alloc, text.as_bytes(), registry) else {
-            return Err("no declaration".into());
-        };
+    fn over(self, declaration: &Declaration<'_>) -> Result<Option<(Info, Info)>, Fail> {
         let names = [b"x".as_slice(), b"y".as_slice()];
         let doubted = PremiseSet::one(0);
-        let Some(matter) = Matter::named(&declaration, b"copy", names, self.interval, doubted)
-        else {
+        let Some(matter) = Matter::named(declaration, b"copy", names, self.interval, doubted) else {
             return Err("the declaration lacks something".into());
         };
-        Ok(asked_by_two(self.alloc, &declaration, &matter))
+        Ok(values_of(asked_by_two(self.alloc, declaration, &matter)))
     }
 }
+
+// The values of both replies, where both are values.
+fn values_of(replies: Option<(Reply, Reply)>) -> Option<(Info, Info)> {
+    match replies {
+        Some((Reply::Value(first), Reply::Value(second))) => Some((first, second)),
+        _ => None,
+    }
+}
+
+// Two users, and two cells.
+const TWO: &str = "workbench 1\nuser ann\nuser bob\npremise p\ncell x interval\ncell y interval\n";
 
 #[test]
 fn two_users_of_a_library(rt: HostRuntime) -> Result<(), Fail> {
@@ -45,11 +50,11 @@ fn two_users_of_a_library(rt: HostRuntime) -> Result<(), Fail> {
         alloc: rt.alloc(),
         interval,
     };
-    let replies = over_procedures(rt.alloc(), SOUND, copying)??;
-    let Some((Reply::Value(first), Reply::Value(second))) = replies else {
-        return Err("no values".into());
-    };
-    assert_eq!(rt; first, Info::of_interval(Interval::whole()));
-    assert_eq!(rt; second, Info::of_interval(interval));
+    let replies = over_text(rt.alloc(), rt.alloc(), TWO, copying)??;
+    let wanted = (
+        Info::of_interval(Interval::whole()),
+        Info::of_interval(interval),
+    );
+    assert_eq!(rt; replies, Some(wanted));
     Ok(())
 }

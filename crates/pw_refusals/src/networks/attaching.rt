@@ -2,6 +2,7 @@
 
 use super::{Attachment, at_line, attached};
 use crate::texts::ended;
+use crate::worlds::GENERAL;
 use pw_network::NetworkFault;
 use pw_premises::PremiseSet;
 use std::process::Abort;
@@ -11,13 +12,6 @@ use std::test::Fail;
 const BUILDING: &str =
     "workbench 1\nuser ann\nuser bob\npremise shadow of ann\npremise super of bob\n\
 cell h interval\ncell bs interval\ncell s interval\ncell p interval\ncell hh interval\n";
-
-// Cells of each kind.
-const GENERAL: &str =
-    "workbench 1\n# general\nuser ann\nuser bob\npremise a\npremise b\npremise c\n\
-premise mine of bob\nset color red green blue\ncell x interval\ncell y interval\ncell t interval\ncell k exact\n\
-cell m exact\ncell e bool\ncell g color\ncell w color\ncell q sign\n\
-compound apart p interval q interval\nlocal d interval\ncopy p d\ncopy q d\nend\n";
 
 // Compounds of compounds.
 pub const MANY: &str =

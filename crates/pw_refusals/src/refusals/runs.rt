@@ -1,9 +1,9 @@
 //! Transcripts with each growth of memory refused in turn.
 
-use super::WORLD;
 use crate::Refusing;
 use crate::sessions::{answered, outcome, said};
 use crate::texts::ended;
+use crate::worlds::FORMS;
 use pw_transcript::{Lines, RunFault};
 use std::alloc::Global;
 use std::process::Abort;
@@ -134,12 +134,12 @@ fn refused_lines_are_blank<R: Abort + AllocGlobal>(
 
 #[test]
 fn a_tell_refused_for_memory_counts_as_blank(rt: HostRuntime) -> Result<(), Fail> {
-    refused_lines_are_blank(&rt, WORLD, TELLING)
+    refused_lines_are_blank(&rt, FORMS, TELLING)
 }
 
 #[test]
 fn an_attachment_refused_for_memory_counts_as_blank(rt: HostRuntime) -> Result<(), Fail> {
-    refused_lines_are_blank(&rt, WORLD, ATTACHING)
+    refused_lines_are_blank(&rt, FORMS, ATTACHING)
 }
 
 #[test]
@@ -167,7 +167,7 @@ fn believing_doubting_and_asking_take_no_memory(rt: HostRuntime) -> Result<(), F
     ];
     let transcript = said(rt.alloc(), &rows)?;
     let wanted = answered(rt.alloc(), &rows)?;
-    let (answer, written) = outcome(rt.alloc(), &ample, &refusing, WORLD, transcript.as_str())?;
+    let (answer, written) = outcome(rt.alloc(), &ample, &refusing, FORMS, transcript.as_str())?;
     assert_eq!(rt;
         answer,
         Ok(Lines {

@@ -1,7 +1,8 @@
 //! Ends that fail once, and then work: the first failure ends the run, and what was passed before it stays.
 
 use crate::ends::{Drip, Sink};
-use crate::sessions::{WORLD, answered, run_over, said};
+use crate::sessions::{answered, run_over, said};
+use crate::worlds::WORLD;
 use pw_info::{Output, Writing};
 use pw_transcript::{Input, Reading, RunFault};
 use std::test::Fail;

@@ -1,7 +1,8 @@
 //! The longest line, the most lines and the most bytes that a run answers.
 
 use crate::ends::Repeated;
-use crate::sessions::{WORLD, answers, run_over};
+use crate::sessions::{answers, run_over};
+use crate::worlds::WORLD;
 use pw_info::Writing;
 use pw_transcript::{Lines, Reading, RunFault};
 use std::alloc::Global;

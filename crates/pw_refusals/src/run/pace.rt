@@ -1,7 +1,8 @@
 //! When replies are passed on: before the next line is waited for, and however few bytes are taken at once.
 
 use crate::ends::{Asking, Counting, Drip};
-use crate::sessions::{WORLD, answered, answers, run_over, said};
+use crate::sessions::{answered, answers, run_over, said};
+use crate::worlds::WORLD;
 use pw_info::{Output, Writing};
 use pw_transcript::{Input, Lines, Reading};
 use std::cell::Cell;

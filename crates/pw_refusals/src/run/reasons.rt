@@ -1,6 +1,7 @@
 //! Why a cell has its value, and what contradicts itself.
 
-use crate::sessions::{WORLD, answers};
+use crate::sessions::answers;
+use crate::worlds::WORLD;
 use std::test::Fail;
 
 #[test]

@@ -1,6 +1,7 @@
 //! Lines that are refused: each gets the first refusal that applies.
 
-use crate::sessions::{WORLD, answers};
+use crate::sessions::answers;
+use crate::worlds::WORLD;
 use std::alloc::{AllocError, Global};
 use std::test::Fail;
 

@@ -1,6 +1,7 @@
 //! Lines of every form, over cells of every kind, and their replies.
 
-use crate::sessions::{WORLD, answers};
+use crate::sessions::answers;
+use crate::worlds::WORLD;
 use std::test::Fail;
 
 #[test]

@@ -44,7 +44,7 @@ const TRUTHS: [&str; 2] = ["e", "n"];
 const COLORS: [&str; 2] = ["g", "w"];
 
 /// A linear congruential generator.
-#[derive(Clone, Copy, Debug)]
+#[derive(Clone, Copy)]
 pub struct Random {
     state: u64,
 }
@@ -104,7 +104,7 @@ impl Random {
 }
 
 /// A callable and the cells to which it is attached, under premises.
-#[derive(Clone, Copy, Debug)]
+#[derive(Clone, Copy)]
 pub struct Drawn {
     callable: &'static str,
     cells: [&'static str; 4],

@@ -1,9 +1,10 @@
 //! Settlings with each growth of memory refused in turn: what was told stays as it was, and the same question is answered as ever
 //! once there is memory.
 
-use super::{GENERAL, Matter, Shown, settled, settled_in, told};
+use super::{Matter, Shown, settled, settled_in, told};
 use crate::Refusing;
 use crate::networks::{Attachment, at_line};
+use crate::worlds::GENERAL;
 use pw_premises::PremiseSet;
 use std::process::Abort;
 use std::test::Fail;

@@ -3,13 +3,12 @@
 
 use super::{Matter, Tell};
 use crate::facts::is_of_kind;
-use crate::networks::cells_named;
-use crate::procedures::{OverRegistry, SOUND, over_procedures};
-use pw_decl::{Declaration, read_declaration};
+use crate::networks::named_in;
+use crate::worlds::{OverDeclaration, over_text};
+use pw_decl::Declaration;
 use pw_info::{Info, Kind};
 use pw_network::{Instance, Network};
 use pw_premises::PremiseSet;
-use pw_procs::Registry;
 use std::alloc::{AllocError, Global};
 use std::test::Fail;
 
@@ -134,21 +133,10 @@ fn values_over(
 ) -> Result<Vec<Option<Vec<Info>>>, Fail> {
     let mut network = Network::new(task.alloc, declaration)?;
     for attachment in task.matter.attachments {
-        let declared = network.declaration();
-        let callable = declared
-            .callable(attachment.callable.as_bytes())
-            .ok_or("no callable")?;
-        let cells = cells_named(declared, attachment.cells).ok_or("no cells")?;
-        let line = attachment.line;
-        if line <= network.last_line() || line > 1_000_000 {
-            return Err("no line".into());
-        }
-        if network
-            .attach(line, callable, cells, attachment.support)
-            .is_err()
-        {
-            return Err("not attached".into());
-        }
+        let (callable, cells) = named_in(&network, attachment).ok_or("wrong names")?;
+        network
+            .attach(attachment.line, callable, cells, attachment.support)
+            .map_err(|_| "not attached")?;
     }
     task.values(&network)
 }
@@ -165,15 +153,11 @@ impl ByRounds<'_> {
     }
 }
 
-impl OverRegistry for ByRounds<'_> {
+impl OverDeclaration<Global> for ByRounds<'_> {
     type Answer = Result<Vec<Option<Vec<Info>>>, Fail>;
 
-    fn over(self, registry: &Registry) -> Result<Vec<Option<Vec<Info>>>, Fail> {
-        let text = self.matter.text;
-        let Ok(declaration) = read_declaration(self.alloc, text.as_bytes(), registry) else {
-            return Err("no declaration".into());
-        };
-        values_over(&self, &declaration)
+    fn over(self, declaration: &Declaration<'_>) -> Result<Vec<Option<Vec<Info>>>, Fail> {
+        values_over(&self, declaration)
     }
 }
 
@@ -188,5 +172,5 @@ pub fn by_rounds(
         matter,
         worldviews,
     };
-    over_procedures(alloc, SOUND, task)?
+    over_text(alloc, alloc, matter.text, task)?
 }

@@ -1,8 +1,9 @@
 //! Small sessions whose values and counts of calls are known beforehand.
 
-use super::{GENERAL, Matter, settled, told};
+use super::{Matter, settled, told};
 use crate::facts::fact;
 use crate::networks::at_line;
+use crate::worlds::GENERAL;
 use pw_premises::PremiseSet;
 use std::test::Fail;
 

@@ -1,0 +1,102 @@
+//! Declarations for tests: texts that several tests share, and what is done over a declaration once its text is read.
+
+use crate::procedures::{OverRegistry, SOUND, over_procedures};
+use pw_decl::{DeclFault, Declaration, read_declaration};
+use pw_procs::Registry;
+use std::alloc::{Allocator, Global};
+use std::test::Fail;
+
+// The lines that declare two users and what they may tell under, and then these.
+macro_rules! world {
+    ($($line:literal)*) => {
+        concat!(
+            "workbench 1\n# general\nuser ann\nuser bob\npremise a\npremise b\npremise c\npremise mine of bob\n",
+            $($line, "\n",)*
+        )
+    };
+}
+
+/// Two interval cells.
+pub const WORLD: &str = world! { "cell x interval" "cell y interval" };
+
+/// A line of each form.
+pub const FORMS: &str = world! {
+    "set color red green blue"
+    "cell x interval"
+    "cell y interval"
+    "cell g color"
+    "compound less x interval y interval p bool"
+    "local s interval"
+    "sum x s y"
+    "at_most x y p"
+    "end"
+};
+
+/// Cells of each kind.
+pub const GENERAL: &str = world! {
+    "set color red green blue"
+    "cell x interval"
+    "cell y interval"
+    "cell t interval"
+    "cell k exact"
+    "cell m exact"
+    "cell e bool"
+    "cell g color"
+    "cell w color"
+    "cell q sign"
+    "compound apart p interval q interval"
+    "local d interval"
+    "copy p d"
+    "copy q d"
+    "end"
+};
+
+/// What a test does over a declaration.
+pub trait OverDeclaration<A: Allocator> {
+    type Answer;
+
+    fn over(self, declaration: &Declaration<'_, A>) -> Self::Answer;
+}
+
+// A declaration is read, and then used.
+#[derive(Drop)]
+struct Reading<'a, A: Allocator, T> {
+    memory: A,
+    text: &'a str,
+    task: T,
+}
+
+impl<A: Allocator + Copy, T: OverDeclaration<A> + Drop> OverRegistry for Reading<'_, A, T> {
+    type Answer = Result<T::Answer, DeclFault>;
+
+    fn over(self, registry: &Registry) -> Result<T::Answer, DeclFault> {
+        let Reading { memory, text, task } = self;
+        let declaration = read_declaration(memory, text.as_bytes(), registry)?;
+        Ok(task.over(&declaration))
+    }
+}
+
+/// What comes of it over the declaration of this text, or the first fault of the text, over procedures of which two have these
+/// names. The growths of the declaration are those of `memory`.
+pub fn over_declaration<A: Allocator + Copy, T: OverDeclaration<A> + Drop>(
+    alloc: Global,
+    memory: A,
+    names: [&str; 2],
+    text: &str,
+    task: T,
+) -> Result<Result<T::Answer, DeclFault>, Fail> {
+    over_procedures(alloc, names, Reading { memory, text, task })
+}
+
+/// What comes of it over the declaration of this text, which has no fault.
+pub fn over_text<A: Allocator + Copy, T: OverDeclaration<A> + Drop>(
+    alloc: Global,
+    memory: A,
+    text: &str,
+    task: T,
+) -> Result<T::Answer, Fail> {
+    match over_declaration(alloc, memory, SOUND, text, task)? {
+        Ok(answer) => Ok(answer),
+        Err(_) => Err("no declaration".into()),
+    }
+}
