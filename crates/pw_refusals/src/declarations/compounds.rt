@@ -33,6 +33,30 @@ fn declares<R: Abort + AllocGlobal>(rt: &R, text: &str, compounds: u8) -> Result
     Ok(())
 }
 
+// That the text, with more behind it, declares so many compounds, and nothing else.
+fn declares_with<R: Abort + AllocGlobal>(
+    rt: &R,
+    text: &str,
+    more: &str,
+    compounds: u8,
+) -> Result<(), Fail> {
+    let whole = format!(in rt.alloc(); "{text}{more}")?;
+    declares(rt, whole.as_str(), compounds)
+}
+
+// That the text, with more behind it, has this first fault.
+fn tells_with<R: Abort + AllocGlobal>(
+    rt: &R,
+    text: &str,
+    more: &str,
+    fault: (u32, DeclFaultKind),
+) -> Result<(), Fail> {
+    let whole = format!(in rt.alloc(); "{text}{more}")?;
+    let first = first_fault(rt.alloc(), whole.as_str())?;
+    assert_eq!(rt; first, Some(fault), "at {more}");
+    Ok(())
+}
+
 // Lines after the header, by the fault that they have.
 const SECOND_LINES: [(DeclFaultKind, &[&str]); 5] = [
     (
@@ -390,57 +414,55 @@ fn big(alloc: Global, line: &str, count: u32) -> Result<String, AllocError> {
     Ok(text)
 }
 
-#[test]
-fn instances_of_one_compound(rt: HostRuntime) -> Result<(), Fail> {
-    for (line, count, last) in [
-        ("copy p q", 256u32, "copy p q"),
-        ("sum p p q", 85, "sum p p q"),
-        ("product p p q", 85, "sum p p q"),
+// That a compound of so many equal lines is declared, and which fault one line more has.
+fn is_full<R: Abort + AllocGlobal>(rt: &R, line: &str, count: u32, last: &str) -> Result<(), Fail> {
+    let full = big(rt.alloc(), line, count)?;
+    declares_with(rt, full.as_str(), "end\n", 1)?;
+    let place = count.saturating_add(3);
+    for (more, why) in [
+        (last, DeclFaultKind::Limit),
+        ("copy\n", DeclFaultKind::Syntax),
+        ("copy p z\n", DeclFaultKind::UnknownName),
+        ("sum p q\n", DeclFaultKind::WrongArguments),
     ] {
-        let full = big(rt.alloc(), line, count)?;
-        let ended = format!(in rt.alloc(); "{full}end\n")?;
-        declares(&rt, ended.as_str(), 1)?;
-        let over = format!(in rt.alloc(); "{full}{last}\n")?;
-        assert_eq!(rt;
-            first_fault(rt.alloc(), over.as_str())?,
-            Some((3 + count, DeclFaultKind::Limit))
-        );
-        for (wrong, why) in [
-            ("copy", DeclFaultKind::Syntax),
-            ("copy p z", DeclFaultKind::UnknownName),
-            ("sum p q", DeclFaultKind::WrongArguments),
-        ] {
-            let over = format!(in rt.alloc(); "{full}{wrong}\n")?;
-            assert_eq!(rt;
-                first_fault(rt.alloc(), over.as_str())?,
-                Some((3 + count, why))
-            );
-        }
+        tells_with(rt, full.as_str(), more, (place, why))?;
     }
     Ok(())
 }
 
 #[test]
-fn inner_cells_of_one_compound(rt: HostRuntime) -> Result<(), Fail> {
-    let mut text = big(rt.alloc(), "", 0)?;
+fn instances_of_one_compound(rt: HostRuntime) -> Result<(), Fail> {
+    for (line, count, last) in [
+        ("copy p q", 256u32, "copy p q\n"),
+        ("sum p p q", 85, "sum p p q\n"),
+        ("product p p q", 85, "sum p p q\n"),
+    ] {
+        is_full(&rt, line, count, last)?;
+    }
+    Ok(())
+}
+
+// A header, and a compound `big p interval q interval` of 256 private cells. It is not ended.
+fn with_locals(alloc: Global) -> Result<String, AllocError> {
+    let mut text = big(alloc, "", 0)?;
     for number in 0..256u32 {
-        let line = format!(in rt.alloc(); "local s{number} bool\n")?;
+        let line = format!(in alloc; "local s{number} bool\n")?;
         text.push_str(line.as_str())?;
     }
-    let full = format!(in rt.alloc(); "{text}copy s255 s0\nend\n")?;
-    declares(&rt, full.as_str(), 1)?;
+    Ok(text)
+}
+
+#[test]
+fn inner_cells_of_one_compound(rt: HostRuntime) -> Result<(), Fail> {
+    let text = with_locals(rt.alloc())?;
+    declares_with(&rt, text.as_str(), "copy s255 s0\nend\n", 1)?;
     for (last, why) in [
-        ("local s256 bool", DeclFaultKind::Limit),
-        ("conditional s0 p p q", DeclFaultKind::Limit),
-        ("local s0 bool", DeclFaultKind::DuplicateName),
-        ("local s256 zzz", DeclFaultKind::UnknownName),
+        ("local s256 bool\n", DeclFaultKind::Limit),
+        ("conditional s0 p p q\n", DeclFaultKind::Limit),
+        ("local s0 bool\n", DeclFaultKind::DuplicateName),
+        ("local s256 zzz\n", DeclFaultKind::UnknownName),
     ] {
-        let over = format!(in rt.alloc(); "{text}{last}\n")?;
-        assert_eq!(rt;
-            first_fault(rt.alloc(), over.as_str())?,
-            Some((259, why)),
-            "at {last}"
-        );
+        tells_with(&rt, text.as_str(), last, (259, why))?;
     }
     Ok(())
 }
@@ -458,32 +480,38 @@ fn doubled(alloc: Global, line: &str) -> Result<String, AllocError> {
     Ok(text)
 }
 
-#[test]
-fn nested_compounds(rt: HostRuntime) -> Result<(), Fail> {
-    for (line, more) in [("copy p q", "copy p q"), ("local s bool", "local t bool")] {
-        let text = doubled(rt.alloc(), line)?;
-        declares(&rt, text.as_str(), 9)?;
-        let full = format!(in rt.alloc(); "{text}compound d p bool q bool\nc8 p q\nend\n")?;
-        declares(&rt, full.as_str(), 10)?;
-        for last in [more, "c0 p q", "c8 p q"] {
-            let over = format!(in rt.alloc(); "{text}compound d p bool q bool\nc8 p q\n{last}\n")?;
-            assert_eq!(rt;
-                first_fault(rt.alloc(), over.as_str())?,
-                Some((39, DeclFaultKind::Limit)),
-                "at {last}"
-            );
-        }
+// That compounds which expand to 256 of what the line does are declared, that one which does as much may call the last of them,
+// and that it may do no more.
+fn is_nested<R: Abort + AllocGlobal>(rt: &R, line: &str, more: &str) -> Result<(), Fail> {
+    let text = doubled(rt.alloc(), line)?;
+    declares(rt, text.as_str(), 9)?;
+    let begun = format!(in rt.alloc(); "{text}compound d p bool q bool\nc8 p q\n")?;
+    declares_with(rt, begun.as_str(), "end\n", 10)?;
+    for last in [more, "c0 p q\n", "c8 p q\n"] {
+        tells_with(rt, begun.as_str(), last, (39, DeclFaultKind::Limit))?;
     }
     Ok(())
 }
 
 #[test]
-fn one_compound_too_many(rt: HostRuntime) -> Result<(), Fail> {
-    let mut text = String::from_str(rt.alloc(), "workbench 1\n")?;
+fn nested_compounds(rt: HostRuntime) -> Result<(), Fail> {
+    is_nested(&rt, "copy p q", "copy p q\n")?;
+    is_nested(&rt, "local s bool", "local t bool\n")
+}
+
+// A header, and 64 compounds `c0` to `c63`.
+fn with_compounds(alloc: Global) -> Result<String, AllocError> {
+    let mut text = String::from_str(alloc, "workbench 1\n")?;
     for number in 0..64u32 {
-        let compound = format!(in rt.alloc(); "compound c{number} p bool\nend\n")?;
+        let compound = format!(in alloc; "compound c{number} p bool\nend\n")?;
         text.push_str(compound.as_str())?;
     }
+    Ok(text)
+}
+
+#[test]
+fn one_compound_too_many(rt: HostRuntime) -> Result<(), Fail> {
+    let text = with_compounds(rt.alloc())?;
     declares(&rt, text.as_str(), 64)?;
     for (last, why) in [
         ("compound c64 p bool", DeclFaultKind::Limit),
@@ -493,36 +521,29 @@ fn one_compound_too_many(rt: HostRuntime) -> Result<(), Fail> {
         ("compound c63 p bool", DeclFaultKind::DuplicateName),
         ("compound c64 p", DeclFaultKind::Syntax),
     ] {
-        let over = format!(in rt.alloc(); "{text}{last}")?;
-        assert_eq!(rt;
-            first_fault(rt.alloc(), over.as_str())?,
-            Some((130, why)),
-            "at {last}"
-        );
+        tells_with(&rt, text.as_str(), last, (130, why))?;
     }
     Ok(())
+}
+
+// A header and the beginning of a compound, and then this line, with blanks behind it up to 4,096 bytes.
+fn with_longest(alloc: Global, line: &str) -> Result<String, AllocError> {
+    let mut text = String::from_str(alloc, "workbench 1\ncompound c p bool q bool\n")?;
+    text.push_str(line)?;
+    for _ in line.len()..4096 {
+        text.push(' ')?;
+    }
+    Ok(text)
 }
 
 #[test]
 fn too_long_a_line_within(rt: HostRuntime) -> Result<(), Fail> {
     for first in ["copy p q", "#", "zzz", "local", "end", ""] {
-        let mut line = String::from_str(rt.alloc(), first)?;
-        for _ in first.len()..4096 {
-            line.push(' ')?;
-        }
-        let over = format!(in rt.alloc(); "workbench 1\ncompound c p bool q bool\n{line} \nend\n")?;
-        assert_eq!(rt;
-            first_fault(rt.alloc(), over.as_str())?,
-            Some((3, DeclFaultKind::Limit)),
-            "at {first}"
-        );
+        let text = with_longest(rt.alloc(), first)?;
+        tells_with(&rt, text.as_str(), " \nend\n", (3, DeclFaultKind::Limit))?;
     }
-    let mut line = String::from_str(rt.alloc(), "copy p q")?;
-    for _ in line.len()..4096 {
-        line.push(' ')?;
-    }
-    let fits = format!(in rt.alloc(); "workbench 1\ncompound c p bool q bool\n{line}\nend\n")?;
-    declares(&rt, fits.as_str(), 1)
+    let fits = with_longest(rt.alloc(), "copy p q")?;
+    declares_with(&rt, fits.as_str(), "\nend\n", 1)
 }
 
 #[test]

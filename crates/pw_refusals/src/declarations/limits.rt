@@ -3,6 +3,7 @@
 use super::first_fault;
 use pw_decl::DeclFaultKind;
 use std::alloc::{AllocError, Global};
+use std::process::Abort;
 use std::test::Fail;
 
 // A header, and lines `FIRST k REST` for k from 0.
@@ -42,6 +43,17 @@ fn one_member_too_many(rt: HostRuntime) -> Result<(), Fail> {
     Ok(())
 }
 
+// That so many numbered lines have this first fault, if any.
+fn tells<R: Abort + AllocGlobal>(
+    rt: &R,
+    (first, rest, count): (&str, &str, u32),
+    fault: Option<(u32, DeclFaultKind)>,
+) -> Result<(), Fail> {
+    let text = numbered(rt.alloc(), first, rest, count)?;
+    assert_eq!(rt; first_fault(rt.alloc(), text.as_str())?, fault);
+    Ok(())
+}
+
 #[test]
 fn one_too_many(rt: HostRuntime) -> Result<(), Fail> {
     for (first, rest, most) in [
@@ -50,40 +62,46 @@ fn one_too_many(rt: HostRuntime) -> Result<(), Fail> {
         ("set s", " a b", 32),
         ("cell c", " interval", 1024),
     ] {
-        let full = numbered(rt.alloc(), first, rest, most)?;
-        assert_eq!(rt; first_fault(rt.alloc(), full.as_str())?, None);
-        let over = numbered(rt.alloc(), first, rest, most + 1)?;
-        assert_eq!(rt;
-            first_fault(rt.alloc(), over.as_str())?,
-            Some((most + 2, DeclFaultKind::Limit))
-        );
+        tells(&rt, (first, rest, most), None)?;
+        let limit = (most + 2, DeclFaultKind::Limit);
+        tells(&rt, (first, rest, most + 1), Some(limit))?;
     }
+    Ok(())
+}
+
+// That a line of so many bytes, before the header, has this first fault, if any.
+fn tells_long<R: Abort + AllocGlobal>(
+    rt: &R,
+    bytes: usize,
+    fault: Option<(u32, DeclFaultKind)>,
+) -> Result<(), Fail> {
+    let mut text = String::from_str(rt.alloc(), "#")?;
+    for _ in 1..bytes {
+        text.push_str("x")?;
+    }
+    text.push_str("\nworkbench 1\n")?;
+    assert_eq!(rt; first_fault(rt.alloc(), text.as_str())?, fault);
+    Ok(())
+}
+
+// That a text of so many bytes, a header and then empty lines, has this first fault, if any.
+fn tells_large<R: Abort + AllocGlobal>(
+    rt: &R,
+    bytes: u32,
+    fault: Option<(u32, DeclFaultKind)>,
+) -> Result<(), Fail> {
+    let mut text = String::from_str(rt.alloc(), "workbench 1\n")?;
+    for _ in 12..bytes {
+        text.push_str("\n")?;
+    }
+    assert_eq!(rt; first_fault(rt.alloc(), text.as_str())?, fault);
     Ok(())
 }
 
 #[test]
 fn too_long(rt: HostRuntime) -> Result<(), Fail> {
-    let mut line = String::from_str(rt.alloc(), "#")?;
-    for _ in 1..4096 {
-        line.push_str("x")?;
-    }
-    let fits = format!(in rt.alloc(); "{line}\nworkbench 1\n")?;
-    assert_eq!(rt; first_fault(rt.alloc(), fits.as_str())?, None);
-    let over = format!(in rt.alloc(); "{line}x\nworkbench 1\n")?;
-    assert_eq!(rt;
-        first_fault(rt.alloc(), over.as_str())?,
-        Some((1, DeclFaultKind::Limit))
-    );
-
-    let mut text = String::from_str(rt.alloc(), "workbench 1\n")?;
-    for _ in 12..1_048_576 {
-        text.push_str("\n")?;
-    }
-    assert_eq!(rt; first_fault(rt.alloc(), text.as_str())?, None);
-    text.push_str("\n")?;
-    assert_eq!(rt;
-        first_fault(rt.alloc(), text.as_str())?,
-        Some((0, DeclFaultKind::Limit))
-    );
-    Ok(())
+    tells_long(&rt, 4096, None)?;
+    tells_long(&rt, 4097, Some((1, DeclFaultKind::Limit)))?;
+    tells_large(&rt, 1_048_576, None)?;
+    tells_large(&rt, 1_048_577, Some((0, DeclFaultKind::Limit)))
 }

@@ -5,6 +5,7 @@ use crate::texts::ended;
 use crate::worlds::GENERAL;
 use pw_network::NetworkFault;
 use pw_premises::PremiseSet;
+use std::alloc::{AllocError, Global};
 use std::process::Abort;
 use std::test::Fail;
 
@@ -21,6 +22,13 @@ compound deep a interval b interval\nlocal m interval\napart a m\nlocal n interv
 compound deeper a interval b interval\ndeep a b\nlocal m interval\ndeep m a\nend\n\
 compound bare a interval\nend\n";
 
+// That the text has these lines, and no other.
+fn has_lines<R: Abort + AllocGlobal>(rt: &R, text: &str, lines: &[&str]) -> Result<(), Fail> {
+    let wanted = ended(rt.alloc(), lines)?;
+    assert_eq!(rt; text, wanted.as_str());
+    Ok(())
+}
+
 // That these attachments to a network over the text give these instances and these readers.
 fn gives<R: Abort + AllocGlobal>(
     rt: &R,
@@ -31,8 +39,30 @@ fn gives<R: Abort + AllocGlobal>(
 ) -> Result<(), Fail> {
     let shown = attached(rt.alloc(), text, attachments)?;
     assert_eq!(rt; shown.fault, None);
-    assert_eq!(rt; shown.instances, ended(rt.alloc(), instances)?);
-    assert_eq!(rt; shown.readers, ended(rt.alloc(), readers)?);
+    has_lines(rt, shown.instances.as_str(), instances)?;
+    has_lines(rt, shown.readers.as_str(), readers)
+}
+
+// That these attachments to `GENERAL` make one cell, of the kind of the cell `e`.
+fn makes_a_truth<R: Abort + AllocGlobal>(
+    rt: &R,
+    attachments: &[Attachment<'_>],
+) -> Result<(), Fail> {
+    let shown = attached(rt.alloc(), GENERAL, attachments)?;
+    assert_eq!(rt; shown.kinds.len(), 10);
+    assert_eq!(rt;
+        shown.kinds.get(9),
+        shown.kinds.get(5),
+        "of kind bool, as e is"
+    );
+    Ok(())
+}
+
+// That an attachment to `GENERAL`, at line 7, is refused and attaches nothing.
+fn is_refused<R: Abort + AllocGlobal>(rt: &R, attachment: &[Attachment<'_>]) -> Result<(), Fail> {
+    let shown = attached(rt.alloc(), GENERAL, attachment)?;
+    assert_eq!(rt; shown.fault, Some((7, NetworkFault::WrongArguments)));
+    assert_eq!(rt; (shown.kinds.len(), shown.instances.as_str()), (9, ""));
     Ok(())
 }
 
@@ -73,18 +103,9 @@ fn conditional_has_a_cell_of_its_own(rt: HostRuntime) -> Result<(), Fail> {
             "x: 1", "y: 2", "t:", "k:", "m:", "e: 0 1", "g:", "w:", "q:", "7.0: 2",
         ],
     )?;
-    let shown = attached(rt.alloc(), GENERAL, &conditional)?;
-    assert_eq!(rt; shown.kinds.len(), 10);
-    assert_eq!(rt;
-        shown.kinds.get(9),
-        shown.kinds.get(5),
-        "of kind bool, as e is"
-    );
+    makes_a_truth(&rt, &conditional)?;
     let short = [at_line(7, "conditional", &["e", "x", "y"])];
-    let shown = attached(rt.alloc(), GENERAL, &short)?;
-    assert_eq!(rt; shown.fault, Some((7, NetworkFault::WrongArguments)));
-    assert_eq!(rt; (shown.kinds.len(), shown.instances.as_str()), (9, ""));
-    Ok(())
+    is_refused(&rt, &short)
 }
 
 #[test]
@@ -170,6 +191,20 @@ fn attachments_have_inner_cells_of_their_own(rt: HostRuntime) -> Result<(), Fail
     )
 }
 
+// That a callable does not take these cells of `MANY`, and what was attached before stays alone.
+fn are_wrong<R: Abort + AllocGlobal>(rt: &R, callable: &str, cells: &[&str]) -> Result<(), Fail> {
+    let tried = [at_line(1, "copy", &["x", "y"]), at_line(7, callable, cells)];
+    let shown = attached(rt.alloc(), MANY, &tried)?;
+    assert_eq!(rt;
+        shown.fault,
+        Some((7, NetworkFault::WrongArguments)),
+        "{callable}"
+    );
+    assert_eq!(rt; shown.instances.as_str(), "1: copy x -> y\n");
+    assert_eq!(rt; (shown.kinds.len(), shown.last_line), (5, 1));
+    Ok(())
+}
+
 #[test]
 fn wrong_arguments_attach_nothing(rt: HostRuntime) -> Result<(), Fail> {
     let wrong: [(&str, &[&str]); 5] = [
@@ -180,44 +215,60 @@ fn wrong_arguments_attach_nothing(rt: HostRuntime) -> Result<(), Fail> {
         ("apart", &["x", "e"]),
     ];
     for (callable, cells) in wrong {
-        let tried = [at_line(1, "copy", &["x", "y"]), at_line(7, callable, cells)];
-        let shown = attached(rt.alloc(), MANY, &tried)?;
-        assert_eq!(rt;
-            shown.fault,
-            Some((7, NetworkFault::WrongArguments)),
-            "{callable}"
-        );
-        assert_eq!(rt; shown.instances.as_str(), "1: copy x -> y\n");
-        assert_eq!(rt; (shown.kinds.len(), shown.last_line), (5, 1));
+        are_wrong(&rt, callable, cells)?;
     }
+    Ok(())
+}
+
+// A header, two cells, and a compound `wide p interval q interval` that makes 256 calls.
+fn with_calls(alloc: Global) -> Result<String, AllocError> {
+    let mut text = String::from_str(alloc, WIDE)?;
+    for _ in 0..256 {
+        text.push_str("copy p q\n")?;
+    }
+    text.push_str("end\n")?;
+    Ok(text)
+}
+
+// The same, with a compound that has 256 private cells.
+fn with_locals(alloc: Global) -> Result<String, AllocError> {
+    let mut text = String::from_str(alloc, WIDE)?;
+    for number in 0..256 {
+        writeln!(text, "local d{number} bool")?;
+    }
+    text.push_str("end\n")?;
+    Ok(text)
+}
+
+const WIDE: &str =
+    "workbench 1\ncell x interval\ncell y interval\ncompound wide p interval q interval\n";
+
+// That the compound with the most calls makes that many instances.
+fn makes_256_calls<R: Abort + AllocGlobal>(rt: &R) -> Result<(), Fail> {
+    let text = with_calls(rt.alloc())?;
+    let shown = attached(rt.alloc(), &text, &[at_line(1, "wide", &["x", "y"])])?;
+    let calls = "1: copy x -> y\n".repeat(rt.alloc(), 256)?;
+    assert_eq!(rt; shown.instances, calls);
+    assert_eq!(rt; shown.kinds.len(), 2);
+    Ok(())
+}
+
+// That the compound with the most private cells makes that many inner cells each time it is attached.
+fn makes_256_cells<R: Abort + AllocGlobal>(rt: &R) -> Result<(), Fail> {
+    let text = with_locals(rt.alloc())?;
+    let twice = [
+        at_line(1, "wide", &["x", "y"]),
+        at_line(1_000_000, "wide", &["y", "x"]),
+    ];
+    let shown = attached(rt.alloc(), &text, &twice)?;
+    assert_eq!(rt; (shown.kinds.len(), shown.last_line), (514, 1_000_000));
+    assert!(rt; shown.instances.is_empty());
+    assert!(rt; shown.readers.ends_with("1000000.254:\n1000000.255:\n"));
     Ok(())
 }
 
 #[test]
 fn largest_expansions(rt: HostRuntime) -> Result<(), Fail> {
-    let alloc = rt.alloc();
-    let head =
-        "workbench 1\ncell x interval\ncell y interval\ncompound wide p interval q interval\n";
-    let (mut calls, mut locals) = (
-        String::from_str(alloc, head)?,
-        String::from_str(alloc, head)?,
-    );
-    for number in 0..256 {
-        calls.push_str("copy p q\n")?;
-        writeln!(locals, "local d{number} bool")?;
-    }
-    calls.push_str("end\n")?;
-    locals.push_str("end\n")?;
-    let shown = attached(alloc, &calls, &[at_line(1, "wide", &["x", "y"])])?;
-    assert_eq!(rt; shown.instances, "1: copy x -> y\n".repeat(alloc, 256)?);
-    assert_eq!(rt; shown.kinds.len(), 2);
-    let twice = [
-        at_line(1, "wide", &["x", "y"]),
-        at_line(1_000_000, "wide", &["y", "x"]),
-    ];
-    let shown = attached(alloc, &locals, &twice)?;
-    assert_eq!(rt; (shown.kinds.len(), shown.last_line), (514, 1_000_000));
-    assert!(rt; shown.instances.is_empty());
-    assert!(rt; shown.readers.ends_with("1000000.254:\n1000000.255:\n"));
-    Ok(())
+    makes_256_calls(&rt)?;
+    makes_256_cells(&rt)
 }

@@ -5,6 +5,7 @@ use super::{Attachment, at_line, attached, attached_in};
 use crate::Refusing;
 use pw_network::NetworkFault;
 use std::alloc::{AllocError, Global};
+use std::process::Abort;
 use std::test::Fail;
 
 // The lines of the text but those that begin so.
@@ -29,27 +30,37 @@ fn attachments<'a>() -> [Attachment<'a>; 4] {
     ]
 }
 
+// That, where the growth of this number is refused, what was attached is as in the whole, but for the line that memory was
+// wanting for; whether there was such a line.
+fn is_whole_but_for_a_line<R: Abort + AllocGlobal>(
+    rt: &R,
+    whole: &str,
+    at: u64,
+) -> Result<bool, Fail> {
+    let alloc = rt.alloc();
+    let (ample, refusing) = (Refusing::nth(alloc, 0), Refusing::nth(alloc, at));
+    let shown = attached_in(alloc, &ample, &refusing, MANY, &attachments())?;
+    let Some((line, fault)) = shown.fault else {
+        assert!(rt; refusing.calls() < at, "at {at}");
+        assert_eq!(rt; shown.instances.as_str(), whole, "at {at}");
+        return Ok(false);
+    };
+    assert_eq!(rt; fault, NetworkFault::Memory, "at {at}");
+    let beginning = format!(in alloc; "{line}:")?;
+    let left = without(alloc, whole, beginning.as_str())?;
+    assert_eq!(rt; shown.instances, left, "at {at}");
+    Ok(true)
+}
+
 #[test]
 fn an_attachment_is_whole_or_memory_is_told(rt: HostRuntime) -> Result<(), Fail> {
-    let alloc = rt.alloc();
-    let whole = attached(alloc, MANY, &attachments())?;
+    let whole = attached(rt.alloc(), MANY, &attachments())?;
     let mut met = 0u32;
     // The first growth is that of the lists of readers, in setting up.
     for at in 2..100u64 {
-        let (ample, refusing) = (Refusing::nth(alloc, 0), Refusing::nth(alloc, at));
-        let shown = attached_in(alloc, &ample, &refusing, MANY, &attachments())?;
-        let Some((line, fault)) = shown.fault else {
-            assert!(rt; refusing.calls() < at, "at {at}");
-            assert_eq!(rt; shown.instances, whole.instances, "at {at}");
+        if !is_whole_but_for_a_line(&rt, whole.instances.as_str(), at)? {
             break;
-        };
-        let beginning = format!(in alloc; "{line}:")?;
-        let left = without(alloc, whole.instances.as_str(), beginning.as_str())?;
-        assert_eq!(rt;
-            (fault, shown.instances),
-            (NetworkFault::Memory, left),
-            "at {at}"
-        );
+        }
         met = met.saturating_add(1);
     }
     assert!(rt; met >= 4, "{met} growths were refused");

@@ -1,7 +1,8 @@
 //! The allocator itself, under a list.
 
 use crate::Refusing;
-use std::alloc::Allocator;
+use std::alloc::{Allocator, Global};
+use std::process::Abort;
 
 /// A list takes room for 4 small numbers first, then for 8, then for 16.
 const PUSHES: u64 = 9;
@@ -18,24 +19,25 @@ fn refused_pushes<A: Allocator>(alloc: A) -> u64 {
     refused
 }
 
+// That so many pushes are refused, of three growths that are asked for.
+fn refuses<R: Abort>(rt: &R, refusing: &Refusing<Global>, refused: u64, at: u64) {
+    assert_eq!(rt; refused_pushes(refusing), refused, "at {at}");
+    assert_eq!(rt; refusing.calls(), 3, "at {at}");
+}
+
 #[test]
 fn each_growth_of_a_list_refused(rt: HostRuntime) {
     for at in 1..4u64 {
         let refusing = Refusing::nth(rt.alloc(), at);
-        assert_eq!(rt; refused_pushes(&refusing), 1, "at {at}");
-        assert_eq!(rt; refusing.calls(), 3, "at {at}");
+        refuses(&rt, &refusing, 1, at);
     }
 }
 
 #[test]
 fn no_growth_refused(rt: HostRuntime) {
     for at in [0u64, 4, u64::MAX] {
-        let one = Refusing::nth(rt.alloc(), at);
-        assert_eq!(rt; refused_pushes(&one), 0, "at {at}");
-        assert_eq!(rt; one.calls(), 3, "at {at}");
-        let later = Refusing::all_from(rt.alloc(), at);
-        assert_eq!(rt; refused_pushes(&later), 0, "all from {at}");
-        assert_eq!(rt; later.calls(), 3, "all from {at}");
+        refuses(&rt, &Refusing::nth(rt.alloc(), at), 0, at);
+        refuses(&rt, &Refusing::all_from(rt.alloc(), at), 0, at);
     }
 }
 

@@ -87,45 +87,68 @@ fn without_refusals(alloc: Global, written: &str) -> Result<(String, [bool; 8]),
     Ok((rest, refused))
 }
 
+// What the refusal of a growth came to.
+enum Met {
+    // The run ended, before it wrote anything.
+    Fault,
+    // Some lines were refused.
+    Lines,
+    // There was no such growth.
+    Nothing,
+}
+
+// That these are the replies to the lines without those that were refused.
+fn refused_are_blank<R: Abort + AllocGlobal>(
+    rt: &R,
+    declaration: &str,
+    (lines, refused): ([&str; 8], [bool; 8]),
+    replies: &str,
+) -> Result<(), Fail> {
+    let alloc = rt.alloc();
+    let blank = blanked(alloc, lines, refused)?;
+    let (_, ample) = outcome(alloc, alloc, alloc, declaration, blank.as_str())?;
+    assert_eq!(rt; replies, ample.as_str());
+    Ok(())
+}
+
+// That lines that are refused for memory count as blank where the growth of this number is refused; what that comes to.
+fn with_growth_refused<R: Abort + AllocGlobal>(
+    rt: &R,
+    declaration: &str,
+    lines: [&str; 8],
+    at: u64,
+) -> Result<Met, Fail> {
+    let alloc = rt.alloc();
+    let whole = blanked(alloc, lines, [false; 8])?;
+    let (ample, refusing) = (Refusing::nth(alloc, 0), Refusing::nth(alloc, at));
+    let (answer, written) = outcome(alloc, &ample, &refusing, declaration, whole.as_str())?;
+    if answer == Err(RunFault::Memory) {
+        assert_eq!(rt; written.as_str(), "", "at {at}");
+        return Ok(Met::Fault);
+    }
+    assert!(rt; answer.is_ok(), "at {at}");
+    let (rest, refused) = without_refusals(alloc, written.as_str())?;
+    refused_are_blank(rt, declaration, (lines, refused), rest.as_str())?;
+    if refused != [false; 8] {
+        return Ok(Met::Lines);
+    }
+    assert!(rt; refusing.calls() < at, "at {at}");
+    Ok(Met::Nothing)
+}
+
 // That lines that are refused for memory count as blank, whichever growth of a run over these lines is refused.
 fn refused_lines_are_blank<R: Abort + AllocGlobal>(
     rt: &R,
     declaration: &str,
     lines: [&str; 8],
 ) -> Result<(), Fail> {
-    let whole = blanked(rt.alloc(), lines, [false; 8])?;
-    let mut lines_refused = 0u32;
-    let mut faults = 0u32;
+    let (mut faults, mut lines_refused) = (0u32, 0u32);
     for at in 1..100u64 {
-        let (ample, refusing) = (Refusing::nth(rt.alloc(), 0), Refusing::nth(rt.alloc(), at));
-        let (answer, written) = outcome(
-            rt.alloc(),
-            &ample,
-            &refusing,
-            declaration,
-            whole.as_str(),
-        )?;
-        if answer == Err(RunFault::Memory) {
-            assert_eq!(rt; written.as_str(), "", "at {at}");
-            faults = faults.saturating_add(1);
-            continue;
+        match with_growth_refused(rt, declaration, lines, at)? {
+            Met::Fault => faults = faults.saturating_add(1),
+            Met::Lines => lines_refused = lines_refused.saturating_add(1),
+            Met::Nothing => break,
         }
-        assert!(rt; answer.is_ok(), "at {at}");
-        let (rest, refused) = without_refusals(rt.alloc(), written.as_str())?;
-        let blank = blanked(rt.alloc(), lines, refused)?;
-        let (_, ample) = outcome(
-            rt.alloc(),
-            rt.alloc(),
-            rt.alloc(),
-            declaration,
-            blank.as_str(),
-        )?;
-        assert_eq!(rt; rest.as_str(), ample.as_str(), "at {at}");
-        if refused == [false; 8] {
-            assert!(rt; refusing.calls() < at, "at {at}");
-            break;
-        }
-        lines_refused = lines_refused.saturating_add(1);
     }
     assert!(rt; faults > 0, "{faults} faults");
     assert!(rt; lines_refused > 0, "{lines_refused} lines were refused");

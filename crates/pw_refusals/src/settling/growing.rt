@@ -40,6 +40,16 @@ fn supports_of(alloc: Global, values: &[Fact]) -> Result<Vec<PremiseSet>, AllocE
     Ok(supports)
 }
 
+// That this is what is known of the cell at this place.
+fn is_known<R: Abort>(rt: &R, seed: u64, place: usize, known: &[Info], info: &Info) {
+    assert_eq!(rt; known.get(place), Some(info), "seed {seed}, cell {place}");
+}
+
+// Whether a value says something, and not too much, by premises.
+fn says_by_premises(value: &Fact) -> bool {
+    !value.info.is_nothing() && !value.info.is_contradiction() && !value.support.is_empty()
+}
+
 // That an answer has the values by rounds, with premises of the worldview under which they are the values too; how many of them
 // say something, and not too much, by premises.
 fn is_by_rounds<R: Abort + AllocGlobal>(
@@ -55,29 +65,48 @@ fn is_by_rounds<R: Abort + AllocGlobal>(
     assert_eq!(rt; answer.values.len(), wanted.len(), "seed {seed}");
     let mut telling = 0u32;
     for place in 0..answer.values.len().min(wanted.len()).min(smaller.len()) {
-        let value = answer.values[place];
+        let value = &answer.values[place];
         assert_eq!(rt; value.info, wanted[place], "seed {seed}, cell {place}");
         assert!(rt;
             value.support.is_subset(worldview),
             "seed {seed}, cell {place}"
         );
         if let Some(known) = &smaller[place] {
-            assert_eq!(rt;
-                known.get(place),
-                Some(&value.info),
-                "seed {seed}, cell {place}"
-            );
+            is_known(rt, seed, place, known, &value.info);
         }
-        let says = !value.info.is_nothing() && !value.info.is_contradiction();
-        if says && !value.support.is_empty() {
+        if says_by_premises(value) {
             telling = telling.saturating_add(1);
         }
     }
     Ok(telling)
 }
 
-// Draws a network, and compares its values in several worldviews, unless that takes too many rounds; how many of them say
-// something by premises.
+// Compares the values in several worldviews, unless that takes too many rounds; how many of them say something by premises.
+fn compare<R: Abort + AllocGlobal>(
+    rt: &R,
+    seed: u64,
+    matter: Matter<'_>,
+    worldviews: &[PremiseSet],
+) -> Result<Option<u32>, Fail> {
+    let wanted = by_rounds(rt.alloc(), matter, worldviews)?;
+    if wanted.iter().any(|known| known.is_none()) {
+        return Ok(None);
+    }
+    let shown = settled(rt.alloc(), matter, worldviews, &[])?;
+    assert!(rt; shown.is_told_the_same, "seed {seed}");
+    assert_eq!(rt; shown.answers.len(), wanted.len(), "seed {seed}");
+    let mut telling = 0u32;
+    for (place, answer) in shown.answers.iter().enumerate() {
+        let (Some(Some(known)), Some(worldview)) = (wanted.get(place), worldviews.get(place)) else {
+            return Err("no worldview".into());
+        };
+        let more = is_by_rounds(rt, seed, matter, worldview, answer, known)?;
+        telling = telling.saturating_add(more);
+    }
+    Ok(Some(telling))
+}
+
+// Draws a network, and compares its values in five worldviews.
 fn compare_drawn<R: Abort + AllocGlobal>(rt: &R, seed: u64) -> Result<Option<u32>, Fail> {
     let mut random = Random::new(seed);
     let drawn = draw_attachments(&mut random);
@@ -96,22 +125,7 @@ fn compare_drawn<R: Abort + AllocGlobal>(rt: &R, seed: u64) -> Result<Option<u32
         random.premises(2),
         PremiseSet::empty(),
     ];
-    let wanted = by_rounds(rt.alloc(), matter, &worldviews)?;
-    if wanted.iter().any(|known| known.is_none()) {
-        return Ok(None);
-    }
-    let shown = settled(rt.alloc(), matter, &worldviews, &[])?;
-    assert!(rt; shown.is_told_the_same, "seed {seed}");
-    assert_eq!(rt; shown.answers.len(), wanted.len(), "seed {seed}");
-    let mut telling = 0u32;
-    for (place, answer) in shown.answers.iter().enumerate() {
-        let (Some(Some(known)), Some(worldview)) = (wanted.get(place), worldviews.get(place)) else {
-            return Err("no worldview".into());
-        };
-        let more = is_by_rounds(rt, seed, matter, worldview, answer, known)?;
-        telling = telling.saturating_add(more);
-    }
-    Ok(Some(telling))
+    compare(rt, seed, matter, &worldviews)
 }
 
 #[test]

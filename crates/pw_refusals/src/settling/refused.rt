@@ -20,25 +20,40 @@ fn answers_alike<R: Abort + AllocGlobal>(rt: &R, at: u64, one: &Shown, other: &S
     }
 }
 
+// That the worldviews are answered as they are with ample memory where the growth of this number is refused; how many settlings
+// were refused, and none where there was no such growth.
+fn is_answered<R: Abort + AllocGlobal>(
+    rt: &R,
+    matter: Matter<'_>,
+    worldviews: &[PremiseSet],
+    whole: &Shown,
+    at: u64,
+) -> Result<Option<u32>, Fail> {
+    let alloc = rt.alloc();
+    let (ample, refusing) = (Refusing::nth(alloc, 0), Refusing::nth(alloc, at));
+    let shown = settled_in(alloc, &ample, &refusing, matter, worldviews, &[])?;
+    assert!(rt; shown.is_told_the_same, "at {at}");
+    answers_alike(rt, at, &shown, whole);
+    if refusing.calls() < at {
+        assert_eq!(rt; shown.refused, 0, "at {at}");
+        return Ok(None);
+    }
+    Ok(Some(shown.refused))
+}
+
 // That whichever growth is refused, the worldviews are answered as they are with ample memory; how many settlings were refused.
 fn is_answered_anyhow<R: Abort + AllocGlobal>(
     rt: &R,
     matter: Matter<'_>,
     worldviews: &[PremiseSet],
 ) -> Result<u32, Fail> {
-    let alloc = rt.alloc();
-    let whole = settled(alloc, matter, worldviews, &[])?;
+    let whole = settled(rt.alloc(), matter, worldviews, &[])?;
     let mut met = 0u32;
     for at in 1..1000u64 {
-        let (ample, refusing) = (Refusing::nth(alloc, 0), Refusing::nth(alloc, at));
-        let shown = settled_in(alloc, &ample, &refusing, matter, worldviews, &[])?;
-        assert!(rt; shown.is_told_the_same, "at {at}");
-        answers_alike(rt, at, &shown, &whole);
-        if refusing.calls() < at {
-            assert_eq!(rt; shown.refused, 0, "at {at}");
+        let Some(refused) = is_answered(rt, matter, worldviews, &whole, at)? else {
             break;
-        }
-        met = met.saturating_add(shown.refused);
+        };
+        met = met.saturating_add(refused);
     }
     Ok(met)
 }

@@ -76,22 +76,30 @@ fn keep<A: Allocator + Copy>(store: &mut CellStore<A>, fact: &Fact) -> Result<u3
     Ok(1)
 }
 
+// Tells and keeps facts of the interval cell of a new store, each call a second time where memory is refused; how often it was,
+// and what the store shows then.
+fn shown_at_last<A: Allocator + Copy>(memory: A) -> Result<(u32, Info, Fact), Fail> {
+    let (zero, one) = (PremiseSet::one(0), PremiseSet::one(1));
+    let mut store = CellStore::new(memory);
+    let added = add(&mut store)?;
+    let told = tell(&mut store, &fact(0, 9, zero))?;
+    let kept = keep(&mut store, &fact(3, 12, one))?;
+    let again = tell(&mut store, &fact(4, 10, one))?;
+    let refused = added
+        .saturating_add(told)
+        .saturating_add(kept)
+        .saturating_add(again);
+    let (info, known) = shown(&store);
+    Ok((refused, info, known))
+}
+
 #[test]
 fn a_refused_call_changes_nothing(rt: HostRuntime) -> Result<(), Fail> {
     let (zero, one) = (PremiseSet::one(0), PremiseSet::one(1));
     let mut met = 0u32;
     for at in 1..20u64 {
         let refusing = Refusing::nth(rt.alloc(), at);
-        let mut store = CellStore::new(&refusing);
-        let added = add(&mut store)?;
-        let told = tell(&mut store, &fact(0, 9, zero))?;
-        let kept = keep(&mut store, &fact(3, 12, one))?;
-        let again = tell(&mut store, &fact(4, 10, one))?;
-        let refused = added
-            .saturating_add(told)
-            .saturating_add(kept)
-            .saturating_add(again);
-        let (info, known) = shown(&store);
+        let (refused, info, known) = shown_at_last(&refusing)?;
         assert!(rt; info == fact(4, 9, zero).info, "at {at}");
         assert!(rt; known == fact(4, 9, zero.join(one)), "at {at}");
         if refused == 0 {
