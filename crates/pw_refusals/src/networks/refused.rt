@@ -1,7 +1,7 @@
 //! A network with each growth of memory refused in turn.
 
 use super::attaching::MANY;
-use super::{Attachment, at_line, attached, attached_in};
+use super::{Attachment, Shown, at_line, attached, attached_in};
 use crate::Refusing;
 use pw_network::NetworkFault;
 use std::alloc::{AllocError, Global};
@@ -30,6 +30,26 @@ fn attachments<'a>() -> [Attachment<'a>; 4] {
     ]
 }
 
+// What a network shows where the growth of this number is refused, and how many growths were asked for.
+fn shown_without(alloc: Global, at: u64) -> Result<(Shown, u64), Fail> {
+    let (ample, refusing) = (Refusing::nth(alloc, 0), Refusing::nth(alloc, at));
+    let shown = attached_in(alloc, &ample, &refusing, MANY, &attachments())?;
+    Ok((shown, refusing.calls()))
+}
+
+// That these are the instances of the whole but for those of a line.
+fn lacks_a_line<R: Abort + AllocGlobal>(
+    rt: &R,
+    whole: &str,
+    line: u32,
+    instances: &str,
+) -> Result<(), Fail> {
+    let beginning = format!(in rt.alloc(); "{line}:")?;
+    let left = without(rt.alloc(), whole, beginning.as_str())?;
+    assert_eq!(rt; instances, left.as_str(), "at line {line}");
+    Ok(())
+}
+
 // That, where the growth of this number is refused, what was attached is as in the whole, but for the line that memory was
 // wanting for; whether there was such a line.
 fn is_whole_but_for_a_line<R: Abort + AllocGlobal>(
@@ -37,18 +57,14 @@ fn is_whole_but_for_a_line<R: Abort + AllocGlobal>(
     whole: &str,
     at: u64,
 ) -> Result<bool, Fail> {
-    let alloc = rt.alloc();
-    let (ample, refusing) = (Refusing::nth(alloc, 0), Refusing::nth(alloc, at));
-    let shown = attached_in(alloc, &ample, &refusing, MANY, &attachments())?;
+    let (shown, calls) = shown_without(rt.alloc(), at)?;
     let Some((line, fault)) = shown.fault else {
-        assert!(rt; refusing.calls() < at, "at {at}");
+        assert!(rt; calls < at, "at {at}");
         assert_eq!(rt; shown.instances.as_str(), whole, "at {at}");
         return Ok(false);
     };
     assert_eq!(rt; fault, NetworkFault::Memory, "at {at}");
-    let beginning = format!(in alloc; "{line}:")?;
-    let left = without(alloc, whole, beginning.as_str())?;
-    assert_eq!(rt; shown.instances, left, "at {at}");
+    lacks_a_line(rt, whole, line, shown.instances.as_str())?;
     Ok(true)
 }
 

@@ -3,44 +3,53 @@
 use crate::sessions::answers;
 use crate::worlds::WORLD;
 use std::alloc::{AllocError, Global};
+use std::process::Abort;
 use std::test::Fail;
 
-#[test]
-fn lines_are_refused_in_order(rt: HostRuntime) -> Result<(), Fail> {
-    for (line, reply) in [
-        ("ann", "refused 1 syntax"),
-        ("eve ask x", "refused 2 unknown user"),
-        ("eve ask", "refused 1 syntax"),
-        ("eve say", "refused 2 unknown user"),
-        ("ann say x", "refused 3 unknown command"),
-        ("ann why", "refused 1 syntax"),
-        ("ann why x y", "refused 1 syntax"),
-        ("ann why zz", "refused 4 unknown cell"),
-        ("ann conflicts x", "refused 1 syntax"),
-        ("ann conflict", "refused 3 unknown command"),
-        ("ann belief", "refused 3 unknown command"),
-        ("ann ask zz", "refused 4 unknown cell"),
-        ("ann tell zz 9..3", "refused 4 unknown cell"),
-        ("ann tell under 1", "refused 4 unknown cell"),
-        ("ann tell x 9..3", "refused 8 wrong information"),
-        ("ann tell x 007", "refused 8 wrong information"),
-        ("ann tell x 1000001", "refused 8 wrong information"),
-        ("ann tell x under", "refused 8 wrong information"),
-        ("ann tell x 9..3 under zz", "refused 8 wrong information"),
-        ("ann tell x 1 under", "refused 1 syntax"),
-        ("ann tell x 1 under under", "refused 5 unknown premise"),
-        ("ann believe zz", "refused 5 unknown premise"),
-        ("ann tell x 1 under mine zz", "refused 5 unknown premise"),
-        ("ann tell x 1 under mine", "refused 7 not your premise"),
-        ("ann ask \u{1}", "refused 1 syntax"),
-    ] {
-        answers(&rt, WORLD, &[(line, reply)])?;
+// Lines, each with its first refusal.
+const LINES: &[(&str, &str)] = &[
+    ("ann", "refused 1 syntax"),
+    ("eve ask x", "refused 2 unknown user"),
+    ("eve ask", "refused 1 syntax"),
+    ("eve say", "refused 2 unknown user"),
+    ("ann say x", "refused 3 unknown command"),
+    ("ann why", "refused 1 syntax"),
+    ("ann why x y", "refused 1 syntax"),
+    ("ann why zz", "refused 4 unknown cell"),
+    ("ann conflicts x", "refused 1 syntax"),
+    ("ann conflict", "refused 3 unknown command"),
+    ("ann belief", "refused 3 unknown command"),
+    ("ann ask zz", "refused 4 unknown cell"),
+    ("ann tell zz 9..3", "refused 4 unknown cell"),
+    ("ann tell under 1", "refused 4 unknown cell"),
+    ("ann tell x 9..3", "refused 8 wrong information"),
+    ("ann tell x 007", "refused 8 wrong information"),
+    ("ann tell x 1000001", "refused 8 wrong information"),
+    ("ann tell x under", "refused 8 wrong information"),
+    ("ann tell x 9..3 under zz", "refused 8 wrong information"),
+    ("ann tell x 1 under", "refused 1 syntax"),
+    ("ann tell x 1 under under", "refused 5 unknown premise"),
+    ("ann believe zz", "refused 5 unknown premise"),
+    ("ann tell x 1 under mine zz", "refused 5 unknown premise"),
+    ("ann tell x 1 under mine", "refused 7 not your premise"),
+    ("ann ask \u{1}", "refused 1 syntax"),
+];
+
+// That each line, alone, gets the reply beside it.
+fn are_answered<R: Abort + AllocGlobal>(rt: &R, rows: &[(&str, &str)]) -> Result<(), Fail> {
+    for row in rows {
+        answers(rt, WORLD, &[*row])?;
     }
     Ok(())
 }
 
+#[test]
+fn lines_are_refused_in_order(rt: HostRuntime) -> Result<(), Fail> {
+    are_answered(&rt, LINES)
+}
+
 // Attachments, each with its first refusal.
-const ATTACHMENTS: [(&str, &str); 24] = [
+const ATTACHMENTS: &[(&str, &str)] = &[
     ("ann attach", "refused 1 syntax"),
     ("ann attach adder", "refused 1 syntax"),
     ("ann attach adder under a", "refused 1 syntax"),
@@ -84,14 +93,11 @@ const ATTACHMENTS: [(&str, &str); 24] = [
 
 #[test]
 fn attachments_are_refused_in_order(rt: HostRuntime) -> Result<(), Fail> {
-    for row in ATTACHMENTS {
-        answers(&rt, WORLD, &[row])?;
-    }
-    Ok(())
+    are_answered(&rt, ATTACHMENTS)
 }
 
 // Lines with two faults, each with the refusal of the first in the stated order. Pairs that are not here cannot meet.
-const PAIRS: [(&str, &str); 35] = [
+const PAIRS: &[(&str, &str)] = &[
     ("eve ask", "refused 1 syntax"),
     ("ann say \u{1}", "refused 1 syntax"),
     ("ann ask zz x", "refused 1 syntax"),
@@ -144,16 +150,13 @@ fn padded(alloc: Global, line: &str) -> Result<String, AllocError> {
 
 #[test]
 fn of_two_faults_the_first_is_told(rt: HostRuntime) -> Result<(), Fail> {
-    for row in PAIRS {
-        answers(&rt, WORLD, &[row])?;
-    }
-    Ok(())
+    are_answered(&rt, PAIRS)
 }
 
 #[test]
 fn too_long_comes_before_every_fault(rt: HostRuntime) -> Result<(), Fail> {
     for (line, _) in PAIRS {
-        let long = padded(rt.alloc(), line)?;
+        let long = padded(rt.alloc(), *line)?;
         answers(&rt, WORLD, &[(long.as_str(), "refused 10 line too long")])?;
     }
     Ok(())
