@@ -23,3 +23,4 @@ pub mod SoundStores
 pub mod WorkbenchLemmas
 pub mod WrittenCells
 pub mod WrittenLemmas
+pub mod LastValues

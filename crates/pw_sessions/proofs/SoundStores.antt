@@ -23,10 +23,11 @@ use Rattle.pw_settle.specs.Growth.{KeepsMore}
 use Rattle.pw_settle.specs.Settled.{IsSettled, Settled, support_at}
 use Rattle.pw_settle.specs.Sound.{IsSound, LiesUpstream, RestsUpstream}
 use Rattle.pw_settle.specs.Values.{kinds_in, value_in}
+use Rattle.pw_settle.specs.Wider.{IsWider}
 use Rattle.pw_settle.proofs.Growing.{same_value}
 use Rattle.pw_settle.proofs.KeptFacts.{also_implies, by_cell, implies_also, implies_merge, kind-in_value, kind-kept}
 use Rattle.pw_settle.proofs.Membership.{each_member}
-use Rattle.pw_sessions.proofs.WiderNetworks.{IsWider, still_attached, value_says_told, value_wider, wide_self}
+use Rattle.pw_sessions.proofs.WiderNetworks.{still_attached, value_says_told, value_wider, wide_self}
 
 -- ---- what is kept follows
 
@@ -110,6 +111,16 @@ pub record TakesFact (cell : ℕ) (fact : Fact) (old new : Store) : Type 0 where
   pub assimilates : AssimilatesAt cell fact old new
   pub others : LeavesOthers cell old new
   pub kinds : kinds_of new ≡ kinds_of old
+
+-- so it keeps no less than before
+pub more_kept : (network : Network) (old new : Store) → kinds_of old ≡ kinds_in network → (cell : ℕ) (fact : Fact) → kind_of fact.info ≡ kind_in_store old cell →
+    TakesFact cell fact old new → (c : ℕ) (w : Premises) → Implies (kept_in new c w) (kept_in old c w)
+more_kept network old new same cell fact kind takes c w =
+    by_cell (λ c. Implies (kept_in new c w) (kept_in old c w)) cell
+    (also_implies (kept_in old cell w) (meet (kept_in old cell w) (shows w fact)) (kept_in new cell w) (sym (takes.kept w))
+    (meet_first (kept_in old cell w) (shows w fact) (kind-kept old cell w ∙ sym kind ∙ sym (kind-shows w fact))))
+    (λ c other. also_implies (kept_in old c w) (kept_in old c w) (kept_in new c w) (sym (ap (λ (x : Cell). kept_of x w) (takes.others c other)))
+    (λ v possible. possible)) c
 
 -- a store stays sound where a fact is told
 pub sound_told : (network : Network) → IsWellNetwork network → (old new : Store) (cell : ℕ) (fact : Fact) → kinds_of old ≡ kinds_in network →

@@ -1,5 +1,5 @@
 -- What follows in a network follows where no less is told and more is attached.
-use Rattle.std.proofs.Common.{◌≡◌, ℕ, ◌+◌, ◌<◌, ◌≤◌, true, cond, List, [], ◌∷◌, ◌++◌, All, Contains, length, map, get_or, refl, sym, ap, ◌∙◌, subst, arith, inl, inr, append-nil, length-append}
+use Rattle.std.proofs.Common.{◌≡◌, ℕ, ◌+◌, ◌<◌, ◌≤◌, true, cond, List, [], ◌∷◌, All, Contains, length, map, get_or, refl, sym, ap, ◌∙◌, subst, arith, inl, inr, append-nil, length-append}
 use Rattle.std.specs.Prelude.{nat_lt}
 use Rattle.std.specs.FinSet.{is_subset}
 use Rattle.std.specs.List.{range_with_len}
@@ -22,6 +22,7 @@ use Rattle.pw_network.specs.Network.{Attached, Network, IsWellNetwork, attached_
 use Rattle.pw_settle.specs.Placed.{IsPlaced}
 use Rattle.pw_settle.specs.Sources.{IsImplied, Told}
 use Rattle.pw_settle.specs.Values.{kinds_in, numbered, numbers_of, propagators_of, sources_in, told_sources, value_in, visible_instances}
+use Rattle.pw_settle.specs.Wider.{IsWider}
 use Rattle.pw_settle.proofs.FixpointLemmas.{fixpoint_below}
 use Rattle.pw_settle.proofs.KeptFacts.{kind-in_value, kind_there}
 use Rattle.pw_settle.proofs.Membership.{contains_map, each_member}
@@ -31,14 +32,6 @@ use Rattle.pw_settle.proofs.SourceLists.{all_after, all_before}
 use Rattle.pw_settle.proofs.ValueGrows.{all_seen, seen_source}
 use Rattle.pw_sessions.proofs.NetworkInstances.{same_on}
 use Rattle.pw_sessions.proofs.NetworkKinds.{kinds_with_attached}
-
--- one network has all that the other has, by the same numbers, and perhaps more
-pub record IsWider (network wider : Network) : Type 0 where
-  pub declared : wider.declared ≡ network.declared
-  pub own : List Kind
-  pub kinds_are : kinds_in wider ≡ kinds_in network ++ own
-  pub more : List Attached
-  pub attached_are : wider.attached ≡ network.attached ++ more
 
 -- each has all that it has itself
 pub wide_self : (network : Network) → IsWider network network

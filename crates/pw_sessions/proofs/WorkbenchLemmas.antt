@@ -1,6 +1,6 @@
 -- What a workbench holds is what the lines leave from scratch, line after line.
 use Rattle.std.proofs.Common.{◌≡◌, ◌≢◌, ℕ, ◌+◌, ◌<◌, eqb, Bool, true, false, List, [], ◌∷◌, ◌++◌, length, get_or, set, map, replicate, refl, sym, ap, ◌∙◌, subst, inl, inr, append-nil, arith}
-use Rattle.std.specs.Prelude.{All, ◌||◌, if◌then◌else◌, nat_eq}
+use Rattle.std.specs.Prelude.{All, None, ◌||◌, if◌then◌else◌, nat_eq}
 use Rattle.std.specs.FinSet.{contains, empty}
 use Rattle.std.proofs.lemmas.Bool.{cases_Bool, eqb-true, eqb-false, or_left}
 use Rattle.std.proofs.lemmas.List.{length-set, get_or-replicate, length-replicate, get_or-set_same, get_or-set_other, get_or_append_left}
@@ -23,19 +23,21 @@ use Rattle.pw_network.specs.Network.{IsWellNetwork, Network, bare, with_attached
 use Rattle.pw_settle.specs.NumberTest.{nat_eq_decides}
 use Rattle.pw_settle.specs.Sound.{IsSound, RestsUpstream}
 use Rattle.pw_settle.specs.Values.{kinds_in}
+use Rattle.pw_settle.specs.Wider.{IsWider}
 use Rattle.pw_sessions.specs.declared.command.Command.TheVariants as commands
 use Rattle.pw_sessions.specs.Beliefs.{premises_below, believed_after, beliefs_at}
 use Rattle.pw_sessions.specs.Entries.{Entry, Told, Attached, FitsDeclared, entries_of, entries_before}
 use Rattle.pw_sessions.specs.LineReading.{LineReading, Says}
 use Rattle.pw_sessions.specs.NamesDeclared.{IsDeclared}
 use Rattle.pw_sessions.specs.Steps.{IsAsBefore, IsAttached, OnlyKeepsMore}
-use Rattle.pw_sessions.specs.Workbench.{Workbench, IsLeftBy, IsSetUpFor, WasTold, beliefs_in, is_told_on, network_after, tells_on, with_entry}
+use Rattle.pw_sessions.specs.Workbench.{Workbench, IsLeftBy, IsSetUpFor, SessionsFit, WasTold, beliefs_in, is_told_on, network_after, tells_on, with_entry}
 use Rattle.pw_sessions.proofs.EntriesRise.{rise_before}
 use Rattle.pw_sessions.proofs.FurtherLines.{entries_before-snoc, beliefs_at-snoc}
+use Rattle.pw_sessions.proofs.LastValues.{no_sessions, sessions_attached, sessions_more, sessions_same}
 use Rattle.pw_sessions.proofs.NetworkKinds.{kinds_with_attached}
-use Rattle.pw_sessions.proofs.SoundStores.{TakesFact, rests_attached, rests_new, rests_same, rests_told, sound_attached, sound_new, sound_same, sound_told}
-use Rattle.pw_sessions.proofs.WiderNetworks.{IsWider, wide_attached}
-use Rattle.pw_sessions.proofs.StoreLemmas.{TellsEntries, WasTold-from_tells, kind_found, kinds_added, tells_attached, tells_from_WasTold, tells_more, tells_of_new}
+use Rattle.pw_sessions.proofs.SoundStores.{TakesFact, more_kept, rests_attached, rests_new, rests_same, rests_told, sound_attached, sound_new, sound_same, sound_told}
+use Rattle.pw_sessions.proofs.WiderNetworks.{wide_attached}
+use Rattle.pw_sessions.proofs.StoreLemmas.{TellsEntries, WasTold-from_tells, cells_kept, kind_found, kinds_added, tells_attached, tells_from_WasTold, tells_more, tells_of_new}
 
 -- ---- premises of tells
 
@@ -62,13 +64,15 @@ module _ (d : Declared) (many : length d.kinds ≡ length d.cells) where
 
   -- the store has as many kinds as cells are declared, and is set up for them
   IsSetUpFor-new : (bench : Workbench) (users premises : ℕ) → bench.network ≡ bare d → bench.store.cells ≡ map new_cell d.kinds →
-      bench.beliefs ≡ replicate users (premises_below premises) → users ≡ length d.users → IsSetUpFor d bench
-  IsSetUpFor-new bench users premises is new believed all =
+      bench.beliefs ≡ replicate users (premises_below premises) → bench.sessions ≡ replicate users None → users ≡ length d.users → IsSetUpFor d bench
+  IsSetUpFor-new bench users premises is new believed none all =
       record {
         users = ap length believed ∙ length-replicate users (premises_below premises) ∙ all;
         declared = ap (λ (n : Network). n.declared) is;
         kinds = kinds;
         sound = sound_new bench.network bench.store d.kinds kinds new;
+        sessions = ap length none ∙ length-replicate users None ∙ all;
+        fit = subst (SessionsFit bench.network bench.store) (sym none) (no_sessions bench.network bench.store users);
       }
     where
       kinds : kinds_of bench.store ≡ kinds_in bench.network
@@ -76,9 +80,10 @@ module _ (d : Declared) (many : length d.kinds ≡ length d.cells) where
 
   -- where nothing was attached, nothing told, and each user believes every premise
   pub IsLeftBy-new : (bench : Workbench) (users premises : ℕ) → bench.network ≡ bare d → bench.store.cells ≡ map new_cell d.kinds →
-      bench.beliefs ≡ replicate users (premises_below premises) → users ≡ length d.users → premises ≡ length d.premises → IsLeftBy d [] bench
-  IsLeftBy-new bench users premises is new believed all each =
-      let fits : IsSetUpFor d bench = IsSetUpFor-new bench users premises is new believed all in
+      bench.beliefs ≡ replicate users (premises_below premises) → bench.sessions ≡ replicate users None → users ≡ length d.users →
+      premises ≡ length d.premises → IsLeftBy d [] bench
+  IsLeftBy-new bench users premises is new believed none all each =
+      let fits : IsSetUpFor d bench = IsSetUpFor-new bench users premises is new believed none all in
       record {
         set_up = fits;
         fit = All-nil (FitsDeclared d);
@@ -130,7 +135,14 @@ module _ (d : Declared) (many : length d.kinds ≡ length d.cells) where
       let es : List Entry = entries_before readings in
       let same : es ≡ es ++ [] = sym (append-nil es) in
       left_after readings reading (record old { beliefs = beliefs }) [] none
-      (record { users = all; declared = left.set_up.declared; kinds = left.set_up.kinds; sound = left.set_up.sound })
+      (record {
+        users = all;
+        declared = left.set_up.declared;
+        kinds = left.set_up.kinds;
+        sound = left.set_up.sound;
+        sessions = left.set_up.sessions;
+        fit = left.set_up.fit;
+      })
       (subst (All (FitsDeclared d)) same left.fit) (left.network ∙ ap (network_after d) same)
       (subst (λ (l : List Entry). TellsEntries d l old.network old.store) same (left_tells readings old left))
       (subst (λ (l : List Entry). RestsUpstream old.network (is_told_on l) old.store) same left.upstream) believed
@@ -152,6 +164,10 @@ module _ (d : Declared) (many : length d.kinds ≡ length d.cells) where
           declared = ap (λ (n : Network). n.declared) still.network ∙ left.set_up.declared;
           kinds = ap (λ (cs : List Cell). map (λ (c : Cell). c.kind) cs) still.cells_are ∙ left.set_up.kinds ∙ ap kinds_in (sym still.network);
           sound = subst (λ (n : Network). IsSound n new.store) (sym still.network) (sound_same old.network old.store new.store still.cells_are left.set_up.sound);
+          sessions = ap length still.sessions ∙ left.set_up.sessions;
+          fit = subst (λ (n : Network). SessionsFit n new.store new.sessions) (sym still.network)
+              (subst (SessionsFit old.network new.store) (sym still.sessions)
+              (sessions_same old.network old.store new.store old.sessions still.cells_are left.set_up.fit));
         };
         fit = left.fit;
         network = still.network ∙ left.network;
@@ -172,6 +188,8 @@ module _ (d : Declared) (many : length d.kinds ≡ length d.cells) where
           declared = ap (λ (n : Network). n.declared) keeps.network ∙ left.set_up.declared;
           kinds = keeps.grows.kinds ∙ left.set_up.kinds ∙ ap kinds_in (sym keeps.network);
           sound = subst (λ (n : Network). IsSound n new.store) (sym keeps.network) (keeps.grows.sound left.set_up.sound);
+          sessions = keeps.users ∙ left.set_up.sessions;
+          fit = subst (λ (n : Network). SessionsFit n new.store new.sessions) (sym keeps.network) (keeps.sessions left.set_up.fit);
         };
         fit = left.fit;
         network = keeps.network ∙ left.network;
@@ -206,6 +224,8 @@ module _ (d : Declared) (many : length d.kinds ≡ length d.cells) where
         declared = left.set_up.declared;
         kinds = takes.kinds ∙ left.set_up.kinds;
         sound = sound_told old.network network old.store store cell fact left.set_up.kinds kind takes.told takes.kept takes.others takes.kinds left.set_up.sound;
+        sessions = left.set_up.sessions;
+        fit = sessions_more old.network old.store store old.sessions (more_kept old.network old.store store left.set_up.kinds cell fact kind takes) left.set_up.fit;
       })
       (All-push (FitsDeclared d) es entry left.fit named)
       (left.network ∙ sym (fold_push with_entry (bare d) es entry))
@@ -243,6 +263,10 @@ module _ (d : Declared) (many : length d.kinds ≡ length d.cells) where
         declared = ap (λ (n : Network). n.declared) attached.network ∙ left.set_up.declared;
         kinds = fits;
         sound = sound_attached old.network new.network wide network wider old.store new.store own left.set_up.kinds fits attached.cells_are left.set_up.sound;
+        sessions = ap length attached.sessions ∙ left.set_up.sessions;
+        fit = subst (SessionsFit new.network new.store) (sym attached.sessions)
+            (sessions_attached old.network new.network old.store new.store own old.sessions network wide attached.cells_are
+            (let many = cells_kept old.network old.store network left.set_up.kinds in omega (arith, many)) left.set_up.fit);
       })
       (All-push (FitsDeclared d) es entry left.fit named.1)
       (attached.network ∙ ap (λ (n : Network). with_entry n entry) left.network ∙ sym (fold_push with_entry (bare d) es entry))

@@ -20,7 +20,7 @@ use Rattle.pw_sessions.specs.Reply as reply
 use Rattle.pw_sessions.specs.declared.reply.Refusal.TheVariants as refusal
 use Rattle.pw_sessions.specs.LineReading.{LineReading, Says}
 use Rattle.pw_sessions.specs.NamesDeclared.{IsDeclared}
-use Rattle.pw_sessions.specs.Workbench.{Workbench, IsLeftBy, IsSetUpFor, IsCarriedOut, beliefs_in}
+use Rattle.pw_sessions.specs.Workbench.{Workbench, IsLeftBy, IsSetUpFor, IsCarriedOut, SessionsFit, beliefs_in}
 
 -- the workbench can carry out the command: what it names is declared, and the line comes after those of all attachments
 pub record CanCarryOut (workbench : Workbench) (line : ℕ) (command : Command) : Type 0 where
@@ -35,10 +35,12 @@ CarriesOutNext old line command new reply =
     (d : Declared) (before : List LineReading) → IsLeftBy d before old → length before + 1 ≡ line → IsDeclared d (Says command)
     → IsCarriedOut d before command new reply
 
--- the store has the cells of the network, with their kinds, and keeps nothing that does not follow
+-- the store has the cells of the network, with their kinds, and keeps nothing that does not follow; and the last values of each
+-- user fit
 pub record StoreFits (workbench : Workbench) : Type 0 where
   pub kinds : kinds_of workbench.store ≡ kinds_in workbench.network
   pub sound : IsSound workbench.network workbench.store
+  pub sessions : SessionsFit workbench.network workbench.store workbench.sessions
 
 -- an instance that is visible in the worldview writes the cell
 abbrev pub is_written : List Attached → ℕ → Premises → Bool
@@ -50,17 +52,21 @@ pub record IsAttached (old : Workbench) (line : ℕ) (callable : Callable) (cell
   pub network : new.network ≡ with_attached old.network line callable cells support
   pub cells_are : new.store.cells ≡ old.store.cells ++ map new_cell (inner_kinds_of old.network.declared.compounds callable)
   pub beliefs : new.beliefs ≡ old.beliefs
+  pub sessions : new.sessions ≡ old.sessions
 
--- the same network, facts and beliefs; only the room for cells may differ
+-- the same network, facts, beliefs and last values; only the room for cells may differ
 pub record IsAsBefore (old new : Workbench) : Type 0 where
   pub network : new.network ≡ old.network
   pub cells_are : new.store.cells ≡ old.store.cells
   pub beliefs : new.beliefs ≡ old.beliefs
+  pub sessions : new.sessions ≡ old.sessions
 
--- the same network, beliefs and told facts; more may be kept
+-- the same network, beliefs and told facts; more may be kept, and users may have other last values, which fit as before
 pub record OnlyKeepsMore (old new : Workbench) : Type 0 where
   pub network : new.network ≡ old.network
   pub beliefs : new.beliefs ≡ old.beliefs
+  pub users : length new.sessions ≡ length old.sessions
+  pub sessions : SessionsFit old.network old.store old.sessions → SessionsFit old.network new.store new.sessions
   pub grows : KeepsMore old.network old.store new.store
   pub upstream : StaysUpstream old.network old.store new.store
 

@@ -1,6 +1,6 @@
--- What is there between two lines: the network, what was told of each of its cells and what is kept of it, and what each user
--- believes now.
-use Rattle.std.specs.Prelude.{◌≡◌, ℕ, ◌<◌, Bool, false, ◌&&◌, List, [], ◌∷◌, ◌++◌, All, fold, length, nat_eq, Some, slice_index_or}
+-- What is there between two lines: the network, what was told of each of its cells and what is kept of it, and of each user the
+-- beliefs now and the values of the last settling.
+use Rattle.std.specs.Prelude.{◌≡◌, ℕ, ◌<◌, Bool, false, ◌&&◌, List, [], ◌∷◌, ◌++◌, All, fold, length, nat_eq, IfSome, Option, Some, slice_index_or}
 use Rattle.std.specs.FinSet.{contains, empty}
 use Rattle.std.specs.List.{list_any}
 use Rattle.pw_premises.specs.Premises.{Premises}
@@ -8,7 +8,9 @@ use Rattle.pw_cells.specs.Cells.{Store, kinds_of, told_in}
 use Rattle.pw_decl.specs.Declaration.{Declared}
 use Rattle.pw_network.specs.Names.{name_in}
 use Rattle.pw_network.specs.Network.{Network, bare, cells_in, with_attached}
+use Rattle.pw_settle.specs.Fitting.{IsFitting}
 use Rattle.pw_settle.specs.Fixpoint.{told_of}
+use Rattle.pw_settle.specs.Settled.{Settled}
 use Rattle.pw_settle.specs.Sound.{IsSound, RestsUpstream}
 use Rattle.pw_settle.specs.Values.{kinds_in}
 use Rattle.pw_sessions.specs.declared.command.Command.{Command}
@@ -26,6 +28,12 @@ pub record Workbench : Type 0 where
   pub store : Store
   -- of each user, by number
   pub beliefs : List Premises
+  -- of each user, where there are some, the values of the last settling
+  pub sessions : List (Option Settled)
+
+-- the last values of each user fit the network and the store
+abbrev pub SessionsFit : Network → Store → List (Option Settled) → Type 0
+SessionsFit network store sessions = All (λ session. IfSome session (IsFitting network store)) sessions
 
 abbrev pub beliefs_in : Workbench → ℕ → Premises
 beliefs_in workbench user = slice_index_or workbench.beliefs user empty
@@ -55,13 +63,15 @@ tells_on cell premise (Attached line callable cells support) = false
 abbrev pub is_told_on : List Entry → ℕ → ℕ → Bool
 is_told_on entries cell premise = list_any (tells_on cell premise) entries
 
--- it is set up for the declaration: each user has beliefs, and the store has the cells of the network, with their kinds, and keeps
--- nothing that does not follow
+-- it is set up for the declaration: each user has beliefs and perhaps last values, which fit; and the store has the cells of the
+-- network, with their kinds, and keeps nothing that does not follow
 pub record IsSetUpFor (d : Declared) (workbench : Workbench) : Type 0 where
   pub users : length workbench.beliefs ≡ length d.users
   pub declared : workbench.network.declared ≡ d
   pub kinds : kinds_of workbench.store ≡ kinds_in workbench.network
   pub sound : IsSound workbench.network workbench.store
+  pub sessions : length workbench.sessions ≡ length d.users
+  pub fit : SessionsFit workbench.network workbench.store workbench.sessions
 
 -- it is what lines that read so leave: the network is what their entries attach, the store was told what they tell, and each
 -- user believes what own lines made of the beliefs

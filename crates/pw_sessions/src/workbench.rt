@@ -1,7 +1,7 @@
-//! What the lines so far left: the network, what they told of each of its cells, what was derived from it so far, and what each
-//! user believes.
+//! What the lines so far left: the network, what they told of each of its cells, what was derived from it so far, what each
+//! user believes, and the values that each user's last question found.
 
-ghost use Rattle.std.specs.Prelude.{◌≡◌, ◌<◌, ◌≤◌, [], List, length, map, slice_set, IfOk, OnOk, OnErr};
+ghost use Rattle.std.specs.Prelude.{◌≡◌, ◌<◌, ◌≤◌, [], List, length, map, replicate, slice_set, IfOk, None, OnOk, OnErr, Some};
 ghost use Rattle.pw_decl.specs.Declaration.{Declared, IsCallable};
 ghost use Rattle.pw_decl.specs.Expansion.{inner_kinds_of};
 ghost use Rattle.pw_decl.specs.Fields.{declared_by};
@@ -10,6 +10,8 @@ ghost use Rattle.pw_network.specs.Fields.{network_by};
 ghost use Rattle.pw_network.specs.Kept.{attached_of};
 ghost use Rattle.pw_network.specs.Network.{MayAttach, bare};
 ghost use Rattle.pw_procs.specs.Arguments.{cells_of};
+ghost use Rattle.pw_settle.specs.Fitting.{IsFitting};
+ghost use Rattle.pw_settle.specs.Settled.{IsSettled};
 ghost use Rattle.pw_sessions.specs.Beliefs.{beliefs_at};
 ghost use Rattle.pw_sessions.specs.Carrying.{CanBeCarriedOut, CarriesOut, IsUserOf};
 ghost use Rattle.pw_sessions.specs.Fields.{workbench_by};
@@ -28,7 +30,7 @@ use pw_network::{Instance, Network};
 use pw_premises::PremiseSet;
 use pw_procs::Arguments;
 use pw_reasons::{list_conflicts, reason};
-use pw_settle::settle;
+use pw_settle::{Settled, resettle, settle};
 use std::alloc::{AllocError, Allocator};
 
 // The most inner cells that an attachment makes.
@@ -61,6 +63,20 @@ fn inner_kinds<'a, A: Allocator + Copy>(
     }
 }
 
+// That no user has last values. It fails only for want of memory.
+fn no_values<A: Allocator + Copy>(
+    alloc: A,
+    users: u8,
+) -> Result<Vec<Option<Settled<A>>, A>, AllocError>
+    ensures { IfOk result (λ sessions. sessions.items ≡ replicate users None) }
+{
+    let mut sessions = Vec::with_capacity(alloc, usize::from(users))?;
+    for _ in 0..users {
+        let _ = sessions.push(None);
+    }
+    Ok(sessions)
+}
+
 impl<'d, 'r, A: Allocator + Copy> Workbench<'d, 'r, A> {
     /// What is there before the first line, from a new network of the declaration: nothing was told of its cells, and each
     /// user believes every premise. It fails only for want of memory.
@@ -76,11 +92,14 @@ impl<'d, 'r, A: Allocator + Copy> Workbench<'d, 'r, A> {
         let mut store = CellStore::new(alloc);
         store.add_cells(declaration.kinds())?;
         let premises = PremiseSet::first(declaration.premises());
-        let beliefs = Vec::from_elem(alloc, premises, usize::from(declaration.users()))?;
+        let users = declaration.users();
+        let beliefs = Vec::from_elem(alloc, premises, usize::from(users))?;
+        let sessions = no_values(alloc, users)?;
         Ok(Workbench {
             network,
             store,
             beliefs,
+            sessions,
         })
     }
 
@@ -128,10 +147,41 @@ impl<'d, 'r, A: Allocator + Copy> Workbench<'d, 'r, A> {
         Ok(())
     }
 
+    // Settles under what the user, who is there, believes, from the user's last values, which are given up. It fails only for
+    // want of memory.
+    fn settle_for(&mut self, user: u8) -> Result<Settled<A>, AllocError>
+        requires fits { StoreFits (workbench_by self.old) }
+        requires user { user < length (workbench_by self.old).beliefs }
+        requires session { user < length (workbench_by self.old).sessions }
+        ensures settled { IfOk result (λ settled. IsSettled (workbench_by self.old).network
+            (workbench_by self.old).store (beliefs_in (workbench_by self.old) user) settled) }
+        ensures fits { IfOk result (λ settled.
+            IsFitting (workbench_by self.new).network (workbench_by self.new).store settled) }
+        ensures grows { OnlyKeepsMore (workbench_by self.old) (workbench_by self.new) }
+    {
+        let alloc = *self.beliefs.allocator();
+        let beliefs = self.beliefs_of(user);
+        match self.sessions[usize::from(user)].take() {
+            Some(last) => resettle(alloc, last, &self.network, &mut self.store, &beliefs),
+            None => settle(alloc, &self.network, &mut self.store, &beliefs),
+        }
+    }
+
+    // From now on these are the last values of the user, who is there.
+    fn remember(&mut self, user: u8, settled: Settled<A>)
+        requires { user < length (workbench_by self.old).sessions }
+        ensures { workbench_by self.new ≡ record (workbench_by self.old) {
+          sessions = slice_set (workbench_by self.old).sessions user (Some settled);
+        } }
+    {
+        self.sessions[usize::from(user)] = Some(settled);
+    }
+
     // What is known of the declared cell under what the user, who is there, believes.
     fn ask(&mut self, user: u8, cell: u32) -> Reply<A>
         requires fits { StoreFits (workbench_by self.old) }
         requires user { user < length (workbench_by self.old).beliefs }
+        requires session { user < length (workbench_by self.old).sessions }
         requires cell { cell < length (workbench_by self.old).network.declared.cells }
         ensures answer { (d : Declared) (before : List LineReading)
             → IsLeftBy d before (workbench_by self.old)
@@ -142,48 +192,52 @@ impl<'d, 'r, A: Allocator + Copy> Workbench<'d, 'r, A> {
         if !is_written_by(self.network.instances(), cell, &beliefs) {
             return Reply::Value(self.store.told(cell, &beliefs));
         }
-        let alloc = *self.beliefs.allocator();
-        match settle(alloc, &self.network, &mut self.store, &beliefs) {
-            Ok(settled) => Reply::Value(settled.value(cell).info),
-            Err(_) => Reply::Refused(Refusal::Memory),
-        }
+        let Ok(settled) = self.settle_for(user) else {
+            return Reply::Refused(Refusal::Memory);
+        };
+        let info = settled.value(cell).info;
+        self.remember(user, settled);
+        Reply::Value(info)
     }
 
     // What is known of the declared cell under what the user, who is there, believes, and why.
     fn why(&mut self, user: u8, cell: u32) -> Reply<A>
         requires fits { StoreFits (workbench_by self.old) }
         requires user { user < length (workbench_by self.old).beliefs }
+        requires session { user < length (workbench_by self.old).sessions }
         requires cell { cell < length (workbench_by self.old).network.declared.cells }
         ensures answer { AnswersWhy (workbench_by self.old) user cell (reply_by result) }
         ensures grows { OnlyKeepsMore (workbench_by self.old) (workbench_by self.new) }
     {
         let alloc = *self.beliefs.allocator();
-        let beliefs = self.beliefs_of(user);
-        let Ok(settled) = settle(alloc, &self.network, &mut self.store, &beliefs) else {
+        let Ok(settled) = self.settle_for(user) else {
             return Reply::Refused(Refusal::Memory);
         };
-        match reason(alloc, &self.network, &mut self.store, &settled, cell) {
-            Ok(reason) => Reply::Because(settled.value(cell).info, reason),
-            Err(_) => Reply::Refused(Refusal::Memory),
-        }
+        let Ok(reason) = reason(alloc, &self.network, &mut self.store, &settled, cell) else {
+            return Reply::Refused(Refusal::Memory);
+        };
+        let info = settled.value(cell).info;
+        self.remember(user, settled);
+        Reply::Because(info, reason)
     }
 
     // What is contradictory under what the user, who is there, believes.
     fn conflicts(&mut self, user: u8) -> Reply<A>
         requires fits { StoreFits (workbench_by self.old) }
         requires user { user < length (workbench_by self.old).beliefs }
+        requires session { user < length (workbench_by self.old).sessions }
         ensures answer { AnswersConflicts (workbench_by self.old) user (reply_by result) }
         ensures grows { OnlyKeepsMore (workbench_by self.old) (workbench_by self.new) }
     {
         let alloc = *self.beliefs.allocator();
-        let beliefs = self.beliefs_of(user);
-        let Ok(settled) = settle(alloc, &self.network, &mut self.store, &beliefs) else {
+        let Ok(settled) = self.settle_for(user) else {
             return Reply::Refused(Refusal::Memory);
         };
-        match list_conflicts(alloc, &self.network, &settled) {
-            Ok(conflicts) => Reply::Listed(conflicts),
-            Err(_) => Reply::Refused(Refusal::Memory),
-        }
+        let Ok(conflicts) = list_conflicts(alloc, &self.network, &settled) else {
+            return Reply::Refused(Refusal::Memory);
+        };
+        self.remember(user, settled);
+        Reply::Listed(conflicts)
     }
 
     // Carries out a command at the line after the last, blank ones among them.

@@ -21,3 +21,6 @@ pub mod AgendaLemmas
 pub mod KeptLemmas
 pub mod NewsLemmas
 pub mod QueuedReaders
+pub mod FittingValues
+pub mod FittingLaws
+pub mod NewInstances

@@ -3,12 +3,13 @@ use Rattle.std.proofs.Common.{◌≡◌, ◌⊎◌, ℕ, zero, suc, ◌+◌, ◌
 use Rattle.std.specs.List.{count_by}
 use Rattle.std.proofs.lemmas.Bool.{cases_Bool, eqb-false, eqb-true}
 use Rattle.std.proofs.lemmas.List.{get_or_default, get_or-set_other, get_or-set_same, length-set, same_lists}
-use Rattle.std.proofs.lemmas.List.Elements.{All-filter, All-head, All-tail}
+use Rattle.std.proofs.lemmas.List.Elements.{All-contains_itself, All-filter, All-head, All-tail}
 use Rattle.std.proofs.lemmas.List.Sums.{sum_by-cons, sum_by-set}
 use Rattle.pw_decl.proofs.FlatKept.{range_below}
 use Rattle.pw_network.specs.Network.{Network}
 use Rattle.pw_network.specs.Readers.{reads, readers_of}
 use Rattle.pw_settle.specs.Agenda.{is_set, tally}
+use Rattle.pw_settle.specs.Due.{QueuesReaders}
 
 -- what reads a cell is an instance
 pub readers_below : (network : Network) (cell : ℕ) → All (λ n. n < length network.attached) (readers_of network cell)
@@ -25,11 +26,12 @@ first_or_other x y xs (suc k, within, is) = inr (k, omega (arith, within), is)
 pub record AreQueuedBut (visible old now : List Bool) (readers left : List ℕ) (count : ℕ) : Type 0 where
   pub queued : (n : ℕ) → Contains readers n → is_set visible n ≡ true → (is_set now n ≡ true) ⊎ Contains left n
   pub stay : (n : ℕ) → is_set old n ≡ true → is_set now n ≡ true
-  pub others : (n : ℕ) → is_set now n ≡ true → (is_set old n ≡ true) ⊎ (is_set visible n ≡ true)
+  pub others : (n : ℕ) → is_set now n ≡ true → (is_set old n ≡ true) ⊎ ((is_set visible n ≡ true) × Contains readers n)
   pub most : tally now + count_by (is_set visible) left ≤ tally old + count_by (is_set visible) readers
   pub least : tally old ≤ tally now
   pub flags : length now ≡ length old
   pub below : All (λ n. n < count) left
+  pub among : All (Contains readers) left
 
 -- at first all are left
 pub all_left : (visible flags : List Bool) (readers left : List ℕ) (count : ℕ) → left ≡ readers → All (λ n. n < count) readers →
@@ -42,12 +44,16 @@ all_left visible flags readers left count all below = record {
   least = omega arith;
   flags = refl;
   below = subst (All (λ n. n < count)) (sym all) below;
+  among = subst (All (Contains readers)) (sym all) (All-contains_itself readers);
 }
 
 module _ (visible old now : List Bool) (readers left : List ℕ) (count : ℕ) (so_far : AreQueuedBut visible old now readers left count)
     (number : ℕ) (rest : List ℕ) (next : left ≡ number ∷ rest) where
   all_below : All (λ n. n < count) (number ∷ rest)
   all_below = subst (All (λ n. n < count)) next so_far.below
+
+  all_among : All (Contains readers) (number ∷ rest)
+  all_among = subst (All (Contains readers)) next so_far.among
 
   pub next_below : number < count
   next_below = All-head (λ n. n < count) number rest all_below
@@ -67,7 +73,10 @@ module _ (visible old now : List Bool) (readers left : List ℕ) (count : ℕ) (
     ];
     stay = λ n flag. stays n (so_far.stay n flag);
     others = λ n flag. elim (cases_Bool (eqb n number)) [
-      | inl same ↦ inr (ap (is_set visible) (eqb-true n number same) ∙ seen)
+      | inl same ↦ inr (
+        ap (is_set visible) (eqb-true n number same) ∙ seen,
+        subst (Contains readers) (sym (eqb-true n number same)) (All-head (Contains readers) number rest all_among),
+      )
       | inr not ↦ so_far.others n (sym (get_or-set_other now number n true false (eqb-false n number not)) ∙ flag)
     ];
     most =
@@ -78,6 +87,7 @@ module _ (visible old now : List Bool) (readers left : List ℕ) (count : ℕ) (
     least = omega (arith, so_far.least, sum_by-set (λ b. cond b 1 0) now number true false there, flag_most (get_or now number false));
     flags = length-set now number true ∙ so_far.flags;
     below = All-tail (λ n. n < count) number rest all_below;
+    among = All-tail (Contains readers) number rest all_among;
   } where
     there : number < length now
     there = omega (arith, next_below, as_many, so_far.flags)
@@ -109,6 +119,7 @@ module _ (visible old now : List Bool) (readers left : List ℕ) (count : ℕ) (
     least = so_far.least;
     flags = so_far.flags;
     below = All-tail (λ n. n < count) number rest all_below;
+    among = All-tail (Contains readers) number rest all_among;
   }
 
 -- when none is left, all that are visible are queued
@@ -119,6 +130,20 @@ none_left visible old now readers left count so_far none n reader seen =
       | inl flag ↦ flag
       | inr (k, within, is) ↦ let empty = ap length none in absurd (omega (arith, within, empty))
     ]
+
+-- so then just these are queued that were, and the visible readers
+pub queues_readers : (network : Network) (cell : ℕ) (visible old now : List Bool) (left : List ℕ) (count : ℕ) →
+    AreQueuedBut visible old now (readers_of network cell) left count → left ≡ [] → QueuesReaders network visible (λ c. c ≡ cell) old now
+queues_readers network cell visible old now left count so_far none = record {
+  flags = so_far.flags;
+  stay = so_far.stay;
+  readers = λ c n one reader seen. none_left visible old now (readers_of network cell) left count so_far none n
+      (subst (λ (k : ℕ). Contains (readers_of network k) n) one reader) seen;
+  others = λ n flag. elim (so_far.others n flag) [
+    | inl was ↦ inl was
+    | inr (seen, reader) ↦ inr (seen, (cell, refl, reader))
+  ];
+}
 
 -- flags that are the same below a number, past which there is none, are the same
 pub same_flags : (flags visible : List Bool) (number : ℕ) → length flags ≡ length visible → ((i : ℕ) → i < number → is_set flags i ≡ is_set visible i) →

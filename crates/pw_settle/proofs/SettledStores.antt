@@ -75,9 +75,9 @@ module _ (network : Network) (well : IsWellNetwork network) (old new : Store) (w
   kept_settled cell = kept_value cell ∙ same_value network old new grows.told w cell
 
   -- with premises that are enough for it
-  pub settled_known : (infos : List Info) (supports : List Premises) (calls : ℕ) → AreKept new w infos supports →
-      IsSettled network old w (record { infos = infos; supports = supports; worldview = w; calls = calls })
-  settled_known infos supports calls kept = record {
+  pub settled_known : (infos : List Info) (supports : List Premises) (instances calls : ℕ) → AreKept new w infos supports →
+      IsSettled network old w (record { infos = infos; supports = supports; worldview = w; instances = instances; calls = calls })
+  settled_known infos supports instances calls kept = record {
     worldview_is = refl;
     cells = kept.many ∙ as_many;
     values = λ cell below. kept.infos_are cell ∙ kept_settled cell;

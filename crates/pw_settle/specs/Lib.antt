@@ -1,5 +1,7 @@
 pub mod Agenda
 pub mod Calls
+pub mod Due
+pub mod Fitting
 pub mod Fixpoint
 pub mod Growth
 pub mod Known
@@ -11,3 +13,4 @@ pub mod SettledCode
 pub mod Sound
 pub mod Sources
 pub mod Values
+pub mod Wider

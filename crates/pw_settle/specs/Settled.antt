@@ -9,12 +9,13 @@ use Rattle.pw_cells.specs.Cells.{Store}
 use Rattle.pw_network.specs.Network.{Network, cells_in}
 use Rattle.pw_settle.specs.Values.{value_in}
 
--- an information of each cell, by its number, with premises that it rests on, the worldview in which it holds, and how often
--- procedures were called for it
+-- an information of each cell, by its number, with premises that it rests on, the worldview in which it holds, how many instances
+-- there were, and how often procedures were called for it
 pub record Settled : Type 0 where
   pub infos : List Info
   pub supports : List Premises
   pub worldview : Premises
+  pub instances : ℕ
   pub calls : ℕ
 
 -- of informations of cells that of this one; past the last, nothing of the kind of intervals

@@ -1,10 +1,18 @@
-//! Laws of the fixpoint, over cells of any type, each the contract of a function that does nothing.
+//! Laws of the fixpoint, over cells of any type, and of the values of a settling, each the contract of a function that does
+//! nothing.
 //!
-//! The first two say what it is: the least informed of all that a round leaves as it is. How many rounds the definition
+//! The first two say what the fixpoint is: the least informed of all that a round leaves as it is. How many rounds the definition
 //! makes, and over how many cells, does not matter.
-ghost use Rattle.std.specs.Prelude.{◌≡◌, List, All, Contains, IsTrue, Bool, true, map};
+ghost use Rattle.std.specs.Prelude.{◌≡◌, ◌≤◌, ◌++◌, ℕ, List, All, Contains, IsTrue, Bool, true, length, map};
+ghost use Rattle.pw_info.specs.declared.kind.Kind.{Kind};
 ghost use Rattle.pw_info.specs.declared.info.Info.{Info};
 ghost use Rattle.pw_info.specs.Information.{Implies};
+ghost use Rattle.pw_premises.specs.Premises.{Premises};
+ghost use Rattle.pw_cells.specs.Cells.{Store, kept_in, new_cell};
+ghost use Rattle.pw_network.specs.Network.{Network as Networks, IsWellNetwork, cells_in};
+ghost use Rattle.pw_settle.specs.Fitting.{IsFitting};
+ghost use Rattle.pw_settle.specs.Settled.{Settled};
+ghost use Rattle.pw_settle.specs.Wider.{IsWider};
 ghost use Rattle.pw_settle.specs.Sources.{Cells, Source, AreOfTheirKinds, Fits, IsImplied, Names, cell_of, is_propagator, source_renamed};
 ghost use Rattle.pw_settle.specs.Fixpoint.{AreOver, AreNamesOf, fixpoint, round, told_in_one, told_of};
 
@@ -79,4 +87,17 @@ pub fn unwritten_cells_have_what_is_told<C>()
         → AreOver cells over sources
         → (c : C) → All (λ source. cell_of source ≡ c → is_propagator source ≡ true → ⊥) sources
         → fixpoint cells over sources c ≡ told_of cells sources c }
+{}
+
+/// Values of a settling that fit still fit, whatever comes: where more is attached, where cells are added, and where no less is
+/// kept of any cell in any worldview, as after a tell and after a settling of anyone.
+pub fn fitting_values_still_fit()
+    ensures attached { (network wider : Networks) (store : Store) (settled : Settled) → IsWellNetwork network
+        → IsWider network wider → IsFitting network store settled → IsFitting wider store settled }
+    ensures added { (network : Networks) (old new : Store) (settled : Settled) (own : List Kind)
+        → new.cells ≡ old.cells ++ map new_cell own → cells_in network ≤ length old.cells
+        → IsFitting network old settled → IsFitting network new settled }
+    ensures kept { (network : Networks) (old new : Store) (settled : Settled)
+        → ((cell : ℕ) (w : Premises) → Implies (kept_in new cell w) (kept_in old cell w))
+        → IsFitting network old settled → IsFitting network new settled }
 {}

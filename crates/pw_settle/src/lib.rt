@@ -5,8 +5,10 @@ mod agenda;
 mod known;
 pub mod laws;
 mod propagating;
+mod resettling;
 mod settled;
 mod settling;
 
+pub use resettling::resettle;
 pub use settled::Settled;
 pub use settling::settle;

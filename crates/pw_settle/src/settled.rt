@@ -13,6 +13,8 @@ use std::marker::Model;
 pub struct Settled<A: Allocator = Global> {
     pub(crate) known: Known<A>,
     pub(crate) worldview: PremiseSet,
+    // How many instances the network had then.
+    pub(crate) instances: usize,
     pub(crate) calls: u128,
 }
 
@@ -30,6 +32,7 @@ impl<A: Allocator> Model for Settled<A> {
       infos = a.known.infos.items;
       supports = a.known.supports.items;
       worldview = a.worldview;
+      instances = a.instances;
       calls = a.calls;
     } };
 

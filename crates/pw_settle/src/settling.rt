@@ -1,5 +1,5 @@
 //! Settling: the values of all cells of a network in a worldview.
-ghost use Rattle.std.specs.Prelude.{◌≡◌, ◌+◌, ◌<◌, ◌≤◌, ◌⊎◌, ℕ, Bool, Contains, true, false, length, map, IfOk, OnOk};
+ghost use Rattle.std.specs.Prelude.{◌≡◌, ◌+◌, ◌<◌, ◌≤◌, ℕ, Bool, true, false, length, map, IfOk, OnOk};
 ghost use Rattle.std.specs.List.{count_by};
 ghost use Rattle.pw_cells.specs.Cells.{kept_in, kinds_of};
 ghost use Rattle.pw_network.specs.Fields.{network_by};
@@ -7,11 +7,13 @@ ghost use Rattle.pw_network.specs.Kept.{attached_of};
 ghost use Rattle.pw_network.specs.Readers.{readers_of};
 ghost use Rattle.pw_settle.specs.Agenda.{is_set, tally};
 ghost use Rattle.pw_settle.specs.Calls.{gains, is_visible, reader_count, visible_at, visible_count};
+ghost use Rattle.pw_settle.specs.Due.{QueuesReaders};
+ghost use Rattle.pw_settle.specs.Fitting.{IsFitting};
 ghost use Rattle.pw_settle.specs.Growth.{KeepsMore, StaysUpstream};
-ghost use Rattle.pw_settle.specs.Known.{AreKept, AreUpstream};
+ghost use Rattle.pw_settle.specs.Known.{AreKept, AreUpstream, SaysTold};
 ghost use Rattle.pw_settle.specs.Progress.{AreOthersSatisfied, AreSatisfied, weight};
 ghost use Rattle.pw_settle.specs.Settled.{IsSettled};
-ghost use Rattle.pw_settle.specs.Sound.{IsSound};
+ghost use Rattle.pw_settle.specs.Sound.{IsSound, RestsUpstream};
 ghost use Rattle.pw_settle.specs.Values.{kinds_in, value_in};
 
 use crate::agenda::Agenda;
@@ -24,7 +26,7 @@ use pw_premises::PremiseSet;
 use std::alloc::{AllocError, Allocator};
 
 // Which instances are visible in the worldview, by their numbers. It fails only for want of memory.
-fn seen<A: Allocator + Copy>(
+pub(crate) fn seen<A: Allocator + Copy>(
     alloc: A,
     instances: &[Instance],
     worldview: &PremiseSet,
@@ -53,7 +55,7 @@ fn agenda_of<A: Allocator + Copy>(alloc: A, visible: &[bool]) -> Result<Agenda<A
 }
 
 // Queues the visible readers of a cell.
-fn queue_readers<A: Allocator + Copy>(
+pub(crate) fn queue_readers<A: Allocator + Copy>(
     network: &Network<'_, '_, A>,
     visible: &[bool],
     agenda: &mut Agenda<A>,
@@ -61,15 +63,11 @@ fn queue_readers<A: Allocator + Copy>(
 )
     requires flags { length agenda.old ≡ length (network_by network.now).attached }
     requires all { length visible.now ≡ length (network_by network.now).attached }
-    ensures readers { (number : ℕ) → Contains (readers_of (network_by network.now) cell) number
-        → is_set visible.now number ≡ true → is_set agenda.new number ≡ true }
-    ensures stay { (number : ℕ) → is_set agenda.old number ≡ true → is_set agenda.new number ≡ true }
-    ensures others { (number : ℕ) → is_set agenda.new number ≡ true
-        → (is_set agenda.old number ≡ true) ⊎ (is_set visible.now number ≡ true) }
+    ensures readers { QueuesReaders (network_by network.now) visible.now (λ c. c ≡ cell)
+        agenda.old agenda.new }
     ensures most { tally agenda.new
         ≤ tally agenda.old + count_by (is_set visible.now) (readers_of (network_by network.now) cell) }
     ensures least { tally agenda.old ≤ tally agenda.new }
-    ensures flags { length agenda.new ≡ length agenda.old }
 {
     for number in network.readers(cell) {
         if visible[number] {
@@ -130,7 +128,10 @@ fn work<A: Allocator + Copy>(
     requires kinds { kinds_of store.old ≡ kinds_in (network_by network.now) }
     requires kept { AreKept store.old worldview.now known.old.infos.items known.old.supports.items }
     requires visible { visible.now ≡ map (is_visible worldview.now) (network_by network.now).attached }
-    requires flags { agenda.old ≡ visible.now }
+    requires flags { length agenda.old ≡ length (network_by network.now).attached }
+    requires seen { (n : ℕ) → is_set agenda.old n ≡ true → visible_at (network_by network.now) worldview.now n ≡ true }
+    requires satisfied { AreSatisfied (network_by network.now) worldview.now
+        (λ cell. kept_in store.old cell worldview.now) agenda.old }
     ensures grows { KeepsMore (network_by network.now) store.old store.new }
     ensures upstream { (given : ℕ → ℕ → Bool)
         → AreUpstream (network_by network.now) given store.old known.old.supports.items
@@ -154,12 +155,56 @@ fn work<A: Allocator + Copy>(
     Ok(calls)
 }
 
+// The values, once what is queued was called until nothing is: from what is known of the cells, which is what is kept of them
+// and says what is told, and which satisfies each visible instance that is not queued. It fails only for want of memory.
+pub(crate) fn settle_from<A: Allocator + Copy>(
+    network: &Network<'_, '_, A>,
+    store: &mut CellStore<A>,
+    worldview: &PremiseSet,
+    mut known: Known<A>,
+    visible: &[bool],
+    mut agenda: Agenda<A>,
+) -> Result<Settled<A>, AllocError>
+    requires kinds { kinds_of store.old ≡ kinds_in (network_by network.now) }
+    requires kept { AreKept store.old worldview.now known.infos.items known.supports.items }
+    requires told { SaysTold store.old worldview.now }
+    requires visible { visible.now ≡ map (is_visible worldview.now) (network_by network.now).attached }
+    requires flags { length agenda ≡ length (network_by network.now).attached }
+    requires seen { (n : ℕ) → is_set agenda n ≡ true
+        → visible_at (network_by network.now) worldview.now n ≡ true }
+    requires satisfied { AreSatisfied (network_by network.now) worldview.now
+        (λ cell. kept_in store.old cell worldview.now) agenda }
+    ensures settled { IfOk result (λ settled. IsSound (network_by network.now) store.old
+        → IsSettled (network_by network.now) store.old worldview.now settled) }
+    ensures kept { OnOk result (IsSound (network_by network.now) store.old → (cell : ℕ)
+        → kept_in store.new cell worldview.now ≡ value_in (network_by network.now) store.old worldview.now cell) }
+    ensures fits { IfOk result (λ settled. IsFitting (network_by network.now) store.new settled) }
+    ensures worldview { IfOk result (λ settled. settled.worldview ≡ worldview.now) }
+    ensures instances { IfOk result (λ settled. settled.instances ≡ length (network_by network.now).attached) }
+    ensures grows { KeepsMore (network_by network.now) store.old store.new }
+    ensures upstream { (given : ℕ → ℕ → Bool)
+        → AreUpstream (network_by network.now) given store.old known.supports.items
+        → RestsUpstream (network_by network.now) given store.new }
+    ensures least { IfOk result (λ settled. tally agenda ≤ settled.calls) }
+    ensures most { IfOk result (λ settled. settled.calls
+        ≤ tally agenda + gains (network_by network.now) store.old store.new worldview.now) }
+{
+    let calls = work(network, store, worldview, &mut known, visible, &mut agenda)?;
+    Ok(Settled {
+        known,
+        worldview: *worldview,
+        instances: network.instances().len(),
+        calls,
+    })
+}
+
 /// The values of the cells of a network in a worldview: what follows, at each cell, from what the store is told there and
 /// from the instances that are visible there, with premises of the worldview that it rests on. The store has the network's
 /// cells, with their kinds. It fails only for want of memory.
 ///
 /// What follows is kept in the store, each fact with its premises, so that whoever settles later starts from it, in whatever
-/// worldview. What was told stays as it was, and the store stays sound: after a failure too, with perhaps more kept.
+/// worldview. What was told stays as it was, and the store stays sound: after a failure too, with perhaps more kept. A later
+/// settling may go on from the values (`resettle`).
 ///
 /// An instance is called once, and again where what is kept of one of its inputs has changed. (Radul and Sussman, *The Art of
 /// the Propagator*, on schedulers of propagators; Radul, *Propagation Networks*, on dependencies and worldviews.)
@@ -174,6 +219,9 @@ pub fn settle<A: Allocator + Copy>(
         → IsSettled (network_by network.now) store.old worldview.now settled) }
     ensures kept { OnOk result (IsSound (network_by network.now) store.old → (cell : ℕ)
         → kept_in store.new cell worldview.now ≡ value_in (network_by network.now) store.old worldview.now cell) }
+    ensures fits { IfOk result (λ settled. IsFitting (network_by network.now) store.new settled) }
+    ensures worldview { IfOk result (λ settled. settled.worldview ≡ worldview.now) }
+    ensures instances { IfOk result (λ settled. settled.instances ≡ length (network_by network.now).attached) }
     ensures grows { KeepsMore (network_by network.now) store.old store.new }
     ensures upstream { StaysUpstream (network_by network.now) store.old store.new }
     ensures least { IfOk result (λ settled. visible_count (network_by network.now) worldview.now ≤ settled.calls) }
@@ -182,12 +230,7 @@ pub fn settle<A: Allocator + Copy>(
         + gains (network_by network.now) store.old store.new worldview.now) }
 {
     let visible = seen(alloc, network.instances(), worldview)?;
-    let mut agenda = agenda_of(alloc, &visible)?;
-    let mut known = read_kept(alloc, store, worldview)?;
-    let calls = work(network, store, worldview, &mut known, &visible, &mut agenda)?;
-    Ok(Settled {
-        known,
-        worldview: *worldview,
-        calls,
-    })
+    let agenda = agenda_of(alloc, &visible)?;
+    let known = read_kept(alloc, store, worldview)?;
+    settle_from(network, store, worldview, known, &visible, agenda)
 }

@@ -648,6 +648,12 @@ module _ {O : Type 0} (passes : O → List ℕ → O → Type 0) (d : Declared) 
     gathered_to_all counts named at none left a ends =
         record { bytes = a.bytes; taken = a.taken; within = a.within; passed = gathered_all counts a.bytes named at none left a.passed ends }
 
+    -- where nothing has failed of the output that it passed to, nothing has failed of its output
+    pub gathered_works : (failed : O → Bool) (counts : Lines) → (output_of s).ghost_name ≡ name →
+        RepliesToAll takes (GatheredPasses passes) d i i' s t counts → failed (output_of t).now ≡ false →
+        (name ≡ (output_of t).ghost_name → last ≡ (output_of t).now) → failed last ≡ false
+    gathered_works failed counts named a works ends = ap failed (ends (sym named ∙ sym a.passed.passed.0)) ∙ works
+
     pub gathered_to_ended : (output_of s).ghost_name ≡ name → (output_of s).now ≡ first → held_of s ≡ [] → held_of t ≡ [] →
         RepliesToEnded takes (GatheredPasses passes) d i i' s t → (name ≡ (output_of t).ghost_name → last ≡ (output_of t).now) →
         RepliesToEnded takes passes d i i' first last

@@ -130,7 +130,8 @@ fn read_attach<'a>(mut rest: Words<'a>) -> Option<Said<'a>>
     })
 }
 
-// What a word says that nothing may follow, as `beliefs` and `conflicts`. Inlined, so that other commands make no room for it.
+// What a word says that nothing may follow, as `beliefs` and `conflicts`. Inlined, so that no other command makes room for
+// what it takes.
 #[inline(always)]
 fn read_bare<'a>(said: Said<'a>, rest: Words<'a>) -> Option<Said<'a>>
     ensures { option_map said_in result ≡ bare_form (said_in said.entry) rest.entry }

@@ -172,10 +172,11 @@ fn a_question_refused_for_memory_is_answered_when_asked_again(rt: HostRuntime) -
 
 #[test]
 fn believing_doubting_and_asking_take_no_memory(rt: HostRuntime) -> Result<(), Fail> {
-    // The first three growths are those of the lists of readers, of the cells and of the beliefs, in setting up.
+    // The first four growths are those of the lists of readers, of the cells, of the beliefs and of the last values, in setting
+    // up.
     let (ample, refusing) = (
         Refusing::nth(rt.alloc(), 0),
-        Refusing::all_from(rt.alloc(), 4),
+        Refusing::all_from(rt.alloc(), 5),
     );
     let rows = [
         ("ann doubt b", "ok"),

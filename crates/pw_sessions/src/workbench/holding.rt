@@ -2,6 +2,7 @@
 use pw_cells::CellStore;
 use pw_network::Network;
 use pw_premises::PremiseSet;
+use pw_settle::Settled;
 use std::alloc::{Allocator, Global};
 
 /// What earlier lines left: the network, the facts that were told of its cells with those that were derived from them, and what
@@ -13,4 +14,6 @@ pub struct Workbench<'d, 'r, A: Allocator = Global> {
     pub(super) store: CellStore<A>,
     // Of each user, by number.
     pub(super) beliefs: Vec<PremiseSet, A>,
+    // Of each user, by number, the values of the last settling; none before the first, and after a refusal. They still fit.
+    pub(super) sessions: Vec<Option<Settled<A>>, A>,
 }

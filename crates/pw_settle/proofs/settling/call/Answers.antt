@@ -1,4 +1,4 @@
-use Rattle.std.proofs.Common.{◌≡◌, ◌<◌, Bool, List, ◌++◌, length, map, take, drop, sym, ap, subst, ◌∙◌, arith}
+use Rattle.std.proofs.Common.{◌≡◌, ◌<◌, Bool, List, ◌++◌, length, map, take, drop, refl, sym, ap, subst, ◌∙◌, arith}
 use Rattle.std.specs.List.{count_by}
 use Rattle.std.proofs.lemmas.List.{length-set}
 use Rattle.pw_info.specs.declared.info.Info.{Info}
@@ -87,7 +87,8 @@ returns-in_ok-keep-clause-kept g c =
 pub returns-in_ok-keep-clause-satisfied : goal.returns-in_ok-keep-clause-satisfied
 returns-in_ok-keep-clause-satisfied g c =
     (after g c).satisfied c.args.agenda.now c.queue_readers.new.agenda c.requires.others
-    (λ n reader seen. c.queue_readers.ensures.readers n reader (ap (λ l. is_set l n) c.requires.visible ∙ seen)) c.queue_readers.ensures.stay
+    (λ n reader seen. c.queue_readers.ensures.readers.readers c.in-Some.cell n refl reader (ap (λ l. is_set l n) c.requires.visible ∙ seen))
+    c.queue_readers.ensures.readers.stay
 
 pub returns-in_ok-keep-clause-most : goal.returns-in_ok-keep-clause-most
 returns-in_ok-keep-clause-most g c =

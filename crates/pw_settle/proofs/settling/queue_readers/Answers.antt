@@ -1,7 +1,7 @@
 use Rattle.std.proofs.Common.{Bool, List, length, subst, sym, ◌∙◌, arith}
 use Rattle.pw_network.specs.Fields.{network_by}
 use Rattle.pw_network.specs.Readers.{readers_of}
-use Rattle.pw_settle.proofs.QueuedReaders.{AreQueuedBut, all_left, next_below, none_left, passed_one, queued_one, readers_below}
+use Rattle.pw_settle.proofs.QueuedReaders.{AreQueuedBut, all_left, next_below, passed_one, queued_one, queues_readers, readers_below}
 use Rattle.pw_settle.proofs.settling.queue_readers.Goals as goal
 
 pub loop-number-init : goal.loop-number-init
@@ -41,5 +41,5 @@ loop-number-preserved-then-visible-number g c = record {
 
 pub returns-clause-readers : goal.returns-clause-readers
 returns-clause-readers g c =
-    none_left c.args.visible.now c.args.agenda.now c.loop-number.agenda (readers_of (network_by c.args.network.now) c.args.cell)
+    queues_readers (network_by c.args.network.now) c.args.cell c.args.visible.now c.args.agenda.now c.loop-number.agenda
     c.loop-number.number-iterator (length (network_by c.args.network.now).attached) c.loop-number.invariant.queued c.in-None.ensures.steps.0

@@ -19,9 +19,7 @@ overflow_add-calls g c =
     (omega (
       arith,
       count_by-le-length (λ (flag : Bool). flag) c.args.agenda.now,
-      ap length c.requires.flags,
-      ap length c.requires.visible,
-      length-map (network_by c.args.network.now).attached (is_visible c.args.worldview.now),
+      c.requires.flags,
     ))
     (weight_most (network_by c.args.network.now) c.args.store.now c.args.worldview.now)
     (omega (arith, c.cells-cells.ensures)) (omega (

@@ -1,6 +1,6 @@
 use Rattle.std.proofs.Common.{rules}
 use Rattle.pw_decl.specs.Fields.{declared_by}
-use Rattle.pw_transcript.proofs.RunLemmas.{if_ok_both, gathered_to_all, gathered_to_ended, gathered_in_part, gathered_up_to_limit, nothing_in_part}
+use Rattle.pw_transcript.proofs.RunLemmas.{if_ok_both, gathered_to_all, gathered_to_ended, gathered_in_part, gathered_up_to_limit, gathered_works, nothing_in_part}
 use Rattle.pw_transcript.proofs.transcript.run.Goals as goal
 
 pub returns-clause-ok : goal.returns-clause-ok
@@ -30,4 +30,6 @@ returns-then-failed-clause-write g c = λ e.
     (g.met.I.Input.none c.args.input.now) (g.met.O.Output.none c.args.output.now)
 
 pub returns-clause-works : goal.returns-clause-works
-returns-clause-works g c = search rules
+returns-clause-works g c =
+    if_ok_both c.answer_all.result _ _ c.answer_all.ensures.ok c.answer_all.ensures.works
+    (λ counts all works. search (rules, gathered_works))

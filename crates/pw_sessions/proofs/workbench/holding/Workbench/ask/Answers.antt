@@ -1,14 +1,10 @@
-use Rattle.std.proofs.Common.{◌<◌, sym, ap, ◌∙◌, inl, arith}
-use Rattle.pw_info.specs.declared.info.Info.{Info}
-use Rattle.pw_premises.specs.Premises.{Premises}
+use Rattle.std.proofs.Common.{Some, sym, ap, ◌∙◌, subst, arith}
 use Rattle.pw_cells.specs.Cells.{told_in}
 use Rattle.pw_network.specs.Fields.{network_by}
-use Rattle.pw_network.specs.Network.{cells_in}
-use Rattle.pw_settle.specs.Values.{value_in}
 use Rattle.pw_sessions.specs.Fields.{workbench_by}
-use Rattle.pw_sessions.specs.Steps.{is_written}
-use Rattle.pw_sessions.specs.Reply as reply
+use Rattle.pw_sessions.specs.Steps.{OnlyKeepsMore, is_written}
 use Rattle.pw_sessions.proofs.AskedCells.{told_answers}
+use Rattle.pw_sessions.proofs.LastValues.{only_keeps_then, only_remembers}
 use Rattle.pw_sessions.proofs.StoreLemmas.{cells_kept}
 use Rattle.pw_sessions.proofs.workbench.holding.Workbench.ask.Goals as goal
 
@@ -24,11 +20,8 @@ returns-then-not-is_written_by-clause-answer g c = λ d before left.
     told_answers d before (workbench_by c.args.self.now) c.args.user c.args.cell c.told.result c.args.self.now.network.well left c.requires.cell
     (sym written ∙ c.if-not-is_written_by.true) told
 
-pub value-requires : goal.value-requires
-value-requires g c = omega (arith, (c.in-Ok.ensures.settled c.requires.fits.sound).cells, c.requires.cell)
-
-pub returns-in-Ok-clause-answer : goal.returns-in-Ok-clause-answer
-returns-in-Ok-clause-answer g c = λ d before left.
-    let there : c.args.cell < cells_in (network_by c.args.self.now.network) = omega (arith, c.requires.cell) in
-    let settles : Premises → Info = λ w. value_in (network_by c.args.self.now.network) c.args.self.now.store w c.args.cell in
-    inl (ap (λ (i : Info). reply.Value i) (c.value.ensures.info ∙ (c.in-Ok.ensures.settled c.requires.fits.sound).values c.args.cell there ∙ ap settles c.beliefs_of-beliefs.ensures))
+pub returns-clause-grows : goal.returns-clause-grows
+returns-clause-grows g c =
+    only_keeps_then (workbench_by c.args.self.now) (workbench_by c.settle_for.new.self) (workbench_by c.remember.new.self) c.settle_for.ensures.grows
+    (subst (OnlyKeepsMore (workbench_by c.settle_for.new.self)) (sym c.remember.ensures)
+    (only_remembers (workbench_by c.settle_for.new.self) c.args.user (Some c.in-Ok.settled) c.in-Ok.ensures.fits))

@@ -1,0 +1,47 @@
+use Rattle.std.proofs.Common.{◌≡◌, length, sym, ap, ◌∙◌}
+use Rattle.std.proofs.lemmas.List.{length-map}
+use Rattle.pw_cells.specs.Cells.{Cell}
+use Rattle.pw_network.specs.Fields.{network_by}
+use Rattle.pw_network.specs.Kept.{attached_of}
+use Rattle.pw_settle.specs.Agenda.{tally}
+use Rattle.pw_settle.proofs.FittingValues.{fits_now}
+use Rattle.pw_settle.proofs.SettledStores.{calls_by_gains, kept_settled, settled_known}
+use Rattle.pw_settle.proofs.settling.settle_from.Goals as goal
+
+pub returns-in_err-calls-clause-upstream : goal.returns-in_err-calls-clause-upstream
+returns-in_err-calls-clause-upstream g c given are = (c.work.ensures.upstream given are).kept
+
+pub returns-clause-settled : goal.returns-clause-settled
+returns-clause-settled g c sound =
+    settled_known (network_by c.args.network.now) c.args.network.now.well c.args.store.now c.work.new.store c.args.worldview.now c.requires.kinds
+    c.work.ensures.grows c.requires.told c.work.new.agenda c.in_ok-calls.ensures.satisfied c.in_ok-calls.ensures.done sound
+    c.work.new.known.infos.items c.work.new.known.supports.items _ c.in_ok-calls.calls c.in_ok-calls.ensures.kept
+
+pub returns-clause-kept : goal.returns-clause-kept
+returns-clause-kept g c sound =
+    kept_settled (network_by c.args.network.now) c.args.network.now.well c.args.store.now c.work.new.store c.args.worldview.now c.requires.kinds
+    c.work.ensures.grows c.requires.told c.work.new.agenda c.in_ok-calls.ensures.satisfied c.in_ok-calls.ensures.done sound
+
+pub returns-clause-upstream : goal.returns-clause-upstream
+returns-clause-upstream g c given are = (c.work.ensures.upstream given are).kept
+
+pub returns-clause-most : goal.returns-clause-most
+returns-clause-most g c =
+    let same : length c.work.new.store.cells ≡ length c.args.store.now.cells =
+    sym (length-map c.work.new.store.cells (λ (x : Cell). x.kind)) ∙ ap length c.work.ensures.grows.kinds ∙ length-map c.args.store.now.cells (λ (x : Cell). x.kind) in
+    calls_by_gains (network_by c.args.network.now) c.args.store.now c.work.new.store c.args.worldview.now c.in_ok-calls.calls (tally c.args.agenda)
+    same c.in_ok-calls.ensures.most
+
+pub returns-clause-fits : goal.returns-clause-fits
+returns-clause-fits g c =
+    fits_now (network_by c.args.network.now) c.args.network.now.well c.work.new.store
+    (record {
+      infos = c.work.new.known.infos.items;
+      supports = c.work.new.known.supports.items;
+      worldview = c.args.worldview.now;
+      instances = _;
+      calls = c.in_ok-calls.calls;
+    })
+    (c.work.ensures.grows.kinds ∙ c.requires.kinds)
+    (sym (length-map c.instances.result.now attached_of) ∙ ap length c.instances.ensures.instances) c.in_ok-calls.ensures.kept
+    c.work.new.agenda c.in_ok-calls.ensures.satisfied c.in_ok-calls.ensures.done

@@ -1,0 +1,176 @@
+//! Settling that goes on from the values of an earlier one.
+ghost use Rattle.std.specs.Prelude.{◌≡◌, ◌+◌, ◌<◌, ◌≤◌, ◌↔◌, ◌&&◌, ℕ, Bool, List, IsTrue, IfOk, OnOk, true, false, length, map};
+ghost use Rattle.std.specs.FinSet.{is_subset};
+ghost use Rattle.pw_info.specs.Information.{kind_of};
+ghost use Rattle.pw_cells.specs.Cells.{kept_in, kinds_of};
+ghost use Rattle.pw_network.specs.Fields.{network_by};
+ghost use Rattle.pw_network.specs.Network.{cells_in};
+ghost use Rattle.pw_settle.specs.Agenda.{is_set, tally};
+ghost use Rattle.pw_settle.specs.Calls.{gains, is_visible, visible_count};
+ghost use Rattle.pw_settle.specs.Due.{AreDue, HasChanged, QueuesReaders, found_of, is_new};
+ghost use Rattle.pw_settle.specs.Fitting.{IsFitting};
+ghost use Rattle.pw_settle.specs.Growth.{KeepsMore, StaysUpstream};
+ghost use Rattle.pw_settle.specs.Known.{AreKept, LieUpstream, SaysTold};
+ghost use Rattle.pw_settle.specs.Settled.{IsSettled, info_at};
+ghost use Rattle.pw_settle.specs.Sound.{IsSound, RestsUpstream};
+ghost use Rattle.pw_settle.specs.Values.{kinds_in, value_in};
+
+use crate::agenda::Agenda;
+use crate::known::{Known, read_kept};
+use crate::settled::Settled;
+use crate::settling::{queue_readers, seen, settle, settle_from};
+use pw_cells::CellStore;
+use pw_info::Info;
+use pw_network::Network;
+use pw_premises::PremiseSet;
+use std::alloc::{AllocError, Allocator};
+
+// Whether the instance of this number is visible now and new to the settled values.
+fn is_newly_visible<A: Allocator + Copy>(
+    network: &Network<'_, '_, A>,
+    visible: &[bool],
+    before: &Settled<A>,
+    number: usize,
+) -> bool
+    requires there { number < length visible.now }
+    requires all { length visible.now ≡ length (network_by network.now).attached }
+    ensures { result ≡ (is_set visible.now number && is_new (network_by network.now) before.now number) }
+{
+    visible[number]
+        && !(number < before.instances
+            && network.instances()[number]
+                .support
+                .is_subset(&before.worldview))
+}
+
+// An agenda of the visible instances that are new to the settled values. It fails only for want of memory.
+fn new_instances<A: Allocator + Copy>(
+    alloc: A,
+    network: &Network<'_, '_, A>,
+    visible: &[bool],
+    before: &Settled<A>,
+) -> Result<Agenda<A>, AllocError>
+    requires { length visible.now ≡ length (network_by network.now).attached }
+    ensures flags { IfOk result (λ agenda. length agenda ≡ length visible.now) }
+    ensures new { IfOk result (λ agenda. (number : ℕ) → is_set agenda number
+        ≡ (is_set visible.now number && is_new (network_by network.now) before.now number)) }
+{
+    let mut agenda = Agenda::new(alloc, visible.len())?;
+    for number in 0..visible.len() {
+        if is_newly_visible(network, visible, before, number) {
+            agenda.add(number);
+        }
+    }
+    Ok(agenda)
+}
+
+// Whether what is kept of the cell now is more than was found of it.
+fn has_changed(before: &[Info], now: &[Info], cell: usize) -> bool
+    requires there { cell < length now.now }
+    requires kind { kind_of (found_of before.now now.now cell) ≡ kind_of (info_at now.now cell) }
+    ensures { IsTrue result ↔ HasChanged before.now now.now cell }
+{
+    let found = match before.get(cell) {
+        Some(info) => *info,
+        None => Info::nothing(now[cell].kind()),
+    };
+    !found.implies(&now[cell])
+}
+
+// Queues the visible readers of the cells of which more is kept now than was found of them.
+fn queue_changed<A: Allocator + Copy>(
+    network: &Network<'_, '_, A>,
+    visible: &[bool],
+    before: &[Info],
+    now: &[Info],
+    agenda: &mut Agenda<A>,
+)
+    requires flags { length agenda.old ≡ length (network_by network.now).attached }
+    requires all { length visible.now ≡ length (network_by network.now).attached }
+    requires cells { length now.now ≡ cells_in (network_by network.now) }
+    requires kinds { (cell : ℕ) → cell < length now.now
+        → kind_of (found_of before.now now.now cell) ≡ kind_of (info_at now.now cell) }
+    ensures { QueuesReaders (network_by network.now) visible.now
+        (λ cell. (cell < length now.now) × HasChanged before.now now.now cell) agenda.old agenda.new }
+{
+    for cell in 0..network.cells() {
+        if has_changed(before, now, cell as usize) {
+            queue_readers(network, visible, agenda, cell);
+        }
+    }
+}
+
+// What is kept of the cells in a worldview that the settled values' is within, and an agenda of the instances that are due. It
+// fails only for want of memory.
+fn due_instances<A: Allocator + Copy>(
+    alloc: A,
+    before: &Settled<A>,
+    network: &Network<'_, '_, A>,
+    store: &CellStore<A>,
+    worldview: &PremiseSet,
+    visible: &[bool],
+) -> Result<(Known<A>, Agenda<A>), AllocError>
+    requires kinds { kinds_of store.now ≡ kinds_in (network_by network.now) }
+    requires fits { IsFitting (network_by network.now) store.now before.now }
+    requires within { is_subset before.now.worldview worldview.now ≡ true }
+    requires visible { visible.now ≡ map (is_visible worldview.now) (network_by network.now).attached }
+    ensures kept { IfOk result (λ (known, agenda).
+        AreKept store.now worldview.now known.infos.items known.supports.items) }
+    ensures told { IfOk result (λ (known, agenda). SaysTold store.now worldview.now) }
+    ensures upstream { IfOk result (λ (known, agenda). (given : ℕ → ℕ → Bool)
+        → RestsUpstream (network_by network.now) given store.now
+        → LieUpstream (network_by network.now) given known.supports.items) }
+    ensures due { IfOk result (λ (known, agenda).
+        AreDue (network_by network.now) store.now worldview.now before.now agenda) }
+{
+    let mut agenda = new_instances(alloc, network, visible, before)?;
+    let known = read_kept(alloc, store, worldview)?;
+    queue_changed(
+        network,
+        visible,
+        &before.known.infos,
+        &known.infos,
+        &mut agenda,
+    );
+    Ok((known, agenda))
+}
+
+/// The values of the cells of a network in a worldview, as `settle` answers them, found from those of an earlier settling that
+/// still fit. All that `settle` promises holds.
+///
+/// Where the earlier worldview is within this one, only those visible instances are called at first that came since or were
+/// not visible then, and the readers of cells of which more is kept now than was found then; otherwise all, as by `settle`.
+pub fn resettle<A: Allocator + Copy>(
+    alloc: A,
+    before: Settled<A>,
+    network: &Network<'_, '_, A>,
+    store: &mut CellStore<A>,
+    worldview: &PremiseSet,
+) -> Result<Settled<A>, AllocError>
+    requires kinds { kinds_of store.old ≡ kinds_in (network_by network.now) }
+    requires fits { IsFitting (network_by network.now) store.old before }
+    ensures settled { IfOk result (λ settled. IsSound (network_by network.now) store.old
+        → IsSettled (network_by network.now) store.old worldview.now settled) }
+    ensures kept { OnOk result (IsSound (network_by network.now) store.old → (cell : ℕ)
+        → kept_in store.new cell worldview.now ≡ value_in (network_by network.now) store.old worldview.now cell) }
+    ensures fits { IfOk result (λ settled. IsFitting (network_by network.now) store.new settled) }
+    ensures worldview { IfOk result (λ settled. settled.worldview ≡ worldview.now) }
+    ensures instances { IfOk result (λ settled. settled.instances ≡ length (network_by network.now).attached) }
+    ensures grows { KeepsMore (network_by network.now) store.old store.new }
+    ensures upstream { StaysUpstream (network_by network.now) store.old store.new }
+    ensures due { IfOk result (λ settled. is_subset before.worldview worldview.now ≡ true → (due : List Bool)
+        × AreDue (network_by network.now) store.old worldview.now before due × (tally due ≤ settled.calls)
+        × (settled.calls ≤ tally due + gains (network_by network.now) store.old store.new worldview.now)) }
+    ensures least { IfOk result (λ settled. is_subset before.worldview worldview.now ≡ false
+        → visible_count (network_by network.now) worldview.now ≤ settled.calls) }
+    ensures most { IfOk result (λ settled. is_subset before.worldview worldview.now ≡ false
+        → settled.calls ≤ visible_count (network_by network.now) worldview.now
+        + gains (network_by network.now) store.old store.new worldview.now) }
+{
+    if !before.worldview.is_subset(worldview) {
+        return settle(alloc, network, store, worldview);
+    }
+    let visible = seen(alloc, network.instances(), worldview)?;
+    let (known, agenda) = due_instances(alloc, &before, network, store, worldview, &visible)?;
+    settle_from(network, store, worldview, known, &visible, agenda)
+}
