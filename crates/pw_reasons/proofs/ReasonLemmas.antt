@@ -41,6 +41,14 @@ without_itself s n = contains-without s n n ∙ not_itself (contains s n) n
 without_others : (s : Premises) (n q : ℕ) → q ≢ n → contains (remove s n) q ≡ contains s q
 without_others s n q other = contains-without s n q ∙ not_same (contains s q) q n other
 
+-- a part of a set is a part of it without a number that the part lacks
+pub part_without : (s t : Premises) (n : ℕ) → is_subset s t ≡ true → contains s n ≡ false → is_subset s (remove t n) ≡ true
+part_without s t n within lacks =
+    contains-is_subset nat_cmp_total s (remove t n) (λ q has. elim (cases_eq q n) [
+      | inl same ↦ let wrong : false ≡ true = sym lacks ∙ ap (contains s) (sym same) ∙ has in absurd (cc)
+      | inr other ↦ without_others t n q other ∙ is_subset-contains nat_cmp_total s t within q has
+    ])
+
 contains-part : (s : Premises) (p : ℕ → Bool) (q : ℕ) → contains (retain s p) q ≡ (contains s q && p q)
 contains-part s p q = contains-retain s p q (λ x e. ap p (sym (nat_cmp-IsAntisymmetric q x e)))
 
@@ -211,6 +219,25 @@ module _ (value : Premises → Info) (worldview : Premises) where
   implied_same grows part within implied =
       Implies-antisym (value part) (value worldview) (grows.kinds part worldview) implied (grows.more part worldview within)
 
+  module _ (left : Premises) (premise : ℕ) where
+    -- a premise that is tried goes where the value without it says the worldview's
+    pub tried_out : Grows value → is_subset left worldview ≡ true → Implies (value (remove left premise)) (value worldview) →
+        tried value worldview left premise ≡ remove left premise
+    tried_out grows part implied =
+        ap (λ (b : Bool). if b then remove left premise else left)
+        ((same_info_is (value (remove left premise)) (value worldview)).1
+        (implied_same grows (remove left premise) (is_subset_trans _ _ _ (remove_is_subset left premise) part) implied))
+
+    -- and else it stays
+    pub tried_in : (Implies (value (remove left premise)) (value worldview) → ⊥) → tried value worldview left premise ≡ left
+    tried_in not_implied =
+        stays (same_info (value (remove left premise)) (value worldview)) (same_info_is (value (remove left premise)) (value worldview))
+      where
+        stays : (b : Bool) → Decides b (value (remove left premise) ≡ value worldview) → (if b then remove left premise else left) ≡ left
+        stays true decides =
+            absurd (not_implied (λ v possible. subst (λ (i : Info). allows i v ≡ true) (decides.0 refl) possible))
+        stays false decides = refl
+
   -- ---- the reason
 
   -- it is a part of the worldview
@@ -283,34 +310,12 @@ module _ (value : Premises → Info) (worldview : Premises) where
   left_after came = left_of value worldview (reverse came)
 
   -- the next premise is tried
-  one_tried : (came : List ℕ) (premise : ℕ) → left_after (came ++ premise ∷ []) ≡ tried value worldview (left_after came) premise
+  pub one_tried : (came : List ℕ) (premise : ℕ) → left_after (came ++ premise ∷ []) ≡ tried value worldview (left_after came) premise
   one_tried came premise = ap (left_of value worldview) (reverse-append came (premise ∷ []))
 
-  -- it goes where the value without it implies the worldview's
-  pub taken_out : Grows value → (left without : Premises) (came : List ℕ) (premise : ℕ) → left ≡ left_after came →
-      without ≡ remove left premise → Implies (value without) (value worldview) → without ≡ left_after (came ++ premise ∷ [])
-  taken_out grows left without came premise is less implied =
-      less ∙ ap (λ (b : Bool). if b then remove left premise else left)
-      (sym ((same_info_is (value (remove left premise)) (value worldview)).1
-      (ap value (sym less) ∙ implied_same value worldview grows without part implied)))
-      ∙ ap (λ (s : Premises). tried value worldview s premise) is ∙ sym (one_tried came premise)
-    where
-      part : is_subset without worldview ≡ true
-      part = ap (λ (s : Premises). is_subset s worldview) less
-          ∙ is_subset_trans _ _ _ (remove_is_subset left premise)
-          (ap (λ (s : Premises). is_subset s worldview) is ∙ left_part value worldview (reverse came))
-
-  -- and else it stays
-  pub left_in : (left without : Premises) (came : List ℕ) (premise : ℕ) → left ≡ left_after came → without ≡ remove left premise →
-      (Implies (value without) (value worldview) → ⊥) → left ≡ left_after (came ++ premise ∷ [])
-  left_in left without came premise is less not_implied =
-      stays (same_info (value (remove left premise)) (value worldview)) (same_info_is (value (remove left premise)) (value worldview))
-      ∙ ap (λ (s : Premises). tried value worldview s premise) is ∙ sym (one_tried came premise)
-    where
-      stays : (b : Bool) → Decides b (value (remove left premise) ≡ value worldview) → left ≡ (if b then remove left premise else left)
-      stays true decides =
-          absurd (not_implied (λ v possible. subst (λ (i : Info). allows i v ≡ true) (ap value less ∙ decides.0 refl) possible))
-      stays false decides = refl
+  -- it is a part of the worldview
+  pub after_part : (came : List ℕ) → is_subset (left_after came) worldview ≡ true
+  after_part came = left_part value worldview (reverse came)
 
   -- once all came, what is left is the reason
   pub all_tried : (left : Premises) (came : List ℕ) → left ≡ left_after came → came ≡ reverse (numbers_of worldview) →

@@ -1,13 +1,18 @@
-//! Laws of reasons, each the contract of a function that does nothing: they hold of every value that grows with what is
-//! believed.
+//! Laws of reasons and of nogoods, each the contract of a function that does nothing. Those of reasons hold of every value that
+//! grows with what is believed.
 ghost use Rattle.std.specs.Prelude.{◌≡◌, ◌≢◌, ◌<◌, ◌↔◌, ℕ, true};
 ghost use Rattle.std.specs.Bool.{Decides};
 ghost use Rattle.std.specs.FinSet.{contains, is_subset, remove};
 ghost use Rattle.pw_info.specs.declared.info.Info.{Info};
 ghost use Rattle.pw_premises.specs.Premises.{Premises, most_premises};
+ghost use Rattle.pw_cells.specs.Cells.{Store, kinds_of, told_in};
+ghost use Rattle.pw_network.specs.Network.{Network as Networks, IsWellNetwork, cells_in};
+ghost use Rattle.pw_reasons.specs.Nogood.{IsNogood};
 ghost use Rattle.pw_reasons.specs.Reason.{Grows, before_and_after, reason_of};
 ghost use Rattle.pw_reasons.specs.SameInfo.{same_info, is_contradiction};
-ghost use Rattle.pw_info.specs.Information.{IsContradiction};
+ghost use Rattle.pw_info.specs.Information.{Implies, IsContradiction};
+ghost use Rattle.pw_settle.specs.Values.{kinds_in};
+ghost use Rattle.pw_settle.specs.Wider.{IsWider};
 
 /// The test of two informations for being one is exact, and so is that of a contradiction.
 pub fn tests_of_informations_are_exact()
@@ -31,4 +36,20 @@ pub fn reasons_keep_what_is_needed()
         → premise < most_premises → contains worldview premise ≡ true
         → (contains (reason_of value worldview) premise ≡ true)
         ↔ (value (before_and_after worldview (reason_of value worldview) premise) ≢ value worldview) }
+{}
+
+/// A nogood stays one, whatever comes: where more is believed; and where more is attached, and no less is told of any cell in the
+/// worldview of its premises.
+pub fn nogoods_stay_nogoods()
+    ensures larger { (network : Networks) (store : Store) → IsWellNetwork network
+        → kinds_of store ≡ kinds_in network
+        → (part premises : Premises) → is_subset part premises ≡ true
+        → IsNogood network store part → IsNogood network store premises }
+    ensures wider { (network wider : Networks) → IsWellNetwork network → IsWellNetwork wider
+        → IsWider network wider → (old new : Store)
+        → kinds_of old ≡ kinds_in network → kinds_of new ≡ kinds_in wider
+        → (premises : Premises)
+        → ((cell : ℕ) → cell < cells_in network
+        → Implies (told_in new cell premises) (told_in old cell premises))
+        → IsNogood network old premises → IsNogood wider new premises }
 {}

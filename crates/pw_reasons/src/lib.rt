@@ -4,8 +4,10 @@
 mod conflicts;
 pub mod laws;
 mod listing;
+mod nogoods;
 mod reasoning;
 
 pub use conflicts::Conflicts;
 pub use listing::list_conflicts;
+pub use nogoods::Nogoods;
 pub use reasoning::reason;

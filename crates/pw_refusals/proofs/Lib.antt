@@ -1,2 +1,3 @@
 mod Grants
 mod HostLemmas
+mod StageLemmas

@@ -105,6 +105,8 @@ unsafe impl<B: Allocator> Allocator for Refusing<B> {
 }
 
 #[cfg(test)]
+mod counting;
+#[cfg(test)]
 mod declarations;
 #[cfg(test)]
 mod ends;
@@ -114,6 +116,8 @@ mod facts;
 mod networks;
 #[cfg(test)]
 mod procedures;
+#[cfg(test)]
+mod reasons;
 #[cfg(test)]
 mod refusals;
 #[cfg(test)]

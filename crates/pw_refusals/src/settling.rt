@@ -1,17 +1,21 @@
 //! Tests of settling: a network is made, facts are told, and worldviews are settled one after another over one store.
 
+mod calls;
 mod drawing;
+mod going_on;
 mod growing;
 mod refused;
 mod rounds;
 mod rows;
+mod stages;
 
 ghost use Rattle.std.specs.Prelude.{◌≡◌, ◌<◌, IfOk, OnOk, length};
 ghost use Rattle.pw_info.specs.Information.{kind_of};
 ghost use Rattle.pw_cells.specs.Cells.{kind_in_store};
 ghost use Rattle.pw_network.specs.Fields.{network_by};
 ghost use Rattle.pw_network.specs.Network.{cells_in};
-ghost use Rattle.pw_refusals.specs.Settling.{IsReady};
+ghost use Rattle.pw_settle.specs.Fitting.{IsFitting};
+ghost use Rattle.pw_refusals.specs.Settling.{IsReady, LeavesFitting};
 
 use crate::facts::{fact, is_of_kind};
 use crate::networks::{Attachment, kinds_of, named_in};
@@ -69,8 +73,8 @@ pub struct Shown {
     pub is_told_the_same: bool,
 }
 
-// A store of the network's cells. Where memory is refused once, it is asked for again.
-fn store_of<A: Allocator + Copy>(
+/// A store of the network's cells. Where memory is refused once, it is asked for again.
+pub fn store_of<A: Allocator + Copy>(
     alloc: Global,
     memory: A,
     network: &Network<'_, '_, A>,
@@ -97,6 +101,7 @@ fn tell_once<A: Allocator + Copy>(
     requires there { cell < length store.old.cells }
     requires kind { kind_of fact.info ≡ kind_in_store store.old cell }
     ensures ready { IsReady (network_by network.now) store.new }
+    ensures fits { LeavesFitting (network_by network.now) store.old (network_by network.now) store.new }
 {
     // The network is the one that the store is for.
     let _instances = network.instances();
@@ -104,14 +109,16 @@ fn tell_once<A: Allocator + Copy>(
     Ok(())
 }
 
-// Tells a fact of a declared cell. Where memory is refused once, it is told again.
-fn tell_fact<A: Allocator + Copy>(
+/// Tells a fact of a declared cell. Where memory is refused once, it is told again.
+pub fn tell_fact<A: Allocator + Copy>(
     network: &Network<'_, '_, A>,
     store: &mut CellStore<A>,
     tell: &Tell<'_>,
 ) -> Result<(), Fail>
     requires { IsReady (network_by network.now) store.old }
-    ensures { OnOk result (IsReady (network_by network.now) store.new) }
+    ensures ready { OnOk result (IsReady (network_by network.now) store.new) }
+    ensures fits { OnOk result (LeavesFitting (network_by network.now) store.old
+        (network_by network.now) store.new) }
 {
     let cell = network
         .declaration()
@@ -128,8 +135,25 @@ fn tell_fact<A: Allocator + Copy>(
     Err("no memory".into())
 }
 
-// What the store is told of each cell, in one worldview after another.
-fn all_told<A: Allocator + Copy>(
+// Tells facts of declared cells.
+fn tell_each<A: Allocator + Copy>(
+    network: &Network<'_, '_, A>,
+    store: &mut CellStore<A>,
+    tells: &[Tell<'_>],
+) -> Result<(), Fail>
+    requires { IsReady (network_by network.now) store.old }
+    ensures ready { OnOk result (IsReady (network_by network.now) store.new) }
+    ensures fits { OnOk result (LeavesFitting (network_by network.now) store.old
+        (network_by network.now) store.new) }
+{
+    for tell in tells {
+        tell_fact(network, store, tell)?;
+    }
+    Ok(())
+}
+
+/// What the store is told of each cell, in one worldview after another.
+pub fn all_told<A: Allocator + Copy>(
     alloc: Global,
     store: &CellStore<A>,
     worldviews: &[PremiseSet],
@@ -169,35 +193,46 @@ fn settle_once<A: Allocator + Copy>(
     ensures ready { IsReady (network_by network.now) store.new }
     ensures cells { IfOk result (λ settled.
         length settled.infos ≡ cells_in (network_by network.now)) }
+    ensures fits { IfOk result (IsFitting (network_by network.now) store.new) }
 {
     let settled = settle(memory, network, store, worldview)?;
     Ok(settled)
 }
 
-// Settles a worldview, and once more where memory is refused; whether it was, and what it answers in the end.
+// Settles a worldview, and once more where memory is refused; whether it was, and the values in the end.
 fn settle_anyhow<A: Allocator + Copy>(
-    alloc: Global,
     memory: A,
     network: &Network<'_, '_, A>,
     store: &mut CellStore<A>,
     worldview: &PremiseSet,
-) -> Result<(bool, Answer), Fail>
+) -> Result<(bool, Settled<A>), Fail>
     requires { IsReady (network_by network.now) store.old }
-    ensures { OnOk result (IsReady (network_by network.now) store.new) }
+    ensures ready { OnOk result (IsReady (network_by network.now) store.new) }
+    ensures cells { IfOk result (λ settled.
+        length settled.1.infos ≡ cells_in (network_by network.now)) }
+    ensures fits { IfOk result (λ settled. IsFitting (network_by network.now) store.new settled.1) }
 {
-    let mut is_refused = false;
-    let settled = match settle_once(memory, network, store, worldview) {
-        Ok(settled) => settled,
+    match settle_once(memory, network, store, worldview) {
+        Ok(settled) => Ok((false, settled)),
         Err(_) => {
-            is_refused = true;
-            settle_once(memory, network, store, worldview)?
+            let settled = settle_once(memory, network, store, worldview)?;
+            Ok((true, settled))
         }
-    };
-    let answer = Answer {
+    }
+}
+
+// What the values of a settling show.
+fn answer_of<A: Allocator + Copy>(
+    alloc: Global,
+    network: &Network<'_, '_, A>,
+    settled: &Settled<A>,
+) -> Result<Answer, AllocError>
+    requires { length settled.now.infos ≡ cells_in (network_by network.now) }
+{
+    Ok(Answer {
         calls: settled.calls(),
-        values: values_of(alloc, network, &settled)?,
-    };
-    Ok((is_refused, answer))
+        values: values_of(alloc, network, settled)?,
+    })
 }
 
 // What is kept of these cells in these worldviews.
@@ -237,9 +272,7 @@ impl<A: Allocator + Copy> Settling<'_, A> {
     // Settles the worldviews one after another, over a store in which the facts were told.
     fn settle_all(&self, network: &Network<'_, '_, A>) -> Result<Shown, Fail> {
         let mut store = store_of(self.alloc, self.memory, network)?;
-        for fact in self.matter.tells {
-            tell_fact(network, &mut store, fact)?;
-        }
+        tell_each(network, &mut store, self.matter.tells)?;
         let before = all_told(self.alloc, &store, self.worldviews)?;
         let mut shown = Shown {
             answers: Vec::new(self.alloc),
@@ -248,13 +281,8 @@ impl<A: Allocator + Copy> Settling<'_, A> {
             is_told_the_same: true,
         };
         for worldview in self.worldviews {
-            let (is_refused, answer) = settle_anyhow(
-                self.alloc,
-                self.memory,
-                network,
-                &mut store,
-                worldview,
-            )?;
+            let (is_refused, settled) = settle_anyhow(self.memory, network, &mut store, worldview)?;
+            let answer = answer_of(self.alloc, network, &settled)?;
             shown.answers.push(answer)?;
             shown.refused = shown.refused.saturating_add(u32::from(is_refused));
             if all_told(self.alloc, &store, self.worldviews)? != before {

@@ -6,7 +6,6 @@ use Rattle.pw_premises.specs.Premises.{Premises}
 use Rattle.pw_facts.specs.declared.fact.Fact.{Fact}
 use Rattle.pw_procs.specs.declared.arguments.Arguments.{Arguments}
 use Rattle.pw_procs.specs.Arguments.{cells_of}
-use Rattle.pw_cells.specs.Cells.{Store}
 use Rattle.pw_decl.specs.declared.step.Callable.{Callable}
 use Rattle.pw_decl.specs.Declaration.{Declared}
 use Rattle.pw_decl.specs.WellDeclared.{IsWellDeclared}
@@ -23,38 +22,37 @@ use Rattle.pw_sessions.specs.Beliefs.{beliefs_at}
 use Rattle.pw_sessions.specs.Entries.{entries_before}
 use Rattle.pw_sessions.specs.LineReading.{LineReading, Refused, Says}
 use Rattle.pw_sessions.specs.NamesDeclared.{IsDeclared}
-use Rattle.pw_sessions.specs.Steps.{AnswersAsk, AnswersConflicts, AnswersWhy, IsAsBefore, IsAttached, OnlyKeepsMore, is_written}
+use Rattle.pw_sessions.specs.Steps.{AnswersAsk, AnswersConflicts, AnswersWhy, IsAsBefore, IsAttached, IsTold, OnlyKeepsMore, is_written}
 use Rattle.pw_sessions.specs.Workbench.{Workbench, IsLeftBy, IsCarriedOut, beliefs_in}
 use Rattle.pw_sessions.proofs.EntriesRise.{rise_before}
 use Rattle.pw_sessions.proofs.NamedConflicts.{conflicts_named}
 use Rattle.pw_sessions.proofs.NamedValues.{value_is}
-use Rattle.pw_sessions.proofs.SoundStores.{TakesFact}
 use Rattle.pw_sessions.proofs.WorkbenchLemmas.{left_as_before, left_attached, left_believed, left_keeping, left_same, left_told}
 use Rattle.pw_sessions.proofs.WrittenCells.{written_is}
 
 module _ (d : Declared) (well : IsWellDeclared d) (readings : List LineReading) (old : Workbench) (left : IsLeftBy d readings old) where
   -- what was answered stays so where only more is kept
-  pub carried_keeping : (new : Workbench) (command : Command) (answer : Reply) → OnlyKeepsMore old new → IsCarriedOut d readings command old answer →
-      IsCarriedOut d readings command new answer
-  carried_keeping new command answer keeps carried =
+  pub carried_keeping : (user : ℕ) (new : Workbench) (command : Command) (answer : Reply) → OnlyKeepsMore old user new →
+      IsCarriedOut d readings command old answer → IsCarriedOut d readings command new answer
+  carried_keeping user new command answer keeps carried =
       record {
         reading = carried.reading;
         became = carried.became;
-        left = left_keeping d well.kinds (readings ++ carried.reading ∷ []) old new keeps carried.left;
+        left = left_keeping d well.kinds (readings ++ carried.reading ∷ []) old user new keeps carried.left;
         replied = carried.replied;
       }
 
   -- ---- a tell
 
   -- a fact that the store took
-  pub carried_tell : (store : Store) (user cell : ℕ) (fact : Fact) → IsWellNetwork old.network →
-      IsDeclared d (Says (commands.Tell user cell fact)) → TakesFact cell fact old.store store →
-      IsCarriedOut d readings (commands.Tell user cell fact) (record old { store = store }) reply.Done
-  carried_tell store user cell fact network named takes =
+  pub carried_tell : (new : Workbench) (user cell : ℕ) (fact : Fact) → IsWellNetwork old.network →
+      IsDeclared d (Says (commands.Tell user cell fact)) → IsTold old cell fact new →
+      IsCarriedOut d readings (commands.Tell user cell fact) new reply.Done
+  carried_tell new user cell fact network named told =
       record {
         reading = Says (commands.Tell user cell fact);
         became = inl refl;
-        left = left_told d well.kinds readings old store user cell fact network left named.1 takes;
+        left = left_told d well.kinds readings old new user cell fact network left named.1 told;
         replied = refl;
       }
 

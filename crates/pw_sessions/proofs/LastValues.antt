@@ -1,88 +1,221 @@
--- The last values of users, as more is kept, told and attached.
-use Rattle.std.proofs.Common.{◌≡◌, ℕ, ◌≤◌, true, List, ◌++◌, length, map, replicate, set, Option, None, refl, ◌∙◌, subst}
-use Rattle.std.specs.Prelude.{IfSome}
-use Rattle.std.proofs.lemmas.List.{length-set}
-use Rattle.std.proofs.lemmas.List.Elements.{All-replicate, All-set, All-weaker}
+-- The last sessions of users, as more is kept, told and attached.
+use Rattle.std.proofs.Common.{◌≡◌, ℕ, ◌≤◌, true, false, List, ◌++◌, All, length, map, replicate, set, Option, None, Some, refl, sym, ap, ◌∙◌, subst, arith, get_or-set_other}
+use Rattle.std.specs.Prelude.{IfSome, not}
+use Rattle.std.specs.FinSet.{is_subset}
+use Rattle.std.specs.Option.{option_map}
+use Rattle.std.proofs.lemmas.Bool.{not-true}
+use Rattle.std.proofs.lemmas.List.{length-map, length-set}
+use Rattle.std.proofs.lemmas.List.Elements.{All-map, All-replicate, All-set, All-weaker}
 use Rattle.std.proofs.lemmas.Option.{IfSome_then}
 use Rattle.pw_info.specs.declared.kind.Kind.{Kind}
-use Rattle.pw_info.specs.Information.{allows, Implies}
+use Rattle.pw_info.specs.Information.{allows, kind_of}
+use Rattle.pw_kinds.proofs.Order.{true_both}
 use Rattle.pw_premises.specs.Premises.{Premises}
-use Rattle.pw_cells.specs.Cells.{Cell, Store, kept_in, new_cell}
-use Rattle.pw_network.specs.Network.{Network, IsWellNetwork, cells_in}
-use Rattle.pw_settle.specs.Fitting.{IsFitting}
+use Rattle.pw_facts.specs.declared.fact.Fact.{Fact}
+use Rattle.pw_cells.specs.Cells.{Cell, Store, kept_in, kind_in_store, kinds_of, new_cell, told_in}
+use Rattle.pw_decl.specs.Declaration.{Declared}
+use Rattle.pw_network.specs.Network.{Attached, Network, IsWellNetwork}
 use Rattle.pw_settle.specs.Growth.{KeepsMore, StaysUpstream}
-use Rattle.pw_settle.specs.Settled.{Settled}
+use Rattle.pw_settle.specs.Settled.{IsSettled, Settled}
+use Rattle.pw_settle.specs.Sound.{IsSound}
+use Rattle.pw_settle.specs.Values.{kinds_in}
 use Rattle.pw_settle.specs.Wider.{IsWider}
 use Rattle.pw_settle.proofs.FittingLaws.{fits_added, fits_more, fits_wider}
 use Rattle.pw_settle.proofs.Growing.{keeps_more_same, keeps_more_then}
-use Rattle.pw_sessions.specs.Steps.{OnlyKeepsMore}
-use Rattle.pw_sessions.specs.Workbench.{SessionsFit, Workbench}
+use Rattle.pw_settle.proofs.SettledValues.{kinds_many}
+use Rattle.pw_reasons.specs.Nogood.{AreNogoods}
+use Rattle.pw_reasons.proofs.NogoodLemmas.{nogoods_same}
+use Rattle.pw_sessions.specs.Session.{IsCurrent, Session, IsSessionOf, after_entry}
+use Rattle.pw_sessions.specs.Steps.{OnlyKeepsMore, StoreFits, TakesFact}
+use Rattle.pw_sessions.specs.Workbench.{SessionsFit, Workbench, beliefs_in}
+use Rattle.pw_sessions.proofs.CurrentValues.{current_attached, current_keeping, current_told, hidden_after}
+use Rattle.pw_sessions.proofs.SoundStores.{more_kept, sound_same}
 
--- where whatever fitted fits, they do
-all_fit : (network after : Network) (old new : Store) → ((settled : Settled) → IsFitting network old settled → IsFitting after new settled) →
-    (sessions : List (Option Settled)) → SessionsFit network old sessions → SessionsFit after new sessions
+-- where each that fits still does, they do
+all_fit : (network after : Network) (old new : Store) → ((session : Session) → IsSessionOf network old session → IsSessionOf after new session) →
+    (sessions : List (Option Session)) → SessionsFit network old sessions → SessionsFit after new sessions
 all_fit network after old new still sessions fit =
-    All-weaker (λ session. IfSome session (IsFitting network old)) (λ session. IfSome session (IsFitting after new))
+    All-weaker (λ session. IfSome session (IsSessionOf network old)) (λ session. IfSome session (IsSessionOf after new))
     (λ session fits. IfSome_then session fits still) sessions fit
 
--- where no less is kept
-pub sessions_more : (network : Network) (old new : Store) (sessions : List (Option Settled)) →
-    ((cell : ℕ) (w : Premises) → Implies (kept_in new cell w) (kept_in old cell w)) → SessionsFit network old sessions → SessionsFit network new sessions
-sessions_more network old new sessions more = all_fit network network old new (λ settled. fits_more network old new settled more) sessions
+-- where more is kept that follows
+pub session_keeping : (network : Network) (old new : Store) → kinds_of old ≡ kinds_in network → IsSound network old → KeepsMore network old new →
+    (session : Session) → IsSessionOf network old session → IsSessionOf network new session
+session_keeping network old new same sound grows session fits = record {
+  fits = fits_more network old new session.values grows.more fits.fits;
+  declared = fits.declared;
+  current = λ is. current_keeping network old new session.values same sound grows (fits.current is);
+}
+
+pub sessions_keeping : (network : Network) (old new : Store) (sessions : List (Option Session)) → kinds_of old ≡ kinds_in network →
+    IsSound network old → KeepsMore network old new → SessionsFit network old sessions → SessionsFit network new sessions
+sessions_keeping network old new sessions same sound grows =
+    all_fit network network old new (session_keeping network old new same sound grows) sessions
+
+-- a store of the same cells keeps more, in a manner of speaking
+pub keeps_more_alike : (network : Network) (old new : Store) → new.cells ≡ old.cells → KeepsMore network old new
+keeps_more_alike network old new alike = record {
+  kinds = ap (λ (cs : List Cell). map (λ (c : Cell). c.kind) cs) alike;
+  told = λ cell w. ap (λ (cs : List Cell). told_in (record { cells = cs; room = 0 }) cell w) alike;
+  more = λ cell w v possible. subst (λ (cs : List Cell). allows (kept_in (record { cells = cs; room = 0 }) cell w) v ≡ true) alike possible;
+  sound = sound_same network old new alike;
+}
 
 -- where the cells are the same
-pub sessions_same : (network : Network) (old new : Store) (sessions : List (Option Settled)) → new.cells ≡ old.cells →
-    SessionsFit network old sessions → SessionsFit network new sessions
-sessions_same network old new sessions same =
-    sessions_more network old new sessions
-    (λ cell w v possible. subst (λ (cs : List Cell). allows (kept_in (record { cells = cs; room = 0 }) cell w) v ≡ true) same possible)
+pub sessions_same : (network : Network) (old new : Store) (sessions : List (Option Session)) → kinds_of old ≡ kinds_in network →
+    IsSound network old → new.cells ≡ old.cells → SessionsFit network old sessions → SessionsFit network new sessions
+sessions_same network old new sessions same sound alike =
+    sessions_keeping network old new sessions same sound (keeps_more_alike network old new alike)
+
+-- ---- as something comes under premises
+
+-- once each fits that was told what came, they do
+all_after : (support : Premises) (network after : Network) (old new : Store) →
+    ((session : Session) → IsSessionOf network old session → IsSessionOf after new (after_entry support session)) → (sessions : List (Option Session)) →
+    SessionsFit network old sessions → SessionsFit after new (map (option_map (after_entry support)) sessions)
+all_after support network after old new still sessions fit =
+    All-map (λ session. IfSome session (IsSessionOf after new)) (option_map (after_entry support)) sessions
+    (All-weaker (λ session. IfSome session (IsSessionOf network old)) (λ session. IfSome (option_map (after_entry support) session) (IsSessionOf after new))
+    each sessions fit)
+  where
+    each : (session : Option Session) → IfSome session (IsSessionOf network old) →
+        IfSome (option_map (after_entry support) session) (IsSessionOf after new)
+    each None fits = fits
+    each (Some session) fits = still session fits
+
+-- what is known to be current still was so before, and what came is not visible to it
+known_still : (support : Premises) (session : Session) → (after_entry support session).is_current ≡ true →
+    (session.is_current ≡ true) × (is_subset support session.values.worldview ≡ false)
+known_still support session is =
+    let parts = true_both session.is_current (not (is_subset support session.values.worldview)) is in
+    (parts.0, not-true (is_subset support session.values.worldview) parts.1)
+
+-- where a fact is told
+pub sessions_told : (network : Network) → IsWellNetwork network → (old new : Store) (cell : ℕ) (fact : Fact) → kinds_of old ≡ kinds_in network →
+    kind_of fact.info ≡ kind_in_store old cell → TakesFact cell fact old new → IsSound network old → (sessions : List (Option Session)) →
+    SessionsFit network old sessions → SessionsFit network new (map (option_map (after_entry fact.support)) sessions)
+sessions_told network well old new cell fact same kind takes sound =
+    all_after fact.support network network old new (λ session fits. record {
+      fits = fits_more network old new session.values (more_kept network old new same cell fact kind takes) fits.fits;
+      declared = fits.declared;
+      current = λ is.
+          let known = known_still fact.support session is in
+          current_told network well old new cell fact same kind takes sound session.values known.1 (fits.current known.0);
+    })
 
 -- where more is attached, with new cells
-pub sessions_attached : (network wider : Network) (old new : Store) (own : List Kind) (sessions : List (Option Settled)) → IsWellNetwork network →
-    IsWider network wider → new.cells ≡ old.cells ++ map new_cell own → cells_in network ≤ length old.cells → SessionsFit network old sessions →
-    SessionsFit wider new sessions
-sessions_attached network wider old new own sessions well wide are room =
-    all_fit network wider old new
-    (λ settled fits. fits_wider network wider new settled well wide (fits_added network old new settled own are room fits)) sessions
+pub sessions_attached : (network wider : Network) (wide : IsWider network wider) → IsWellNetwork network → IsWellNetwork wider → (old new : Store)
+    (own : List Kind) → kinds_of old ≡ kinds_in network → kinds_of new ≡ kinds_in wider → new.cells ≡ old.cells ++ map new_cell own → IsSound network old →
+    (support : Premises) → All (λ (a : Attached). a.support ≡ support) wide.more → (sessions : List (Option Session)) → SessionsFit network old sessions →
+    SessionsFit wider new (map (option_map (after_entry support)) sessions)
+sessions_attached network wider wide well also old new own same fits_kinds are sound support all =
+    all_after support network wider old new (λ session fits. record {
+      fits = fits_wider network wider new session.values well wide
+          (fits_added network old new session.values own are
+          (omega (arith, sym (length-map old.cells (λ (c : Cell). c.kind)) ∙ ap length same, kinds_many network well)) fits.fits);
+      declared = omega (arith, fits.declared, ap (λ (d : Declared). length d.cells) wide.declared);
+      current = λ is.
+          let known = known_still support session is in
+          current_attached network wider wide well also old new own same fits_kinds are sound session.values (fits.current known.0)
+          (hidden_after network wider wide support session.values.worldview all known.1);
+    })
 
--- users without last values
+-- users without sessions
 pub no_sessions : (network : Network) (store : Store) (users : ℕ) → SessionsFit network store (replicate users None)
-no_sessions network store users = All-replicate (λ session. IfSome session (IsFitting network store)) users None tt
+no_sessions network store users = All-replicate (λ session. IfSome session (IsSessionOf network store)) users None tt
 
 -- ---- what only keeps more
 
+-- a store that fits still does
+pub fits_after : (a : Workbench) (user : ℕ) (b : Workbench) → OnlyKeepsMore a user b → StoreFits a → StoreFits b
+fits_after a user b keeps fits = record {
+  kinds = keeps.grows.kinds ∙ fits.kinds ∙ ap kinds_in (sym keeps.network);
+  sound = subst (λ (n : Network). IsSound n b.store) (sym keeps.network) (keeps.grows.sound fits.sound);
+  nogoods = subst (λ (n : Network). AreNogoods n b.store b.nogoods) (sym keeps.network) (keeps.nogoods fits.nogoods);
+  sessions = subst (λ (n : Network). SessionsFit n b.store b.sessions) (sym keeps.network) (keeps.sessions fits);
+}
+
 -- one after the other
-pub only_keeps_then : (a b c : Workbench) → OnlyKeepsMore a b → OnlyKeepsMore b c → OnlyKeepsMore a c
-only_keeps_then a b c first then = record {
+pub only_keeps_then : (a : Workbench) (user : ℕ) (b c : Workbench) → OnlyKeepsMore a user b → OnlyKeepsMore b user c → OnlyKeepsMore a user c
+only_keeps_then a user b c first then = record {
   network = then.network ∙ first.network;
   beliefs = then.beliefs ∙ first.beliefs;
   users = then.users ∙ first.users;
-  sessions = λ fit. subst (λ (n : Network). SessionsFit n b.store b.sessions → SessionsFit n c.store c.sessions) first.network then.sessions (first.sessions fit);
+  others = λ other differs. then.others other differs ∙ first.others other differs;
+  sessions = λ fits. subst (λ (n : Network). SessionsFit n c.store c.sessions) first.network (then.sessions (fits_after a user b first fits));
+  nogoods = λ are. subst (λ (n : Network). AreNogoods n b.store b.nogoods → AreNogoods n c.store c.nogoods) first.network then.nogoods (first.nogoods are);
   grows = keeps_more_then a.network a.store b.store c.store first.grows
       (subst (λ (n : Network). KeepsMore n b.store c.store) first.network then.grows);
   upstream = λ given rests. subst (λ (n : Network). StaysUpstream n b.store c.store) first.network then.upstream given (first.upstream given rests);
 }
 
--- a store that keeps more
-pub only_keeps : (old : Workbench) (store : Store) → KeepsMore old.network old.store store → StaysUpstream old.network old.store store →
-    OnlyKeepsMore old (record old { store = store })
-only_keeps old store grows upstream = record {
+-- a store that keeps more, with other sets that are noted
+pub only_notes : (old : Workbench) (user : ℕ) (store : Store) (nogoods : List Premises) → KeepsMore old.network old.store store →
+    StaysUpstream old.network old.store store → (AreNogoods old.network old.store old.nogoods → AreNogoods old.network old.store nogoods) →
+    OnlyKeepsMore old user (record old { store = store; nogoods = nogoods })
+only_notes old user store nogoods grows upstream noted = record {
   network = refl;
   beliefs = refl;
   users = refl;
-  sessions = sessions_more old.network old.store store old.sessions grows.more;
+  others = λ other differs. refl;
+  sessions = λ fits. sessions_keeping old.network old.store store old.sessions fits.kinds fits.sound grows fits.sessions;
+  nogoods = λ are. nogoods_same old.network old.store store grows.told nogoods (noted are);
   grows = grows;
   upstream = upstream;
 }
 
--- other last values of a user, which fit
-pub only_remembers : (old : Workbench) (user : ℕ) (session : Option Settled) → IfSome session (IsFitting old.network old.store) →
-    OnlyKeepsMore old (record old { sessions = set old.sessions user session })
+-- another session of the user, which fits
+pub only_remembers : (old : Workbench) (user : ℕ) (session : Option Session) → IfSome session (IsSessionOf old.network old.store) →
+    OnlyKeepsMore old user (record old { sessions = set old.sessions user session })
 only_remembers old user session fits = record {
   network = refl;
   beliefs = refl;
   users = length-set old.sessions user session;
-  sessions = λ fit. All-set (λ other. IfSome other (IsFitting old.network old.store)) old.sessions user session fits fit;
+  others = λ other differs. get_or-set_other old.sessions user other session None differs;
+  sessions = λ fit. All-set (λ other. IfSome other (IsSessionOf old.network old.store)) old.sessions user session fits fit.sessions;
+  nogoods = λ are. are;
   grows = keeps_more_same old.network old.store;
   upstream = λ given rests. rests;
+}
+
+-- what stays keeps no less
+pub only_keeps_itself : (old : Workbench) (user : ℕ) → OnlyKeepsMore old user old
+only_keeps_itself old user = record {
+  network = refl;
+  beliefs = refl;
+  users = refl;
+  others = λ other differs. refl;
+  sessions = λ fits. fits.sessions;
+  nogoods = λ are. are;
+  grows = keeps_more_same old.network old.store;
+  upstream = λ given rests. rests;
+}
+
+-- ---- what a settling found
+
+-- it is a session that fits, of current values
+pub session_of : (old : Workbench) (user : ℕ) (new : Workbench) (settled : Settled) → IsWellNetwork old.network → OnlyKeepsMore old user new →
+    IsSettled old.network old.store (beliefs_in old user) settled → IsCurrent new.network new.store settled →
+    IsSessionOf new.network new.store (record { values = settled; is_current = true })
+session_of old user new settled well keeps is current = record {
+  fits = current.fits;
+  declared = subst (λ (n : Network). length n.declared.cells ≤ length settled.infos) (sym keeps.network) (omega (arith, is.cells));
+  current = λ same. current;
+}
+
+-- a store that keeps more, once the last session of the user is given up, and another count of calls
+pub only_settles : (old : Workbench) (user : ℕ) (store : Store) (calls : ℕ) → KeepsMore old.network old.store store →
+    StaysUpstream old.network old.store store →
+    OnlyKeepsMore old user (record old { store = store; sessions = set old.sessions user None; calls = calls })
+only_settles old user store calls grows upstream = record {
+  network = refl;
+  beliefs = refl;
+  users = length-set old.sessions user None;
+  others = λ other differs. get_or-set_other old.sessions user other None None differs;
+  sessions = λ fits.
+      All-set (λ other. IfSome other (IsSessionOf old.network store)) old.sessions user None tt
+      (sessions_keeping old.network old.store store old.sessions fits.kinds fits.sound grows fits.sessions);
+  nogoods = λ are. nogoods_same old.network old.store store grows.told old.nogoods are;
+  grows = grows;
+  upstream = upstream;
 }

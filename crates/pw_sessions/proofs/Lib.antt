@@ -1,7 +1,12 @@
+pub mod AfterSettling
 pub mod AskedCells
 pub mod BlankLemmas
 pub mod BlankLines
 pub mod BlankedLines
+pub mod CurrentValues
+pub mod FewCalls
+pub mod FreshLines
+pub mod FreshUsers
 pub mod CarriedCommands
 pub mod EntriesRise
 pub mod EntryLemmas
@@ -17,8 +22,10 @@ pub mod NetworkInstances
 pub mod NetworkKinds
 pub mod NetworkNames
 pub mod NextLines
+pub mod NotedPremises
+pub mod NotedSessions
 pub mod StoreLemmas
-pub mod WiderNetworks
+pub mod Uncounted
 pub mod SoundStores
 pub mod WorkbenchLemmas
 pub mod WrittenCells

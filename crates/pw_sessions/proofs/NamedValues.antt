@@ -20,6 +20,7 @@ use Rattle.pw_settle.specs.Fixpoint.{AreNamesOf, AreOver, fixpoint, told_in_one,
 use Rattle.pw_settle.specs.Values as values
 use Rattle.pw_settle.specs.Values.{kinds_in, numbered, numbers_of, propagators_of, sources_in, told_sources, visible_instances}
 use Rattle.pw_settle.proofs.FixpointLemmas.{fixpoint_wider}
+use Rattle.pw_settle.proofs.Membership.{same_on}
 use Rattle.pw_settle.proofs.MergedTells.{told_merged}
 use Rattle.pw_settle.proofs.Renaming.{fixpoint_renamed}
 use Rattle.pw_sessions.specs.Answer.{is_visible, sources_after, value_by_name, value_in, visible_in}
@@ -31,7 +32,6 @@ use Rattle.pw_sessions.proofs.NameMembers.{AreNamed, declared_named, inner_named
 use Rattle.pw_settle.proofs.Propagators.{propagators_name}
 use Rattle.pw_sessions.proofs.NamedSources.{sources_named, sources_over}
 use Rattle.pw_sessions.proofs.NamedNetworks.{IsNamedAfter, declared_here, named_after, visible_propagators, visible_stay}
-use Rattle.pw_sessions.proofs.NetworkInstances.{same_on}
 
 -- ---- from the names of all entries to those of some
 

@@ -14,17 +14,13 @@ use Rattle.pw_network.specs.Names.{Name, DeclaredCell, InnerCellOf, name_in}
 use Rattle.pw_network.specs.Network.{Attached as AttachedInstance, InstancesStay, Network, attached_at, bare, cells_in, with_attached}
 use Rattle.pw_network.proofs.NameLemmas.{attached_by_name}
 use Rattle.pw_settle.specs.Values.{visible_instances}
+use Rattle.pw_settle.proofs.Membership.{same_on}
 use Rattle.pw_sessions.specs.Answer.{is_visible, visible_in}
 use Rattle.pw_sessions.specs.Entries.{Entry, Told, Attached, FitsDeclared}
 use Rattle.pw_sessions.specs.Workbench.{network_after, with_entry}
 use Rattle.pw_sessions.proofs.NetworkNames.{cells_with_attached, names_stay}
 
 -- ---- names that agree
-
--- functions that agree on what is there give the same list
-pub same_on : {A B : Type 0} (f g : A → B) (xs : List A) → All (λ x. f x ≡ g x) xs → map f xs ≡ map g xs
-same_on f g [] same = refl
-same_on f g (x ∷ xs) same = λ i. All-head (λ x. f x ≡ g x) x xs same i ∷ same_on f g xs (All-tail (λ x. f x ≡ g x) x xs same) i
 
 -- an instance is the same under names that agree on its cells
 renamed_same : {C D : Type 0} (f g : C → D) (instance : Instance C) → SpeaksOf (λ c. f c ≡ g c) instance →

@@ -9,20 +9,15 @@ use Rattle.pw_decl.specs.declared.step.Callable.{Callable}
 use Rattle.pw_decl.specs.Declaration.{Declared}
 use Rattle.pw_decl.specs.Expansion.{inner_kinds_of}
 use Rattle.pw_network.specs.Names.{name_in}
-use Rattle.pw_network.specs.Network.{Network, InnerCell, bare, cells_in, kind_in, inner_cells_from, with_attached}
+use Rattle.pw_network.specs.Network.{Network, InnerCell, bare, cells_in, kind_in, with_attached}
 use Rattle.pw_network.proofs.NameLemmas.{declared_name, kept_name}
 use Rattle.pw_settle.specs.Values.{kinds_in}
+use Rattle.pw_settle.proofs.WiderNetworks.{kinds_with_attached}
 use Rattle.pw_sessions.specs.CellNames.{kind_by_name}
 use Rattle.pw_sessions.specs.Entries.{Entry, Told, Attached, RiseFrom}
 use Rattle.pw_sessions.specs.Workbench.{network_after, with_entry}
 use Rattle.pw_sessions.proofs.EntriesRise.{FindsKinds, finds_kinds}
 use Rattle.pw_sessions.proofs.NetworkNames.{declared_after, name_of_new, which_cell}
-
--- the kinds of the inner cells of an attachment
-kinds_of_inner : (line number : ℕ) (kinds : List Kind) →
-    map (λ (inner : InnerCell). inner.kind) (inner_cells_from line number kinds) ≡ kinds
-kinds_of_inner line number [] = refl
-kinds_of_inner line number (kind ∷ kinds) = ap (λ l. kind ∷ l) (kinds_of_inner line (number + 1) kinds)
 
 -- where each declared cell has a kind, each cell of the network has one
 length-kinds_in : (network : Network) → length network.declared.kinds ≡ length network.declared.cells →
@@ -45,20 +40,12 @@ module _ (network : Network) (line : ℕ) (callable : Callable) (cells : List �
   abbrev after : Network
   after = with_attached network line callable cells support
 
-  -- the kinds of new cells follow those of the others
-  pub kinds_with_attached : kinds_in after ≡ kinds_in network ++ own
-  kinds_with_attached =
-      ap (λ (l : List Kind). network.declared.kinds ++ l)
-      (map-append (λ (inner : InnerCell). inner.kind) network.inner (inner_cells_from line 0 own)
-      ∙ ap (λ (l : List Kind). map (λ (inner : InnerCell). inner.kind) network.inner ++ l) (kinds_of_inner line 0 own))
-      ∙ sym (append_assoc network.declared.kinds (map (λ (inner : InnerCell). inner.kind) network.inner) own)
-
   module _ (many : length network.declared.kinds ≡ length network.declared.cells) where
     -- a cell that was there has the kind that it had
     old_kind : (cell : ℕ) → cell < cells_in network → kind_in after cell ≡ kind_in network cell
     old_kind cell here =
         let l = length-kinds_in network many in
-        ap (λ (l : List Kind). get_or l cell kinds.Interval) kinds_with_attached
+        ap (λ (l : List Kind). get_or l cell kinds.Interval) (kinds_with_attached network line callable cells support)
         ∙ get_or_append_left (kinds_in network) own kinds.Interval cell (omega arith)
 
     -- and a new one its own
@@ -66,7 +53,7 @@ module _ (network : Network) (line : ℕ) (callable : Callable) (cells : List �
     new_kind j cell is =
         let l = length-kinds_in network many in
         let at : cell ≡ length (kinds_in network) + j = omega arith in
-        ap (λ (l : List Kind). get_or l cell kinds.Interval) kinds_with_attached
+        ap (λ (l : List Kind). get_or l cell kinds.Interval) (kinds_with_attached network line callable cells support)
         ∙ ap (λ (n : ℕ). get_or (kinds_in network ++ own) n kinds.Interval) at
         ∙ get_or-append-add (kinds_in network) own j kinds.Interval
 

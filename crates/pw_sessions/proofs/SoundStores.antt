@@ -27,7 +27,8 @@ use Rattle.pw_settle.specs.Wider.{IsWider}
 use Rattle.pw_settle.proofs.Growing.{same_value}
 use Rattle.pw_settle.proofs.KeptFacts.{also_implies, by_cell, implies_also, implies_merge, kind-in_value, kind-kept}
 use Rattle.pw_settle.proofs.Membership.{each_member}
-use Rattle.pw_sessions.proofs.WiderNetworks.{still_attached, value_says_told, value_wider, wide_self}
+use Rattle.pw_settle.proofs.WiderNetworks.{still_attached, value_says_told, value_wider, wide_self}
+use Rattle.pw_sessions.specs.Steps.{TakesFact}
 
 -- ---- what is kept follows
 
@@ -65,7 +66,7 @@ sound_same network old new same sound =
     subst (λ (cs : List Cell). IsSound network (record { cells = cs; room = 0 })) (sym same) sound
 
 -- of a cell that was added, nothing is kept
-cell_added : (old new : Store) (own : List Kind) → new.cells ≡ old.cells ++ map new_cell own → (c : ℕ) → length old.cells ≤ c →
+pub cell_added : (old new : Store) (own : List Kind) → new.cells ≡ old.cells ++ map new_cell own → (c : ℕ) → length old.cells ≤ c →
     cell_at new c ≡ new_cell (get_or own (c - length old.cells) kinds.Interval)
 cell_added old new own are c past =
     let at : c ≡ length old.cells + (c - length old.cells) = omega (arith, past) in
@@ -75,7 +76,7 @@ cell_added old new own are c past =
     ∙ get_or-map new_cell own (c - length old.cells) kinds.Interval
 
 -- and a cell that was there is as it was
-cell_stays : (old new : Store) (own : List Kind) → new.cells ≡ old.cells ++ map new_cell own → (c : ℕ) → c < length old.cells → cell_at new c ≡ cell_at old c
+pub cell_stays : (old new : Store) (own : List Kind) → new.cells ≡ old.cells ++ map new_cell own → (c : ℕ) → c < length old.cells → cell_at new c ≡ cell_at old c
 cell_stays old new own are c there =
     ap (λ (l : List Cell). get_or l c (new_cell kinds.Interval)) are ∙ get_or_append_left old.cells (map new_cell own) (new_cell kinds.Interval) c there
 
@@ -104,14 +105,6 @@ sound_attached network wider wide well also old new own same fits are sound w c 
 meet_second : (i j : Info) → kind_of i ≡ kind_of j → Implies (meet i j) j
 meet_second i j one_kind = also_implies j (meet j i) (meet i j) (meet_comm j i (sym one_kind)) (meet_first j i (sym one_kind))
 
--- the store took a fact that was told of the cell
-pub record TakesFact (cell : ℕ) (fact : Fact) (old new : Store) : Type 0 where
-  pub told : GainsTold cell fact old new
-  pub kept : GainsKept cell fact old new
-  pub assimilates : AssimilatesAt cell fact old new
-  pub others : LeavesOthers cell old new
-  pub kinds : kinds_of new ≡ kinds_of old
-
 -- so it keeps no less than before
 pub more_kept : (network : Network) (old new : Store) → kinds_of old ≡ kinds_in network → (cell : ℕ) (fact : Fact) → kind_of fact.info ≡ kind_in_store old cell →
     TakesFact cell fact old new → (c : ℕ) (w : Premises) → Implies (kept_in new c w) (kept_in old c w)
@@ -120,6 +113,17 @@ more_kept network old new same cell fact kind takes c w =
     (also_implies (kept_in old cell w) (meet (kept_in old cell w) (shows w fact)) (kept_in new cell w) (sym (takes.kept w))
     (meet_first (kept_in old cell w) (shows w fact) (kind-kept old cell w ∙ sym kind ∙ sym (kind-shows w fact))))
     (λ c other. also_implies (kept_in old c w) (kept_in old c w) (kept_in new c w) (sym (ap (λ (x : Cell). kept_of x w) (takes.others c other)))
+    (λ v possible. possible)) c
+
+-- and no less is told
+pub more_told : (network : Network) (old new : Store) → kinds_of old ≡ kinds_in network → (cell : ℕ) (fact : Fact) → kind_of fact.info ≡ kind_in_store old cell →
+    GainsTold cell fact old new → LeavesOthers cell old new → (c : ℕ) (w : Premises) → Implies (told_in new c w) (told_in old c w)
+more_told network old new same cell fact kind gained others c w =
+    by_cell (λ c. Implies (told_in new c w) (told_in old c w)) cell
+    (also_implies (told_in old cell w) (meet (told_in old cell w) (shows w fact)) (told_in new cell w) (sym (gained w))
+    (meet_first (told_in old cell w) (shows w fact)
+    (kind-shown_by (cell_at old cell).kind w (cell_at old cell).told ∙ sym kind ∙ sym (kind-shows w fact))))
+    (λ c other. also_implies (told_in old c w) (told_in old c w) (told_in new c w) (sym (ap (λ (x : Cell). told_of x w) (others c other)))
     (λ v possible. possible)) c
 
 -- a store stays sound where a fact is told
@@ -141,16 +145,8 @@ sound_told network well old new cell fact same kind gained gains others still so
     kept_kinds : (w : Premises) → kind_of (kept_in old cell w) ≡ kind_of (shows w fact)
     kept_kinds w = kind-kept old cell w ∙ sym kind ∙ sym (kind-shows w fact)
 
-    more_told : (w : Premises) (c : ℕ) → Implies (told_in new c w) (told_in old c w)
-    more_told w c =
-        by_cell (λ c. Implies (told_in new c w) (told_in old c w)) cell
-        (also_implies (told_in old cell w) (meet (told_in old cell w) (shows w fact)) (told_in new cell w) (sym (gained w))
-        (meet_first (told_in old cell w) (shows w fact) (told_kinds w)))
-        (λ c other. also_implies (told_in old c w) (told_in old c w) (told_in new c w) (sym (ap (λ (x : Cell). told_of x w) (others c other)))
-        (λ v possible. possible)) c
-
     grown : (w : Premises) (c : ℕ) → c < length (kinds_in network) → Implies (value_in network new w c) (value_in network old w c)
-    grown w = value_wider network network (wide_self network) well well old new same fits w (λ c there. more_told w c)
+    grown w = value_wider network network (wide_self network) well well old new same fits w (λ c there. more_told network old new same cell fact kind gained others c w)
 
     here : (w : Premises) → cell < length (kinds_in network) → Implies (value_in network new w cell) (kept_in new cell w)
     here w there =
@@ -217,21 +213,3 @@ rests_told network given more all old new cell fact own assimilates others rests
     ]))
     (λ c other. subst (All (λ (f : Fact). LiesUpstream network more c f.support)) (sym (ap (λ (x : Cell). x.kept) (others c other)))
     (λ k d within. lie_still network network (wide_self network) given more all c (get_or (kept_at old c) k d).support (rests c k d within)))
-
--- ---- what settled is settled still
-
--- the values stay where what is told does
-pub settled_still : (network : Network) (old new : Store) (w : Premises) (settled : Settled) → KeepsMore network old new →
-    IsSettled network old w settled → IsSettled network new settled.worldview settled
-settled_still network old new w settled grows is =
-    subst (λ (u : Premises). IsSettled network new u settled) (sym is.worldview_is)
-    (record {
-      worldview_is = is.worldview_is;
-      cells = is.cells;
-      values = λ cell below. is.values cell below ∙ sym (same_value network old new grows.told w cell);
-      supports = is.supports;
-      within = is.within;
-      enough = λ cell below.
-          same_value network old new grows.told (support_at settled.supports cell) cell ∙ is.enough cell below
-          ∙ sym (same_value network old new grows.told w cell);
-    })

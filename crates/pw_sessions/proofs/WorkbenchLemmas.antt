@@ -2,8 +2,9 @@
 use Rattle.std.proofs.Common.{◌≡◌, ◌≢◌, ℕ, ◌+◌, ◌<◌, eqb, Bool, true, false, List, [], ◌∷◌, ◌++◌, length, get_or, set, map, replicate, refl, sym, ap, ◌∙◌, subst, inl, inr, append-nil, arith}
 use Rattle.std.specs.Prelude.{All, None, ◌||◌, if◌then◌else◌, nat_eq}
 use Rattle.std.specs.FinSet.{contains, empty}
+use Rattle.std.specs.Option.{option_map}
 use Rattle.std.proofs.lemmas.Bool.{cases_Bool, eqb-true, eqb-false, or_left}
-use Rattle.std.proofs.lemmas.List.{length-set, get_or-replicate, length-replicate, get_or-set_same, get_or-set_other, get_or_append_left}
+use Rattle.std.proofs.lemmas.List.{length-map, length-set, get_or-replicate, length-replicate, get_or-set_same, get_or-set_other, get_or_append_left}
 use Rattle.std.proofs.lemmas.List.Elements.{All-nil, All-push}
 use Rattle.std.proofs.lemmas.List.Folds.{list_any-append}
 use Rattle.std.proofs.lemmas.List.Sums.{fold_push}
@@ -19,25 +20,27 @@ use Rattle.pw_cells.specs.Cells.{Cell, Store, kind_in_store, kinds_of, new_cell}
 use Rattle.pw_decl.specs.declared.step.Callable.{Callable}
 use Rattle.pw_decl.specs.Declaration.{Declared, kind_at}
 use Rattle.pw_decl.specs.Expansion.{inner_kinds_of}
-use Rattle.pw_network.specs.Network.{IsWellNetwork, Network, bare, with_attached}
+use Rattle.pw_network.specs.Network.{Attached as AttachedInstance, IsWellNetwork, Network, bare, with_attached}
 use Rattle.pw_settle.specs.NumberTest.{nat_eq_decides}
 use Rattle.pw_settle.specs.Sound.{IsSound, RestsUpstream}
 use Rattle.pw_settle.specs.Values.{kinds_in}
 use Rattle.pw_settle.specs.Wider.{IsWider}
+use Rattle.pw_reasons.specs.Nogood.{AreNogoods, IsNogood}
 use Rattle.pw_sessions.specs.declared.command.Command.TheVariants as commands
 use Rattle.pw_sessions.specs.Beliefs.{premises_below, believed_after, beliefs_at}
 use Rattle.pw_sessions.specs.Entries.{Entry, Told, Attached, FitsDeclared, entries_of, entries_before}
 use Rattle.pw_sessions.specs.LineReading.{LineReading, Says}
 use Rattle.pw_sessions.specs.NamesDeclared.{IsDeclared}
-use Rattle.pw_sessions.specs.Steps.{IsAsBefore, IsAttached, OnlyKeepsMore}
+use Rattle.pw_sessions.specs.Steps.{TakesFact, IsAsBefore, IsAttached, IsTold, OnlyKeepsMore}
 use Rattle.pw_sessions.specs.Workbench.{Workbench, IsLeftBy, IsSetUpFor, SessionsFit, WasTold, beliefs_in, is_told_on, network_after, tells_on, with_entry}
 use Rattle.pw_sessions.proofs.EntriesRise.{rise_before}
 use Rattle.pw_sessions.proofs.FurtherLines.{entries_before-snoc, beliefs_at-snoc}
-use Rattle.pw_sessions.proofs.LastValues.{no_sessions, sessions_attached, sessions_more, sessions_same}
-use Rattle.pw_sessions.proofs.NetworkKinds.{kinds_with_attached}
-use Rattle.pw_sessions.proofs.SoundStores.{TakesFact, more_kept, rests_attached, rests_new, rests_same, rests_told, sound_attached, sound_new, sound_same, sound_told}
-use Rattle.pw_sessions.proofs.WiderNetworks.{wide_attached}
-use Rattle.pw_sessions.proofs.StoreLemmas.{TellsEntries, WasTold-from_tells, cells_kept, kind_found, kinds_added, tells_attached, tells_from_WasTold, tells_more, tells_of_new}
+use Rattle.pw_sessions.proofs.LastValues.{no_sessions, sessions_attached, sessions_same, sessions_told}
+use Rattle.pw_sessions.proofs.NotedPremises.{nogoods_attached, nogoods_kept, nogoods_told}
+use Rattle.pw_sessions.proofs.SoundStores.{rests_attached, rests_new, rests_same, rests_told, sound_attached, sound_new, sound_same, sound_told}
+use Rattle.pw_sessions.specs.Session.{after_entry}
+use Rattle.pw_settle.proofs.WiderNetworks.{kinds_with_attached, widened_under}
+use Rattle.pw_sessions.proofs.StoreLemmas.{TellsEntries, WasTold-from_tells, kind_found, kinds_added, tells_attached, tells_from_WasTold, tells_more, tells_of_new}
 
 -- ---- premises of tells
 
@@ -64,13 +67,15 @@ module _ (d : Declared) (many : length d.kinds ≡ length d.cells) where
 
   -- the store has as many kinds as cells are declared, and is set up for them
   IsSetUpFor-new : (bench : Workbench) (users premises : ℕ) → bench.network ≡ bare d → bench.store.cells ≡ map new_cell d.kinds →
-      bench.beliefs ≡ replicate users (premises_below premises) → bench.sessions ≡ replicate users None → users ≡ length d.users → IsSetUpFor d bench
-  IsSetUpFor-new bench users premises is new believed none all =
+      bench.nogoods ≡ [] → bench.beliefs ≡ replicate users (premises_below premises) → bench.sessions ≡ replicate users None → users ≡ length d.users →
+      IsSetUpFor d bench
+  IsSetUpFor-new bench users premises is new unnoted believed none all =
       record {
         users = ap length believed ∙ length-replicate users (premises_below premises) ∙ all;
         declared = ap (λ (n : Network). n.declared) is;
         kinds = kinds;
         sound = sound_new bench.network bench.store d.kinds kinds new;
+        nogoods = subst (AreNogoods bench.network bench.store) (sym unnoted) (All-nil (IsNogood bench.network bench.store));
         sessions = ap length none ∙ length-replicate users None ∙ all;
         fit = subst (SessionsFit bench.network bench.store) (sym none) (no_sessions bench.network bench.store users);
       }
@@ -80,10 +85,10 @@ module _ (d : Declared) (many : length d.kinds ≡ length d.cells) where
 
   -- where nothing was attached, nothing told, and each user believes every premise
   pub IsLeftBy-new : (bench : Workbench) (users premises : ℕ) → bench.network ≡ bare d → bench.store.cells ≡ map new_cell d.kinds →
-      bench.beliefs ≡ replicate users (premises_below premises) → bench.sessions ≡ replicate users None → users ≡ length d.users →
+      bench.nogoods ≡ [] → bench.beliefs ≡ replicate users (premises_below premises) → bench.sessions ≡ replicate users None → users ≡ length d.users →
       premises ≡ length d.premises → IsLeftBy d [] bench
-  IsLeftBy-new bench users premises is new believed none all each =
-      let fits : IsSetUpFor d bench = IsSetUpFor-new bench users premises is new believed none all in
+  IsLeftBy-new bench users premises is new unnoted believed none all each =
+      let fits : IsSetUpFor d bench = IsSetUpFor-new bench users premises is new unnoted believed none all in
       record {
         set_up = fits;
         fit = All-nil (FitsDeclared d);
@@ -140,6 +145,7 @@ module _ (d : Declared) (many : length d.kinds ≡ length d.cells) where
         declared = left.set_up.declared;
         kinds = left.set_up.kinds;
         sound = left.set_up.sound;
+        nogoods = left.set_up.nogoods;
         sessions = left.set_up.sessions;
         fit = left.set_up.fit;
       })
@@ -164,10 +170,13 @@ module _ (d : Declared) (many : length d.kinds ≡ length d.cells) where
           declared = ap (λ (n : Network). n.declared) still.network ∙ left.set_up.declared;
           kinds = ap (λ (cs : List Cell). map (λ (c : Cell). c.kind) cs) still.cells_are ∙ left.set_up.kinds ∙ ap kinds_in (sym still.network);
           sound = subst (λ (n : Network). IsSound n new.store) (sym still.network) (sound_same old.network old.store new.store still.cells_are left.set_up.sound);
+          nogoods = subst (λ (n : Network). AreNogoods n new.store new.nogoods) (sym still.network)
+              (subst (AreNogoods old.network new.store) (sym still.nogoods)
+              (nogoods_kept old.network old.store new.store still.cells_are old.nogoods left.set_up.nogoods));
           sessions = ap length still.sessions ∙ left.set_up.sessions;
           fit = subst (λ (n : Network). SessionsFit n new.store new.sessions) (sym still.network)
               (subst (SessionsFit old.network new.store) (sym still.sessions)
-              (sessions_same old.network old.store new.store old.sessions still.cells_are left.set_up.fit));
+              (sessions_same old.network old.store new.store old.sessions left.set_up.kinds left.set_up.sound still.cells_are left.set_up.fit));
         };
         fit = left.fit;
         network = still.network ∙ left.network;
@@ -180,16 +189,23 @@ module _ (d : Declared) (many : length d.kinds ≡ length d.cells) where
       }
 
   -- and so is what only keeps more
-  pub left_keeping : (readings : List LineReading) (old new : Workbench) → OnlyKeepsMore old new → IsLeftBy d readings old → IsLeftBy d readings new
-  left_keeping readings old new keeps left =
+  pub left_keeping : (readings : List LineReading) (old : Workbench) (user : ℕ) (new : Workbench) → OnlyKeepsMore old user new → IsLeftBy d readings old →
+      IsLeftBy d readings new
+  left_keeping readings old user new keeps left =
       record {
         set_up = record {
           users = ap length keeps.beliefs ∙ left.set_up.users;
           declared = ap (λ (n : Network). n.declared) keeps.network ∙ left.set_up.declared;
           kinds = keeps.grows.kinds ∙ left.set_up.kinds ∙ ap kinds_in (sym keeps.network);
           sound = subst (λ (n : Network). IsSound n new.store) (sym keeps.network) (keeps.grows.sound left.set_up.sound);
+          nogoods = subst (λ (n : Network). AreNogoods n new.store new.nogoods) (sym keeps.network) (keeps.nogoods left.set_up.nogoods);
           sessions = keeps.users ∙ left.set_up.sessions;
-          fit = subst (λ (n : Network). SessionsFit n new.store new.sessions) (sym keeps.network) (keeps.sessions left.set_up.fit);
+          fit = subst (λ (n : Network). SessionsFit n new.store new.sessions) (sym keeps.network) (keeps.sessions (record {
+            kinds = left.set_up.kinds;
+            sound = left.set_up.sound;
+            nogoods = left.set_up.nogoods;
+            sessions = left.set_up.fit;
+          }));
         };
         fit = left.fit;
         network = keeps.network ∙ left.network;
@@ -211,29 +227,38 @@ module _ (d : Declared) (many : length d.kinds ≡ length d.cells) where
       ∙ get_or_append_left d.kinds inner kinds.Interval cell (omega (arith, below, many))
 
   -- the line leaves the store with one fact more
-  pub left_told : (readings : List LineReading) (old : Workbench) (store : Store) (user cell : ℕ) (fact : Fact) → IsWellNetwork old.network →
-      IsLeftBy d readings old → (cell < length d.cells) × (kind_of fact.info ≡ kind_at d cell) → TakesFact cell fact old.store store →
-      IsLeftBy d (readings ++ Says (commands.Tell user cell fact) ∷ []) (record old { store = store })
-  left_told readings old store user cell fact network left named takes =
+  pub left_told : (readings : List LineReading) (old new : Workbench) (user cell : ℕ) (fact : Fact) → IsWellNetwork old.network →
+      IsLeftBy d readings old → (cell < length d.cells) × (kind_of fact.info ≡ kind_at d cell) → IsTold old cell fact new →
+      IsLeftBy d (readings ++ Says (commands.Tell user cell fact) ∷ []) new
+  left_told readings old new user cell fact network left named told =
       let line : ℕ = length readings + 1 in
       let es : List Entry = entries_before readings in
       let entry : Entry = Told line cell fact in
-      left_after readings (Says (commands.Tell user cell fact)) (record old { store = store }) (entry ∷ []) refl
+      let takes : TakesFact cell fact old.store new.store = told.store in
+      left_after readings (Says (commands.Tell user cell fact)) new (entry ∷ []) refl
       (record {
-        users = left.set_up.users;
-        declared = left.set_up.declared;
-        kinds = takes.kinds ∙ left.set_up.kinds;
-        sound = sound_told old.network network old.store store cell fact left.set_up.kinds kind takes.told takes.kept takes.others takes.kinds left.set_up.sound;
-        sessions = left.set_up.sessions;
-        fit = sessions_more old.network old.store store old.sessions (more_kept old.network old.store store left.set_up.kinds cell fact kind takes) left.set_up.fit;
+        users = ap length told.beliefs ∙ left.set_up.users;
+        declared = ap (λ (n : Network). n.declared) told.network ∙ left.set_up.declared;
+        kinds = takes.kinds ∙ left.set_up.kinds ∙ ap kinds_in (sym told.network);
+        sound = subst (λ (n : Network). IsSound n new.store) (sym told.network)
+            (sound_told old.network network old.store new.store cell fact left.set_up.kinds kind takes.told takes.kept takes.others takes.kinds left.set_up.sound);
+        nogoods = subst (λ (n : Network). AreNogoods n new.store new.nogoods) (sym told.network)
+            (subst (AreNogoods old.network new.store) (sym told.nogoods)
+            (nogoods_told old.network network old.store new.store cell fact left.set_up.kinds kind takes old.nogoods left.set_up.nogoods));
+        sessions = ap length told.sessions ∙ length-map old.sessions (option_map (after_entry fact.support)) ∙ left.set_up.sessions;
+        fit = subst (λ (n : Network). SessionsFit n new.store new.sessions) (sym told.network)
+            (subst (SessionsFit old.network new.store) (sym told.sessions)
+            (sessions_told old.network network old.store new.store cell fact left.set_up.kinds kind takes left.set_up.sound old.sessions left.set_up.fit));
       })
       (All-push (FitsDeclared d) es entry left.fit named)
-      (left.network ∙ sym (fold_push with_entry (bare d) es entry))
-      (tells_more d many es (rise_before readings) old.network old.store left.network left.set_up.kinds store line cell fact left.set_up.declared named.0
-      kind takes.told takes.others takes.kinds (left_tells readings old left))
-      (rests_told old.network (is_told_on es) (is_told_on (es ++ entry ∷ [])) (λ c p given. told_on_more es (entry ∷ []) c p given) old.store store cell fact
-      (λ p one. told_on_last es line cell fact p one) takes.assimilates takes.others left.upstream)
-      left.beliefs
+      (told.network ∙ left.network ∙ sym (fold_push with_entry (bare d) es entry))
+      (subst (λ (n : Network). TellsEntries d (es ++ entry ∷ []) n new.store) (sym told.network)
+      (tells_more d many es (rise_before readings) old.network old.store left.network left.set_up.kinds new.store line cell fact left.set_up.declared named.0
+      kind takes.told takes.others takes.kinds (left_tells readings old left)))
+      (subst (λ (n : Network). RestsUpstream n (is_told_on (es ++ entry ∷ [])) new.store) (sym told.network)
+      (rests_told old.network (is_told_on es) (is_told_on (es ++ entry ∷ [])) (λ c p given. told_on_more es (entry ∷ []) c p given) old.store new.store cell fact
+      (λ p one. told_on_last es line cell fact p one) takes.assimilates takes.others left.upstream))
+      (λ u below. ap (λ (bs : List Premises). get_or bs u empty) told.beliefs ∙ left.beliefs u below)
     where
       kind : kind_of fact.info ≡ kind_in_store old.store cell
       kind = named.1 ∙ sym (store_kind old cell left.set_up named.0)
@@ -256,17 +281,22 @@ module _ (d : Declared) (many : length d.kinds ≡ length d.cells) where
       ap (λ (cs : List Cell). map (λ (c : Cell). c.kind) cs) attached.cells_are ∙ kinds_added old.store.cells own
       ∙ ap (λ (ks : List Kind). ks ++ own) left.set_up.kinds
       ∙ sym (kinds_with_attached old.network line callable (cells_of on) support) ∙ ap kinds_in (sym attached.network) in
-      let wide : IsWider old.network new.network = subst (IsWider old.network) (sym attached.network) (wide_attached old.network line callable (cells_of on) support) in
+      let widened : (w : IsWider old.network new.network) × All (λ (a : AttachedInstance). a.support ≡ support) w.more =
+      widened_under old.network new.network line callable (cells_of on) support attached.network in
+      let wide : IsWider old.network new.network = widened.0 in
       left_after readings (Says (commands.Attach user callable on support)) new (entry ∷ []) refl
       (record {
         users = ap length attached.beliefs ∙ left.set_up.users;
         declared = ap (λ (n : Network). n.declared) attached.network ∙ left.set_up.declared;
         kinds = fits;
         sound = sound_attached old.network new.network wide network wider old.store new.store own left.set_up.kinds fits attached.cells_are left.set_up.sound;
-        sessions = ap length attached.sessions ∙ left.set_up.sessions;
+        nogoods = subst (AreNogoods new.network new.store) (sym attached.nogoods)
+            (nogoods_attached old.network new.network wide network wider old.store new.store own left.set_up.kinds fits attached.cells_are old.nogoods
+            left.set_up.nogoods);
+        sessions = ap length attached.sessions ∙ length-map old.sessions (option_map (after_entry support)) ∙ left.set_up.sessions;
         fit = subst (SessionsFit new.network new.store) (sym attached.sessions)
-            (sessions_attached old.network new.network old.store new.store own old.sessions network wide attached.cells_are
-            (let many = cells_kept old.network old.store network left.set_up.kinds in omega (arith, many)) left.set_up.fit);
+            (sessions_attached old.network new.network wide network wider old.store new.store own left.set_up.kinds fits attached.cells_are left.set_up.sound
+            support widened.1 old.sessions left.set_up.fit);
       })
       (All-push (FitsDeclared d) es entry left.fit named.1)
       (attached.network ∙ ap (λ (n : Network). with_entry n entry) left.network ∙ sym (fold_push with_entry (bare d) es entry))

@@ -5,7 +5,7 @@ use Rattle.std.specs.Prelude.{slice_get}
 use Rattle.std.specs.List.{cons_option, filter_map, flat_map, list_any}
 use Rattle.std.specs.FinSet.{is_subset}
 use Rattle.std.specs.Option.{option_map}
-use Rattle.std.proofs.lemmas.Bool.{and_cases, and_parts, both_ways, eqb-true, false_from_ne_true}
+use Rattle.std.proofs.lemmas.Bool.{cases_Bool, and_cases, and_parts, both_ways, eqb-true, false_from_ne_true}
 use Rattle.std.proofs.lemmas.List.Elements.{All-cons, All-contains, All-filter, All-map, All-nil, All-weaker, filter_passes}
 use Rattle.std.proofs.lemmas.List.Folds.{Any-from_list_any, list_any_at}
 use Rattle.std.proofs.lemmas.Option.{none-some, same_Some}
@@ -147,10 +147,10 @@ module _ (d : Declared) (well : IsWellDeclared d) (entries : List Entry) (fit : 
         | inr hidden ↦ both_ways (is_subset attached.support w) hidden visible
       ]
 
-  -- a declared cell that no visible instance writes is written by no visible entry
-  unwritten_after : (cell : ℕ) → cell < length d.cells → is_written network.attached cell w ≡ false →
-      All (λ source. cell_of source ≡ DeclaredCell cell → is_propagator source ≡ true → ⊥) (sources_after d seen)
-  unwritten_after cell here unwritten =
+  -- where no visible instance writes a declared cell, the propagators of the visible entries have other outputs
+  other_outputs : (cell : ℕ) → cell < length d.cells → is_written network.attached cell w ≡ false →
+      All (λ (s : Source Name). cell_of s ≡ DeclaredCell cell → ⊥) (filter is_propagator (sources_after d seen))
+  other_outputs cell here unwritten =
       let IsOther : Name → Type 0 = λ name. name ≡ DeclaredCell cell → ⊥ in
       let kept : List AttachedInstance = filter is_shown network.attached in
       let stay : All (λ (a : AttachedInstance). SpeaksOf (λ c. c < cells_in network) a.instance) kept =
@@ -163,14 +163,29 @@ module _ (d : Declared) (well : IsWellDeclared d) (entries : List Entry) (fit : 
       All-map (λ (i : Instance Name). IsOther i.output) (renamed (name_in network)) shown
       (All-map (λ (i : Instance ℕ). IsOther (name_in network i.output)) (λ (a : AttachedInstance). a.instance) kept
       (λ k e within. other_output cell here (get_or kept k e) (stay k e within) (pass k e within) (fail k e within))) in
-      let others : All (λ (s : Source Name). IsOther (cell_of s)) (filter is_propagator (sources_after d seen)) =
       subst (All (λ (s : Source Name). IsOther (cell_of s))) (sym (propagators_after d seen))
       (propagator_outputs IsOther d.procedures (flat_map (instances_of d) seen)
-      (subst (All (λ (i : Instance Name). IsOther i.output)) (named.instances w) outputs)) in
+      (subst (All (λ (i : Instance Name). IsOther i.output)) (named.instances w) outputs))
+
+  -- so it is written by no visible entry
+  unwritten_after : (cell : ℕ) → cell < length d.cells → is_written network.attached cell w ≡ false →
+      All (λ source. cell_of source ≡ DeclaredCell cell → is_propagator source ≡ true → ⊥) (sources_after d seen)
+  unwritten_after cell here unwritten =
       each_member (λ source. cell_of source ≡ DeclaredCell cell → is_propagator source ≡ true → ⊥) (sources_after d seen)
       (λ source has same passes.
-      All-contains (λ (s : Source Name). IsOther (cell_of s)) (filter is_propagator (sources_after d seen)) source others
-      (contains_filter is_propagator (sources_after d seen) source passes has) same)
+      All-contains (λ (s : Source Name). cell_of s ≡ DeclaredCell cell → ⊥) (filter is_propagator (sources_after d seen)) source
+      (other_outputs cell here unwritten) (contains_filter is_propagator (sources_after d seen) source passes has) same)
+
+  -- and where one of them writes it, a visible instance does
+  written_before : (cell : ℕ) → cell < length d.cells → IsWritten d seen cell → is_written network.attached cell w ≡ true
+  written_before cell here written =
+      elim (cases_Bool (is_written network.attached cell w)) [
+        | inl is ↦ is
+        | inr not ↦
+            absurd (All-contains (λ (name : Name). name ≡ DeclaredCell cell → ⊥) (map cell_of (filter is_propagator (sources_after d seen))) (DeclaredCell cell)
+            (All-map (λ (name : Name). name ≡ DeclaredCell cell → ⊥) cell_of (filter is_propagator (sources_after d seen)) (other_outputs cell here not))
+            written refl)
+      ]
 
 -- where an instance of the network that is visible in a worldview writes a declared cell, one of the visible entries does
 pub written_is : (d : Declared) (entries : List Entry) (network : Network) (w : Premises) (cell : ℕ) → IsWellDeclared d →
@@ -178,6 +193,13 @@ pub written_is : (d : Declared) (entries : List Entry) (network : Network) (w : 
     is_written network.attached cell w ≡ true → IsWritten d (visible_in entries w) cell
 written_is d entries network w cell well fit rise is here written =
     written_after d well entries fit rise network (named_after d entries network well fit rise is) w cell here written
+
+-- and where one of the visible entries does, so does an instance
+pub is_written-from : (d : Declared) (entries : List Entry) (network : Network) (w : Premises) (cell : ℕ) → IsWellDeclared d →
+    All (FitsDeclared d) entries → RiseFrom 0 entries → network ≡ network_after d entries → cell < length d.cells →
+    IsWritten d (visible_in entries w) cell → is_written network.attached cell w ≡ true
+is_written-from d entries network w cell well fit rise is here written =
+    written_before d well entries fit rise network (named_after d entries network well fit rise is) w cell here written
 
 -- where none writes it, what settles there is what the store is told
 pub unwritten_is : (d : Declared) (entries : List Entry) (network : Network) (store : Store) (w : Premises) (cell : ℕ) → IsWellDeclared d →

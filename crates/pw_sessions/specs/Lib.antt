@@ -5,9 +5,12 @@ pub mod Carrying
 pub mod CellNames
 pub mod Entries
 pub mod Fields
+pub mod Freshness
 pub mod LineReading
 pub mod NamesDeclared
 pub mod Reply
+pub mod Session
+pub mod SessionCode
 pub mod Steps
 pub mod TakesMemory
 pub mod Workbench

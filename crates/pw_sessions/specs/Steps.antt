@@ -1,9 +1,12 @@
 -- What the steps of carrying out a command ask of a workbench, and what they make of it.
 use Rattle.std.specs.Prelude.{◌≡◌, ◌⊎◌, ℕ, ◌+◌, ◌<◌, ◌≤◌, Bool, true, ◌&&◌, List, ◌++◌, length, map, nat_eq}
+use Rattle.std.specs.Option.{option_map}
 use Rattle.std.specs.List.{list_any}
 use Rattle.std.specs.FinSet.{is_subset}
 use Rattle.pw_premises.specs.Premises.{Premises}
-use Rattle.pw_cells.specs.Cells.{kinds_of, new_cell}
+use Rattle.pw_facts.specs.declared.fact.Fact.{Fact}
+use Rattle.pw_cells.specs.Cells.{Store, kinds_of, new_cell}
+use Rattle.pw_cells.specs.Changes.{AssimilatesAt, GainsKept, GainsTold, LeavesOthers}
 use Rattle.pw_decl.specs.declared.step.Callable.{Callable}
 use Rattle.pw_decl.specs.Declaration.{Declared}
 use Rattle.pw_decl.specs.Expansion.{inner_kinds_of}
@@ -13,6 +16,7 @@ use Rattle.pw_settle.specs.Growth.{KeepsMore, StaysUpstream}
 use Rattle.pw_settle.specs.Sound.{IsSound}
 use Rattle.pw_settle.specs.Values.{kinds_in, value_in}
 use Rattle.pw_reasons.specs.Conflicts.{Conflicts, AreConflicts}
+use Rattle.pw_reasons.specs.Nogood.{AreNogoods}
 use Rattle.pw_reasons.specs.Reason.{reason_of}
 use Rattle.pw_sessions.specs.declared.command.Command.{Command}
 use Rattle.pw_sessions.specs.Reply.{Reply}
@@ -20,7 +24,8 @@ use Rattle.pw_sessions.specs.Reply as reply
 use Rattle.pw_sessions.specs.declared.reply.Refusal.TheVariants as refusal
 use Rattle.pw_sessions.specs.LineReading.{LineReading, Says}
 use Rattle.pw_sessions.specs.NamesDeclared.{IsDeclared}
-use Rattle.pw_sessions.specs.Workbench.{Workbench, IsLeftBy, IsSetUpFor, IsCarriedOut, SessionsFit, beliefs_in}
+use Rattle.pw_sessions.specs.Session.{after_entry}
+use Rattle.pw_sessions.specs.Workbench.{Workbench, IsLeftBy, IsSetUpFor, IsCarriedOut, SessionsFit, beliefs_in, session_in}
 
 -- the workbench can carry out the command: what it names is declared, and the line comes after those of all attachments
 pub record CanCarryOut (workbench : Workbench) (line : ℕ) (command : Command) : Type 0 where
@@ -35,11 +40,12 @@ CarriesOutNext old line command new reply =
     (d : Declared) (before : List LineReading) → IsLeftBy d before old → length before + 1 ≡ line → IsDeclared d (Says command)
     → IsCarriedOut d before command new reply
 
--- the store has the cells of the network, with their kinds, and keeps nothing that does not follow; and the last values of each
--- user fit
+-- the store has the cells of the network, with their kinds, and keeps nothing that does not follow; what was noted contradicts
+-- itself; and the last session of each user fits
 pub record StoreFits (workbench : Workbench) : Type 0 where
   pub kinds : kinds_of workbench.store ≡ kinds_in workbench.network
   pub sound : IsSound workbench.network workbench.store
+  pub nogoods : AreNogoods workbench.network workbench.store workbench.nogoods
   pub sessions : SessionsFit workbench.network workbench.store workbench.sessions
 
 -- an instance that is visible in the worldview writes the cell
@@ -47,26 +53,48 @@ abbrev pub is_written : List Attached → ℕ → Premises → Bool
 is_written attached cell worldview =
     list_any (λ (a : Attached). nat_eq a.instance.output cell && is_subset a.support worldview) attached
 
--- a callable was attached, and its inner cells added, of which nothing was told
+-- the store took a fact that was told of the cell
+pub record TakesFact (cell : ℕ) (fact : Fact) (old new : Store) : Type 0 where
+  pub told : GainsTold cell fact old new
+  pub kept : GainsKept cell fact old new
+  pub assimilates : AssimilatesAt cell fact old new
+  pub others : LeavesOthers cell old new
+  pub kinds : kinds_of new ≡ kinds_of old
+
+-- a fact was told of the cell: the store took it, and sessions know that it came
+pub record IsTold (old : Workbench) (cell : ℕ) (fact : Fact) (new : Workbench) : Type 0 where
+  pub network : new.network ≡ old.network
+  pub store : TakesFact cell fact old.store new.store
+  pub nogoods : new.nogoods ≡ old.nogoods
+  pub beliefs : new.beliefs ≡ old.beliefs
+  pub sessions : new.sessions ≡ map (option_map (after_entry fact.support)) old.sessions
+  pub calls : new.calls ≡ old.calls
+
+-- a callable was attached, and its inner cells added, of which nothing was told; and sessions know that it came
 pub record IsAttached (old : Workbench) (line : ℕ) (callable : Callable) (cells : List ℕ) (support : Premises) (new : Workbench) : Type 0 where
   pub network : new.network ≡ with_attached old.network line callable cells support
   pub cells_are : new.store.cells ≡ old.store.cells ++ map new_cell (inner_kinds_of old.network.declared.compounds callable)
+  pub nogoods : new.nogoods ≡ old.nogoods
   pub beliefs : new.beliefs ≡ old.beliefs
-  pub sessions : new.sessions ≡ old.sessions
+  pub sessions : new.sessions ≡ map (option_map (after_entry support)) old.sessions
 
--- the same network, facts, beliefs and last values; only the room for cells may differ
+-- the same network, facts, nogoods, beliefs and sessions; only the room for cells may differ, and how often procedures were called
 pub record IsAsBefore (old new : Workbench) : Type 0 where
   pub network : new.network ≡ old.network
   pub cells_are : new.store.cells ≡ old.store.cells
+  pub nogoods : new.nogoods ≡ old.nogoods
   pub beliefs : new.beliefs ≡ old.beliefs
   pub sessions : new.sessions ≡ old.sessions
 
--- the same network, beliefs and told facts; more may be kept, and users may have other last values, which fit as before
-pub record OnlyKeepsMore (old new : Workbench) : Type 0 where
+-- the same network, beliefs and told facts; more may be kept, other sets may be noted, which contradict themselves as before, and the
+-- user may have another last session, which fits
+pub record OnlyKeepsMore (old : Workbench) (user : ℕ) (new : Workbench) : Type 0 where
   pub network : new.network ≡ old.network
   pub beliefs : new.beliefs ≡ old.beliefs
   pub users : length new.sessions ≡ length old.sessions
-  pub sessions : SessionsFit old.network old.store old.sessions → SessionsFit old.network new.store new.sessions
+  pub others : (other : ℕ) → (other ≡ user → ⊥) → session_in new other ≡ session_in old other
+  pub sessions : StoreFits old → SessionsFit old.network new.store new.sessions
+  pub nogoods : AreNogoods old.network old.store old.nogoods → AreNogoods old.network new.store new.nogoods
   pub grows : KeepsMore old.network old.store new.store
   pub upstream : StaysUpstream old.network old.store new.store
 

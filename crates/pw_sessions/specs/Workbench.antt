@@ -1,6 +1,6 @@
--- What is there between two lines: the network, what was told of each of its cells and what is kept of it, and of each user the
--- beliefs now and the values of the last settling.
-use Rattle.std.specs.Prelude.{◌≡◌, ℕ, ◌<◌, Bool, false, ◌&&◌, List, [], ◌∷◌, ◌++◌, All, fold, length, nat_eq, IfSome, Option, Some, slice_index_or}
+-- What is there between two lines: the network, what was told of each of its cells and what is kept of it, which premises were found
+-- to contradict themselves, of each user the beliefs now and the last session, and how often the last command called procedures.
+use Rattle.std.specs.Prelude.{◌≡◌, ℕ, ◌<◌, Bool, false, ◌&&◌, List, [], ◌∷◌, ◌++◌, All, fold, length, nat_eq, IfSome, Option, Some, None, slice_index_or}
 use Rattle.std.specs.FinSet.{contains, empty}
 use Rattle.std.specs.List.{list_any}
 use Rattle.pw_premises.specs.Premises.{Premises}
@@ -8,11 +8,10 @@ use Rattle.pw_cells.specs.Cells.{Store, kinds_of, told_in}
 use Rattle.pw_decl.specs.Declaration.{Declared}
 use Rattle.pw_network.specs.Names.{name_in}
 use Rattle.pw_network.specs.Network.{Network, bare, cells_in, with_attached}
-use Rattle.pw_settle.specs.Fitting.{IsFitting}
 use Rattle.pw_settle.specs.Fixpoint.{told_of}
-use Rattle.pw_settle.specs.Settled.{Settled}
 use Rattle.pw_settle.specs.Sound.{IsSound, RestsUpstream}
 use Rattle.pw_settle.specs.Values.{kinds_in}
+use Rattle.pw_reasons.specs.Nogood.{AreNogoods}
 use Rattle.pw_sessions.specs.declared.command.Command.{Command}
 use Rattle.pw_sessions.specs.Reply.{Reply}
 use Rattle.pw_sessions.specs.Answer.{reply_to, sources_after, visible_in}
@@ -20,20 +19,29 @@ use Rattle.pw_sessions.specs.Beliefs.{beliefs_at}
 use Rattle.pw_sessions.specs.CellNames.{named_cells}
 use Rattle.pw_sessions.specs.Entries.{Entry, Told, Attached, FitsDeclared, entries_before}
 use Rattle.pw_sessions.specs.LineReading.{LineReading}
+use Rattle.pw_sessions.specs.Session.{Session, IsSessionOf}
 use Rattle.pw_sessions.specs.TakesMemory.{MayBecome}
 
 pub record Workbench : Type 0 where
   pub network : Network
   -- what was told, and what is kept
   pub store : Store
+  -- sets of premises that contradict themselves, for all users
+  pub nogoods : List Premises
   -- of each user, by number
   pub beliefs : List Premises
-  -- of each user, where there are some, the values of the last settling
-  pub sessions : List (Option Settled)
+  -- of each user, where there is one, the last session
+  pub sessions : List (Option Session)
+  -- of procedures, by the settling of the last command; none where it did not settle
+  pub calls : ℕ
 
--- the last values of each user fit the network and the store
-abbrev pub SessionsFit : Network → Store → List (Option Settled) → Type 0
-SessionsFit network store sessions = All (λ session. IfSome session (IsFitting network store)) sessions
+-- the last session of each user fits the network and the store
+abbrev pub SessionsFit : Network → Store → List (Option Session) → Type 0
+SessionsFit network store sessions = All (λ session. IfSome session (IsSessionOf network store)) sessions
+
+-- the last session of the user
+abbrev pub session_in : Workbench → ℕ → Option Session
+session_in workbench user = slice_index_or workbench.sessions user None
 
 abbrev pub beliefs_in : Workbench → ℕ → Premises
 beliefs_in workbench user = slice_index_or workbench.beliefs user empty
@@ -63,13 +71,14 @@ tells_on cell premise (Attached line callable cells support) = false
 abbrev pub is_told_on : List Entry → ℕ → ℕ → Bool
 is_told_on entries cell premise = list_any (tells_on cell premise) entries
 
--- it is set up for the declaration: each user has beliefs and perhaps last values, which fit; and the store has the cells of the
--- network, with their kinds, and keeps nothing that does not follow
+-- it is set up for the declaration: each user has beliefs and perhaps a last session, which fits; the store has the cells of the
+-- network, with their kinds, and keeps nothing that does not follow; and what was noted contradicts itself
 pub record IsSetUpFor (d : Declared) (workbench : Workbench) : Type 0 where
   pub users : length workbench.beliefs ≡ length d.users
   pub declared : workbench.network.declared ≡ d
   pub kinds : kinds_of workbench.store ≡ kinds_in workbench.network
   pub sound : IsSound workbench.network workbench.store
+  pub nogoods : AreNogoods workbench.network workbench.store workbench.nogoods
   pub sessions : length workbench.sessions ≡ length d.users
   pub fit : SessionsFit workbench.network workbench.store workbench.sessions
 

@@ -1,5 +1,5 @@
 -- How stores that keep more follow on one another.
-use Rattle.std.proofs.Common.{◌≡◌, ℕ, ◌++◌, length, map, refl, ap, ◌∙◌}
+use Rattle.std.proofs.Common.{◌≡◌, ℕ, ◌++◌, length, map, refl, sym, ap, subst, ◌∙◌}
 use Rattle.std.proofs.Math.Path.{fun_ext}
 use Rattle.std.specs.List.{range_with_len}
 use Rattle.pw_info.specs.declared.info.Info.{Info}
@@ -8,6 +8,7 @@ use Rattle.pw_cells.specs.Cells.{Store, told_in}
 use Rattle.pw_network.specs.Network.{Network}
 use Rattle.pw_settle.specs.Growth.{KeepsMore}
 use Rattle.pw_settle.specs.Fixpoint.{fixpoint}
+use Rattle.pw_settle.specs.Settled.{IsSettled, Settled, support_at}
 use Rattle.pw_settle.specs.Sources.{Told}
 use Rattle.pw_settle.specs.Values.{kinds_in, numbered, numbers_of, propagators_of, value_in, visible_instances}
 
@@ -36,3 +37,19 @@ keeps_more_then network a b c first then = record {
   more = λ cell w v possible. first.more cell w v (then.more cell w v possible);
   sound = λ sound. then.sound (first.sound sound);
 }
+
+-- what is settled is settled still where what is told stays
+pub settled_still : (network : Network) (old new : Store) (w : Premises) (settled : Settled) → KeepsMore network old new →
+    IsSettled network old w settled → IsSettled network new settled.worldview settled
+settled_still network old new w settled grows is =
+    subst (λ (u : Premises). IsSettled network new u settled) (sym is.worldview_is)
+    (record {
+      worldview_is = is.worldview_is;
+      cells = is.cells;
+      values = λ cell below. is.values cell below ∙ sym (same_value network old new grows.told w cell);
+      supports = is.supports;
+      within = is.within;
+      enough = λ cell below.
+          same_value network old new grows.told (support_at settled.supports cell) cell ∙ is.enough cell below
+          ∙ sym (same_value network old new grows.told w cell);
+    })

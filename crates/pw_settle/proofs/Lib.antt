@@ -24,3 +24,4 @@ pub mod QueuedReaders
 pub mod FittingValues
 pub mod FittingLaws
 pub mod NewInstances
+pub mod WiderNetworks

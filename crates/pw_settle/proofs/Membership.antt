@@ -1,6 +1,11 @@
 -- Members of lists, and of what a map or a filter makes of them.
 use Rattle.std.proofs.Common.{◌≡◌, List, [], ◌∷◌, Bool, true, false, cond, map, filter, All, Contains, refl, arith}
-use Rattle.std.proofs.lemmas.List.Elements.{All-cons, All-contains, All-contains_itself, All-nil, All-weaker, Contains-append_right}
+use Rattle.std.proofs.lemmas.List.Elements.{All-cons, All-contains, All-contains_itself, All-head, All-nil, All-tail, All-weaker, Contains-append_right}
+
+-- functions that agree on what is there give the same list
+pub same_on : {A B : Type 0} (f g : A → B) (xs : List A) → All (λ x. f x ≡ g x) xs → map f xs ≡ map g xs
+same_on f g [] same = refl
+same_on f g (x ∷ xs) same = λ i. All-head (λ x. f x ≡ g x) x xs same i ∷ same_on f g xs (All-tail (λ x. f x ≡ g x) x xs same) i
 
 -- what holds of each member of a list holds of all of the list
 pub each_member : {X : Type 0} (P : X → Type 0) (xs : List X) → ((x : X) → Contains xs x → P x) → All P xs

@@ -101,6 +101,17 @@ impl Random {
         }
         premises
     }
+
+    /// A worldview, and three to go on to: the same, a larger one, and one that it is not within.
+    pub fn worldviews(&mut self) -> (PremiseSet, [PremiseSet; 3]) {
+        let number = self.below(5).min(4);
+        let next = number.saturating_add(self.below(4)).saturating_add(1) % 5;
+        let (one, other) = (PremiseSet::one(number as u8), PremiseSet::one(next as u8));
+        let first = self.premises(2).join(one).difference(other);
+        let larger = first.join(other).join(self.premises(2));
+        let apart = self.premises(2).difference(one);
+        (first, [first, larger, apart])
+    }
 }
 
 /// A callable and the cells to which it is attached, under premises.

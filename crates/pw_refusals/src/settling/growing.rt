@@ -17,8 +17,8 @@ const COMPARED: u32 = 60;
 
 const DRAWN: u64 = 90;
 
-// The attachments at the lines from 1 on.
-fn in_lines<'a>(drawn: &'a [Drawn; 8]) -> [Attachment<'a>; 8] {
+/// The attachments at the lines from 1 on.
+pub fn in_lines<'a>(drawn: &'a [Drawn; 8]) -> [Attachment<'a>; 8] {
     [
         drawn[0].at_line(1),
         drawn[1].at_line(2),
@@ -50,9 +50,9 @@ fn says_by_premises(value: &Fact) -> bool {
     !value.info.is_nothing() && !value.info.is_contradiction() && !value.support.is_empty()
 }
 
-// That an answer has the values by rounds, with premises of the worldview under which they are the values too; how many of them
-// say something, and not too much, by premises.
-fn is_by_rounds<R: Abort + AllocGlobal>(
+/// That an answer has the values by rounds, with premises of the worldview under which they are the values too; how many of them
+/// say something, and not too much, by premises.
+pub fn is_by_rounds<R: Abort + AllocGlobal>(
     rt: &R,
     seed: u64,
     matter: Matter<'_>,

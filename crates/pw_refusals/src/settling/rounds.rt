@@ -1,6 +1,7 @@
 //! Values by rounds, as a definition has them: from nothing known, each round adds to what is known of each cell what is told of
 //! it and what each visible instance answers to what was known before the round, until a round changes nothing.
 
+use super::stages::Stage;
 use super::{Matter, Tell};
 use crate::facts::is_of_kind;
 use crate::networks::named_in;
@@ -173,4 +174,19 @@ pub fn by_rounds(
         worldviews,
     };
     over_text(alloc, alloc, matter.text, task)?
+}
+
+/// The values of all cells by rounds at each of these stages, of all that has come by then; none of a stage where that takes too
+/// many rounds.
+pub fn by_rounds_at(
+    alloc: Global,
+    matter: Matter<'_>,
+    stages: &[Stage],
+) -> Result<Vec<Option<Vec<Info>>>, Fail> {
+    let mut values = Vec::new(alloc);
+    for stage in stages {
+        let mut known = by_rounds(alloc, matter.until(stage), &[stage.worldview])?;
+        values.push(known.pop().unwrap_or(None))?;
+    }
+    Ok(values)
 }

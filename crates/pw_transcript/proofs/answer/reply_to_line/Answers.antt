@@ -36,17 +36,17 @@ pub returns-in-Ok-Some-clause-reply : goal.returns-in-Ok-Some-clause-reply
 returns-in-Ok-Some-clause-reply g c = λ before line left next e.
     let reads : Reads (declared_by c.args.declaration.now) c.in-Some.line.now (Says c.in-Ok-Some.command) = subst (λ (o : Option Command). Reads (declared_by c.args.declaration.now) c.in-Some.line.now (reading_of (Ok o))) c.in-Ok-Some.field-0-is c.in-Ok-Some.ensures.reads in
     carried (declared_by c.args.declaration.now) c.limits.ensures line before (workbench_by c.args.workbench.now) left c.args.number c.in-Some.line.now (workbench_by c.command.new.self) c.in-Ok-Some.command (reply_by c.command.result)
-    next reads c.command.ensures (sym (ap option_copied c.in-Some.is) ∙ e)
+    next reads c.command.ensures.carried (sym (ap option_copied c.in-Some.is) ∙ e)
 
 pub returns-in-Ok-Some-clause-named : goal.returns-in-Ok-Some-clause-named
 returns-in-Ok-Some-clause-named g c =
     let reads : Reads (declared_by c.args.declaration.now) c.in-Some.line.now (Says c.in-Ok-Some.command) = subst (λ (o : Option Command). Reads (declared_by c.args.declaration.now) c.in-Some.line.now (reading_of (Ok o))) c.in-Ok-Some.field-0-is c.in-Ok-Some.ensures.reads in
-    named_reply (declared_by c.args.declaration.now) c.limits.ensures c.in-Some.line.now c.args.number (workbench_by c.args.workbench.now) c.requires.left (workbench_by c.command.new.self) c.in-Ok-Some.command (reply_by c.command.result) reads c.command.ensures
+    named_reply (declared_by c.args.declaration.now) c.limits.ensures c.in-Some.line.now c.args.number (workbench_by c.args.workbench.now) c.requires.left (workbench_by c.command.new.self) c.in-Ok-Some.command (reply_by c.command.result) reads c.command.ensures.carried
 
 pub returns-in-Ok-Some-clause-left : goal.returns-in-Ok-Some-clause-left
 returns-in-Ok-Some-clause-left g c =
     let reads : Reads (declared_by c.args.declaration.now) c.in-Some.line.now (Says c.in-Ok-Some.command) = subst (λ (o : Option Command). Reads (declared_by c.args.declaration.now) c.in-Some.line.now (reading_of (Ok o))) c.in-Ok-Some.field-0-is c.in-Ok-Some.ensures.reads in
-    carried_left (declared_by c.args.declaration.now) c.limits.ensures c.in-Some.line.now c.args.number (workbench_by c.args.workbench.now) c.requires.left (workbench_by c.command.new.self) c.in-Ok-Some.command (reply_by c.command.result) reads c.command.ensures
+    carried_left (declared_by c.args.declaration.now) c.limits.ensures c.in-Some.line.now c.args.number (workbench_by c.args.workbench.now) c.requires.left (workbench_by c.command.new.self) c.in-Ok-Some.command (reply_by c.command.result) reads c.command.ensures.carried
 
 pub returns-in-Err-clause-reply : goal.returns-in-Err-clause-reply
 returns-in-Err-clause-reply g c = λ before line left next e.

@@ -1,4 +1,4 @@
-use Rattle.std.proofs.Common.{Some, refl, sym, subst, inl}
+use Rattle.std.proofs.Common.{Some, true, refl, sym, subst, inl, arith}
 use Rattle.pw_network.specs.Fields.{network_by}
 use Rattle.pw_network.specs.Network.{Network}
 use Rattle.pw_settle.specs.Settled.{info_at}
@@ -6,9 +6,12 @@ use Rattle.pw_settle.specs.Values.{value_in}
 use Rattle.pw_reasons.specs.Conflicts.{AreConflicts}
 use Rattle.pw_reasons.proofs.ConflictLemmas.{conflicts_same}
 use Rattle.pw_sessions.specs.Fields.{workbench_by}
+use Rattle.pw_sessions.specs.Freshness.{IsAsked}
+use Rattle.pw_sessions.specs.Reply as reply
 use Rattle.pw_sessions.specs.Steps.{OnlyKeepsMore}
-use Rattle.pw_sessions.specs.Workbench.{beliefs_in}
-use Rattle.pw_sessions.proofs.LastValues.{only_keeps_then, only_remembers}
+use Rattle.pw_sessions.specs.Workbench.{Workbench, beliefs_in}
+use Rattle.pw_sessions.proofs.FreshUsers.{asked_refused, asked_remembered}
+use Rattle.pw_sessions.proofs.LastValues.{only_keeps_then, only_remembers, session_of}
 use Rattle.pw_sessions.proofs.workbench.holding.Workbench.conflicts.Goals as goal
 
 pub returns-clause-answer : goal.returns-clause-answer
@@ -23,8 +26,27 @@ returns-clause-answer g c =
           c.in-Ok-list_conflicts.ensures),
     )
 
+pub returns-in_default-clause-asked : goal.returns-in_default-clause-asked
+returns-in_default-clause-asked g c =
+    asked_refused (workbench_by c.args.self.now) (workbench_by c.settle_for.new.self) c.args.user Unit tt c.settle_for.ensures.calls
+
+pub returns-in_default-list_conflicts-clause-asked : goal.returns-in_default-list_conflicts-clause-asked
+returns-in_default-list_conflicts-clause-asked g c =
+    asked_refused (workbench_by c.args.self.now) (workbench_by c.settle_for.new.self) c.args.user Unit tt c.settle_for.ensures.calls
+
+pub returns-clause-asked : goal.returns-clause-asked
+returns-clause-asked g c =
+    subst (λ (new : Workbench). IsAsked (workbench_by c.args.self.now) c.args.user Unit new (reply.Listed c.in-Ok-list_conflicts.conflicts))
+    (sym c.remember.ensures)
+    (asked_remembered (workbench_by c.args.self.now) (workbench_by c.settle_for.new.self) c.args.user c.in-Ok.settled Unit
+    (reply.Listed c.in-Ok-list_conflicts.conflicts) tt
+    (omega (arith, c.requires.session, c.settle_for.ensures.grows.users)) c.settle_for.ensures.grows.beliefs c.in-Ok.ensures.settled.worldview_is
+    c.in-Ok.ensures.current c.settle_for.ensures.calls c.in-Ok.ensures.least)
+
 pub returns-clause-grows : goal.returns-clause-grows
 returns-clause-grows g c =
-    only_keeps_then (workbench_by c.args.self.now) (workbench_by c.settle_for.new.self) (workbench_by c.remember.new.self) c.settle_for.ensures.grows
-    (subst (OnlyKeepsMore (workbench_by c.settle_for.new.self)) (sym c.remember.ensures)
-    (only_remembers (workbench_by c.settle_for.new.self) c.args.user (Some c.in-Ok.settled) c.in-Ok.ensures.fits))
+    only_keeps_then (workbench_by c.args.self.now) c.args.user (workbench_by c.settle_for.new.self) (workbench_by c.remember.new.self) c.settle_for.ensures.grows
+    (subst (OnlyKeepsMore (workbench_by c.settle_for.new.self) c.args.user) (sym c.remember.ensures)
+    (only_remembers (workbench_by c.settle_for.new.self) c.args.user (Some (record { values = c.in-Ok.settled; is_current = true }))
+    (session_of (workbench_by c.args.self.now) c.args.user (workbench_by c.settle_for.new.self) c.in-Ok.settled c.args.self.now.network.well
+    c.settle_for.ensures.grows c.in-Ok.ensures.settled c.in-Ok.ensures.current)))

@@ -1,4 +1,4 @@
-use Rattle.std.proofs.Common.{◌≡◌, ◌<◌, Some, sym, ap, ◌∙◌, subst, inl, arith}
+use Rattle.std.proofs.Common.{◌≡◌, ◌<◌, Some, true, sym, ap, ◌∙◌, subst, inl, arith}
 use Rattle.pw_info.specs.declared.info.Info.{Info}
 use Rattle.pw_premises.specs.Premises.{Premises}
 use Rattle.pw_cells.specs.Cells.{Store}
@@ -7,21 +7,28 @@ use Rattle.pw_network.specs.Network.{Network, cells_in}
 use Rattle.pw_settle.specs.Settled.{IsSettled}
 use Rattle.pw_settle.specs.Sound.{IsSound}
 use Rattle.pw_settle.specs.Values.{value_in}
-use Rattle.pw_settle.proofs.FittingLaws.{fits_more}
-use Rattle.pw_settle.proofs.Growing.{same_value}
+use Rattle.pw_settle.proofs.Growing.{same_value, settled_still}
+use Rattle.pw_reasons.specs.Nogood.{AreNogoods}
 use Rattle.pw_reasons.specs.Reason.{reason_of}
 use Rattle.pw_sessions.specs.Fields.{workbench_by}
 use Rattle.pw_sessions.specs.Reply as reply
-use Rattle.pw_sessions.specs.Steps.{OnlyKeepsMore}
+use Rattle.pw_sessions.specs.Freshness.{IsAsked}
+use Rattle.pw_sessions.specs.Steps.{OnlyKeepsMore, StoreFits}
 use Rattle.pw_sessions.specs.Workbench.{Workbench, beliefs_in}
-use Rattle.pw_sessions.proofs.LastValues.{only_keeps, only_keeps_then, only_remembers}
-use Rattle.pw_sessions.proofs.SoundStores.{settled_still}
+use Rattle.pw_sessions.proofs.LastValues.{fits_after, only_keeps_then, only_notes, only_remembers, session_keeping, session_of}
+use Rattle.pw_sessions.proofs.CurrentValues.{current_keeping}
+use Rattle.pw_sessions.proofs.FreshUsers.{asked_refused, asked_remembered}
 use Rattle.pw_sessions.proofs.workbench.holding.Workbench.why.Goals as goal
 
 pub reason-requires-clause-sound : goal.reason-requires-clause-sound
 reason-requires-clause-sound g c =
     subst (λ (n : Network). IsSound n c.settle_for.new.self.store) (sym c.settle_for.ensures.grows.network)
     (c.settle_for.ensures.grows.grows.sound c.requires.fits.sound)
+
+pub reason-requires-clause-nogoods : goal.reason-requires-clause-nogoods
+reason-requires-clause-nogoods g c =
+    subst (λ (n : Network). AreNogoods n c.settle_for.new.self.store c.settle_for.new.self.nogoods) (sym c.settle_for.ensures.grows.network)
+    (c.settle_for.ensures.grows.nogoods c.requires.fits.nogoods)
 
 pub reason-requires-clause-settled : goal.reason-requires-clause-settled
 reason-requires-clause-settled g c =
@@ -31,9 +38,19 @@ reason-requires-clause-settled g c =
 
 pub returns-in_default-reason-clause-grows : goal.returns-in_default-reason-clause-grows
 returns-in_default-reason-clause-grows g c =
-    only_keeps_then (workbench_by c.args.self.now) (workbench_by c.settle_for.new.self)
-    (record (workbench_by c.settle_for.new.self) { store = c.reason.new.store }) c.settle_for.ensures.grows
-    (only_keeps (workbench_by c.settle_for.new.self) c.reason.new.store c.reason.ensures.grows c.reason.ensures.upstream)
+    only_keeps_then (workbench_by c.args.self.now) c.args.user (workbench_by c.settle_for.new.self)
+    (record (workbench_by c.settle_for.new.self) { store = c.reason.new.store; nogoods = c.reason.new.nogoods }) c.settle_for.ensures.grows
+    (only_notes (workbench_by c.settle_for.new.self) c.args.user c.reason.new.store c.reason.new.nogoods c.reason.ensures.grows c.reason.ensures.upstream
+    (λ are. c.reason.ensures.nogoods))
+
+pub returns-in_default-clause-asked : goal.returns-in_default-clause-asked
+returns-in_default-clause-asked g c =
+    asked_refused (workbench_by c.args.self.now) (workbench_by c.settle_for.new.self) c.args.user Unit tt c.settle_for.ensures.calls
+
+pub returns-in_default-reason-clause-asked : goal.returns-in_default-reason-clause-asked
+returns-in_default-reason-clause-asked g c =
+    asked_refused (workbench_by c.args.self.now) (record (workbench_by c.settle_for.new.self) { store = c.reason.new.store; nogoods = c.reason.new.nogoods }) c.args.user Unit tt
+    c.settle_for.ensures.calls
 
 pub returns-clause-answer : goal.returns-clause-answer
 returns-clause-answer g c =
@@ -50,13 +67,30 @@ returns-clause-answer g c =
     (c.in-Ok.ensures.settled.worldview_is i)) in
     inl (λ i. reply.Because (value i) (reason i))
 
+-- the values are current still once the reason was found
+pub returns-clause-asked : goal.returns-clause-asked
+returns-clause-asked g c =
+    let found : Workbench = workbench_by c.settle_for.new.self in
+    let after : Workbench = record found { store = c.reason.new.store; nogoods = c.reason.new.nogoods } in
+    let fits : StoreFits found = fits_after (workbench_by c.args.self.now) c.args.user found c.settle_for.ensures.grows c.requires.fits in
+    subst (λ (new : Workbench). IsAsked (workbench_by c.args.self.now) c.args.user Unit new (reply.Because c.value-info.result.info c.in-Ok-reason.reason))
+    (sym c.remember.ensures)
+    (asked_remembered (workbench_by c.args.self.now) after c.args.user c.in-Ok.settled Unit (reply.Because c.value-info.result.info c.in-Ok-reason.reason) tt
+    (omega (arith, c.requires.session, c.settle_for.ensures.grows.users)) c.settle_for.ensures.grows.beliefs c.in-Ok.ensures.settled.worldview_is
+    (current_keeping found.network found.store c.reason.new.store c.in-Ok.settled fits.kinds fits.sound c.reason.ensures.grows c.in-Ok.ensures.current)
+    c.settle_for.ensures.calls c.in-Ok.ensures.least)
+
 pub returns-clause-grows : goal.returns-clause-grows
 returns-clause-grows g c =
+    let old : Workbench = workbench_by c.args.self.now in
     let found : Workbench = workbench_by c.settle_for.new.self in
-    let after : Workbench = record found { store = c.reason.new.store } in
-    only_keeps_then (workbench_by c.args.self.now) found (workbench_by c.remember.new.self) c.settle_for.ensures.grows
-    (only_keeps_then found after (workbench_by c.remember.new.self)
-    (only_keeps found c.reason.new.store c.reason.ensures.grows c.reason.ensures.upstream)
-    (subst (OnlyKeepsMore after) (sym c.remember.ensures)
-    (only_remembers after c.args.user (Some c.in-Ok.settled)
-    (fits_more found.network found.store c.reason.new.store c.in-Ok.settled c.reason.ensures.grows.more c.in-Ok.ensures.fits))))
+    let after : Workbench = record found { store = c.reason.new.store; nogoods = c.reason.new.nogoods } in
+    let fits : StoreFits found = fits_after old c.args.user found c.settle_for.ensures.grows c.requires.fits in
+    only_keeps_then old c.args.user found (workbench_by c.remember.new.self) c.settle_for.ensures.grows
+    (only_keeps_then found c.args.user after (workbench_by c.remember.new.self)
+    (only_notes found c.args.user c.reason.new.store c.reason.new.nogoods c.reason.ensures.grows c.reason.ensures.upstream (λ are. c.reason.ensures.nogoods))
+    (subst (OnlyKeepsMore after c.args.user) (sym c.remember.ensures)
+    (only_remembers after c.args.user (Some (record { values = c.in-Ok.settled; is_current = true }))
+    (session_keeping found.network found.store c.reason.new.store fits.kinds fits.sound c.reason.ensures.grows
+    (record { values = c.in-Ok.settled; is_current = true })
+    (session_of old c.args.user found c.in-Ok.settled c.args.self.now.network.well c.settle_for.ensures.grows c.in-Ok.ensures.settled c.in-Ok.ensures.current)))))

@@ -1,0 +1,80 @@
+//! What is remembered of contradictions.
+ghost use Rattle.std.specs.Prelude.{◌≡◌, ◌↔◌, ◌⊎◌, ◌||◌, [], true, false, not, filter, vec_len, vec_capacity, ◌≤◌, Contains, OnErr, OnOk};
+ghost use Rattle.std.specs.FinSet.{is_subset};
+ghost use Rattle.pw_premises.specs.Premises.{Premises};
+ghost use Rattle.pw_reasons.specs.Nogoods.{covers};
+
+use pw_premises::PremiseSet;
+use std::alloc::{AllocError, Allocator, Global};
+use std::marker::Model;
+
+/// Sets of premises, each noted since something is contradictory where just these are believed: so it is in every worldview
+/// that includes one of them.
+///
+/// (Radul and Sussman, *The Art of the Propagator*, on nogood sets.)
+#[derive(Drop)]
+pub struct Nogoods<A: Allocator = Global> {
+    sets: Vec<PremiseSet, A>,
+}
+
+impl<A: Allocator> Model for Nogoods<A> {
+    ghost use Rattle.std.specs.Prelude.{List};
+    ghost use Rattle.std.specs.Coded.{coded_list, coded_ℕ};
+    ghost use Rattle.std.specs.FinSet as set;
+    ghost use Rattle.pw_premises.specs.Premises.{Premises};
+
+    ghost Value = { List Premises };
+
+    ghost coded = { coded_list (set.code coded_ℕ) };
+
+    ghost view = { λ a. a.sets.items };
+}
+
+impl<A: Allocator + Copy> Nogoods<A> {
+    /// No set is noted. It takes no memory.
+    pub fn new(alloc: A) -> Nogoods<A>
+        ensures { result ≡ [] }
+    {
+        Nogoods {
+            sets: Vec::new(alloc),
+        }
+    }
+
+    /// Notes a set of premises, and answers whether that was news: it was not where a noted set is a part of it, and then
+    /// nothing changes, and no memory is taken. Noted sets that include it are forgotten, since it covers what they cover. It
+    /// fails only for want of memory, and then nothing changes.
+    pub fn note(&mut self, premises: &PremiseSet) -> Result<bool, AllocError>
+        ensures known { (result ≡ Ok false) ↔ (covers self.old premises.now ≡ true) }
+        ensures same { result ≡ Ok false → self.new ≡ self.old }
+        ensures covered { OnOk result ((w : Premises)
+            → covers self.new w ≡ (is_subset premises.now w || covers self.old w)) }
+        // Each set that is noted afterwards was noted before, or is this one.
+        ensures within { (noted : Premises) → Contains self.new noted
+            → (noted ≡ premises.now) ⊎ Contains self.old noted }
+        ensures err { OnErr result (self.new ≡ self.old) }
+    {
+        if self.covers(premises) {
+            return Ok(false);
+        }
+        self.sets.reserve(1)?;
+        drop_larger(&mut self.sets, premises);
+        let _ = self.sets.push(*premises);
+        Ok(true)
+    }
+
+    /// Whether a noted set is a part of these premises. It takes no memory.
+    pub fn covers(&self, premises: &PremiseSet) -> bool
+        ensures { result ≡ covers self.now premises.now }
+    {
+        self.sets.iter().any(|noted| noted.is_subset(premises))
+    }
+}
+
+// Drops the sets that include this one.
+fn drop_larger<A: Allocator>(sets: &mut Vec<PremiseSet, A>, premises: &PremiseSet)
+    ensures items { sets.new.items ≡ filter (λ noted. not (is_subset premises.now noted)) sets.old.items }
+    ensures len { vec_len sets.new ≤ vec_len sets.old }
+    ensures capacity { vec_capacity sets.new ≡ vec_capacity sets.old }
+{
+    sets.retain(|noted| !premises.is_subset(noted));
+}

@@ -1,0 +1,110 @@
+-- What a settling comes to after the last session of a user.
+use Rattle.std.proofs.Common.{◌≡◌, ℕ, ◌+◌, ◌≤◌, Bool, true, false, List, length, Option, Some, None, Result, Ok, Err, sym, ap, ◌∙◌, subst, inl, inr, arith}
+use Rattle.std.specs.Prelude.{IfOk, OnOk}
+use Rattle.std.specs.FinSet.{is_subset}
+use Rattle.std.proofs.lemmas.Bool.{cases_Bool}
+use Rattle.std.proofs.lemmas.Option.{none-some, same_Some}
+use Rattle.pw_premises.specs.Premises.{Premises}
+use Rattle.pw_premises.specs.PremiseSubsets.{is_subset_refl}
+use Rattle.pw_cells.specs.Cells.{Store, kept_in, kinds_of}
+use Rattle.pw_network.specs.Network.{Network, IsWellNetwork}
+use Rattle.pw_settle.specs.Agenda.{tally}
+use Rattle.pw_settle.specs.Calls.{gains, visible_count}
+use Rattle.pw_settle.specs.Due.{AreDue}
+use Rattle.pw_settle.specs.Fitting.{IsFitting}
+use Rattle.pw_settle.specs.Growth.{KeepsMore}
+use Rattle.pw_settle.specs.Settled.{IsSettled, Settled}
+use Rattle.pw_settle.specs.Sound.{IsSound}
+use Rattle.pw_settle.specs.Values.{kinds_in, value_in}
+use Rattle.pw_sessions.specs.Freshness.{CallsDue}
+use Rattle.pw_sessions.specs.Session.{IsCurrent, KeepsValues, Session}
+use Rattle.pw_sessions.proofs.CurrentValues.{current_settled}
+use Rattle.pw_sessions.proofs.FewCalls.{due_most, due_none, no_gains}
+
+module _ (network : Network) (well : IsWellNetwork network) (old new : Store) (w : Premises) (same : kinds_of old ≡ kinds_in network)
+    (sound : IsSound network old) where
+  -- what is kept once it is done
+  abbrev Kept : Type 0
+  Kept = IsSound network old → (cell : ℕ) → kept_in new cell w ≡ value_in network old w cell
+
+  -- its values are current
+  pub current_after : {E : Type 0} (r : Result Settled E) → KeepsMore network old new →
+      IfOk r (λ settled. IsSound network old → IsSettled network old w settled) → OnOk r Kept → IfOk r (λ settled. IsFitting network new settled) →
+      IfOk r (λ settled. settled.instances ≡ length network.attached) → IfOk r (λ settled. IsCurrent network new settled)
+  current_after (Ok settled) grows is kept fits all = current_settled network well old new w settled same grows (is sound) fits all (kept sound)
+  current_after (Err e) grows is kept fits all = fits
+
+  -- ---- how often it calls, anew
+
+  pub once_anew : {E : Type 0} (r : Result Settled E) → OnOk r Kept →
+      IfOk r (λ settled. settled.calls ≤ visible_count network w + gains network old new w) →
+      IfOk r (λ settled. KeepsValues network old w → settled.calls ≤ visible_count network w)
+  once_anew (Ok settled) kept most = λ full. let none = no_gains network old new w full (kept sound) in omega (arith, most, none)
+  once_anew (Err e) kept most = most
+
+  pub least_anew : {E : Type 0} (r : Result Settled E) (last : Option Session) → last ≡ None →
+      IfOk r (λ settled. visible_count network w ≤ settled.calls) → IfOk r (λ settled. CallsDue network old w last settled.calls)
+  least_anew (Ok settled) last none least = record {
+    anew = λ so. least;
+    other = λ session has. absurd (none-some session (sym none ∙ has));
+    further = λ session has. absurd (none-some session (sym none ∙ has));
+  }
+  least_anew (Err e) last none least = least
+
+  pub none_anew : {E : Type 0} (r : Result Settled E) (last : Option Session) → last ≡ None →
+      IfOk r (λ settled. visible_count network w ≤ settled.calls) → IfOk r (λ settled. (session : Session) → last ≡ Some session →
+      session.values.worldview ≡ w → IsCurrent network old session.values → settled.calls ≡ 0)
+  none_anew (Ok settled) last none least = λ session has. absurd (none-some session (sym none ∙ has))
+  none_anew (Err e) last none least = least
+
+  -- ---- how often it calls from earlier values
+
+  module _ (before : Session) (last : Option Session) (had : last ≡ Some before) where
+    -- at least once for each instance that is due, and at most so often with what is gained
+    abbrev Due : Settled → Type 0
+    Due settled = is_subset before.values.worldview w ≡ true → (due : List Bool)
+        × AreDue network old w before.values due × (tally due ≤ settled.calls) × (settled.calls ≤ tally due + gains network old new w)
+
+    abbrev Least : Settled → Type 0
+    Least settled = is_subset before.values.worldview w ≡ false → visible_count network w ≤ settled.calls
+
+    abbrev Most : Settled → Type 0
+    Most settled = is_subset before.values.worldview w ≡ false → settled.calls ≤ visible_count network w + gains network old new w
+
+    its : (session : Session) → last ≡ Some session → before ≡ session
+    its session has = same_Some before session (sym had ∙ has)
+
+    pub once_again : {E : Type 0} (r : Result Settled E) → OnOk r Kept → IfOk r Due → IfOk r Most →
+        IfOk r (λ settled. KeepsValues network old w → settled.calls ≤ visible_count network w)
+    once_again (Ok settled) kept due most = λ full.
+        let none = no_gains network old new w full (kept sound) in
+        elim (cases_Bool (is_subset before.values.worldview w)) [
+          | inl inside ↦
+              let (flags, are, least, up) = due inside in
+              let few = due_most network old w before.values flags are in
+              omega (arith, up, few, none)
+          | inr outside ↦ let up = most outside in omega (arith, up, none)
+        ]
+    once_again (Err e) kept due most = most
+
+    pub none_again : {E : Type 0} (r : Result Settled E) → OnOk r Kept → IfOk r Due → IfOk r (λ settled. (session : Session) → last ≡ Some session →
+        session.values.worldview ≡ w → IsCurrent network old session.values → settled.calls ≡ 0)
+    none_again (Ok settled) kept due = λ session has worldview current.
+        let own : before.values.worldview ≡ w = ap (λ (s : Session). s.values.worldview) (its session has) ∙ worldview in
+        let here : IsCurrent network old before.values = subst (λ (s : Session). IsCurrent network old s.values) (sym (its session has)) current in
+        let full : KeepsValues network old w = subst (KeepsValues network old) own here.kept in
+        let none = no_gains network old new w full (kept sound) in
+        let (flags, are, least, up) = due (subst (λ (u : Premises). is_subset u w ≡ true) (sym own) (is_subset_refl w)) in
+        let zero = due_none network old w before.values flags own here are in
+        omega (arith, up, zero, none)
+    none_again (Err e) kept due = due
+
+    pub least_again : {E : Type 0} (r : Result Settled E) → IfOk r Due → IfOk r Least → IfOk r (λ settled. CallsDue network old w last settled.calls)
+    least_again (Ok settled) due least = record {
+      anew = λ none. absurd (none-some before (sym none ∙ had));
+      other = λ session has outside. least (subst (λ (s : Session). is_subset s.values.worldview w ≡ false) (sym (its session has)) outside);
+      further = λ session has inside.
+          let (flags, are, least, up) = due (subst (λ (s : Session). is_subset s.values.worldview w ≡ true) (sym (its session has)) inside) in
+          (flags, subst (λ (s : Session). AreDue network old w s.values flags) (its session has) are, least);
+    }
+    least_again (Err e) due least = least

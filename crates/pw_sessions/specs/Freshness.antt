@@ -1,0 +1,97 @@
+-- When a user's next question is answered from what the last one found, and how often procedures are called for it.
+use Rattle.std.specs.Prelude.{◌≡◌, ◌⊎◌, ℕ, ◌≤◌, Bool, true, false, List, Option, None, Some}
+use Rattle.std.specs.FinSet.{is_subset}
+use Rattle.pw_premises.specs.Premises.{Premises}
+use Rattle.pw_cells.specs.Cells.{Store}
+use Rattle.pw_decl.specs.Declaration.{Declared}
+use Rattle.pw_network.specs.Network.{Network}
+use Rattle.pw_settle.specs.Agenda.{tally}
+use Rattle.pw_settle.specs.Calls.{visible_count}
+use Rattle.pw_settle.specs.Due.{AreDue}
+use Rattle.pw_sessions.specs.declared.command.Command.{Command}
+use Rattle.pw_sessions.specs.declared.command.Command.TheVariants as commands
+use Rattle.pw_sessions.specs.declared.reply.Refusal.TheVariants as refusal
+use Rattle.pw_sessions.specs.Answer.{IsWritten, user_of, visible_in}
+use Rattle.pw_sessions.specs.Beliefs.{beliefs_at}
+use Rattle.pw_sessions.specs.Entries.{entries_before}
+use Rattle.pw_sessions.specs.LineReading.{LineReading}
+use Rattle.pw_sessions.specs.Reply.{Reply}
+use Rattle.pw_sessions.specs.Reply as reply
+use Rattle.pw_sessions.specs.Session.{Session, IsCurrent}
+use Rattle.pw_sessions.specs.Workbench.{Workbench, IsLeftBy, beliefs_in, session_in}
+
+-- a user is fresh: the values of the last session were found under what the user believes now, and they are current
+pub record IsFresh (workbench : Workbench) (user : ℕ) : Type 0 where
+  pub session : Session
+  pub has : session_in workbench user ≡ Some session
+  pub worldview : session.values.worldview ≡ beliefs_in workbench user
+  pub current : IsCurrent workbench.network workbench.store session.values
+
+-- after lines that read so, the command settles: it asks why or for conflicts, or for a cell that a visible instance writes
+abbrev pub Settles : Declared → List LineReading → Command → Type 0
+Settles d before (commands.Ask user cell) = IsWritten d (visible_in (entries_before before) (beliefs_at d user before)) cell
+Settles d before (commands.Why user cell) = Unit {0}
+Settles d before (commands.Conflicts user) = Unit {0}
+Settles d before command = ⊥
+
+-- the command changes what the user believes
+abbrev pub ChangesBeliefs : ℕ → Command → Type 0
+ChangesBeliefs user (commands.Believe own premises) = own ≡ user
+ChangesBeliefs user (commands.Doubt own premises) = own ≡ user
+ChangesBeliefs user command = ⊥
+
+-- the command tells or attaches under premises that are all believed
+abbrev pub IsSeen : Premises → Command → Type 0
+IsSeen beliefs (commands.Tell user cell fact) = is_subset fact.support beliefs ≡ true
+IsSeen beliefs (commands.Attach user callable cells support) = is_subset support beliefs ≡ true
+IsSeen beliefs command = ⊥
+
+-- the line may end the freshness of the user: it changes the user's beliefs, or is the user's own and was refused, or it told or
+-- attached what the user sees
+abbrev pub MayEndFreshness : Workbench → ℕ → Command → Reply → Type 0
+MayEndFreshness workbench user command answer =
+    ChangesBeliefs user command
+    ⊎ (((user_of command ≡ user) × (answer ≡ reply.Refused refusal.Memory))
+    ⊎ ((answer ≡ reply.Done) × IsSeen (beliefs_in workbench user) command))
+
+-- after a question that settled, its user is fresh; and who was fresh is so still, but for lines that may end it
+pub record KeepsFresh (old : Workbench) (command : Command) (new : Workbench) (answer : Reply) : Type 0 where
+  pub becomes : (d : Declared) (before : List LineReading) → IsLeftBy d before old → Settles d before command →
+      (answer ≡ reply.Refused refusal.Memory) ⊎ IsFresh new (user_of command)
+  pub stays : (user : ℕ) → IsFresh old user → MayEndFreshness old user command answer ⊎ IsFresh new user
+
+-- a settling of the user called procedures so often: not at all where the user was fresh, and at most once for each visible
+-- instance where someone of the same beliefs was
+pub record CallsFew (old : Workbench) (user : ℕ) (calls : ℕ) : Type 0 where
+  pub none : IsFresh old user → calls ≡ 0
+  pub once : (other : ℕ) → IsFresh old other → beliefs_in old other ≡ beliefs_in old user →
+      calls ≤ visible_count old.network (beliefs_in old user)
+
+-- a settling in the worldview, after this session where there is one, called procedures at least so often: once for each instance
+-- that is due; or, where the values are none or of a worldview that is not within this one, for each that is visible
+pub record CallsDue (network : Network) (store : Store) (w : Premises) (last : Option Session) (calls : ℕ) : Type 0 where
+  pub anew : last ≡ None → visible_count network w ≤ calls
+  pub other : (session : Session) → last ≡ Some session → is_subset session.values.worldview w ≡ false → visible_count network w ≤ calls
+  pub further : (session : Session) → last ≡ Some session → is_subset session.values.worldview w ≡ true →
+      (due : List Bool) × AreDue network store w session.values due × (tally due ≤ calls)
+
+-- the same for a user
+abbrev pub CallsDueFor : Workbench → ℕ → ℕ → Type 0
+CallsDueFor workbench user calls =
+    CallsDue workbench.network workbench.store (beliefs_in workbench user) (session_in workbench user) calls
+
+-- a question of the user was answered, which settles where this holds: then its user is fresh after it, and who was fresh still is,
+-- but where it was refused
+pub record IsAsked (old : Workbench) (user : ℕ) (Settling : Type 0) (new : Workbench) (answer : Reply) : Type 0 where
+  pub becomes : Settling → (answer ≡ reply.Refused refusal.Memory) ⊎ IsFresh new user
+  pub stays : IsFresh old user → (answer ≡ reply.Refused refusal.Memory) ⊎ IsFresh new user
+  pub few : CallsFew old user new.calls
+  pub least : Settling → (answer ≡ reply.Refused refusal.Memory) ⊎ CallsDueFor old user new.calls
+  pub none : (Settling → ⊥) → new.calls ≡ 0
+
+-- so did the command; one that does not settle called none
+pub record CountsCalls (old : Workbench) (command : Command) (new : Workbench) (answer : Reply) : Type 0 where
+  pub few : CallsFew old (user_of command) new.calls
+  pub least : (d : Declared) (before : List LineReading) → IsLeftBy d before old → Settles d before command →
+      (answer ≡ reply.Refused refusal.Memory) ⊎ CallsDueFor old (user_of command) new.calls
+  pub none : (d : Declared) (before : List LineReading) → IsLeftBy d before old → (Settles d before command → ⊥) → new.calls ≡ 0
