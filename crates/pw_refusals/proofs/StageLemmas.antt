@@ -9,10 +9,9 @@ use Rattle.pw_network.specs.Network.{IsWellNetwork, Network, with_attached}
 use Rattle.pw_settle.specs.Values.{kinds_in}
 use Rattle.pw_settle.specs.Wider.{IsWider}
 use Rattle.pw_settle.proofs.FittingLaws.{fits_added, fits_wider}
-use Rattle.pw_sessions.proofs.NetworkKinds.{kinds_with_attached}
 use Rattle.pw_sessions.proofs.SoundStores.{sound_attached}
 use Rattle.pw_sessions.proofs.StoreLemmas.{cells_kept, kinds_added}
-use Rattle.pw_sessions.proofs.WiderNetworks.{wide_attached}
+use Rattle.pw_settle.proofs.WiderNetworks.{kinds_with_attached, wide_attached}
 use Rattle.pw_refusals.specs.Settling.{IsReady, LeavesFitting}
 
 -- where a callable is attached, and its inner cells are added to the store, of which nothing was told
