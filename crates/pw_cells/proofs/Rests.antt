@@ -1,32 +1,18 @@
 -- What is left of facts where those that one subsumes are dropped, one fact more at a time.
-use Rattle.std.proofs.Common.{◌≡◌, ℕ, ◌+◌, ◌⊎◌, List, [], ◌∷◌, ◌++◌, get_or, drop, inl, inr, sym, ◌∙◌, ap, arith}
-use Rattle.std.specs.Prelude.{Contains}
-use Rattle.std.proofs.lemmas.List.{get_or-drop, drop-drop}
-use Rattle.std.proofs.lemmas.List.Elements.{All-weaker, All-push, Contains-push, Contains-append_left}
+use Rattle.std.proofs.Common.{◌≡◌, ℕ, ◌+◌, List, [], ◌∷◌, ◌++◌, Bool, true, false, not, cond, filter, get_or, drop, sym, ◌∙◌, ap, arith}
+use Rattle.std.proofs.lemmas.List.{append-nil, get_or-drop, drop-drop}
+use Rattle.std.proofs.lemmas.List.Elements.{filter-append}
 use Rattle.pw_facts.specs.declared.fact.Fact.{Fact}
-use Rattle.pw_facts.specs.Facts.{Subsumes}
-use Rattle.pw_cells.specs.OneCell.{IsRest}
+use Rattle.pw_cells.specs.Assimilated.{does_subsume, unsubsumed}
 
-pub rest_drops : (f x : Fact) (xs ys : List Fact) → IsRest f xs ys → Subsumes f x → IsRest f (xs ++ x ∷ []) ys
-rest_drops f x xs ys is subsumed = record {
-  stays = All-push (λ y. Contains ys y ⊎ Subsumes f y) xs x is.stays (inr subsumed);
-  within = All-weaker (Contains xs) (Contains (xs ++ x ∷ [])) (λ y. Contains-append_left xs (x ∷ []) y) ys is.within;
-  gone = is.gone;
-}
+-- one more that the fact subsumes is dropped, and one more that it does not subsume stays
+pub unsubsumed_drops : (f x : Fact) (xs ys : List Fact) → ys ≡ unsubsumed f xs → does_subsume f x ≡ true → ys ≡ unsubsumed f (xs ++ x ∷ [])
+unsubsumed_drops f x xs ys is e =
+    is ∙ sym (append-nil (unsubsumed f xs)) ∙ sym (filter-append (λ y. not (does_subsume f y)) xs (x ∷ []) ∙ ap (λ b. unsubsumed f xs ++ cond (not b) (x ∷ []) []) e)
 
-pub rest_stays : (f x : Fact) (xs ys : List Fact) → IsRest f xs ys → (Subsumes f x → ⊥) → IsRest f (xs ++ x ∷ []) (ys ++ x ∷ [])
-rest_stays f x xs ys is other = record {
-  stays =
-      All-push (λ y. Contains (ys ++ x ∷ []) y ⊎ Subsumes f y) xs x
-      (All-weaker (λ y. Contains ys y ⊎ Subsumes f y) (λ y. Contains (ys ++ x ∷ []) y ⊎ Subsumes f y)
-      (λ y either. elim either [ inl held ↦ inl (Contains-append_left ys (x ∷ []) y held) | inr subsumed ↦ inr subsumed ]) xs is.stays)
-      (inl (Contains-push ys x));
-  within =
-      All-push (Contains (xs ++ x ∷ [])) ys x
-      (All-weaker (Contains xs) (Contains (xs ++ x ∷ [])) (λ y. Contains-append_left xs (x ∷ []) y) ys is.within)
-      (Contains-push xs x);
-  gone = All-push (λ y. Subsumes f y → ⊥) ys x is.gone other;
-}
+pub unsubsumed_stays : (f x : Fact) (xs ys : List Fact) → ys ≡ unsubsumed f xs → does_subsume f x ≡ false → ys ++ x ∷ [] ≡ unsubsumed f (xs ++ x ∷ [])
+unsubsumed_stays f x xs ys is e =
+    ap (λ l. l ++ x ∷ []) is ∙ sym (filter-append (λ y. not (does_subsume f y)) xs (x ∷ []) ∙ ap (λ b. unsubsumed f xs ++ cond (not b) (x ∷ []) []) e)
 
 -- lists that agree from a place on agree at the place, and from the next one on
 pub same_ahead : {X : Type 0} (xs ys : List X) (n : ℕ) (d : X) → drop n xs ≡ drop n ys → get_or xs n d ≡ get_or ys n d

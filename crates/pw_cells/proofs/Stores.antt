@@ -1,7 +1,7 @@
 -- A cell of a store, as it is read and as it is written.
 use Rattle.std.proofs.Common.{◌≡◌, ℕ, zero, suc, ◌<◌, List, [], ◌∷◌, length, get_or, set, map, get_or-set_same, refl, sym, ◌∙◌, ap, subst}
-use Rattle.std.specs.Prelude.{slice_index_or}
-use Rattle.std.proofs.lemmas.List.{get_or_default}
+use Rattle.std.specs.Prelude.{slice_index_or, Result, Ok, Err, IfOk, OnErr}
+use Rattle.std.proofs.lemmas.List.{get_or_default, set-get_or}
 use Rattle.std.proofs.Math.Seq.{map-set_same}
 use Rattle.pw_info.specs.declared.kind.Kind.TheVariants as kinds
 use Rattle.pw_cells.specs.Cells.{Cell, Store, cell_at, new_cell, kinds_of}
@@ -30,6 +30,25 @@ pub same_kinds : (inside now : Store) (c : ℕ) (x y : Cell) → x ≡ get_or in
     → map (λ (c : Cell). c.kind) (set inside.cells c y) ≡ kinds_of now
 same_kinds inside now c x y read is kind =
     map-set_same (λ (c : Cell). c.kind) inside.cells c y x (kind ∙ ap (λ (c : Cell). c.kind) read) ∙ ap kinds_of is
+
+-- a cell that is written as it was leaves the store
+pub same_store : (inside now : Store) (c : ℕ) (x y : Cell) → x ≡ get_or inside.cells c x → inside ≡ now → y ≡ x
+    → record { cells = set inside.cells c y; room = inside.room } ≡ now
+same_store inside now c x y read is same =
+    ap (λ (l : List Cell). record { cells = l; room = inside.room }) (ap (set inside.cells c) (same ∙ read) ∙ set-get_or inside.cells c x) ∙ is
+
+-- a fact of a result that another follows from
+pub OnErr_then : {T E : Type 0} (r : Result T E) {P Q : Type 0} → (P → Q) → OnErr r P → OnErr r Q
+OnErr_then (Ok x) f p = p
+OnErr_then (Err e) f p = f p
+
+pub OnErr_always : {T E : Type 0} (r : Result T E) {P : Type 0} → P → OnErr r P
+OnErr_always (Ok x) p = tt
+OnErr_always (Err e) p = p
+
+pub IfOk_then : {T E : Type 0} (r : Result T E) {P Q : T → Type 0} → ((x : T) → P x → Q x) → IfOk r P → IfOk r Q
+IfOk_then (Ok x) f p = f x p
+IfOk_then (Err e) f p = p
 
 -- the kinds are listed in the order of the cells
 pub kind-listed : (cells : List Cell) (c : ℕ) → (slice_index_or cells c (new_cell kinds.Interval)).kind ≡ slice_index_or (map (λ (x : Cell). x.kind) cells) c kinds.Interval

@@ -54,6 +54,10 @@ told_of cell worldview = shown_by cell.kind worldview cell.told
 abbrev pub told_in : Store → ℕ → Premises → Info
 told_in store cell worldview = told_of (cell_at store cell) worldview
 
+-- the same of the cell of this number of a list
+abbrev pub told_at : List Cell → ℕ → Premises → Info
+told_at cells cell worldview = told_of (slice_index_or cells cell (new_cell kinds.Interval)) worldview
+
 -- what is kept of a cell, in a worldview, likewise
 abbrev pub kept_of : Cell → Premises → Info
 kept_of cell worldview = shown_by cell.kind worldview cell.kept

@@ -1,4 +1,6 @@
 pub mod Cells
 pub mod CellCode
+pub mod Assimilated
 pub mod OneCell
 pub mod Changes
+pub mod Recalled

@@ -1,5 +1,5 @@
 -- What is true of the facts of one cell, and of the list that a change leaves of them.
-use Rattle.std.specs.Prelude.{◌≡◌, ◌≢◌, ◌⊎◌, ℕ, true, List, All, AllPairs, Contains, map, position, Option}
+use Rattle.std.specs.Prelude.{◌≡◌, ◌⊎◌, ℕ, true, if◌then◌else◌, List, [], ◌∷◌, ◌++◌, All, Contains, map, position, Option, is_some}
 use Rattle.std.specs.FinSet.{is_subset}
 use Rattle.pw_info.specs.declared.kind.Kind.{Kind}
 use Rattle.pw_info.specs.Information.{kind_of, meet, Implies}
@@ -8,6 +8,7 @@ use Rattle.pw_premises.specs.PremiseSubsets.{has_same_numbers}
 use Rattle.pw_facts.specs.declared.fact.Fact.{Fact}
 use Rattle.pw_facts.specs.Facts.{shows, Subsumes}
 use Rattle.pw_cells.specs.Cells.{shown_by, ArePremisesOf}
+use Rattle.pw_cells.specs.Assimilated.{all_assimilated}
 
 -- each of the facts is of the kind
 abbrev pub AreOfKind : Kind → List Fact → Type 0
@@ -17,21 +18,22 @@ AreOfKind kind facts = All (λ f. kind_of f.info ≡ kind) facts
 abbrev pub AreApart : List Fact → Type 0
 AreApart facts = (f g : Fact) → Contains facts f → Contains facts g → Subsumes f g → f ≡ g
 
--- the place of the first of the facts with this support
-abbrev pub place_of_support : Premises → List Fact → Option ℕ
-place_of_support support facts = position (λ f. has_same_numbers f.support support) facts
+-- the place of the support among these, if it is there
+abbrev pub place_of_support : Premises → List Premises → Option ℕ
+place_of_support support supports = position (has_same_numbers support) supports
 
--- no two facts have one support
-abbrev pub OneEach : List Fact → Type 0
-OneEach facts = AllPairs (λ s t. s ≢ t) (map (λ f. f.support) facts)
+-- the supports with this one too, which is at the place, or at none
+abbrev pub with_support : Option ℕ → Premises → List Premises → List Premises
+with_support place support supports = if is_some place then supports else supports ++ support ∷ []
 
--- the facts of a cell are of its kind, in every worldview what is kept says at least what was told, no two told facts
--- have one support, and no kept fact subsumes another
-pub record IsWhole (kind : Kind) (told kept : List Fact) : Type 0 where
+-- the facts of a cell are of its kind, those that were told are known by their supports, and in every worldview what is kept, once
+-- what is late is assimilated, says at least what was told; no kept fact subsumes another
+pub record IsWhole (kind : Kind) (told : List Fact) (supports : List Premises) (kept late : List Fact) : Type 0 where
   pub told_kinds : AreOfKind kind told
   pub kept_kinds : AreOfKind kind kept
-  pub says : (w : Premises) → Implies (shown_by kind w kept) (shown_by kind w told)
-  pub one_each : OneEach told
+  pub late_kinds : AreOfKind kind late
+  pub known : supports ≡ map (λ f. f.support) told
+  pub says : (w : Premises) → Implies (shown_by kind w (all_assimilated kept late)) (shown_by kind w told)
   pub apart : AreApart kept
 
 -- facts of the fact's kind show more: in every worldview what they showed before, merged with what the fact shows there

@@ -1,31 +1,46 @@
 // The facts of one cell.
 
-ghost use Rattle.std.specs.Prelude.{◌≡◌, ◌<◌, ◌≤◌, ◌↔◌, ◌++◌, ◌∷◌, [], true, false, vec_len, vec_capacity, IsTrue, IfOk, OnOk, OnErr};
+ghost use Rattle.std.specs.Prelude.{◌≡◌, ◌+◌, ◌<◌, ◌≤◌, ◌↔◌, ◌++◌, ◌∷◌, [], true, false, if◌then◌else◌, None};
+ghost use Rattle.std.specs.Prelude.{map, vec_len, vec_capacity, IsTrue, IfOk, OnOk, OnErr};
 ghost use Rattle.pw_info.specs.Information.{kind_of, Implies};
 ghost use Rattle.pw_facts.specs.Facts.{IsMergeOfAll, visible_facts};
 ghost use Rattle.pw_facts.specs.Worldviews.{IsLeastAbove, IsMostBelow};
 ghost use Rattle.pw_cells.specs.Cells.{new_cell, shown_by, told_of, kept_of, IsSubsumedBy};
 ghost use Rattle.pw_cells.specs.Changes.{GainsFact, Assimilates, TellsNews};
-ghost use Rattle.pw_cells.specs.OneCell.{AreOfKind, AreApart, OneEach, place_of_support, IsRest, ShowsMore, StandsFor};
+ghost use Rattle.pw_cells.specs.Assimilated.{assimilated, all_assimilated, unsubsumed};
+ghost use Rattle.pw_cells.specs.OneCell.{AreApart, AreOfKind, place_of_support, with_support, ShowsMore, StandsFor};
 
+use crate::supports::Supports;
 use pw_facts::{Fact, merge_facts, subsumes};
 use pw_info::{Info, Kind};
 use pw_premises::PremiseSet;
 use std::alloc::{AllocError, Allocator};
 use std::marker::Model;
 
+// So many facts are gone over quickly. So many of the late ones are looked at when one is told, lest what is told again and again is
+// held as often.
+const FEW: usize = 8;
+
 // A cell's kind, what was told of it, and what is kept of it. What was told under one support is held as one fact, with
-// its meet, so that asking for it costs no more for a cell that was told of often.
+// its meet, so that asking for it costs no more for a cell that was told of often. What was told is assimilated late, when
+// what is kept is first asked for: so that a cell of which only tells and asks come needs no walk over its facts.
 #[derive(Drop)]
 pub(crate) struct CellFacts<A: Allocator> {
     kind: Kind,
     told: Vec<Fact, A>,
+    // The supports of these, in their order.
+    supports: Supports<A>,
+    // What is kept, but for what is late, for which it has room.
     kept: Vec<Fact, A>,
+    // What was told since, and is not assimilated yet.
+    late: Vec<Fact, A>,
 }
 
 impl<A: Allocator> Model for CellFacts<A> {
+    ghost use Rattle.std.specs.Prelude.{◌+◌, ◌≤◌, vec_len, vec_capacity};
     ghost use Rattle.pw_info.specs.contracts.kind.Kind as kinds;
     ghost use Rattle.pw_facts.specs.contracts.fact.Fact as facts;
+    ghost use Rattle.pw_cells.specs.Assimilated.{all_assimilated};
     ghost use Rattle.pw_cells.specs.Cells.{Cell};
     ghost use Rattle.pw_cells.specs.CellCode.{cell_code};
     ghost use Rattle.pw_cells.specs.OneCell.{IsWhole};
@@ -34,9 +49,14 @@ impl<A: Allocator> Model for CellFacts<A> {
 
     ghost coded = { cell_code kinds.the_row.coded facts.the_row.coded };
 
-    ghost view = { λ a. record { kind = a.kind; told = a.told.items; kept = a.kept.items } };
+    ghost view = { λ a. record {
+      kind = a.kind;
+      told = a.told.items;
+      kept = all_assimilated a.kept.items a.late.items;
+    } };
 
-    ghost invariant = { λ a. IsWhole a.kind a.told.items a.kept.items };
+    ghost invariant = { λ a. IsWhole a.kind a.told.items a.supports a.kept.items a.late.items
+        × (vec_len a.kept + vec_len a.late ≤ vec_capacity a.kept) };
 }
 
 impl<A: Allocator + Copy> CellFacts<A> {
@@ -47,7 +67,9 @@ impl<A: Allocator + Copy> CellFacts<A> {
         CellFacts {
             kind,
             told: Vec::new(alloc),
+            supports: Supports::new(alloc),
             kept: Vec::new(alloc),
+            late: Vec::new(alloc),
         }
     }
 
@@ -66,13 +88,14 @@ impl<A: Allocator + Copy> CellFacts<A> {
         ensures kind { self.new.kind ≡ self.old.kind }
         ensures err { OnErr result (self.new ≡ self.old) }
     {
-        let place = place_of(self.told.as_slice(), &fact.support);
-        let known = is_subsumed(self.kept.as_slice(), fact);
-        // Both growths come first, so that a refused one changes nothing.
+        let place = self.supports.place_of(&fact.support);
+        let known = is_lately_subsumed(self.late.as_slice(), fact);
+        // All growths come first, so that a refused one changes nothing.
         reserve_unless(&mut self.told, place.is_some())?;
-        reserve_unless(&mut self.kept, known)?;
+        reserve_late(&mut self.kept, &mut self.late, known)?;
+        self.supports.add_unless(place, &fact.support)?;
         add_told(&mut self.told, place, fact);
-        assimilate(&mut self.kept, known, fact);
+        add_late(&mut self.late, known, fact);
         Ok(())
     }
 
@@ -87,10 +110,17 @@ impl<A: Allocator + Copy> CellFacts<A> {
         ensures kind { self.new.kind ≡ self.old.kind }
         ensures err { OnErr result (self.new ≡ self.old) }
     {
+        assimilate_late(self.kind, &mut self.kept, &mut self.late);
         let known = is_subsumed(self.kept.as_slice(), fact);
         reserve_unless(&mut self.kept, known)?;
         assimilate(&mut self.kept, known, fact);
         Ok(!known)
+    }
+
+    // Whether there are few facts to go over in telling what was told.
+    #[inline(always)]
+    pub(crate) fn is_told_little(&self) -> bool {
+        self.told.len() <= FEW
     }
 
     // What was told, in a worldview.
@@ -102,24 +132,34 @@ impl<A: Allocator + Copy> CellFacts<A> {
         shown(self.kind, self.told.as_slice(), worldview)
     }
 
-    // What is kept, in a worldview, with premises that it rests on.
-    pub(crate) fn kept(&self, worldview: &PremiseSet) -> Fact
-        ensures merge { IsMergeOfAll (visible_facts worldview.now self.now.kept) result }
-        ensures stands { StandsFor self.now.kind worldview.now self.now.kept result }
-        ensures kind { kind_of result.info ≡ self.now.kind }
-        ensures told { Implies result.info (told_of self.now worldview.now) }
-        ensures larger { IsLeastAbove result.support (kept_of self.now) result.info }
-        ensures smaller { IsMostBelow worldview.now (kept_of self.now) result.info }
+    // What is kept, in a worldview, with premises that it rests on. What is late is assimilated first.
+    pub(crate) fn kept(&mut self, worldview: &PremiseSet) -> Fact
+        ensures same { self.new ≡ self.old }
+        ensures merge { IsMergeOfAll (visible_facts worldview.now self.old.kept) result }
+        ensures stands { StandsFor self.old.kind worldview.now self.old.kept result }
+        ensures kind { kind_of result.info ≡ self.old.kind }
+        ensures told { Implies result.info (told_of self.old worldview.now) }
+        ensures larger { IsLeastAbove result.support (kept_of self.old) result.info }
+        ensures smaller { IsMostBelow worldview.now (kept_of self.old) result.info }
     {
+        assimilate_late(self.kind, &mut self.kept, &mut self.late);
         merged(self.kind, self.kept.as_slice(), worldview)
     }
 }
 
-// Where the first fact with this support is.
-fn place_of(told: &[Fact], support: &PremiseSet) -> Option<usize>
-    ensures { result ≡ place_of_support support.now told.now }
+// Whether one of the last few facts subsumes this one. Inlined, as `assimilate` is.
+#[inline(always)]
+fn is_lately_subsumed(facts: &[Fact], fact: &Fact) -> bool
+    requires { AreOfKind (kind_of fact.now.info) facts.now }
+    ensures { IsTrue result → IsSubsumedBy facts.now fact.now }
 {
-    told.iter().position(|held| held.support == *support)
+    let len = facts.len();
+    for back in 1..=len.min(FEW) {
+        if subsumes(&facts[len - back], fact) {
+            return true;
+        }
+    }
+    false
 }
 
 // Whether a kept fact subsumes this one. Inlined, as `assimilate` is, so that a fact that is told is taken as it stands.
@@ -147,14 +187,34 @@ fn reserve_unless<A: Allocator>(facts: &mut Vec<Fact, A>, known: bool) -> Result
     facts.reserve(1)
 }
 
-// Adds a fact to those that were told: into the first with its support, which is at the place, else where there is room.
+// Makes room for one more fact among the late ones, and for all of these among the kept ones, unless it is known.
+fn reserve_late<A: Allocator>(
+    kept: &mut Vec<Fact, A>,
+    late: &mut Vec<Fact, A>,
+    known: bool,
+) -> Result<(), AllocError>
+    requires { vec_len kept.old + vec_len late.old ≤ vec_capacity kept.old }
+    ensures kept { kept.new.items ≡ kept.old.items }
+    ensures late { late.new.items ≡ late.old.items }
+    ensures room { vec_len kept.new + vec_len late.new ≤ vec_capacity kept.new }
+    ensures more { OnOk result (known ≡ false → vec_len kept.new + vec_len late.new < vec_capacity kept.new) }
+    ensures late_room { OnOk result (known ≡ false → vec_len late.new < vec_capacity late.new) }
+{
+    if known {
+        return Ok(());
+    }
+    kept.reserve(late.len() + 1)?;
+    late.reserve(1)
+}
+
+// Adds a fact to those that were told: into the one with its support, which is at the place, else where there is room.
 fn add_told<A: Allocator>(told: &mut Vec<Fact, A>, place: Option<usize>, fact: &Fact)
     requires kinds { AreOfKind (kind_of fact.now.info) told.old.items }
-    requires one_each { OneEach told.old.items }
-    requires place { place ≡ place_of_support fact.now.support told.old.items }
+    requires place { place ≡ place_of_support fact.now.support (map (λ f. f.support) told.old.items) }
     requires room { place ≡ None → vec_len told.old < vec_capacity told.old }
     ensures kinds { AreOfKind (kind_of fact.now.info) told.new.items }
-    ensures one_each { OneEach told.new.items }
+    ensures supports { map (λ f. f.support) told.new.items
+        ≡ with_support place fact.now.support (map (λ f. f.support) told.old.items) }
     ensures shown { ShowsMore fact.now told.old.items told.new.items }
 {
     match place {
@@ -163,18 +223,45 @@ fn add_told<A: Allocator>(told: &mut Vec<Fact, A>, place: Option<usize>, fact: &
     }
 }
 
+// Adds a fact to those that are late, where there is room, unless it is known.
+fn add_late<A: Allocator>(late: &mut Vec<Fact, A>, known: bool, fact: &Fact)
+    requires { known ≡ false → vec_len late.old < vec_capacity late.old }
+    ensures items { late.new.items ≡ (if known then late.old.items else late.old.items ++ fact.now ∷ []) }
+    ensures known { known ≡ true → vec_len late.new ≡ vec_len late.old }
+    ensures len { vec_len late.new ≤ vec_len late.old + 1 }
+{
+    if known {
+        return;
+    }
+    append(late, fact);
+}
+
+// Assimilates what is late: then nothing is. The kept facts have room for it.
+fn assimilate_late<A: Allocator>(kind: Kind, kept: &mut Vec<Fact, A>, late: &mut Vec<Fact, A>)
+    requires kinds { AreOfKind kind kept.old.items }
+    requires late_kinds { AreOfKind kind late.old.items }
+    requires apart { AreApart kept.old.items }
+    requires room { vec_len kept.old + vec_len late.old ≤ vec_capacity kept.old }
+    ensures kept { kept.new.items ≡ all_assimilated kept.old.items late.old.items }
+    ensures late { late.new.items ≡ [] }
+    ensures none { vec_len late.new ≡ 0 }
+{
+    for fact in late.as_slice() {
+        let known = is_subsumed(kept.as_slice(), fact);
+        assimilate(kept, known, fact);
+    }
+    late.clear();
+}
+
 // Keeps a fact where there is room and drops those that it subsumes, unless it is known: then a kept fact subsumes it.
 #[inline(always)]
 fn assimilate<A: Allocator>(kept: &mut Vec<Fact, A>, known: bool, fact: &Fact)
     requires kinds { AreOfKind (kind_of fact.now.info) kept.old.items }
     requires known { IsTrue known ↔ IsSubsumedBy kept.old.items fact.now }
-    requires apart { AreApart kept.old.items }
     requires room { known ≡ false → vec_len kept.old < vec_capacity kept.old }
-    ensures kinds { AreOfKind (kind_of fact.now.info) kept.new.items }
-    ensures known { known ≡ true → kept.new.items ≡ kept.old.items }
-    ensures apart { AreApart kept.new.items }
-    ensures shown { ShowsMore fact.now kept.old.items kept.new.items }
-    ensures assimilates { Assimilates fact.now kept.old.items kept.new.items }
+    ensures assimilated { kept.new.items ≡ assimilated kept.old.items fact.now }
+    ensures len { vec_len kept.new ≤ vec_len kept.old + 1 }
+    ensures capacity { vec_capacity kept.old ≤ vec_capacity kept.new }
 {
     if !known {
         drop_subsumed(kept, fact);
@@ -185,7 +272,7 @@ fn assimilate<A: Allocator>(kept: &mut Vec<Fact, A>, known: bool, fact: &Fact)
 // Drops the facts that this one subsumes. (`retain` takes no test that may be asked of facts of one kind alone.)
 fn drop_subsumed<A: Allocator>(kept: &mut Vec<Fact, A>, fact: &Fact)
     requires { AreOfKind (kind_of fact.now.info) kept.old.items }
-    ensures rest { IsRest fact.now kept.old.items kept.new.items }
+    ensures rest { kept.new.items ≡ unsubsumed fact.now kept.old.items }
     ensures len { vec_len kept.new ≤ vec_len kept.old }
     ensures capacity { vec_capacity kept.new ≡ vec_capacity kept.old }
 {
@@ -203,7 +290,8 @@ fn drop_subsumed<A: Allocator>(kept: &mut Vec<Fact, A>, fact: &Fact)
 // Appends a fact where there is room.
 fn append<A: Allocator>(facts: &mut Vec<Fact, A>, fact: &Fact)
     requires { vec_len facts.old < vec_capacity facts.old }
-    ensures { facts.new.items ≡ facts.old.items ++ fact.now ∷ [] }
+    ensures items { facts.new.items ≡ facts.old.items ++ fact.now ∷ [] }
+    ensures capacity { vec_capacity facts.old ≤ vec_capacity facts.new }
 {
     let _ = facts.push(*fact);
 }

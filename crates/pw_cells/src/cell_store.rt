@@ -10,6 +10,7 @@ ghost use Rattle.pw_cells.specs.Changes.{GainsTold, GainsKept, TellsNews, Assimi
 ghost use Rattle.pw_cells.specs.Cells.{new_cell, kind_in_store, kinds_of, kept_at, told_in, kept_in, most_cells, ArePremisesOf};
 
 use crate::cell_facts::CellFacts;
+use crate::recalled::{Answers, Recalled};
 use pw_facts::Fact;
 use pw_info::{Info, Kind};
 use pw_premises::PremiseSet;
@@ -22,14 +23,17 @@ use std::marker::Model;
 #[derive(Drop)]
 pub struct CellStore<A: Allocator = Global> {
     cells: Vec<CellFacts<A>, A>,
+    // The last answers of `recall` on cells of which much was told.
+    recalled: Answers,
 }
 
 impl<A: Allocator> Model for CellStore<A> {
-    ghost use Rattle.std.specs.Prelude.{◌-◌, ◌≤◌, length, vec_len, vec_capacity};
+    ghost use Rattle.std.specs.Prelude.{◌-◌, ◌≤◌, IfSome, length, vec_len, vec_capacity};
     ghost use Rattle.pw_info.specs.contracts.kind.Kind as kinds;
     ghost use Rattle.pw_facts.specs.contracts.fact.Fact as facts;
     ghost use Rattle.pw_cells.specs.Cells.{Store, most_cells};
     ghost use Rattle.pw_cells.specs.CellCode.{store_code};
+    ghost use Rattle.pw_cells.specs.Recalled.{AreRight};
 
     ghost Value = { Store };
 
@@ -40,7 +44,7 @@ impl<A: Allocator> Model for CellStore<A> {
       room = vec_capacity a.cells - vec_len a.cells;
     } };
 
-    ghost invariant = { λ a. length a.cells.items ≤ most_cells };
+    ghost invariant = { λ a. (length a.cells.items ≤ most_cells) × IfSome a.recalled.slots (AreRight a.cells.items) };
 }
 
 impl<A: Allocator + Copy> CellStore<A> {
@@ -50,6 +54,7 @@ impl<A: Allocator + Copy> CellStore<A> {
     {
         CellStore {
             cells: Vec::new(alloc),
+            recalled: Answers::none(),
         }
     }
 
@@ -107,7 +112,9 @@ impl<A: Allocator + Copy> CellStore<A> {
         ensures room { self.new.room ≡ self.old.room }
         ensures err { OnErr result (self.new ≡ self.old) }
     {
-        self.cells[cell as usize].tell(&fact)
+        self.cells[cell as usize].tell(&fact)?;
+        self.recalled.take_in(cell, &fact);
+        Ok(())
     }
 
     /// Assimilates a fact: keeps it, and drops the kept facts that it subsumes. `false` where a kept fact subsumed it, and
@@ -141,24 +148,52 @@ impl<A: Allocator + Copy> CellStore<A> {
         self.cells[cell as usize].told(worldview)
     }
 
+    /// What `told` answers. Where much was told of the cell the last answers are remembered, by who asked, and what is told since
+    /// is taken into them: so the same question again costs a step. Nothing shows it. It takes no memory. The cell is there;
+    /// the asker may be any number.
+    pub fn recall(&mut self, asker: u8, cell: u32, worldview: &PremiseSet) -> Info
+        requires { cell < length self.old.cells }
+        ensures value { result ≡ told_in self.old cell worldview.now }
+        ensures kind { kind_of result ≡ kind_in_store self.old cell }
+        ensures unchanged { self.new ≡ self.old }
+    {
+        if self.cells[cell as usize].is_told_little() {
+            return self.cells[cell as usize].told(worldview);
+        }
+        if let Some(info) = self.recalled.find(asker, cell, worldview) {
+            return info;
+        }
+        let info = self.cells[cell as usize].told(worldview);
+        let answer = Recalled {
+            cell,
+            worldview: *worldview,
+            info,
+        };
+        self.recalled.remember(asker, answer);
+        info
+    }
+
     /// What is kept of the cell, in a worldview: the merge of the kept facts whose premises are all in it, with premises
     /// of the worldview that it rests on. It takes no memory. The cell is there.
-    pub fn kept(&self, cell: u32, worldview: &PremiseSet) -> Fact
-        requires { cell < length self.now.cells }
+    ///
+    /// What was told of the cell since is assimilated only now, which nothing shows.
+    pub fn kept(&mut self, cell: u32, worldview: &PremiseSet) -> Fact
+        requires { cell < length self.old.cells }
+        ensures unchanged { self.new ≡ self.old }
         // It is the merge of the kept facts that are visible, one after another in some order.
-        ensures merge { IsMergeOfAll (visible_facts worldview.now (kept_at self.now cell)) result }
-        ensures info { result.info ≡ kept_in self.now cell worldview.now }
-        ensures kind { kind_of result.info ≡ kind_in_store self.now cell }
+        ensures merge { IsMergeOfAll (visible_facts worldview.now (kept_at self.old cell)) result }
+        ensures info { result.info ≡ kept_in self.old cell worldview.now }
+        ensures kind { kind_of result.info ≡ kind_in_store self.old cell }
         ensures within { is_subset result.support worldview.now ≡ true }
         // These premises give the same information.
-        ensures same { kept_in self.now cell result.support ≡ result.info }
+        ensures same { kept_in self.old cell result.support ≡ result.info }
         // Each is a premise of a fact that is kept of the cell.
-        ensures rests { ArePremisesOf (kept_at self.now cell) result.support }
+        ensures rests { ArePremisesOf (kept_at self.old cell) result.support }
         // What is kept says at least what was told.
-        ensures told { Implies result.info (told_in self.now cell worldview.now) }
+        ensures told { Implies result.info (told_in self.old cell worldview.now) }
         // A worldview that has these premises keeps at least as much, and one inside the worldview at most as much.
-        ensures larger { IsLeastAbove result.support (kept_in self.now cell) result.info }
-        ensures smaller { IsMostBelow worldview.now (kept_in self.now cell) result.info }
+        ensures larger { IsLeastAbove result.support (kept_in self.old cell) result.info }
+        ensures smaller { IsMostBelow worldview.now (kept_in self.old cell) result.info }
     {
         self.cells[cell as usize].kept(worldview)
     }

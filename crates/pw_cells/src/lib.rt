@@ -4,8 +4,7 @@
 mod cell_facts;
 mod cell_store;
 pub mod laws;
+mod recalled;
+mod supports;
 
 pub use cell_store::CellStore;
-
-#[cfg(test)]
-mod tests;

@@ -168,3 +168,7 @@ empty_word a h = (
   λ e. ap (λ n. set_where 64 (has_bit n)) (eqb-true a 0 e) ∙ none_in_word,
   λ e. eq-eqb a 0 (sym (number_of-set_where a h) ∙ ap (number_of 64) (e ∙ sym none_in_word) ∙ number_of-set_where 0 (omega arith)),
 )
+
+-- the word of a set is the number of the set
+pub number_of_word : (n : ℕ) (s : FinSet nat_cmp) → n < 2 ^ 64 → set_where 64 (has_bit n) ≡ s → number_of 64 s ≡ n
+number_of_word n s h is = sym (ap (number_of 64) is) ∙ number_of-set_where n h

@@ -7,6 +7,7 @@ ghost use Rattle.pw_premises.specs.Numbers.{numbers_of};
 ghost use Rattle.pw_premises.specs.Premises.{most_premises};
 
 use crate::numbers::Numbers;
+use std::hash::{Hash, Hasher};
 use std::marker::Model;
 
 /// A set of premises, each named by its number below 64.
@@ -155,6 +156,22 @@ impl Eq for PremiseSet {
     ghost use Rattle.pw_premises.specs.PremiseSubsets.{same_numbers_equiv};
 
     ghost laws = { same_numbers_equiv };
+}
+
+impl Hash for PremiseSet {
+    ghost use Rattle.std.specs.Hash as fed;
+    ghost use Rattle.std.proofs.Common.{ap};
+    ghost use Rattle.pw_premises.specs.PremiseBits.{number_of};
+    ghost use Rattle.pw_premises.specs.PremiseSubsets.{same_numbers_equal};
+
+    ghost hash_input = { λ s. fed.u64 (number_of 64 s) };
+
+    ghost respects_eq = { λ s t e. ap (λ u. fed.u64 (number_of 64 u)) ((same_numbers_equal s t).0 e) };
+
+    #[tactic(auto, using(crate::proofs::PremiseWords::number_of_word))]
+    fn hash<H: Hasher>(&self, state: &mut H) {
+        state.write_u64(self.bits);
+    }
 }
 
 #[cfg(test)]

@@ -33,17 +33,18 @@ struct Left {
 // Premises of the worldview that are enough for the information, where what is kept of the cell there says it.
 fn kept_support<A: Allocator + Copy>(
     network: &Network<'_, '_, A>,
-    store: &CellStore<A>,
+    store: &mut CellStore<A>,
     info: &Info,
     cell: u32,
     worldview: &PremiseSet,
 ) -> Option<PremiseSet>
-    requires kinds { kinds_of store.now ≡ kinds_in (network_by network.now) }
-    requires sound { IsSound (network_by network.now) store.now }
+    requires kinds { kinds_of store.old ≡ kinds_in (network_by network.now) }
+    requires sound { IsSound (network_by network.now) store.old }
     requires cell { cell < cells_in (network_by network.now) }
-    requires kind { kind_of (value_in (network_by network.now) store.now worldview.now cell)
+    requires kind { kind_of (value_in (network_by network.now) store.old worldview.now cell)
         ≡ kind_of info.now }
-    ensures { IfSome result (AreEnough (network_by network.now) store.now cell info.now worldview.now) }
+    ensures unchanged { store.new ≡ store.old }
+    ensures enough { IfSome result (AreEnough (network_by network.now) store.old cell info.now worldview.now) }
 {
     // The network is the one that the store is for.
     let _instances = network.instances();

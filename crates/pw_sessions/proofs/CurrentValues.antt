@@ -34,7 +34,7 @@ use Rattle.pw_settle.proofs.SettledStores.{kept_settled}
 use Rattle.pw_settle.proofs.SettledValues.{kinds_many}
 use Rattle.pw_sessions.specs.Session.{IsCurrent, KeepsValues}
 use Rattle.pw_sessions.specs.Steps.{TakesFact}
-use Rattle.pw_sessions.proofs.SoundStores.{cell_added, cell_stays, more_kept, sound_attached, sound_told}
+use Rattle.pw_settle.proofs.SoundStores.{cell_added, cell_stays, more_kept, sound_attached, sound_told}
 use Rattle.pw_settle.proofs.WiderNetworks.{value_says_told}
 
 -- as many cells are kept as the network has
@@ -173,7 +173,7 @@ module _ (network : Network) (well : IsWellNetwork network) (old new : Store) (c
   pub current_told : (settled : Settled) → is_subset fact.support settled.worldview ≡ false → IsCurrent network old settled → IsCurrent network new settled
   current_told settled hidden is =
       current_from_kept network well new (takes.kinds ∙ same) settled
-      (fits_more network old new settled (more_kept network old new same cell fact kind takes) is.fits) is.none_newer
+      (fits_more network old new settled (more_kept network old new same cell fact kind takes.kept takes.others) is.fits) is.none_newer
       (λ c. is.said c ∙ sym (is.kept c) ∙ sym (kept_unseen settled.worldview hidden c))
       (λ c below. also_implies (told_in new c settled.worldview) (value_in network old settled.worldview c) (kept_in new c settled.worldview)
       (sym (is.kept c) ∙ sym (kept_unseen settled.worldview hidden c))

@@ -27,7 +27,7 @@ use Rattle.pw_sessions.specs.Workbench.{IsLeftBy, IsSetUpFor, Workbench, beliefs
 use Rattle.pw_sessions.proofs.AskedCells.{well_left}
 use Rattle.pw_sessions.proofs.EntriesRise.{rise_before}
 use Rattle.pw_sessions.proofs.FreshUsers.{fresh_attached}
-use Rattle.pw_sessions.proofs.StoreLemmas.{kinds_added}
+use Rattle.pw_settle.proofs.StoreCells.{kinds_added}
 use Rattle.pw_settle.proofs.WiderNetworks.{kinds_with_attached, widened_under}
 use Rattle.pw_sessions.proofs.WorkbenchLemmas.{store_kind}
 use Rattle.pw_sessions.proofs.WrittenCells.{is_written-from, written_is}

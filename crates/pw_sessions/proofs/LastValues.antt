@@ -29,7 +29,7 @@ use Rattle.pw_sessions.specs.Session.{IsCurrent, Session, IsSessionOf, after_ent
 use Rattle.pw_sessions.specs.Steps.{OnlyKeepsMore, StoreFits, TakesFact}
 use Rattle.pw_sessions.specs.Workbench.{SessionsFit, Workbench, beliefs_in}
 use Rattle.pw_sessions.proofs.CurrentValues.{current_attached, current_keeping, current_told, hidden_after}
-use Rattle.pw_sessions.proofs.SoundStores.{more_kept, sound_same}
+use Rattle.pw_settle.proofs.SoundStores.{more_kept, sound_same}
 
 -- where each that fits still does, they do
 all_fit : (network after : Network) (old new : Store) → ((session : Session) → IsSessionOf network old session → IsSessionOf after new session) →
@@ -96,7 +96,7 @@ pub sessions_told : (network : Network) → IsWellNetwork network → (old new :
     SessionsFit network old sessions → SessionsFit network new (map (option_map (after_entry fact.support)) sessions)
 sessions_told network well old new cell fact same kind takes sound =
     all_after fact.support network network old new (λ session fits. record {
-      fits = fits_more network old new session.values (more_kept network old new same cell fact kind takes) fits.fits;
+      fits = fits_more network old new session.values (more_kept network old new same cell fact kind takes.kept takes.others) fits.fits;
       declared = fits.declared;
       current = λ is.
           let known = known_still fact.support session is in

@@ -26,7 +26,6 @@ pub mod NotedPremises
 pub mod NotedSessions
 pub mod StoreLemmas
 pub mod Uncounted
-pub mod SoundStores
 pub mod WorkbenchLemmas
 pub mod WrittenCells
 pub mod WrittenLemmas

@@ -13,9 +13,9 @@ use Rattle.pw_settle.proofs.KeptFacts.{also_implies}
 use Rattle.pw_settle.proofs.WiderNetworks.{wide_self}
 use Rattle.pw_reasons.specs.Nogood.{AreNogoods, IsNogood}
 use Rattle.pw_reasons.proofs.NogoodLemmas.{nogoods_same, wider_nogood}
-use Rattle.pw_sessions.proofs.SoundStores.{cell_stays, more_told}
+use Rattle.pw_settle.proofs.SoundStores.{cell_stays, more_told}
 use Rattle.pw_sessions.specs.Steps.{TakesFact}
-use Rattle.pw_sessions.proofs.StoreLemmas.{cells_kept}
+use Rattle.pw_settle.proofs.StoreCells.{cells_kept}
 
 -- where a fact is told
 pub nogoods_told : (network : Network) → IsWellNetwork network → (old new : Store) (cell : ℕ) (fact : Fact) → kinds_of old ≡ kinds_in network →

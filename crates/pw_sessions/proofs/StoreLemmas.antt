@@ -1,8 +1,8 @@
 -- The store of a workbench: it has the cells of the network, and was told of each what the entries tell.
-use Rattle.std.proofs.Common.{◌≡◌, ◌≢◌, ℕ, ◌+◌, ◌<◌, ◌≤◌, List, [], ◌∷◌, ◌++◌, true, false, length, get_or, map, refl, sym, ap, ◌∙◌, subst, inl, inr, arith}
+use Rattle.std.proofs.Common.{◌≡◌, ◌≢◌, ℕ, ◌+◌, ◌<◌, List, [], ◌∷◌, ◌++◌, true, false, length, get_or, map, sym, ap, ◌∙◌, subst, inl, inr, arith}
 use Rattle.std.specs.Prelude.{nat_eq}
 use Rattle.std.proofs.lemmas.Bool.{cases_Bool}
-use Rattle.std.proofs.lemmas.List.{length-append, length-map, get_or_append_left, get_or-append-add, map-append}
+use Rattle.std.proofs.lemmas.List.{length-map, get_or_append_left, get_or-append-add}
 use Rattle.std.proofs.Math.ListN.{get_or-map}
 use Rattle.pw_info.specs.declared.kind.Kind.{Kind}
 use Rattle.pw_info.specs.declared.kind.Kind.TheVariants as kinds
@@ -17,9 +17,8 @@ use Rattle.pw_cells.specs.Cells.{Cell, Store, cell_at, kind_in_store, kinds_of, 
 use Rattle.pw_decl.specs.declared.step.Callable.{Callable}
 use Rattle.pw_decl.specs.Declaration.{Declared}
 use Rattle.pw_decl.specs.Expansion.{inner_kinds_of}
-use Rattle.pw_decl.specs.Limits.{most_inner_cells}
 use Rattle.pw_network.specs.Names.{Name, DeclaredCell, name_in}
-use Rattle.pw_network.specs.Network.{InnerCell, IsWellNetwork, Network, cells_in, kind_in, with_attached}
+use Rattle.pw_network.specs.Network.{Network, cells_in, kind_in, with_attached}
 use Rattle.pw_network.proofs.NameLemmas.{declared_name, kept_name}
 use Rattle.pw_settle.specs.Fixpoint.{nothing_known, told_of}
 use Rattle.pw_settle.specs.NumberTest.{nat_eq_decides}
@@ -43,35 +42,9 @@ kind_still : (old new : Store) (cell : ℕ) → kinds_of new ≡ kinds_of old �
 kind_still old new cell still =
     sym (kind_found new cell) ∙ ap (λ (ks : List Kind). get_or ks cell kinds.Interval) still ∙ kind_found old cell
 
--- new cells have the kinds that they were made with
-kinds_again : (ks : List Kind) → map (λ (c : Cell). c.kind) (map new_cell ks) ≡ ks
-kinds_again [] = refl
-kinds_again (k ∷ ks) = ap (λ (l : List Kind). k ∷ l) (kinds_again ks)
-
--- new cells have their kinds, after the others
-pub kinds_added : (cs : List Cell) (ks : List Kind) → map (λ (c : Cell). c.kind) (cs ++ map new_cell ks) ≡ map (λ (c : Cell). c.kind) cs ++ ks
-kinds_added cs ks =
-    map-append (λ (c : Cell). c.kind) cs (map new_cell ks) ∙ ap (λ (l : List Kind). map (λ (c : Cell). c.kind) cs ++ l) (kinds_again ks)
-
 -- a new cell was told nothing
 told_nothing : (c : Cell) (k : Kind) (w : Premises) → c ≡ new_cell k → cells.told_of c w ≡ nothing c.kind
 told_nothing c k w new = ap (λ (x : Cell). cells.told_of x w) new ∙ ap (λ (x : Cell). nothing x.kind) (sym new)
-
--- where the store has the kinds of a network, it has its cells
-pub cells_kept : (network : Network) (store : Store) → IsWellNetwork network → kinds_of store ≡ kinds_in network → length store.cells ≡ cells_in network
-cells_kept network store well fits =
-    let kept = length-map store.cells (λ (c : Cell). c.kind) in
-    let same = ap length fits in
-    let all = length-append network.declared.kinds (map (λ (inner : InnerCell). inner.kind) network.inner) in
-    let inner = length-map network.inner (λ (inner : InnerCell). inner.kind) in
-    omega (arith, well.declared.kinds)
-
--- so there is room for the inner cells of one more attachment
-pub room_for_inner : (network : Network) (store : Store) → IsWellNetwork network → kinds_of store ≡ kinds_in network →
-    length store.cells + most_inner_cells ≤ cells.most_cells
-room_for_inner network store well fits =
-    let same = cells_kept network store well fits in
-    omega (arith, well.lines, well.few, well.declared.cells)
 
 -- ---- what the store was told, cell by cell
 

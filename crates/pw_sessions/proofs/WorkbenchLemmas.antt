@@ -37,10 +37,11 @@ use Rattle.pw_sessions.proofs.EntriesRise.{rise_before}
 use Rattle.pw_sessions.proofs.FurtherLines.{entries_before-snoc, beliefs_at-snoc}
 use Rattle.pw_sessions.proofs.LastValues.{no_sessions, sessions_attached, sessions_same, sessions_told}
 use Rattle.pw_sessions.proofs.NotedPremises.{nogoods_attached, nogoods_kept, nogoods_told}
-use Rattle.pw_sessions.proofs.SoundStores.{rests_attached, rests_new, rests_same, rests_told, sound_attached, sound_new, sound_same, sound_told}
+use Rattle.pw_settle.proofs.SoundStores.{rests_attached, rests_new, rests_same, rests_told, sound_attached, sound_new, sound_same, sound_told}
 use Rattle.pw_sessions.specs.Session.{after_entry}
 use Rattle.pw_settle.proofs.WiderNetworks.{kinds_with_attached, widened_under}
-use Rattle.pw_sessions.proofs.StoreLemmas.{TellsEntries, WasTold-from_tells, kind_found, kinds_added, tells_attached, tells_from_WasTold, tells_more, tells_of_new}
+use Rattle.pw_settle.proofs.StoreCells.{kinds_added}
+use Rattle.pw_sessions.proofs.StoreLemmas.{TellsEntries, WasTold-from_tells, kind_found, tells_attached, tells_from_WasTold, tells_more, tells_of_new}
 
 -- ---- premises of tells
 

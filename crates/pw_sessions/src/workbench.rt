@@ -300,7 +300,7 @@ impl<'d, 'r, A: Allocator + Copy> Workbench<'d, 'r, A> {
         }
         let beliefs = self.beliefs_of(user);
         if !is_written_by(self.network.instances(), cell, &beliefs) {
-            return Reply::Value(self.store.told(cell, &beliefs));
+            return Reply::Value(self.store.recall(user, cell, &beliefs));
         }
         let Ok(settled) = self.settle_for(user) else {
             return Reply::Refused(Refusal::Memory);

@@ -25,3 +25,5 @@ pub mod FittingValues
 pub mod FittingLaws
 pub mod NewInstances
 pub mod WiderNetworks
+pub mod SoundStores
+pub mod StoreCells

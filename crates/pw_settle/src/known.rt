@@ -25,14 +25,15 @@ pub(crate) struct Known<A: Allocator = Global> {
 // What is kept of the cells of the store in the worldview. It fails only for want of memory.
 pub(crate) fn read_kept<A: Allocator + Copy>(
     alloc: A,
-    store: &CellStore<A>,
+    store: &mut CellStore<A>,
     worldview: &PremiseSet,
 ) -> Result<Known<A>, AllocError>
+    ensures unchanged { store.new ≡ store.old }
     ensures kept { IfOk result (λ known.
-        AreKept store.now worldview.now known.infos.items known.supports.items) }
-    ensures told { IfOk result (λ known. SaysTold store.now worldview.now) }
+        AreKept store.old worldview.now known.infos.items known.supports.items) }
+    ensures told { IfOk result (λ known. SaysTold store.old worldview.now) }
     ensures upstream { IfOk result (λ known. (network : Networks) (given : ℕ → ℕ → Bool)
-        → RestsUpstream network given store.now → LieUpstream network given known.supports.items) }
+        → RestsUpstream network given store.old → LieUpstream network given known.supports.items) }
 {
     let mut infos = Vec::with_capacity(alloc, store.cells() as usize)?;
     let mut supports = Vec::with_capacity(alloc, store.cells() as usize)?;

@@ -106,22 +106,23 @@ fn due_instances<A: Allocator + Copy>(
     alloc: A,
     before: &Settled<A>,
     network: &Network<'_, '_, A>,
-    store: &CellStore<A>,
+    store: &mut CellStore<A>,
     worldview: &PremiseSet,
     visible: &[bool],
 ) -> Result<(Known<A>, Agenda<A>), AllocError>
-    requires kinds { kinds_of store.now ≡ kinds_in (network_by network.now) }
-    requires fits { IsFitting (network_by network.now) store.now before.now }
+    requires kinds { kinds_of store.old ≡ kinds_in (network_by network.now) }
+    requires fits { IsFitting (network_by network.now) store.old before.now }
     requires within { is_subset before.now.worldview worldview.now ≡ true }
     requires visible { visible.now ≡ map (is_visible worldview.now) (network_by network.now).attached }
+    ensures unchanged { store.new ≡ store.old }
     ensures kept { IfOk result (λ (known, agenda).
-        AreKept store.now worldview.now known.infos.items known.supports.items) }
-    ensures told { IfOk result (λ (known, agenda). SaysTold store.now worldview.now) }
+        AreKept store.old worldview.now known.infos.items known.supports.items) }
+    ensures told { IfOk result (λ (known, agenda). SaysTold store.old worldview.now) }
     ensures upstream { IfOk result (λ (known, agenda). (given : ℕ → ℕ → Bool)
-        → RestsUpstream (network_by network.now) given store.now
+        → RestsUpstream (network_by network.now) given store.old
         → LieUpstream (network_by network.now) given known.supports.items) }
     ensures due { IfOk result (λ (known, agenda).
-        AreDue (network_by network.now) store.now worldview.now before.now agenda) }
+        AreDue (network_by network.now) store.old worldview.now before.now agenda) }
 {
     let mut agenda = new_instances(alloc, network, visible, before)?;
     let known = read_kept(alloc, store, worldview)?;

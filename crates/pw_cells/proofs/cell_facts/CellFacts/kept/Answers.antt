@@ -1,6 +1,10 @@
-use Rattle.std.proofs.Common.{◌∙◌, ap}
+use Rattle.std.proofs.Common.{List, sym, ◌∙◌, ap, subst, arith}
 use Rattle.pw_info.specs.Information.{kind_of}
+use Rattle.pw_facts.specs.declared.fact.Fact.{Fact}
 use Rattle.pw_cells.specs.Cells.{Cell}
+use Rattle.pw_cells.specs.OneCell.{AreOfKind}
+use Rattle.pw_cells.proofs.Tells.{whole_caught_up}
+use Rattle.pw_cells.specs.Assimilated.{all_assimilated}
 use Rattle.pw_cells.proofs.Together.{kind-shown_by, larger_shown}
 use Rattle.pw_cells.proofs.cell_facts.CellFacts.kept.Goals as goal
 
@@ -9,9 +13,23 @@ returns-clause-kind g c =
     ap kind_of c.merged.ensures.stands.info ∙ kind-shown_by c.self.inside.kind c.args.worldview.now c.as_slice.result.now ∙ ap (λ (cell : Cell). cell.kind) c.self.view_is
 
 pub returns-clause-larger : goal.returns-clause-larger
-returns-clause-larger g c = λ w sub. rw (← c.merged.ensures.stands.same, c.as_slice.ensures.value, ← c.self.view_is)
-    (larger_shown c.self.inside.kind c.merged.result.support w c.self.inside.kept.items sub)
+returns-clause-larger g c = λ w sub. rw (← c.merged.ensures.stands.same, c.as_slice.ensures.value, c.assimilate_late.ensures.kept, ← c.self.view_is)
+    (larger_shown c.self.inside.kind c.merged.result.support w (all_assimilated c.self.inside.kept.items c.self.inside.late.items) sub)
 
 pub returns-clause-smaller : goal.returns-clause-smaller
-returns-clause-smaller g c = λ w sub. rw (c.merged.ensures.stands.info, c.as_slice.ensures.value, ← c.self.view_is)
-    (larger_shown c.self.inside.kind w c.args.worldview.now c.self.inside.kept.items sub)
+returns-clause-smaller g c = λ w sub. rw (c.merged.ensures.stands.info, c.as_slice.ensures.value, c.assimilate_late.ensures.kept, ← c.self.view_is)
+    (larger_shown c.self.inside.kind w c.args.worldview.now (all_assimilated c.self.inside.kept.items c.self.inside.late.items) sub)
+
+pub merged-requires : goal.merged-requires
+merged-requires g c =
+    let self = c.self.inside in
+    let whole = whole_caught_up self.kind self.told.items self.supports self.kept.items self.late.items c.self.invariant.0 in
+    subst (AreOfKind self.kind) (sym {A = List Fact} (c.as_slice.ensures.value ∙ c.assimilate_late.ensures.kept)) whole.kept_kinds
+
+pub invariant_of-self : goal.invariant_of-self
+invariant_of-self g c =
+    let self = c.self.inside in (
+      rw (c.assimilate_late.ensures.kept, c.assimilate_late.ensures.late)
+          (whole_caught_up self.kind self.told.items self.supports self.kept.items self.late.items c.self.invariant.0),
+      omega (arith, c.assimilate_late.ensures.none, c.assimilate_late.new.kept.ok),
+    )

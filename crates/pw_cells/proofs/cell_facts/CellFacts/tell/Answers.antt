@@ -1,26 +1,71 @@
-use Rattle.std.proofs.Common.{◌≡◌, List, sym, ◌∙◌, ap, subst}
-use Rattle.std.specs.Prelude.{◌↔◌, IsTrue}
-use Rattle.pw_info.specs.Information.{kind_of}
+use Rattle.std.proofs.Common.{◌≡◌, ◌+◌, ◌≤◌, true, false, if◌then◌else◌, Bool, List, [], ◌∷◌, ◌++◌, map, vec_len, vec_capacity, inl, inr, sym, ◌∙◌, ap, subst, arith}
+use Rattle.std.proofs.lemmas.Bool.{cases_Bool}
+use Rattle.pw_info.specs.Information.{kind_of, meet}
+use Rattle.pw_info.specs.declared.kind.Kind.{Kind}
 use Rattle.pw_facts.specs.declared.fact.Fact.{Fact}
-use Rattle.pw_cells.specs.Cells.{Cell, IsSubsumedBy}
+use Rattle.pw_facts.specs.Facts.{shows}
+use Rattle.pw_cells.specs.Assimilated.{assimilated, all_assimilated}
+use Rattle.pw_cells.specs.Cells.{Cell, shown_by, IsSubsumedBy}
 use Rattle.pw_cells.specs.Changes.{Assimilates}
-use Rattle.pw_cells.specs.OneCell.{IsWhole}
-use Rattle.pw_cells.proofs.Wholes.{whole_told}
+use Rattle.pw_cells.specs.OneCell.{AreOfKind, with_support, ShowsMore}
+use Rattle.pw_cells.proofs.Tells.{whole_told, late_more, kept_more}
 use Rattle.pw_cells.proofs.cell_facts.CellFacts.tell.Goals as goal
 
-pub assimilate-requires-clause-known : goal.assimilate-requires-clause-known
-assimilate-requires-clause-known g c =
-    subst (λ (l : List Fact). IsTrue c.is_subsumed-known.result ↔ IsSubsumedBy l c.args.fact.now) (c.as_slice-2.ensures.value ∙ sym c.reserve_unless-2.ensures.items) c.is_subsumed-known.ensures
+pub is_lately_subsumed-known-requires : goal.is_lately_subsumed-known-requires
+is_lately_subsumed-known-requires g c =
+    let is : kind_of c.args.fact.now.info ≡ c.self.inside.kind = c.requires ∙ sym (ap (λ (cell : Cell). cell.kind) c.self.view_is) in
+    subst (λ (l : List Fact). AreOfKind (kind_of c.args.fact.now.info) l) (sym c.as_slice.ensures.value)
+    (subst (λ (k : Kind). AreOfKind k c.self.inside.late.items) (sym is) c.self.invariant.0.late_kinds)
 
 pub invariant_of-self-2 : goal.invariant_of-self-2
 invariant_of-self-2 g c =
-    let is : kind_of c.args.fact.now.info ≡ c.self.inside.kind = c.requires ∙ sym (ap (λ (cell : Cell). cell.kind) c.self.view_is) in
-    let before : IsWhole c.self.inside.kind c.reserve_unless.new.facts.items c.reserve_unless-2.new.facts.items =
-    rw (c.reserve_unless.ensures.items, c.reserve_unless-2.ensures.items) c.self.invariant in
-    whole_told c.self.inside.kind c.args.fact.now c.reserve_unless.new.facts.items c.reserve_unless-2.new.facts.items c.add_told.new.told.items c.assimilate.new.kept.items
-    is before c.add_told.ensures.kinds c.assimilate.ensures.kinds c.add_told.ensures.one_each c.assimilate.ensures.apart c.add_told.ensures.shown c.assimilate.ensures.shown
+    let self = c.self.inside in
+    let f = c.args.fact.now in
+    let is : kind_of f.info ≡ self.kind = c.requires ∙ sym (ap (λ (cell : Cell). cell.kind) c.self.view_is) in
+    let known = c.is_lately_subsumed-known.result in
+    let by : known ≡ true → IsSubsumedBy self.late.items f = λ e.
+    subst (λ (l : List Fact). IsSubsumedBy l f) c.as_slice.ensures.value (c.is_lately_subsumed-known.ensures e) in
+    let told' = c.add_told.new.told.items in
+    let supports : c.add_unless.new.self ≡ map (λ (x : Fact). x.support) told' =
+    c.in_ok-add_unless.ensures.ok
+    ∙ ap (with_support c.place_of-place.result f.support) (c.self.invariant.0.known ∙ ap (map (λ (x : Fact). x.support)) (sym c.reserve_unless.ensures.items))
+    ∙ sym c.add_told.ensures.supports in
+    let shown : ShowsMore f self.told.items told' = subst (λ (l : List Fact). ShowsMore f l told') c.reserve_unless.ensures.items c.add_told.ensures.shown in
+    let whole = whole_told self.kind f self.told.items self.supports self.kept.items self.late.items told' c.add_unless.new.self known is c.self.invariant.0 by c.add_told.ensures.kinds supports shown in (
+      rw (c.reserve_late.ensures.kept, c.add_late.ensures.items, c.reserve_late.ensures.late) whole,
+      elim (cases_Bool known) [
+        | inl e ↦ let same = c.add_late.ensures.known e in omega (arith, same, c.reserve_late.ensures.room)
+        | inr e ↦ let more = c.in_ok-reserve_late.ensures.more e in omega (arith, more, c.add_late.ensures.len)
+      ],
+    )
+
+pub returns-clause-kept : goal.returns-clause-kept
+returns-clause-kept g c =
+    let self = c.self.inside in
+    let f = c.args.fact.now in
+    let is : kind_of f.info ≡ self.kind = c.requires ∙ sym (ap (λ (cell : Cell). cell.kind) c.self.view_is) in
+    let known = c.is_lately_subsumed-known.result in
+    let by : known ≡ true → IsSubsumedBy self.late.items f = λ e.
+    subst (λ (l : List Fact). IsSubsumedBy l f) c.as_slice.ensures.value (c.is_lately_subsumed-known.ensures e) in
+    let view = all_assimilated self.kept.items self.late.items in
+    let after : all_assimilated c.reserve_late.new.kept.items c.add_late.new.late.items ≡ assimilated view f =
+    rw (c.reserve_late.ensures.kept, c.add_late.ensures.items, c.reserve_late.ensures.late)
+    (late_more self.kind f self.told.items self.supports self.kept.items self.late.items known is c.self.invariant.0 by) in
+    let more = kept_more self.kind f self.told.items self.supports self.kept.items self.late.items is c.self.invariant.0 in
+    λ w. ap (shown_by self.kind w) after ∙ more.shown w ∙ ap (λ (cell : Cell). meet (shown_by cell.kind w cell.kept) (shows w f)) c.self.view_is
 
 pub returns-clause-assimilates : goal.returns-clause-assimilates
 returns-clause-assimilates g c =
-    subst (λ (l : List Fact). Assimilates c.args.fact.now l c.assimilate.new.kept.items) (c.reserve_unless-2.ensures.items ∙ ap (λ (cell : Cell). cell.kept) c.self.view_is)
-    c.assimilate.ensures.assimilates
+    let self = c.self.inside in
+    let f = c.args.fact.now in
+    let is : kind_of f.info ≡ self.kind = c.requires ∙ sym (ap (λ (cell : Cell). cell.kind) c.self.view_is) in
+    let known = c.is_lately_subsumed-known.result in
+    let by : known ≡ true → IsSubsumedBy self.late.items f = λ e.
+    subst (λ (l : List Fact). IsSubsumedBy l f) c.as_slice.ensures.value (c.is_lately_subsumed-known.ensures e) in
+    let view = all_assimilated self.kept.items self.late.items in
+    let after : all_assimilated c.reserve_late.new.kept.items c.add_late.new.late.items ≡ assimilated view f =
+    rw (c.reserve_late.ensures.kept, c.add_late.ensures.items, c.reserve_late.ensures.late)
+    (late_more self.kind f self.told.items self.supports self.kept.items self.late.items known is c.self.invariant.0 by) in
+    let more = kept_more self.kind f self.told.items self.supports self.kept.items self.late.items is c.self.invariant.0 in
+    subst (λ (l : List Fact). Assimilates f l (all_assimilated c.reserve_late.new.kept.items c.add_late.new.late.items)) (ap (λ (cell : Cell). cell.kept) c.self.view_is)
+    (subst (Assimilates f view) (sym {A = List Fact} after) more.assimilates)

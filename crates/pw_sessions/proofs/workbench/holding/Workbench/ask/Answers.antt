@@ -1,6 +1,6 @@
 use Rattle.std.proofs.Common.{◌≡◌, true, Some, sym, ap, ◌∙◌, subst, arith, inl}
 use Rattle.std.proofs.lemmas.Bool.{both_ways}
-use Rattle.pw_cells.specs.Cells.{told_in}
+use Rattle.pw_cells.specs.Cells.{Store, told_in}
 use Rattle.pw_network.specs.Fields.{network_by}
 use Rattle.pw_sessions.specs.Fields.{workbench_by}
 use Rattle.pw_sessions.specs.Freshness.{IsAsked}
@@ -10,11 +10,11 @@ use Rattle.pw_sessions.specs.Workbench.{Workbench, beliefs_in}
 use Rattle.pw_sessions.proofs.AskedCells.{told_answers}
 use Rattle.pw_sessions.proofs.FreshUsers.{asked_known, asked_quiet, asked_remembered}
 use Rattle.pw_sessions.proofs.LastValues.{only_keeps_itself, only_keeps_then, only_remembers, session_of}
-use Rattle.pw_sessions.proofs.StoreLemmas.{cells_kept}
+use Rattle.pw_settle.proofs.StoreCells.{cells_kept}
 use Rattle.pw_sessions.proofs.workbench.holding.Workbench.ask.Goals as goal
 
-pub told-requires : goal.told-requires
-told-requires g c =
+pub recall-requires : goal.recall-requires
+recall-requires g c =
     let same = cells_kept (network_by c.args.self.now.network) c.args.self.now.store c.args.self.now.network.well c.requires.fits.kinds in
     omega (arith, c.requires.cell)
 
@@ -35,20 +35,27 @@ returns-in-Some-clause-grows g c = only_keeps_itself (workbench_by c.args.self.n
 pub returns-then-not-is_written_by-clause-answer : goal.returns-then-not-is_written_by-clause-answer
 returns-then-not-is_written_by-clause-answer g c = λ d before left.
     let written = c.is_written_by.ensures ∙ (λ i. is_written (c.instances.ensures.instances i) c.args.cell (c.beliefs_of-beliefs.ensures i)) in
-    let told = c.told.ensures.value ∙ ap (told_in c.args.self.now.store c.args.cell) c.beliefs_of-beliefs.ensures in
-    told_answers d before (workbench_by c.args.self.now) c.args.user c.args.cell c.told.result c.args.self.now.network.well left c.requires.cell
+    let told = c.recall.ensures.value ∙ ap (told_in c.args.self.now.store c.args.cell) c.beliefs_of-beliefs.ensures in
+    told_answers d before (workbench_by c.args.self.now) c.args.user c.args.cell c.recall.result c.args.self.now.network.well left c.requires.cell
     (sym written ∙ c.if-not-is_written_by.true) told
 
 pub returns-then-not-is_written_by-clause-asked : goal.returns-then-not-is_written_by-clause-asked
 returns-then-not-is_written_by-clause-asked g c =
     let written = c.is_written_by.ensures ∙ (λ i. is_written (c.instances.ensures.instances i) c.args.cell (c.beliefs_of-beliefs.ensures i)) in
-    asked_quiet (workbench_by c.args.self.now) c.args.user _ _
+    let old : Workbench = workbench_by c.args.self.now in
+    let same : record old { store = c.recall.new.self } ≡ old = ap (λ (s : Store). record old { store = s }) c.recall.ensures.unchanged in
+    let Settling : Type 0 = is_written old.network.attached c.args.cell (beliefs_in old c.args.user) ≡ true in
+    subst (λ (new : Workbench). IsAsked old c.args.user Settling new (reply.Value c.recall.result)) (sym {A = Workbench} same)
+    (asked_quiet old c.args.user Settling (reply.Value c.recall.result)
     (λ is. both_ways (is_written (network_by c.args.self.now.network).attached c.args.cell (beliefs_in (workbench_by c.args.self.now) c.args.user))
     (sym written ∙ c.if-not-is_written_by.true) is)
-    c.requires.calls
+    c.requires.calls)
 
 pub returns-then-not-is_written_by-clause-grows : goal.returns-then-not-is_written_by-clause-grows
-returns-then-not-is_written_by-clause-grows g c = only_keeps_itself (workbench_by c.args.self.now) c.args.user
+returns-then-not-is_written_by-clause-grows g c =
+    let old : Workbench = workbench_by c.args.self.now in
+    let same : record old { store = c.recall.new.self } ≡ old = ap (λ (s : Store). record old { store = s }) c.recall.ensures.unchanged in
+    subst (OnlyKeepsMore old c.args.user) (sym {A = Workbench} same) (only_keeps_itself old c.args.user)
 
 -- ---- what settles
 

@@ -1,6 +1,6 @@
 use Rattle.std.proofs.Common.{length, ap, arith}
 use Rattle.pw_network.specs.Fields.{network_by}
-use Rattle.pw_sessions.proofs.StoreLemmas.{room_for_inner}
+use Rattle.pw_settle.proofs.StoreCells.{room_for_inner}
 use Rattle.pw_sessions.proofs.workbench.holding.Workbench.attach.Goals as goal
 
 pub add_cells-requires : goal.add_cells-requires

@@ -17,7 +17,7 @@ use Rattle.pw_sessions.proofs.AskedCells.{well_left}
 use Rattle.pw_sessions.proofs.CarriedCommands.{carried_ask, carried_attach, carried_beliefs, carried_believe, carried_conflicts, carried_doubt, carried_keeping, carried_tell, carried_why, refused_attach, refused_tell}
 use Rattle.pw_sessions.proofs.FreshLines.{asks_written, attached_seen, kind_of_told, store_fits, written_asks}
 use Rattle.pw_sessions.proofs.FreshUsers.{counts_none, fresh_believed, fresh_refused, fresh_told, keeps_fresh, question_counts, question_keeps}
-use Rattle.pw_sessions.proofs.StoreLemmas.{cells_kept}
+use Rattle.pw_settle.proofs.StoreCells.{cells_kept}
 use Rattle.pw_sessions.proofs.workbench.holding.Workbench.carry_out.Goals as goal
 
 -- ---- a tell

@@ -19,16 +19,12 @@ use Rattle.pw_cells.specs.Cells.{Cell, Store, cell_at, kept_at, kept_in, kept_of
 use Rattle.pw_cells.specs.Changes.{AssimilatesAt, GainsKept, GainsTold, LeavesOthers}
 use Rattle.pw_cells.proofs.Together.{kind-shown_by, meet_first}
 use Rattle.pw_network.specs.Network.{Attached, Network, IsWellNetwork}
-use Rattle.pw_settle.specs.Growth.{KeepsMore}
-use Rattle.pw_settle.specs.Settled.{IsSettled, Settled, support_at}
 use Rattle.pw_settle.specs.Sound.{IsSound, LiesUpstream, RestsUpstream}
 use Rattle.pw_settle.specs.Values.{kinds_in, value_in}
 use Rattle.pw_settle.specs.Wider.{IsWider}
-use Rattle.pw_settle.proofs.Growing.{same_value}
 use Rattle.pw_settle.proofs.KeptFacts.{also_implies, by_cell, implies_also, implies_merge, kind-in_value, kind-kept}
 use Rattle.pw_settle.proofs.Membership.{each_member}
 use Rattle.pw_settle.proofs.WiderNetworks.{still_attached, value_says_told, value_wider, wide_self}
-use Rattle.pw_sessions.specs.Steps.{TakesFact}
 
 -- ---- what is kept follows
 
@@ -107,12 +103,12 @@ meet_second i j one_kind = also_implies j (meet j i) (meet i j) (meet_comm j i (
 
 -- so it keeps no less than before
 pub more_kept : (network : Network) (old new : Store) → kinds_of old ≡ kinds_in network → (cell : ℕ) (fact : Fact) → kind_of fact.info ≡ kind_in_store old cell →
-    TakesFact cell fact old new → (c : ℕ) (w : Premises) → Implies (kept_in new c w) (kept_in old c w)
-more_kept network old new same cell fact kind takes c w =
+    GainsKept cell fact old new → LeavesOthers cell old new → (c : ℕ) (w : Premises) → Implies (kept_in new c w) (kept_in old c w)
+more_kept network old new same cell fact kind gains others c w =
     by_cell (λ c. Implies (kept_in new c w) (kept_in old c w)) cell
-    (also_implies (kept_in old cell w) (meet (kept_in old cell w) (shows w fact)) (kept_in new cell w) (sym (takes.kept w))
+    (also_implies (kept_in old cell w) (meet (kept_in old cell w) (shows w fact)) (kept_in new cell w) (sym (gains w))
     (meet_first (kept_in old cell w) (shows w fact) (kind-kept old cell w ∙ sym kind ∙ sym (kind-shows w fact))))
-    (λ c other. also_implies (kept_in old c w) (kept_in old c w) (kept_in new c w) (sym (ap (λ (x : Cell). kept_of x w) (takes.others c other)))
+    (λ c other. also_implies (kept_in old c w) (kept_in old c w) (kept_in new c w) (sym (ap (λ (x : Cell). kept_of x w) (others c other)))
     (λ v possible. possible)) c
 
 -- and no less is told

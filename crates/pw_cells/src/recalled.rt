@@ -1,0 +1,86 @@
+// Answers of late on what was told, which what is told since is taken into.
+
+ghost use Rattle.std.specs.Prelude.{◌≡◌, None, List, All, IfSome, map};
+ghost use Rattle.std.specs.Option.{option_map};
+ghost use Rattle.pw_info.specs.Information.{kind_of};
+ghost use Rattle.pw_cells.specs.Cells.{Cell, told_at};
+ghost use Rattle.pw_cells.specs.Recalled.{AreRight, IsRight, after_tell};
+
+use pw_facts::Fact;
+use pw_info::Info;
+use pw_premises::PremiseSet;
+
+// So many answers are remembered.
+const ANSWERS: usize = 16;
+
+// What is told of a cell in a worldview.
+#[derive(Clone, Copy)]
+pub(crate) struct Recalled {
+    pub(crate) cell: u32,
+    pub(crate) worldview: PremiseSet,
+    pub(crate) info: Info,
+}
+
+// The last answers, each at the place of who asked, once there are any.
+#[derive(Clone, Copy)]
+pub(crate) struct Answers {
+    pub(crate) slots: Option<[Recalled; ANSWERS]>,
+}
+
+impl Answers {
+    // No answer.
+    pub(crate) fn none() -> Answers
+        ensures { result.slots ≡ None }
+    {
+        Answers { slots: None }
+    }
+
+    // The last answer to the asker, where that was on this cell in this worldview. Where the answers are right, it is what is told.
+    pub(crate) fn find(&self, asker: u8, cell: u32, worldview: &PremiseSet) -> Option<Info>
+        ensures { IfSome result (λ info. (cells : List Cell) → IfSome self.now.slots (AreRight cells)
+            → info ≡ told_at cells cell worldview.now) }
+    {
+        let slots = self.slots.as_ref()?;
+        let last = slots[usize::from(asker) % ANSWERS];
+        if last.cell == cell && last.worldview == *worldview {
+            Some(last.info)
+        } else {
+            None
+        }
+    }
+
+    // Remembers an answer to the asker in place of the last. Where it is right, and the others were, all are.
+    pub(crate) fn remember(&mut self, asker: u8, answer: Recalled)
+        ensures { (cells : List Cell) → IfSome self.old.slots (AreRight cells) → IsRight cells answer
+            → IfSome self.new.slots (AreRight cells) }
+    {
+        match &mut self.slots {
+            Some(slots) => slots[usize::from(asker) % ANSWERS] = answer,
+            None => self.slots = Some([answer; ANSWERS]),
+        }
+    }
+
+    // Takes a fact that was told of the cell, and is of its kind, into the answers on it.
+    #[inline(always)]
+    pub(crate) fn take_in(&mut self, cell: u32, fact: &Fact)
+        requires { IfSome self.old.slots (All (λ answer. answer.cell ≡ cell → kind_of answer.info ≡ kind_of fact.now.info)) }
+        ensures { self.new.slots ≡ option_map (map (after_tell cell fact.now)) self.old.slots }
+    {
+        if let Some(slots) = &mut self.slots {
+            take_into_each(slots, cell, fact);
+        }
+    }
+}
+
+// Takes the fact into each of the answers that are on the cell.
+fn take_into_each(answers: &mut [Recalled], cell: u32, fact: &Fact)
+    requires { All (λ answer. answer.cell ≡ cell → kind_of answer.info ≡ kind_of fact.now.info) answers.old }
+    ensures { answers.new ≡ map (after_tell cell fact.now) answers.old }
+{
+    for place in 0..answers.len() {
+        let answer = answers[place];
+        if answer.cell == cell && fact.support.is_subset(&answer.worldview) {
+            answers[place].info = answer.info.meet(&fact.info);
+        }
+    }
+}
