@@ -1,7 +1,6 @@
 pub mod Cuts
 pub mod Digits
 pub mod Dots
-pub mod ExampleNames
 pub mod FirstLemmas
 pub mod Informations
 pub mod LaneLemmas

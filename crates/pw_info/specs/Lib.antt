@@ -1,6 +1,5 @@
 pub mod Bytes
 pub mod Cut
-pub mod ExampleNames
 pub mod First
 pub mod Information
 pub mod Lanes

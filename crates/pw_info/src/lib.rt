@@ -27,6 +27,3 @@ pub use text::{read_info, write_info};
 pub use text_lines::TextLines;
 pub use word_names::{are_names, read_name};
 pub use words::{Words, allows_all, idles};
-
-#[cfg(test)]
-mod tests;

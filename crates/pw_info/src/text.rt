@@ -145,6 +145,3 @@ fn write_number<O: Output>(number: i64, output: &mut O) -> Result<(), Failed>
     let mut digits = Buffer::new();
     put_all(output, digits.format(number).as_bytes())
 }
-
-#[cfg(test)]
-mod tests;

@@ -30,10 +30,3 @@ pub use signature::{Signature, are_equal_kinds};
 pub use slot::Slot;
 pub use stored::{Body, Stored};
 pub use table::signature_of;
-
-#[cfg(test)]
-mod evaluator;
-#[cfg(test)]
-mod stored_tests;
-#[cfg(test)]
-mod tests;

@@ -12,8 +12,6 @@ use std::alloc::{AllocError, Allocator, Global};
 
 mod fault;
 mod holding;
-#[cfg(test)]
-mod tests;
 
 pub use fault::RegistryFault;
 pub use holding::Registry;

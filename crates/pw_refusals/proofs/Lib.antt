@@ -1,3 +1,3 @@
+mod ExampleNames
 mod Grants
-mod HostLemmas
 mod StageLemmas

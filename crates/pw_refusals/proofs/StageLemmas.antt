@@ -9,8 +9,8 @@ use Rattle.pw_network.specs.Network.{IsWellNetwork, Network, with_attached}
 use Rattle.pw_settle.specs.Values.{kinds_in}
 use Rattle.pw_settle.specs.Wider.{IsWider}
 use Rattle.pw_settle.proofs.FittingLaws.{fits_added, fits_wider}
-use Rattle.pw_sessions.proofs.SoundStores.{sound_attached}
-use Rattle.pw_sessions.proofs.StoreLemmas.{cells_kept, kinds_added}
+use Rattle.pw_settle.proofs.SoundStores.{sound_attached}
+use Rattle.pw_settle.proofs.StoreCells.{cells_kept, kinds_added}
 use Rattle.pw_settle.proofs.WiderNetworks.{kinds_with_attached, wide_attached}
 use Rattle.pw_refusals.specs.Settling.{IsReady, LeavesFitting}
 

@@ -1,3 +1,3 @@
-pub mod Host
+pub mod ExampleNames
 pub mod Refused
 pub mod Settling

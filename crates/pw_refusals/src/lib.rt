@@ -1,6 +1,7 @@
-//! For tests alone: an allocator that refuses the growths that a test chooses, a host that uses the workbench as a library, and
-//! the tests that need the allocator or cross crates: helpers first (`texts`, `procedures`, `worlds`, `sessions`, `ends`, `facts`), then a
-//! folder for each thing tested.
+//! For tests alone: an allocator that refuses the growths that a test chooses, and tests of what stands below sessions: those that
+//! need the allocator or cross crates, and all of `pw_info` and `pw_procs`, which would be proved twice with tests of their own.
+//! Helpers come first (`texts`, `procedures` and `worlds`, which the tests of `pw_runs` use too, and `facts`), then a folder for each
+//! thing tested.
 #![tactic(auto)]
 
 ghost use Rattle.std.specs.Prelude.{◌≡◌, ℕ, ◌<◌, ◌≤◌, ◌^◌, ◌↔◌, IsTrue};
@@ -9,9 +10,9 @@ ghost use Rattle.pw_refusals.specs.Refused.{IsRefused};
 use std::alloc::{AllocError, Allocator};
 use std::cell::Cell;
 
-mod host;
-
-pub use host::{Matter, asked_by_two};
+pub mod procedures;
+pub mod texts;
+pub mod worlds;
 
 /// An allocator that passes each call on to the one it holds, but refuses some growths.
 ///
@@ -105,17 +106,15 @@ unsafe impl<B: Allocator> Allocator for Refusing<B> {
 }
 
 #[cfg(test)]
-mod counting;
-#[cfg(test)]
 mod declarations;
-#[cfg(test)]
-mod ends;
 #[cfg(test)]
 mod facts;
 #[cfg(test)]
+mod info;
+#[cfg(test)]
 mod networks;
 #[cfg(test)]
-mod procedures;
+mod procs;
 #[cfg(test)]
 mod reasons;
 #[cfg(test)]
@@ -123,14 +122,6 @@ mod refusals;
 #[cfg(test)]
 mod registry;
 #[cfg(test)]
-mod run;
-#[cfg(test)]
-mod sessions;
-#[cfg(test)]
 mod settling;
 #[cfg(test)]
 mod store;
-#[cfg(test)]
-mod texts;
-#[cfg(test)]
-mod worlds;

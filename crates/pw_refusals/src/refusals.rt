@@ -1,5 +1,4 @@
-//! Tests of refused growths: the allocator itself, and declarations and runs on it.
+//! Tests of refused growths: the allocator itself, and declarations on it.
 
 mod declarations;
 mod growths;
-mod runs;

@@ -1,3 +1,4 @@
 //! Tests of registries of procedures.
 
+mod names;
 mod refused;

@@ -239,7 +239,7 @@ fn answer_of<A: Allocator + Copy>(
 fn kept_of<A: Allocator + Copy>(
     alloc: Global,
     network: &Network<'_, '_, A>,
-    store: &CellStore<A>,
+    store: &mut CellStore<A>,
     asked: &[(&str, PremiseSet)],
 ) -> Result<Vec<Fact>, Fail> {
     let mut kept = Vec::new(alloc);
@@ -289,7 +289,7 @@ impl<A: Allocator + Copy> Settling<'_, A> {
                 shown.is_told_the_same = false;
             }
         }
-        shown.kept = kept_of(self.alloc, network, &store, self.asked)?;
+        shown.kept = kept_of(self.alloc, network, &mut store, self.asked)?;
         Ok(shown)
     }
 }

@@ -1,3 +1,4 @@
 //! Tests of the store of facts.
 
 mod refused;
+mod rows;

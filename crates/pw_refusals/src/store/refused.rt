@@ -14,8 +14,9 @@ use std::alloc::Allocator;
 use std::test::Fail;
 
 // What the store shows of its first cell to one who believes the first two premises.
-fn shown<A: Allocator + Copy>(store: &CellStore<A>) -> (Info, Fact)
-    requires { kinds_of store.now ≡ Kind.Interval ∷ Kind.Exact ∷ [] }
+fn shown<A: Allocator + Copy>(store: &mut CellStore<A>) -> (Info, Fact)
+    requires { kinds_of store.old ≡ Kind.Interval ∷ Kind.Exact ∷ [] }
+    ensures { store.new ≡ store.old }
 {
     let both = PremiseSet::first(2);
     (store.told(0, &both), store.kept(0, &both))
@@ -89,7 +90,7 @@ fn shown_at_last<A: Allocator + Copy>(memory: A) -> Result<(u32, Info, Fact), Fa
         .saturating_add(told)
         .saturating_add(kept)
         .saturating_add(again);
-    let (info, known) = shown(&store);
+    let (info, known) = shown(&mut store);
     Ok((refused, info, known))
 }
 
@@ -97,7 +98,7 @@ fn shown_at_last<A: Allocator + Copy>(memory: A) -> Result<(u32, Info, Fact), Fa
 fn a_refused_call_changes_nothing(rt: HostRuntime) -> Result<(), Fail> {
     let (zero, one) = (PremiseSet::one(0), PremiseSet::one(1));
     let mut met = 0u32;
-    for at in 1..20u64 {
+    for at in 1..40u64 {
         let refusing = Refusing::nth(rt.alloc(), at);
         let (refused, info, known) = shown_at_last(&refusing)?;
         assert!(rt; info == fact(4, 9, zero).info, "at {at}");

@@ -1,7 +1,7 @@
 use Rattle.std.proofs.Common.{◌∙◌}
 use Rattle.pw_network.specs.Fields.{network_by}
 use Rattle.pw_settle.proofs.FittingLaws.{fits_more}
-use Rattle.pw_sessions.proofs.SoundStores.{more_kept, sound_told}
+use Rattle.pw_settle.proofs.SoundStores.{more_kept, sound_told}
 use Rattle.pw_refusals.proofs.settling.tell_once.Goals as goal
 
 pub returns : goal.returns
@@ -14,11 +14,5 @@ returns g c = record {
   };
   fits = λ settled. fits_more (network_by c.args.network.now) c.args.store.now c.tell.new.self settled
       (more_kept (network_by c.args.network.now) c.args.store.now c.tell.new.self c.requires.ready.kinds c.args.cell c.args.fact c.requires.kind
-      (record {
-        told = c.in_ok-tell.ensures.told;
-        kept = c.in_ok-tell.ensures.kept;
-        assimilates = c.in_ok-tell.ensures.assimilates;
-        others = c.in_ok-tell.ensures.others;
-        kinds = c.in_ok-tell.ensures.kinds;
-      }));
+      c.in_ok-tell.ensures.kept c.in_ok-tell.ensures.others);
 }

@@ -6,7 +6,7 @@ use Rattle.pw_decl.specs.Declaration.{Declared}
 use Rattle.pw_decl.specs.Expansion.{inner_kinds_of}
 use Rattle.pw_network.specs.Fields.{network_by}
 use Rattle.pw_network.specs.Network.{Network}
-use Rattle.pw_sessions.proofs.StoreLemmas.{room_for_inner}
+use Rattle.pw_settle.proofs.StoreCells.{room_for_inner}
 use Rattle.pw_refusals.proofs.StageLemmas.{fits_attached, ready_attached}
 use Rattle.pw_refusals.proofs.settling.stages.attach_one.Goals as goal
 

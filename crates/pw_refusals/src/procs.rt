@@ -1,0 +1,7 @@
+//! Tests of procedures: their values, signatures and cells.
+
+mod arguments;
+mod evaluator;
+mod signature;
+mod stored;
+mod values;

@@ -1,0 +1,137 @@
+//! What a store answers to a few facts, known beforehand.
+ghost use Rattle.std.specs.Prelude.{◌≡◌, [], ◌∷◌};
+ghost use Rattle.pw_info.specs.Information.{kind_of};
+ghost use Rattle.pw_cells.specs.Cells.{kinds_of};
+
+use crate::facts::fact;
+use pw_cells::CellStore;
+use pw_facts::Fact;
+use pw_info::Kind;
+use pw_premises::PremiseSet;
+use std::alloc::AllocError;
+use std::test::Fail;
+
+// Tells the first of an interval cell and an exact one an interval.
+fn tell(store: &mut CellStore, fact: Fact) -> Result<(), AllocError>
+    requires cells { kinds_of store.old ≡ Kind.Interval ∷ Kind.Exact ∷ [] }
+    requires kind { kind_of fact.info ≡ Kind.Interval }
+    ensures { kinds_of store.new ≡ Kind.Interval ∷ Kind.Exact ∷ [] }
+{
+    store.tell(0, fact)
+}
+
+// Keeps an interval of the interval cell that the store has.
+fn keep(store: &mut CellStore, fact: Fact) -> Result<bool, AllocError>
+    requires cells { kinds_of store.old ≡ Kind.Interval ∷ [] }
+    requires kind { kind_of fact.info ≡ Kind.Interval }
+    ensures { kinds_of store.new ≡ Kind.Interval ∷ [] }
+{
+    store.keep(0, fact)
+}
+
+// Tells the interval cell, under each of the first premises alone, that a number is at least that of the premise.
+fn tell_under_each(store: &mut CellStore, premises: u8) -> Result<(), AllocError>
+    requires { kinds_of store.old ≡ Kind.Interval ∷ Kind.Exact ∷ [] }
+    ensures { kinds_of store.new ≡ Kind.Interval ∷ Kind.Exact ∷ [] }
+{
+    for premise in 0..premises.min(64) {
+        store.tell(0, fact(i64::from(premise), 100, PremiseSet::one(premise)))?;
+    }
+    Ok(())
+}
+
+#[test]
+fn cells_are_added_where_there_is_room(rt: HostRuntime) -> Result<(), Fail> {
+    let mut store = CellStore::new(rt.alloc());
+    store.reserve(2)?;
+    let first = store.add_cells(&[Kind::Interval, Kind::Exact])?;
+    assert_eq!(rt; first, 0);
+    assert_eq!(rt; store.cells(), 2);
+    assert_eq!(rt; store.kind(1), Kind::Exact);
+    let next = store.add_cells(&[Kind::Interval])?;
+    assert_eq!(rt; next, 2);
+    Ok(())
+}
+
+#[test]
+fn subsumed_facts_are_no_news(rt: HostRuntime) -> Result<(), Fail> {
+    let (zero, one, both) = (PremiseSet::one(0), PremiseSet::one(1), PremiseSet::first(2));
+    let mut store = CellStore::new(rt.alloc());
+    store.add_cells(&[Kind::Interval])?;
+    assert!(rt; keep(&mut store, fact(5, 9, zero))?);
+    assert!(rt; !keep(&mut store, fact(5, 9, both))?);
+    assert!(rt; keep(&mut store, fact(6, 9, one))?);
+    assert!(rt; store.kept(0, &both) == fact(6, 9, one));
+    assert!(rt; store.kept(0, &zero) == fact(5, 9, zero));
+    let none = store.kept(0, &PremiseSet::empty());
+    assert!(rt; none.info.is_nothing() && none.support.is_empty());
+    Ok(())
+}
+
+#[test]
+fn facts_of_one_support_are_told_together(rt: HostRuntime) -> Result<(), Fail> {
+    let (zero, both) = (PremiseSet::one(0), PremiseSet::first(2));
+    let mut store = CellStore::new(rt.alloc());
+    store.add_cells(&[Kind::Interval, Kind::Exact])?;
+    tell(&mut store, fact(5, 9, zero))?;
+    tell(&mut store, fact(7, 12, zero))?;
+    let met = fact(7, 9, zero);
+    assert!(rt; store.told(0, &both) == met.info);
+    assert!(rt; store.kept(0, &both) == met);
+    assert!(rt; store.told(0, &PremiseSet::one(1)).is_nothing());
+    assert!(rt; store.told(1, &both).is_nothing() && store.kept(1, &both).info.is_nothing());
+    Ok(())
+}
+
+#[test]
+fn facts_of_many_supports_are_told_together(rt: HostRuntime) -> Result<(), Fail> {
+    let (three, all) = (PremiseSet::one(3), PremiseSet::first(64));
+    let mut store = CellStore::new(rt.alloc());
+    store.add_cells(&[Kind::Interval, Kind::Exact])?;
+    tell_under_each(&mut store, 20)?;
+    tell_under_each(&mut store, 20)?;
+    tell(&mut store, fact(50, 60, three))?;
+    assert!(rt; store.told(0, &three) == fact(50, 60, three).info);
+    assert!(rt; store.told(0, &PremiseSet::first(3)) == fact(2, 100, three).info);
+    assert!(rt; store.kept(0, &three) == fact(50, 60, three));
+    assert!(rt; store.kept(0, &all) == fact(50, 60, three));
+    assert!(rt; store.kept(0, &PremiseSet::first(3)) == fact(2, 100, PremiseSet::one(2)));
+    Ok(())
+}
+
+#[test]
+fn what_is_told_since_is_recalled(rt: HostRuntime) -> Result<(), Fail> {
+    let (zero, one, both) = (PremiseSet::one(0), PremiseSet::one(1), PremiseSet::first(2));
+    let mut store = CellStore::new(rt.alloc());
+    store.add_cells(&[Kind::Interval, Kind::Exact])?;
+    assert!(rt; store.recall(0, 0, &both).is_nothing());
+    tell(&mut store, fact(5, 9, zero))?;
+    assert!(rt; store.recall(0, 0, &both) == fact(5, 9, zero).info);
+    tell(&mut store, fact(7, 12, one))?;
+    assert!(rt; store.recall(0, 0, &both) == fact(7, 9, both).info);
+    assert!(rt; store.recall(0, 0, &zero) == fact(5, 9, zero).info);
+    tell(&mut store, fact(8, 20, one))?;
+    assert!(rt; store.recall(0, 0, &zero) == fact(5, 9, zero).info);
+    assert!(rt; store.recall(16, 0, &both) == fact(8, 9, both).info);
+    assert!(rt; store.recall(255, 1, &both).is_nothing());
+    Ok(())
+}
+
+#[test]
+fn what_is_told_since_is_recalled_among_many_facts(rt: HostRuntime) -> Result<(), Fail> {
+    let (first, half) = (PremiseSet::one(0), PremiseSet::first(10));
+    let all = PremiseSet::first(64);
+    let mut store = CellStore::new(rt.alloc());
+    store.add_cells(&[Kind::Interval, Kind::Exact])?;
+    tell_under_each(&mut store, 20)?;
+    assert!(rt; store.recall(0, 0, &half) == fact(9, 100, half).info);
+    assert!(rt; store.recall(1, 0, &all) == fact(19, 100, all).info);
+    assert!(rt; store.recall(16, 0, &first) == fact(0, 100, first).info);
+    tell(&mut store, fact(3, 60, first))?;
+    tell(&mut store, fact(50, 90, PremiseSet::one(15)))?;
+    assert!(rt; store.recall(0, 0, &half) == fact(9, 60, half).info);
+    assert!(rt; store.recall(1, 0, &all) == fact(50, 60, all).info);
+    assert!(rt; store.recall(16, 0, &first) == fact(3, 60, first).info);
+    assert!(rt; store.recall(0, 0, &all) == fact(50, 60, all).info);
+    Ok(())
+}

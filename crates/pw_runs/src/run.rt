@@ -1,0 +1,12 @@
+//! Tests of `run`: what is written for what is read.
+
+mod attachments;
+mod failing_ends;
+mod limits;
+mod pace;
+mod putting;
+mod reasons;
+mod refused;
+mod refused_lines;
+mod replies;
+mod taking;
