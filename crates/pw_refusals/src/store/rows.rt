@@ -1,12 +1,12 @@
 //! What a store answers to a few facts, known beforehand.
-ghost use Rattle.std.specs.Prelude.{◌≡◌, [], ◌∷◌};
+ghost use Rattle.std.specs.Prelude.{◌≡◌, ◌<◌, [], ◌∷◌};
 ghost use Rattle.pw_info.specs.Information.{kind_of};
 ghost use Rattle.pw_cells.specs.Cells.{kinds_of};
 
 use crate::facts::fact;
 use pw_cells::CellStore;
 use pw_facts::Fact;
-use pw_info::Kind;
+use pw_info::{Info, Kind};
 use pw_premises::PremiseSet;
 use std::alloc::AllocError;
 use std::test::Fail;
@@ -18,6 +18,32 @@ fn tell(store: &mut CellStore, fact: Fact) -> Result<(), AllocError>
     ensures { kinds_of store.new ≡ Kind.Interval ∷ Kind.Exact ∷ [] }
 {
     store.tell(0, fact)
+}
+
+// Asks what was told of a cell of the two.
+fn told(store: &CellStore, cell: u32, worldview: &PremiseSet) -> Info
+    requires cells { kinds_of store.now ≡ Kind.Interval ∷ Kind.Exact ∷ [] }
+    requires there { cell < 2 }
+{
+    store.told(cell, worldview)
+}
+
+// Asks what is kept of a cell of the two.
+fn kept(store: &mut CellStore, cell: u32, worldview: &PremiseSet) -> Fact
+    requires cells { kinds_of store.old ≡ Kind.Interval ∷ Kind.Exact ∷ [] }
+    requires there { cell < 2 }
+    ensures { kinds_of store.new ≡ Kind.Interval ∷ Kind.Exact ∷ [] }
+{
+    store.kept(cell, worldview)
+}
+
+// Asks, as a user of this number, what was told of a cell of the two.
+fn recall(store: &mut CellStore, asker: u8, cell: u32, worldview: &PremiseSet) -> Info
+    requires cells { kinds_of store.old ≡ Kind.Interval ∷ Kind.Exact ∷ [] }
+    requires there { cell < 2 }
+    ensures { kinds_of store.new ≡ Kind.Interval ∷ Kind.Exact ∷ [] }
+{
+    store.recall(asker, cell, worldview)
 }
 
 // Keeps an interval of the interval cell that the store has.
@@ -76,10 +102,12 @@ fn facts_of_one_support_are_told_together(rt: HostRuntime) -> Result<(), Fail> {
     tell(&mut store, fact(5, 9, zero))?;
     tell(&mut store, fact(7, 12, zero))?;
     let met = fact(7, 9, zero);
-    assert!(rt; store.told(0, &both) == met.info);
-    assert!(rt; store.kept(0, &both) == met);
-    assert!(rt; store.told(0, &PremiseSet::one(1)).is_nothing());
-    assert!(rt; store.told(1, &both).is_nothing() && store.kept(1, &both).info.is_nothing());
+    assert!(rt; told(&store, 0, &both) == met.info);
+    assert!(rt; kept(&mut store, 0, &both) == met);
+    assert!(rt; told(&store, 0, &PremiseSet::one(1)).is_nothing());
+    assert!(rt;
+        told(&store, 1, &both).is_nothing() && kept(&mut store, 1, &both).info.is_nothing()
+    );
     Ok(())
 }
 
@@ -91,11 +119,11 @@ fn facts_of_many_supports_are_told_together(rt: HostRuntime) -> Result<(), Fail>
     tell_under_each(&mut store, 20)?;
     tell_under_each(&mut store, 20)?;
     tell(&mut store, fact(50, 60, three))?;
-    assert!(rt; store.told(0, &three) == fact(50, 60, three).info);
-    assert!(rt; store.told(0, &PremiseSet::first(3)) == fact(2, 100, three).info);
-    assert!(rt; store.kept(0, &three) == fact(50, 60, three));
-    assert!(rt; store.kept(0, &all) == fact(50, 60, three));
-    assert!(rt; store.kept(0, &PremiseSet::first(3)) == fact(2, 100, PremiseSet::one(2)));
+    assert!(rt; told(&store, 0, &three) == fact(50, 60, three).info);
+    assert!(rt; told(&store, 0, &PremiseSet::first(3)) == fact(2, 100, three).info);
+    assert!(rt; kept(&mut store, 0, &three) == fact(50, 60, three));
+    assert!(rt; kept(&mut store, 0, &all) == fact(50, 60, three));
+    assert!(rt; kept(&mut store, 0, &PremiseSet::first(3)) == fact(2, 100, PremiseSet::one(2)));
     Ok(())
 }
 
@@ -104,16 +132,16 @@ fn what_is_told_since_is_recalled(rt: HostRuntime) -> Result<(), Fail> {
     let (zero, one, both) = (PremiseSet::one(0), PremiseSet::one(1), PremiseSet::first(2));
     let mut store = CellStore::new(rt.alloc());
     store.add_cells(&[Kind::Interval, Kind::Exact])?;
-    assert!(rt; store.recall(0, 0, &both).is_nothing());
+    assert!(rt; recall(&mut store, 0, 0, &both).is_nothing());
     tell(&mut store, fact(5, 9, zero))?;
-    assert!(rt; store.recall(0, 0, &both) == fact(5, 9, zero).info);
+    assert!(rt; recall(&mut store, 0, 0, &both) == fact(5, 9, zero).info);
     tell(&mut store, fact(7, 12, one))?;
-    assert!(rt; store.recall(0, 0, &both) == fact(7, 9, both).info);
-    assert!(rt; store.recall(0, 0, &zero) == fact(5, 9, zero).info);
+    assert!(rt; recall(&mut store, 0, 0, &both) == fact(7, 9, both).info);
+    assert!(rt; recall(&mut store, 0, 0, &zero) == fact(5, 9, zero).info);
     tell(&mut store, fact(8, 20, one))?;
-    assert!(rt; store.recall(0, 0, &zero) == fact(5, 9, zero).info);
-    assert!(rt; store.recall(16, 0, &both) == fact(8, 9, both).info);
-    assert!(rt; store.recall(255, 1, &both).is_nothing());
+    assert!(rt; recall(&mut store, 0, 0, &zero) == fact(5, 9, zero).info);
+    assert!(rt; recall(&mut store, 16, 0, &both) == fact(8, 9, both).info);
+    assert!(rt; recall(&mut store, 255, 1, &both).is_nothing());
     Ok(())
 }
 
@@ -124,14 +152,14 @@ fn what_is_told_since_is_recalled_among_many_facts(rt: HostRuntime) -> Result<()
     let mut store = CellStore::new(rt.alloc());
     store.add_cells(&[Kind::Interval, Kind::Exact])?;
     tell_under_each(&mut store, 20)?;
-    assert!(rt; store.recall(0, 0, &half) == fact(9, 100, half).info);
-    assert!(rt; store.recall(1, 0, &all) == fact(19, 100, all).info);
-    assert!(rt; store.recall(16, 0, &first) == fact(0, 100, first).info);
+    assert!(rt; recall(&mut store, 0, 0, &half) == fact(9, 100, half).info);
+    assert!(rt; recall(&mut store, 1, 0, &all) == fact(19, 100, all).info);
+    assert!(rt; recall(&mut store, 16, 0, &first) == fact(0, 100, first).info);
     tell(&mut store, fact(3, 60, first))?;
     tell(&mut store, fact(50, 90, PremiseSet::one(15)))?;
-    assert!(rt; store.recall(0, 0, &half) == fact(9, 60, half).info);
-    assert!(rt; store.recall(1, 0, &all) == fact(50, 60, all).info);
-    assert!(rt; store.recall(16, 0, &first) == fact(3, 60, first).info);
-    assert!(rt; store.recall(0, 0, &all) == fact(50, 60, all).info);
+    assert!(rt; recall(&mut store, 0, 0, &half) == fact(9, 60, half).info);
+    assert!(rt; recall(&mut store, 1, 0, &all) == fact(50, 60, all).info);
+    assert!(rt; recall(&mut store, 16, 0, &first) == fact(3, 60, first).info);
+    assert!(rt; recall(&mut store, 0, 0, &all) == fact(50, 60, all).info);
     Ok(())
 }
