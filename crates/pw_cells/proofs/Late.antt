@@ -1,6 +1,6 @@
 -- What facts come to that are assimilated one after another.
-use Rattle.std.proofs.Common.{◌≡◌, ◌⊎◌, ℕ, ◌<◌, Bool, true, false, not, cond, List, [], ◌∷◌, ◌++◌, filter, inl, inr, refl, sym, ◌∙◌, ap, subst, arith}
-use Rattle.std.specs.Prelude.{◌↔◌, IsTrue, fold, All, Contains}
+use Rattle.std.proofs.Common.{◌≡◌, ◌⊎◌, ℕ, ◌<◌, true, false, not, cond, List, [], ◌∷◌, ◌++◌, inl, inr, sym, ◌∙◌, ap, subst, arith}
+use Rattle.std.specs.Prelude.{Contains}
 use Rattle.std.specs.List.{list_any}
 use Rattle.std.proofs.lemmas.Bool.{cases_Bool, eqb-true, eq-eqb}
 use Rattle.std.proofs.lemmas.List.Elements.{All-nil, All-cons, All-head, All-tail, All-weaker, All-contains, Contains-push, Contains-push_cases, Contains-append_cases, Contains-append_left, Contains-append_right}
@@ -15,7 +15,7 @@ use Rattle.pw_info.proofs.Ranks.{rank_gain}
 use Rattle.pw_premises.specs.Premises.{Premises}
 use Rattle.pw_facts.specs.declared.fact.Fact.{Fact}
 use Rattle.pw_facts.specs.Facts.{shows, Subsumes}
-use Rattle.pw_facts.proofs.Shown.{subsumes_refl, subsumes_trans}
+use Rattle.pw_facts.proofs.Shown.{subsumes_trans}
 use Rattle.pw_cells.specs.Cells.{shown_by, IsSubsumedBy}
 use Rattle.pw_cells.specs.Changes.{Assimilates}
 use Rattle.pw_cells.specs.Assimilated.{does_subsume, unsubsumed, assimilated, all_assimilated}

@@ -1,6 +1,6 @@
 -- What is true of the facts of a cell stays true when one more is told or kept, and when what is late is assimilated.
-use Rattle.std.proofs.Common.{◌≡◌, true, false, List, [], ◌∷◌, ◌++◌, if◌then◌else◌, Bool, cond, refl, sym, ◌∙◌, ap, subst}
-use Rattle.std.specs.Prelude.{map, All}
+use Rattle.std.proofs.Common.{◌≡◌, true, false, List, [], ◌∷◌, ◌++◌, if◌then◌else◌, Bool, refl, sym, ◌∙◌, ap, subst}
+use Rattle.std.specs.Prelude.{map}
 use Rattle.std.proofs.lemmas.List.Elements.{All-nil, All-push}
 use Rattle.pw_info.specs.declared.kind.Kind.{Kind}
 use Rattle.pw_info.specs.declared.info.Info.{Info}
@@ -10,7 +10,7 @@ use Rattle.pw_facts.specs.declared.fact.Fact.{Fact}
 use Rattle.pw_facts.specs.Facts.{shows}
 use Rattle.pw_cells.specs.Cells.{shown_by, IsSubsumedBy}
 use Rattle.pw_cells.specs.Assimilated.{assimilated, all_assimilated}
-use Rattle.pw_cells.specs.OneCell.{AreOfKind, AreApart, IsWhole, ShowsMore}
+use Rattle.pw_cells.specs.OneCell.{AreOfKind, IsWhole, ShowsMore}
 use Rattle.pw_cells.proofs.Together.{kind_together, meet_first, meet_keeps}
 use Rattle.pw_cells.proofs.Late.{IsAssimilation, assimilation, any_subsumes, assimilated_known, late_kinds_apart, late_push, subsumed_late}
 

@@ -1,5 +1,5 @@
 -- Premises that contradict themselves do so still, as more is told and attached.
-use Rattle.std.proofs.Common.{◌≡◌, ℕ, List, ◌++◌, All, length, map, sym, ap, ◌∙◌, subst, arith}
+use Rattle.std.proofs.Common.{◌≡◌, ℕ, List, ◌++◌, map, sym, ap, ◌∙◌, arith}
 use Rattle.std.proofs.lemmas.List.Elements.{All-weaker}
 use Rattle.pw_info.specs.declared.kind.Kind.{Kind}
 use Rattle.pw_info.specs.Information.{kind_of}

@@ -1,7 +1,6 @@
 -- The reply to a line is that to the same line of a text in which all is empty that it does not rest on.
-use Rattle.std.proofs.Common.{◌≡◌, ℕ, zero, suc, ◌+◌, ◌<◌, ◌≤◌, Bool, true, false, List, [], ◌∷◌, ◌++◌, length, take, drop, map, Option, Some, None, slice_get, Contains, refl, sym, ap, ◌∙◌, subst, append-nil, append_assoc, length-append, arith}
+use Rattle.std.proofs.Common.{◌≡◌, ℕ, zero, suc, ◌+◌, Bool, true, false, List, [], ◌∷◌, ◌++◌, length, take, drop, map, Option, Some, slice_get, Contains, refl, sym, ap, ◌∙◌, subst, append-nil, append_assoc, arith}
 use Rattle.std.specs.Prelude.{if◌then◌else◌}
-use Rattle.std.proofs.lemmas.Bool.{cases_Bool}
 use Rattle.std.proofs.Math.Seq.{drop-append_seam, take-append_seam}
 use Rattle.pw_info.specs.Lines.{lines_of}
 use Rattle.pw_decl.specs.Declaration.{Declared}
@@ -9,12 +8,12 @@ use Rattle.pw_decl.specs.WellDeclared.{IsWellDeclared}
 use Rattle.pw_sessions.specs.Reply.{Reply}
 use Rattle.pw_sessions.specs.Reply as reply
 use Rattle.pw_sessions.specs.declared.reply.Refusal.TheVariants as refusal
-use Rattle.pw_sessions.specs.Answer.{replies_after, replies_of, reply_to}
+use Rattle.pw_sessions.specs.Answer.{replies_after, reply_to}
 use Rattle.pw_sessions.specs.Blanking.{blanked_for, kept_if, matters_to}
 use Rattle.pw_sessions.specs.LineReading.{LineReading, Blank, Refused}
 use Rattle.pw_sessions.proofs.BlankedLines.{reply-blanked}
 use Rattle.pw_transcript.specs.FromScratch.{GetReplies, ReadAs}
-use Rattle.pw_transcript.specs.Isolation.{BeginsWith, IsLineAt, IsReplyAt, RestsOn, emptied}
+use Rattle.pw_transcript.specs.Isolation.{BeginsWith, IsReplyAt, RestsOn, emptied}
 use Rattle.pw_transcript.specs.Reading.{Reads}
 use Rattle.pw_transcript.proofs.ReadingLemmas.{one_reading}
 

@@ -1,9 +1,7 @@
-use Rattle.std.proofs.Common.{◌≡◌, ◌<◌, List, [], ◌∷◌, ◌++◌, length, get_or, set, map, refl, sym, ◌∙◌, ap, subst, arith}
-use Rattle.std.proofs.lemmas.List.{get_or_default, get_or-map, map-append, length-map}
-use Rattle.std.proofs.lemmas.List.Quantifiers.{position-Some}
+use Rattle.std.proofs.Common.{◌≡◌, ◌<◌, [], ◌∷◌, length, map, refl, sym, ◌∙◌, ap, arith}
+use Rattle.std.proofs.lemmas.List.{get_or_default, map-append}
 use Rattle.std.proofs.Math.Seq.{map-set_same}
 use Rattle.pw_info.specs.Information.{kind_of}
-use Rattle.pw_premises.specs.PremiseSubsets.{has_same_numbers, same_numbers_equal}
 use Rattle.pw_facts.specs.declared.fact.Fact.{Fact}
 use Rattle.pw_cells.proofs.Together.{shown-met}
 use Rattle.pw_cells.proofs.ToldSupports.{at_place}

@@ -2,7 +2,6 @@ use Rattle.std.proofs.Common.{◌≡◌, false, [], ◌∷◌, ◌++◌, refl, s
 use Rattle.std.specs.List.{list_any}
 use Rattle.pw_kinds.proofs.Order.{not_both}
 use Rattle.pw_info.specs.Information.{kind_of}
-use Rattle.pw_facts.specs.declared.fact.Fact.{Fact}
 use Rattle.pw_cells.specs.Assimilated.{does_subsume}
 use Rattle.pw_cells.proofs.Late.{any_subsumes, none_subsume, assimilated_known, assimilated_news}
 use Rattle.pw_cells.proofs.cell_facts.assimilate.Goals as goal

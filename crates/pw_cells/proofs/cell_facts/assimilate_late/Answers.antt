@@ -1,4 +1,4 @@
-use Rattle.std.proofs.Common.{◌≡◌, ◌+◌, ◌<◌, List, [], ◌∷◌, ◌++◌, length, get_or, take, refl, sym, ◌∙◌, ap, subst, arith}
+use Rattle.std.proofs.Common.{◌≡◌, ◌+◌, ◌<◌, List, [], ◌∷◌, ◌++◌, length, get_or, take, sym, ◌∙◌, ap, subst, arith}
 use Rattle.std.specs.Prelude.{◌↔◌, IsTrue}
 use Rattle.std.proofs.lemmas.List.{take_more}
 use Rattle.pw_info.specs.Information.{kind_of}
@@ -7,7 +7,6 @@ use Rattle.pw_cells.specs.Cells.{IsSubsumedBy}
 use Rattle.pw_cells.specs.Assimilated.{assimilated, all_assimilated}
 use Rattle.pw_cells.specs.OneCell.{AreApart, AreOfKind}
 use Rattle.pw_cells.proofs.Late.{assimilation, late_push}
-use Rattle.pw_cells.proofs.cell_facts.assimilate_late.Given as given
 use Rattle.pw_cells.proofs.cell_facts.assimilate_late.Goals as goal
 
 pub assimilate-requires-clause-known : goal.assimilate-requires-clause-known

@@ -1,6 +1,5 @@
 use Rattle.std.proofs.Common.{◌≡◌, ◌+◌, ◌<◌, true, false, [], ◌∷◌, ◌++◌, length, get_or, take, length-set, sym, ◌∙◌, ap, arith}
 use Rattle.std.proofs.lemmas.List.{take_more, take_more_set, drop-set-lt}
-use Rattle.std.proofs.lemmas.Bool.{cases_Bool}
 use Rattle.pw_kinds.proofs.Order.{not_both}
 use Rattle.pw_info.specs.Information.{kind_of}
 use Rattle.pw_cells.specs.Assimilated.{does_subsume}

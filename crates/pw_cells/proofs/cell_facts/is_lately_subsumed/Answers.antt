@@ -1,4 +1,4 @@
-use Rattle.std.proofs.Common.{◌≡◌, ◌-◌, ◌<◌, length, sym, arith}
+use Rattle.std.proofs.Common.{◌-◌, ◌<◌, length, sym, arith}
 use Rattle.pw_cells.proofs.cell_facts.is_lately_subsumed.Goals as goal
 
 pub returns-then-subsumes : goal.returns-then-subsumes

@@ -2,7 +2,7 @@ use Rattle.std.proofs.Common.{◌≡◌, ◌+◌, ◌<◌, true, length, get_or,
 use Rattle.std.specs.FinSet.{is_subset}
 use Rattle.std.proofs.lemmas.Bool.{eq-eqb, ne_eqb}
 use Rattle.std.proofs.lemmas.List.{get_or_default}
-use Rattle.pw_info.specs.Information.{kind_of, meet}
+use Rattle.pw_info.specs.Information.{kind_of}
 use Rattle.pw_cells.specs.declared.recalled.Recalled.{Recalled}
 use Rattle.pw_cells.specs.Recalled.{after_tell}
 use Rattle.pw_cells.proofs.Rests.{same_ahead}

@@ -1,13 +1,13 @@
-use Rattle.std.proofs.Common.{◌≡◌, ℕ, suc, ◌+◌, ◌-◌, true, false, List, [], ◌∷◌, ◌++◌, codes, length, sym, ap, ◌∙◌, subst, arith}
+use Rattle.std.proofs.Common.{◌≡◌, ℕ, suc, ◌+◌, ◌-◌, true, List, [], ◌++◌, codes, length, sym, ap, ◌∙◌, subst, arith}
 use Rattle.std.specs.FinSet.{contains}
 use Rattle.std.specs.List.{flat_map}
 use Rattle.pw_info.specs.Passing.{IsWritten}
 use Rattle.pw_info.proofs.PassingFacts.{broken_off_then, first_fails, second_writes, written_then}
 use Rattle.pw_decl.specs.Declaration.{Declared}
 use Rattle.pw_decl.specs.Fields.{declared_by}
-use Rattle.pw_transcript.specs.ReplyText.{after_space, premise_names, text_of_names}
+use Rattle.pw_transcript.specs.ReplyText.{after_space, text_of_names}
 use Rattle.pw_transcript.specs.Steps.NamesWritten.{has_some, names_below}
-use Rattle.pw_transcript.proofs.PremiseTexts.{below_without, names_at_end, some_below, text_of_none, text_of_some, whole_from, written_with}
+use Rattle.pw_transcript.proofs.PremiseTexts.{below_without, names_at_end, some_below, text_of_none, whole_from, written_with}
 use Rattle.pw_transcript.proofs.reply_text.write_premises.Goals as goal
 use Rattle.pw_transcript.proofs.reply_text.write_premises.Goals.{then-contains+in_ok-write_after_space, else-contains}
 

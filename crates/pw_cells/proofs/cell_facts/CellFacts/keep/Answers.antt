@@ -1,14 +1,13 @@
-use Rattle.std.proofs.Common.{◌≡◌, List, [], not, map, refl, sym, ◌∙◌, ap, subst, arith}
+use Rattle.std.proofs.Common.{◌≡◌, List, not, sym, ◌∙◌, ap, subst, arith}
 use Rattle.std.specs.Prelude.{◌↔◌, IsTrue}
 use Rattle.std.proofs.lemmas.Bool.{not-false}
 use Rattle.pw_info.specs.Information.{kind_of, meet}
-use Rattle.pw_premises.specs.Premises.{Premises}
 use Rattle.pw_facts.specs.declared.fact.Fact.{Fact}
 use Rattle.pw_facts.specs.Facts.{shows}
 use Rattle.pw_cells.specs.Assimilated.{assimilated, all_assimilated}
 use Rattle.pw_cells.specs.Cells.{Cell, shown_by, IsSubsumedBy}
 use Rattle.pw_cells.specs.Changes.{Assimilates}
-use Rattle.pw_cells.specs.OneCell.{AreOfKind, IsWhole}
+use Rattle.pw_cells.specs.OneCell.{AreOfKind}
 use Rattle.pw_cells.proofs.Late.{any_subsumes, assimilated_known}
 use Rattle.pw_cells.proofs.Tells.{whole_caught_up, whole_kept, kept_more}
 use Rattle.pw_cells.proofs.cell_facts.CellFacts.keep.Goals as goal

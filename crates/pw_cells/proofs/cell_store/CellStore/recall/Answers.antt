@@ -1,10 +1,9 @@
-use Rattle.std.proofs.Common.{◌≡◌, ◌<◌, List, length, get_or, sym, ◌∙◌, ap, subst}
+use Rattle.std.proofs.Common.{◌<◌, length, sym, ◌∙◌, ap, subst}
 use Rattle.std.proofs.lemmas.List.{get_or_default}
 use Rattle.pw_info.specs.declared.kind.Kind.TheVariants as kinds
 use Rattle.pw_info.specs.Information.{kind_of}
 use Rattle.pw_cells.specs.Cells.{Cell, Store, new_cell, told_of, told_in}
 use Rattle.pw_cells.proofs.RightAnswers.{kind_told}
-use Rattle.pw_cells.proofs.Stores.{cell_read}
 use Rattle.pw_cells.proofs.cell_store.CellStore.recall.Goals as goal
 
 pub returns-in-Some-clause-kind : goal.returns-in-Some-clause-kind

@@ -1,4 +1,4 @@
-use Rattle.std.proofs.Common.{◌≡◌, List, Option, sym, ◌∙◌, subst, arith}
+use Rattle.std.proofs.Common.{List, Option, sym, ◌∙◌, subst, arith}
 use Rattle.std.specs.Prelude.{IfSome}
 use Rattle.pw_premises.specs.PremiseSubsets.{same_numbers_equal}
 use Rattle.pw_cells.specs.declared.recalled.Recalled.{Recalled}
