@@ -160,6 +160,17 @@ impl<A: Allocator + Copy> CellStore<A> {
         if self.cells[cell as usize].is_told_little() {
             return self.cells[cell as usize].told(worldview);
         }
+        self.recall_much(asker, cell, worldview)
+    }
+
+    // The same, where much was told. Never inlined, so that the usual question makes no room for what is remembered.
+    #[inline(never)]
+    fn recall_much(&mut self, asker: u8, cell: u32, worldview: &PremiseSet) -> Info
+        requires { cell < length self.old.cells }
+        ensures value { result ≡ told_in self.old cell worldview.now }
+        ensures kind { kind_of result ≡ kind_in_store self.old cell }
+        ensures unchanged { self.new ≡ self.old }
+    {
         if let Some(info) = self.recalled.find(asker, cell, worldview) {
             return info;
         }

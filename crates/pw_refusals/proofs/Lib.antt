@@ -1,3 +1,2 @@
 mod ExampleNames
 mod Grants
-mod StageLemmas

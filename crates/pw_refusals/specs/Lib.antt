@@ -1,3 +1,2 @@
 pub mod ExampleNames
 pub mod Refused
-pub mod Settling

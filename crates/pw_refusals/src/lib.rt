@@ -1,7 +1,7 @@
-//! For tests alone: an allocator that refuses the growths that a test chooses, and tests of what stands below sessions: those that
+//! For tests alone: an allocator that refuses the growths that a test chooses, and tests of what stands below networks: those that
 //! need the allocator or cross crates, and all of `pw_info` and `pw_procs`, which would be proved twice with tests of their own.
-//! Helpers come first (`texts`, `procedures` and `worlds`, which the tests of `pw_runs` use too, and `facts`), then a folder for each
-//! thing tested.
+//! Helpers come first (`texts`, `procedures`, `worlds` and `facts`, which the tests of `pw_settlings` and `pw_runs` use too), then a
+//! folder for each thing tested.
 #![tactic(auto)]
 
 ghost use Rattle.std.specs.Prelude.{◌≡◌, ℕ, ◌<◌, ◌≤◌, ◌^◌, ◌↔◌, IsTrue};
@@ -10,6 +10,7 @@ ghost use Rattle.pw_refusals.specs.Refused.{IsRefused};
 use std::alloc::{AllocError, Allocator};
 use std::cell::Cell;
 
+pub mod facts;
 pub mod procedures;
 pub mod texts;
 pub mod worlds;
@@ -108,20 +109,12 @@ unsafe impl<B: Allocator> Allocator for Refusing<B> {
 #[cfg(test)]
 mod declarations;
 #[cfg(test)]
-mod facts;
-#[cfg(test)]
 mod info;
 #[cfg(test)]
-mod networks;
-#[cfg(test)]
 mod procs;
-#[cfg(test)]
-mod reasons;
 #[cfg(test)]
 mod refusals;
 #[cfg(test)]
 mod registry;
-#[cfg(test)]
-mod settling;
 #[cfg(test)]
 mod store;

@@ -1,7 +1,6 @@
 //! Tests of procedures: their values, signatures and cells.
 
 mod arguments;
-mod evaluator;
 mod signature;
 mod stored;
 mod values;

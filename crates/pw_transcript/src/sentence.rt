@@ -1,7 +1,8 @@
 //! The form of a command line: who speaks, and what the words of the command are there for.
 
-ghost use Rattle.std.specs.Prelude.{◌≡◌, ◌<◌, ℕ, [], List, None, Some, length, MatchOption, option_map};
+ghost use Rattle.std.specs.Prelude.{◌≡◌, ◌<◌, ℕ, [], List, None, Some, codes, length, MatchOption, option_map};
 ghost use Rattle.std.specs.Option.{option_copied};
+ghost use Rattle.std.specs.Str.{bytes_eq};
 ghost use Rattle.pw_info.specs.Words.{words_of};
 ghost use Rattle.pw_transcript.specs.Sentence as spec;
 ghost use Rattle.pw_transcript.specs.Steps.Forms.{TakesCell, before_under, from_under, under_form};
@@ -60,6 +61,30 @@ pub struct Sentence<'a> {
     pub said: Said<'a>,
 }
 
+// Whether the word is `tell`. Words that many lines have are told apart byte by byte, which takes less than a call.
+#[inline(always)]
+fn is_tell(word: &[u8]) -> bool
+    ensures { result ≡ bytes_eq word.now (codes "tell") }
+{
+    matches!(word, [b't', b'e', b'l', b'l'])
+}
+
+// Whether the word is `doubt`.
+#[inline(always)]
+fn is_doubt(word: &[u8]) -> bool
+    ensures { result ≡ bytes_eq word.now (codes "doubt") }
+{
+    matches!(word, [b'd', b'o', b'u', b'b', b't'])
+}
+
+// Whether the word is `under`.
+#[inline(always)]
+fn is_under(word: &[u8]) -> bool
+    ensures { result ≡ bytes_eq word.now (codes "under") }
+{
+    matches!(word, [b'u', b'n', b'd', b'e', b'r'])
+}
+
 // The premises at the end of a tell or of an attach.
 fn read_under<'a>(mut tail: Words<'a>) -> Option<Words<'a>>
     ensures { MatchOption result (under_form tail.entry ≡ None) (λ premises.
@@ -68,7 +93,7 @@ fn read_under<'a>(mut tail: Words<'a>) -> Option<Words<'a>>
     let Some(word) = tail.next() else {
         return Some(tail);
     };
-    if tail.is_empty() || word != b"under".as_slice() {
+    if tail.is_empty() || !is_under(word) {
         return None;
     }
     Some(tail)
@@ -98,7 +123,7 @@ pub fn next_cell<'a>(words: &mut Words<'a>) -> Option<&'a [u8]>
     let Some(word) = after.next() else {
         return None;
     };
-    if word == b"under".as_slice() {
+    if is_under(word) {
         return None;
     }
     *words = after;
@@ -155,7 +180,7 @@ fn read_cell<'a>(mut rest: Words<'a>) -> Option<&'a [u8]>
 fn read_said<'a>(name: &[u8], rest: Words<'a>) -> Option<Said<'a>>
     ensures { option_map said_in result ≡ said_form name.now rest.entry }
 {
-    if name == b"tell".as_slice() {
+    if is_tell(name) {
         read_tell(rest)
     } else if name == b"attach".as_slice() {
         read_attach(rest)
@@ -164,7 +189,7 @@ fn read_said<'a>(name: &[u8], rest: Words<'a>) -> Option<Said<'a>>
             return None;
         }
         Some(Said::Believe { premises: rest })
-    } else if name == b"doubt".as_slice() {
+    } else if is_doubt(name) {
         if rest.is_empty() {
             return None;
         }

@@ -1,17 +1,9 @@
 //! Each procedure by its stored closure, at the calls whose values were found by hand.
 
-ghost use Rattle.std.specs.Prelude.{◌≡◌, ◌∷◌, [], map, IfOk};
-ghost use Rattle.pw_info.specs.Information.{kind_of};
-ghost use Rattle.pw_procs.specs.Rules.{AreRules, HaveTheSameValues, value_of_rules};
-
-use super::evaluator::value_of;
 use super::values::{Call, from_to, number_calls, other_calls, truth_calls};
-use pw_info::{Info, Kind, SetKind};
-use pw_procs::bodies::{self, by_rules};
-use pw_procs::{
-    Body, Meaning, Rule, Stored, add_by_rules, add_of_table, add_rule, copied, members_of_mask,
-};
-use std::alloc::{AllocError, Global};
+use crate::procedures::{OverRegistry, SOUND, over_procedures};
+use pw_info::{Info, SetKind};
+use pw_procs::{Body, Meaning, Registry, Stored, add_of_table, bodies, members_of_mask};
 use std::process::Abort;
 use std::test::Fail;
 
@@ -117,74 +109,6 @@ fn others(rt: HostRuntime) -> Result<(), Fail> {
     Ok(())
 }
 
-// The rules of the sign of a number: negative, zero and positive.
-fn sign_rules(alloc: Global, sign: SetKind) -> Result<Vec<Rule>, AllocError>
-    ensures { IfOk result (λ made. AreRules (Kind.Interval ∷ []) (Kind.Members sign) made.items) }
-{
-    let mut rules = Vec::new(alloc);
-    add_rule(
-        alloc,
-        &mut rules,
-        from_to((-1_000_000, -1)),
-        members_of_mask(sign, 0b001),
-    )?;
-    add_rule(
-        alloc,
-        &mut rules,
-        from_to((0, 0)),
-        members_of_mask(sign, 0b010),
-    )?;
-    add_rule(
-        alloc,
-        &mut rules,
-        from_to((1, 1_000_000)),
-        members_of_mask(sign, 0b100),
-    )?;
-    add_rule(
-        alloc,
-        &mut rules,
-        from_to((-1_000_000, 0)),
-        members_of_mask(sign, 0b011),
-    )?;
-    add_rule(
-        alloc,
-        &mut rules,
-        from_to((0, 1_000_000)),
-        members_of_mask(sign, 0b110),
-    )?;
-    Ok(rules)
-}
-
-// The rules of a light by a number: red, green and blue.
-fn light_rules(alloc: Global, light: SetKind) -> Result<Vec<Rule>, AllocError>
-    ensures { IfOk result (λ made. AreRules (Kind.Interval ∷ []) (Kind.Members light) made.items) }
-{
-    let mut rules = Vec::new(alloc);
-    add_rule(
-        alloc,
-        &mut rules,
-        from_to((0, 9)),
-        members_of_mask(light, 0b001),
-    )?;
-    add_rule(
-        alloc,
-        &mut rules,
-        from_to((5, 20)),
-        members_of_mask(light, 0b011),
-    )?;
-    Ok(rules)
-}
-
-// A copy of the rules, for the body.
-fn table_of(alloc: Global, rules: &[Rule], output: Kind) -> Result<Vec<Rule>, AllocError>
-    requires { AreRules (Kind.Interval ∷ []) output rules.now }
-    ensures rules { IfOk result (λ table. AreRules (Kind.Interval ∷ []) output table.items) }
-    ensures value { IfOk result (λ table. HaveTheSameValues rules.now table.items) }
-{
-    let table = copied(alloc, rules)?;
-    Ok(table)
-}
-
 // That a procedure gives the members of these masks to these intervals.
 fn tells<R: Abort>(rt: &R, stored: &Stored, set: SetKind, calls: &[((i64, i64), u64)]) {
     for (ends, mask) in calls {
@@ -198,95 +122,31 @@ fn tells<R: Abort>(rt: &R, stored: &Stored, set: SetKind, calls: &[((i64, i64), 
     }
 }
 
-// That the rules mean these values.
-fn evaluate<R: Abort>(
-    rt: &R,
-    alloc: Global,
-    set: SetKind,
-    rules: &[Rule],
-    calls: &[((i64, i64), u64)],
-) -> Result<(), AllocError> {
-    for (ends, mask) in calls {
-        let meaning = Meaning::Rules(copied(alloc, rules)?);
-        let want = value_of(alloc, &meaning, Kind::Members(set), &[from_to(*ends)])?;
-        assert_eq!(rt; members_of_mask(set, *mask), want, "{ends:?}");
-    }
-    Ok(())
+// `light` is called over a registry.
+#[derive(Drop)]
+struct Lighting<'r, R> {
+    rt: &'r R,
 }
 
-#[test]
-fn sign(rt: HostRuntime) -> Result<(), Fail> {
-    let alloc = rt.alloc();
-    let set = SetKind { number: 1, size: 3 };
-    let output = Kind::Members(set);
-    let calls = [
-        ((0, 0), 0b010),
-        ((-5, 5), 0b111),
-        ((-7, -7), 0b001),
-        ((-7, 0), 0b011),
-        ((0, 3), 0b110),
-        ((1, 0), 0),
-    ];
-    let rules = sign_rules(alloc, set)?;
-    evaluate(&rt, alloc, set, &rules, &calls)?;
-    let table = table_of(alloc, &rules, output)?;
-    let body: Body = Box::new(
-        alloc,
-        move |inputs: &[Info]| -> Info
-            requires kinds { map kind_of inputs.now ≡ Kind.Interval ∷ [] }
-            requires rules { AreRules (Kind.Interval ∷ []) output table.items }
-            ensures { result ≡ value_of_rules output table.items inputs.now }
-        { by_rules(output, &table, inputs) },
-    )?;
-    let mut list = Vec::new(alloc);
-    add_by_rules(
-        alloc,
-        &mut list,
-        "sign",
-        (Kind::Interval, output),
-        rules,
-        body,
-    )?;
-    for stored in &list {
-        tells(&rt, stored, set, &calls);
+impl<R: Abort> OverRegistry for Lighting<'_, R> {
+    type Answer = Result<(), Fail>;
+
+    fn over(self, registry: &Registry) -> Result<(), Fail> {
+        let number = registry.find(b"light").ok_or("no light")?;
+        let calls = [
+            ((5, 9), 0b001),
+            ((9, 10), 0b011),
+            ((0, 20), 0b111),
+            ((0, 4), 0b001),
+            ((1, 0), 0),
+        ];
+        let set = SetKind { number: 2, size: 3 };
+        tells(self.rt, registry.get(number), set, &calls);
+        Ok(())
     }
-    Ok(())
 }
 
 #[test]
 fn light(rt: HostRuntime) -> Result<(), Fail> {
-    let alloc = rt.alloc();
-    let set = SetKind { number: 2, size: 3 };
-    let output = Kind::Members(set);
-    let calls = [
-        ((5, 9), 0b001),
-        ((9, 10), 0b011),
-        ((0, 20), 0b111),
-        ((0, 4), 0b001),
-        ((1, 0), 0),
-    ];
-    let rules = light_rules(alloc, set)?;
-    evaluate(&rt, alloc, set, &rules, &calls)?;
-    let table = table_of(alloc, &rules, output)?;
-    let body: Body = Box::new(
-        alloc,
-        move |inputs: &[Info]| -> Info
-            requires kinds { map kind_of inputs.now ≡ Kind.Interval ∷ [] }
-            requires rules { AreRules (Kind.Interval ∷ []) output table.items }
-            ensures { result ≡ value_of_rules output table.items inputs.now }
-        { by_rules(output, &table, inputs) },
-    )?;
-    let mut list = Vec::new(alloc);
-    add_by_rules(
-        alloc,
-        &mut list,
-        "light",
-        (Kind::Interval, output),
-        rules,
-        body,
-    )?;
-    for stored in &list {
-        tells(&rt, stored, set, &calls);
-    }
-    Ok(())
+    over_procedures(rt.alloc(), SOUND, Lighting { rt: &rt })?
 }

@@ -82,3 +82,16 @@ fn many_replies_are_passed_on_or_a_front(rt: HostRuntime) -> Result<(), Fail> {
     }
     Ok(())
 }
+
+#[test]
+fn each_fault_has_its_text(rt: HostRuntime) -> Result<(), Fail> {
+    for (fault, text) in [
+        (RunFault::Read, "transcript: read fault"),
+        (RunFault::Write, "transcript: write fault"),
+        (RunFault::Memory, "transcript: memory"),
+        (RunFault::Limit, "transcript: limit"),
+    ] {
+        assert_eq!(rt; fault.to_string(rt.alloc())?.as_str(), text);
+    }
+    Ok(())
+}
