@@ -1,15 +1,11 @@
-//! Tests of declarations: what is read back, and the first faults.
+//! Tests of declarations: what is read back, and faults.
 
-mod compounds;
 mod faults;
-mod limits;
 mod questions;
 mod reading_back;
-mod sets;
 
-use crate::procedures::SOUND;
 use crate::worlds::{OverDeclaration, over_declaration};
-use pw_decl::{DeclFault, DeclFaultKind, Declaration};
+use pw_decl::{DeclFault, Declaration};
 use std::alloc::{Allocator, Global};
 use std::test::Fail;
 
@@ -50,12 +46,4 @@ pub fn counted<A: Allocator + Copy>(
     text: &str,
 ) -> Result<Result<Counts, DeclFault>, Fail> {
     over_declaration(alloc, memory, names, text, Counting)
-}
-
-/// The line and the reason of the first fault, if there is one.
-pub fn first_fault(alloc: Global, text: &str) -> Result<Option<(u32, DeclFaultKind)>, Fail> {
-    match counted(alloc, alloc, SOUND, text)? {
-        Ok(_) => Ok(None),
-        Err(fault) => Ok(Some((fault.line, fault.why))),
-    }
 }

@@ -197,7 +197,9 @@ impl<'d, 'r, A: Allocator + Copy> Workbench<'d, 'r, A> {
         Ok(())
     }
 
-    // Attaches a callable. It fails only for want of memory, and then nothing changes.
+    // Attaches a callable. It fails only for want of memory, and then nothing changes. Never inlined, as `why` and `conflicts`, so
+    // that commands that take few steps make no room for what these take.
+    #[inline(never)]
     fn attach(
         &mut self,
         line: u32,
@@ -311,6 +313,7 @@ impl<'d, 'r, A: Allocator + Copy> Workbench<'d, 'r, A> {
     }
 
     // What is known of the declared cell under what the user, who is there, believes, and why.
+    #[inline(never)]
     fn why(&mut self, user: u8, cell: u32) -> Reply<A>
         requires fits { StoreFits (workbench_by self.old) }
         requires user { user < length (workbench_by self.old).beliefs }
@@ -342,6 +345,7 @@ impl<'d, 'r, A: Allocator + Copy> Workbench<'d, 'r, A> {
     }
 
     // What is contradictory under what the user, who is there, believes.
+    #[inline(never)]
     fn conflicts(&mut self, user: u8) -> Reply<A>
         requires fits { StoreFits (workbench_by self.old) }
         requires user { user < length (workbench_by self.old).beliefs }

@@ -65,10 +65,12 @@ pub(crate) fn answer_line<A: Allocator + Copy, O: Output>(
         → O.has_failed output.new ≡ false) }
     ensures left { IsLeft (declared_by d.now) (number + 1) (workbench_by workbench.new) }
 {
-    let Some(reply) = reply_to_line(d, number, line, workbench) else {
+    // The reply is written where it stands: to move it out costs more than to look into it.
+    let reply = reply_to_line(d, number, line, workbench);
+    let Some(reply) = &reply else {
         return Ok(false);
     };
-    match write_reply(number, &reply, d, output) {
+    match write_reply(number, reply, d, output) {
         Ok(()) => Ok(true),
         Err(fault) => Err(fault),
     }

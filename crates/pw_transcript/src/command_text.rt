@@ -161,7 +161,9 @@ fn named_cells<A: Allocator + Copy>(
     Arguments::of(&cells[..count])
 }
 
-// What a user attaches: a callable to the cells that the words before `under` name, under the premises of those after it.
+// What a user attaches: a callable to the cells that the words before `under` name, under the premises of those after it. Never
+// inlined, so that other lines make no room for its cells.
+#[inline(never)]
 fn resolve_attach<A: Allocator + Copy>(
     declaration: &Declaration<'_, A>,
     user: u8,

@@ -225,6 +225,10 @@ fn write_answer_line<A: Allocator + Copy, O: Output>(
     ensures { Writes O.passes O.has_failed output.old output.new result (text_of_answer
         (declared_by declaration.now) (reply_by reply.now) ++ codes "\n") }
 {
+    // Most replies: it is put at once.
+    if let Reply::Done = reply {
+        return put_all(output, b"ok\n");
+    }
     write_answer(reply, declaration, output)?;
     put_all(output, b"\n")
 }
