@@ -13,11 +13,10 @@ fn line_len(bytes: &[u8]) -> usize
 {
     let mut end = 0;
     while bytes.len() - end >= LANES {
-        let run = before_line_feed(bytes, end);
-        end += run;
-        if run < LANES {
-            return end;
+        if let Some(run) = before_line_feed(bytes, end) {
+            return end + run;
         }
+        end += LANES;
     }
     while end < bytes.len() && bytes[end] != b'\n' {
         end += 1;

@@ -86,11 +86,10 @@ fn word_len(bytes: &[u8]) -> usize
 {
     let mut end = 0;
     while bytes.len() - end >= LANES {
-        let run = before_blank(bytes, end);
-        end += run;
-        if run < LANES {
-            return end;
+        if let Some(run) = before_blank(bytes, end) {
+            return end + run;
         }
+        end += LANES;
     }
     while end < bytes.len() && !is_blank(bytes[end]) {
         end += 1;

@@ -5,8 +5,6 @@ mod failing_ends;
 mod limits;
 mod pace;
 mod putting;
-mod reasons;
 mod refused;
-mod refused_lines;
 mod replies;
 mod taking;

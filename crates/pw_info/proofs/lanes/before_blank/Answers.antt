@@ -1,4 +1,4 @@
-use Rattle.std.proofs.Common.{◌≤◌, refl, sym, ◌∙◌, subst, arith}
+use Rattle.std.proofs.Common.{◌<◌, ◌≤◌, IfSome, refl, sym, ◌∙◌, subst, arith}
 use Rattle.std.proofs.lemmas.Simd.{zip2_splat, zip2_of_maps, length-chunk}
 use lib.Lanes.{chunk}
 use Rattle.pw_info.specs.Words.{is_plain}
@@ -19,4 +19,4 @@ returns-clause-value c =
 
 pub returns-clause-within : goal.returns-clause-within
 returns-clause-within c =
-    subst (λ n. n ≤ 16) (sym (returns-clause-value c)) (run_within is_plain c.args.bytes.now c.args.at 16 c.requires)
+    subst (λ found. IfSome found (λ run. run < 16)) (sym (returns-clause-value c)) (run_within is_plain c.args.bytes.now c.args.at 16 c.requires)

@@ -1,24 +1,15 @@
-use Rattle.std.proofs.Common.{◌≡◌, ◌+◌, ◌<◌, ◌≤◌, length, drop, sym, ap, ◌∙◌, subst, arith}
-use Rattle.std.specs.List.{prefix_len}
+use Rattle.std.proofs.Common.{◌+◌, ◌≤◌, length, sym, ap, ◌∙◌, arith}
 use Rattle.pw_info.specs.Words.{is_plain}
 use Rattle.pw_info.proofs.LaneLemmas.{run_ends, run_goes_on}
 use Rattle.pw_info.proofs.words.word_len.Goals as goal
 
-pub returns-then-run-lt-LANES-clause-value : goal.returns-then-run-lt-LANES-clause-value
-returns-then-run-lt-LANES-clause-value c =
-    let bytes = c.args.bytes.now in
-    let end = c.loop-end.end in
-    let run = c.before_blank-run.ensures.value in
-    let ends = run_ends is_plain bytes end 16 (omega (arith, c.loop-end-test.true)) (subst (λ m. m < 16) run c.if-run-lt-LANES.true) in
-    sym (c.loop-end.invariant.1 ∙ ap (λ m. end + m) (ends ∙ sym run))
+pub returns-in-Some-clause-value : goal.returns-in-Some-clause-value
+returns-in-Some-clause-value c =
+    let ends = run_ends is_plain c.args.bytes.now c.loop-end.end 16 c.in-Some.run' (omega (arith, c.loop-end-test.true)) (sym c.before_blank.ensures.value ∙ c.in-Some.is) in
+    sym (c.loop-end.invariant.1 ∙ ap (λ m. c.loop-end.end + m) ends)
 
 pub loop-end-preserved : goal.loop-end-preserved
 loop-end-preserved c =
-    let bytes = c.args.bytes.now in
-    let end = c.loop-end.end in
-    let room : end + 16 ≤ length bytes = omega (arith, c.loop-end-test.true) in
-    let run = c.before_blank-run.ensures.value in
-    let more = run_goes_on is_plain bytes end 16 room (subst (λ m. 16 ≤ m) run c.if-run-lt-LANES.false) in
-    let all : 16 ≡ c.before_blank-run.result = omega (arith, c.before_blank-run.ensures.within, c.if-run-lt-LANES.false) in
-    subst (λ m. (end + m ≤ length bytes) × (prefix_len is_plain bytes ≡ end + m + prefix_len is_plain (drop (end + m) bytes))) all
+    let room : c.loop-end.end + 16 ≤ length c.args.bytes.now = omega (arith, c.loop-end-test.true) in
+    let more = run_goes_on is_plain c.args.bytes.now c.loop-end.end 16 room (sym c.before_blank.ensures.value ∙ c.in_default.is) in
     (room, omega (arith, c.loop-end.invariant.1, more))
