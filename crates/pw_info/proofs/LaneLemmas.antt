@@ -19,7 +19,7 @@ some_short p [] some = absurd (omega (arith, some))
 some_short p (x ∷ v) some = elim (cases_Bool (p x)) [
   | inl passes ↦ rw passes (omega arith)
   | inr fails ↦ let rest = rw fails at some in
-    rw fails (let shorter = some_short p v (omega (arith, rest)) in omega (arith, shorter))
+      rw fails (let shorter = some_short p v (omega (arith, rest)) in omega (arith, shorter))
 ]
 
 -- The lowest bit of a mask stands for the first lane that passes the test.
@@ -27,10 +27,10 @@ lowest_is : (p : ℕ → Bool) (v : List ℕ) (n : ℕ) → length v ≡ n → n
 lowest_is p v n long few =
     elim (cases_eq (mask_l (map p v)) 0) [
       | inl none ↦ let all : prefix_len (λ x. not (p x)) v ≡ n = leading_from_mask_l p v none ∙ long in
-        rw (eq-eqb _ _ none, eq-eqb _ _ all) refl
+          rw (eq-eqb _ _ none, eq-eqb _ _ all) refl
       | inr some ↦ let short = some_short p v (omega (arith, some)) in
-        let few_enough : length v ≤ 64 = omega (arith, long, few) in
-        rw (ne_eqb _ _ some, ne_eqb _ _ (λ (all : prefix_len (λ x. not (p x)) v ≡ n). omega (arith, all, short, long)))
+          let few_enough : length v ≤ 64 = omega (arith, long, few) in
+          rw (ne_eqb _ _ some, ne_eqb _ _ (λ (all : prefix_len (λ x. not (p x)) v ≡ n). omega (arith, all, short, long)))
           (ap (λ (k : ℕ). Some k) (trailing_mask_l p 64 v few_enough (omega (arith, some))))
     ]
 
