@@ -1,6 +1,5 @@
 -- Masks with a bit for each of some bytes that are tested together.
-use Rattle.std.specs.Prelude.{ℕ, ◌==◌, if◌then◌else◌}
-use Rattle.std.specs.Prelude.{Option, Some, None}
+use Rattle.std.specs.Prelude.{ℕ, ◌==◌, Option, Some, None, if◌then◌else◌}
 use Rattle.std.specs.Int.{w64, trailing_zeros}
 
 -- the place of the lowest bit that is set, where one is
