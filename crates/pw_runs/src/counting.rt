@@ -82,6 +82,8 @@ const SUM: &[&str] = &[
     "bob ask t",
     "ann tell x 1",
     "ann ask t",
+    "ann tell t 0..100",
+    "ann ask t",
     "ann doubt a",
     "ann ask t",
     "ann conflicts",
@@ -94,18 +96,23 @@ fn who_is_fresh_calls_nothing(rt: HostRuntime) -> Result<(), Fail> {
         lines: SUM,
     };
     let calls = over_text(rt.alloc(), rt.alloc(), GENERAL, counting)??;
-    let Some(calls) = calls.get(..11) else {
+    let Some(calls) = calls.get(..13) else {
         return Err("a line is missing".into());
     };
     // Lines that ask nothing settle nothing.
-    assert_eq!(rt; [calls[0], calls[1], calls[2], calls[6], calls[8]], [0; 5]);
+    assert_eq!(rt;
+        [calls[0], calls[1], calls[2], calls[6], calls[8], calls[10]],
+        [0; 6]
+    );
     // Nothing was settled before: each of the three instances is called.
     assert!(rt; calls[3] >= 3);
     // The same again; the other user, for whom all is kept already.
     assert_eq!(rt; [calls[4], calls[5]], [0, 3]);
     // Two instances read x; t loses one value, and has two readers.
     assert!(rt; 2 <= calls[7] && calls[7] <= 4);
+    // What was told of t last follows already: it is no news.
+    assert_eq!(rt; calls[9], 0);
     // Beliefs that were doubted: a smaller worldview settles anew. Then all is known.
-    assert_eq!(rt; [calls[9], calls[10]], [3, 0]);
+    assert_eq!(rt; [calls[11], calls[12]], [3, 0]);
     Ok(())
 }

@@ -1,5 +1,5 @@
--- Settled values are current after a settling, and stay so as others settle, and as what comes that is not visible in their worldview.
-use Rattle.std.proofs.Common.{◌≡◌, ℕ, ◌+◌, ◌<◌, ◌≤◌, Bool, true, false, List, [], ◌∷◌, ◌++◌, All, zero, suc, length, map, cond, get_or, refl, sym, ap, ◌∙◌, subst, inl, inr, arith}
+-- Settled values are current after a settling, and stay so as others settle, and as what comes that is no news to them.
+use Rattle.std.proofs.Common.{◌≡◌, ℕ, ◌+◌, ◌<◌, ◌≤◌, Bool, true, false, List, [], ◌∷◌, ◌++◌, All, zero, suc, length, map, get_or, refl, sym, ap, ◌∙◌, subst, inl, inr, arith}
 use Rattle.std.proofs.Math.Path.{fun_ext}
 use Rattle.std.specs.Prelude.{◌-◌, nat_lt, slice_index_or}
 use Rattle.std.specs.FinSet.{is_subset}
@@ -9,11 +9,12 @@ use Rattle.std.proofs.lemmas.List.Elements.{All-head, All-tail}
 use Rattle.pw_info.specs.declared.kind.Kind.{Kind}
 use Rattle.pw_info.specs.declared.kind.Kind.TheVariants as kinds
 use Rattle.pw_info.specs.declared.info.Info.{Info}
-use Rattle.pw_info.specs.Information.{kind_of, meet, nothing}
-use Rattle.pw_info.proofs.Informations.{Implies-antisym, meet_nothing}
+use Rattle.pw_info.specs.Information.{Implies, kind_of, meet, nothing}
+use Rattle.pw_info.proofs.Informations.{Implies-antisym, meet_implied}
 use Rattle.pw_premises.specs.Premises.{Premises}
 use Rattle.pw_facts.specs.declared.fact.Fact.{Fact}
 use Rattle.pw_facts.specs.Facts.{shows}
+use Rattle.pw_facts.proofs.Shown.{kind-shows}
 use Rattle.pw_cells.specs.Cells.{Cell, Store, cell_at, kept_in, kept_of, kind_in_store, kinds_of, new_cell, told_in, told_of}
 use Rattle.pw_cells.proofs.Together.{kind-shown_by}
 use Rattle.pw_network.specs.Network.{Attached, Network, IsWellNetwork, cells_in}
@@ -22,17 +23,17 @@ use Rattle.pw_settle.specs.Fitting.{IsFitting, said_of}
 use Rattle.pw_settle.specs.Growth.{KeepsMore}
 use Rattle.pw_settle.specs.Known.{SaysTold}
 use Rattle.pw_settle.specs.Progress.{AreSatisfied, IsSatisfied, attached_no}
-use Rattle.pw_settle.specs.Settled.{IsSettled, Settled}
+use Rattle.pw_settle.specs.Settled.{IsSettled, Settled, info_at}
 use Rattle.pw_settle.specs.Sound.{IsSound}
 use Rattle.pw_settle.specs.Values.{kinds_in, numbered, value_in}
 use Rattle.pw_settle.specs.Wider.{IsWider}
 use Rattle.pw_settle.proofs.FittingLaws.{fits_added, fits_more, fits_wider}
 use Rattle.pw_settle.proofs.Growing.{keeps_more_same, same_value}
-use Rattle.pw_settle.proofs.KeptFacts.{also_implies, by_cell, implies_also, kind-in_value, kind-kept, kind_there}
+use Rattle.pw_settle.proofs.KeptFacts.{also_implies, by_cell, implies_also, implies_merge, kind-in_value, kind-kept, kind_there}
 use Rattle.pw_settle.proofs.KeptProgress.{visible_no}
 use Rattle.pw_settle.proofs.SettledStores.{kept_settled}
 use Rattle.pw_settle.proofs.SettledValues.{kinds_many}
-use Rattle.pw_sessions.specs.Session.{IsCurrent, KeepsValues}
+use Rattle.pw_sessions.specs.Session.{IsCurrent, KeepsValues, SayAlready}
 use Rattle.pw_sessions.specs.Steps.{TakesFact}
 use Rattle.pw_settle.proofs.SoundStores.{cell_added, cell_stays, more_kept, sound_attached, sound_told}
 use Rattle.pw_settle.proofs.WiderNetworks.{value_says_told}
@@ -40,6 +41,11 @@ use Rattle.pw_settle.proofs.WiderNetworks.{value_says_told}
 -- as many cells are kept as the network has
 many_cells : (network : Network) (store : Store) → kinds_of store ≡ kinds_in network → length store.cells ≡ length (kinds_in network)
 many_cells network store same = sym (length-map store.cells (λ (c : Cell). c.kind)) ∙ ap length same
+
+-- what is said of a cell that was there
+pub said_at : (network : Network) (settled : Settled) (cell : ℕ) → cell < length settled.infos → said_of network settled cell ≡ info_at settled.infos cell
+said_at network settled cell there =
+    get_or_default settled.infos cell (nothing ((numbered (kinds_in network)).kind cell)) (nothing kinds.Interval) there
 
 -- of a cell that is not there nothing is kept
 kept_past : (store : Store) (cell : ℕ) (w : Premises) → length store.cells ≤ cell → kept_in store cell w ≡ nothing kinds.Interval
@@ -143,45 +149,48 @@ current_keeping network old new settled same sound grows is = record {
   still : (cell : ℕ) → value_in network old w cell ≡ value_in network new w cell
   still cell = sym (same_value network old new grows.told w cell)
 
--- ---- as a fact is told that is not visible
-
--- it shows nothing
-shows_nothing : (w : Premises) (fact : Fact) → is_subset fact.support w ≡ false → shows w fact ≡ nothing (kind_of fact.info)
-shows_nothing w fact hidden = ap (λ b. cond b fact.info (nothing (kind_of fact.info))) hidden
-
--- so a merge with it changes nothing
-merges_nothing : (w : Premises) (fact : Fact) (info : Info) → is_subset fact.support w ≡ false → kind_of fact.info ≡ kind_of info →
-    meet info (shows w fact) ≡ info
-merges_nothing w fact info hidden kind = ap (meet info) (shows_nothing w fact hidden ∙ ap nothing kind) ∙ meet_nothing info
+-- ---- as a fact is told that is no news
 
 module _ (network : Network) (well : IsWellNetwork network) (old new : Store) (cell : ℕ) (fact : Fact) (same : kinds_of old ≡ kinds_in network)
     (kind : kind_of fact.info ≡ kind_in_store old cell) (takes : TakesFact cell fact old new) (sound : IsSound network old) where
-  -- where it is not visible, what is kept and told stays
-  kept_unseen : (w : Premises) → is_subset fact.support w ≡ false → (c : ℕ) → kept_in new c w ≡ kept_in old c w
-  kept_unseen w hidden =
+  -- where what is kept says already what it shows, what is kept stays
+  kept_already : (w : Premises) → Implies (kept_in old cell w) (shows w fact) → (c : ℕ) → kept_in new c w ≡ kept_in old c w
+  kept_already w says =
       by_cell (λ c. kept_in new c w ≡ kept_in old c w) cell
-      (takes.kept w ∙ merges_nothing w fact (kept_in old cell w) hidden (kind ∙ sym (kind-kept old cell w)))
+      (takes.kept w
+      ∙ meet_implied (kept_in old cell w) (shows w fact) (kind-kept old cell w ∙ sym kind ∙ sym (kind-shows w fact)) says)
       (λ c other. ap (λ (x : Cell). kept_of x w) (takes.others c other))
 
-  told_unseen : (w : Premises) → is_subset fact.support w ≡ false → (c : ℕ) → told_in new c w ≡ told_in old c w
-  told_unseen w hidden =
-      by_cell (λ c. told_in new c w ≡ told_in old c w) cell
-      (takes.told w ∙ merges_nothing w fact (told_in old cell w) hidden (kind ∙ sym (kind-shown_by (cell_at old cell).kind w (cell_at old cell).told)))
-      (λ c other. ap (λ (x : Cell). told_of x w) (takes.others c other))
+  -- and says all that is told, where it did
+  says_told : (w : Premises) → Implies (kept_in old cell w) (shows w fact) → SaysTold old w → SaysTold new w
+  says_told w says told c below =
+      also_implies (told_in new c w) (kept_in old c w) (kept_in new c w) (sym (kept_already w says c))
+      (by_cell (λ c. c < length old.cells → Implies (kept_in old c w) (told_in new c w)) cell
+      (λ there. implies_also (kept_in old cell w) (meet (told_in old cell w) (shows w fact)) (told_in new cell w) (sym (takes.told w))
+      (implies_merge (kept_in old cell w) (told_in old cell w) (shows w fact)
+      (kind-shown_by (cell_at old cell).kind w (cell_at old cell).told ∙ sym kind ∙ sym (kind-shows w fact)) (told cell there) says))
+      (λ c other there. implies_also (kept_in old c w) (told_in old c w) (told_in new c w)
+      (sym (ap (λ (x : Cell). told_of x w) (takes.others c other))) (told c there)) c
+      (omega (arith, below, many_cells network new (takes.kinds ∙ same), many_cells network old same)))
 
-  -- current values are current still
-  pub current_told : (settled : Settled) → is_subset fact.support settled.worldview ≡ false → IsCurrent network old settled → IsCurrent network new settled
-  current_told settled hidden is =
+  -- current values are current still, where they say already what it shows
+  pub current_told : (settled : Settled) → cell < length settled.infos → SayAlready cell fact settled → IsCurrent network old settled →
+      IsCurrent network new settled
+  current_told settled there says is =
       current_from_kept network well new (takes.kinds ∙ same) settled
       (fits_more network old new settled (more_kept network old new same cell fact kind takes.kept takes.others) is.fits) is.none_newer
-      (λ c. is.said c ∙ sym (is.kept c) ∙ sym (kept_unseen settled.worldview hidden c))
-      (λ c below. also_implies (told_in new c settled.worldview) (value_in network old settled.worldview c) (kept_in new c settled.worldview)
-      (sym (is.kept c) ∙ sym (kept_unseen settled.worldview hidden c))
-      (implies_also (value_in network old settled.worldview c) (told_in old c settled.worldview) (told_in new c settled.worldview)
-      (sym (told_unseen settled.worldview hidden c))
-      (value_says_told network old settled.worldview well same c
-      (omega (arith, below, many_cells network new (takes.kinds ∙ same))))))
+      (λ c. is.said c ∙ sym (is.kept c) ∙ sym (kept_already w kept_says c))
+      (says_told w kept_says (λ c below. also_implies (told_in old c w) (value_in network old w c) (kept_in old c w) (sym (is.kept c))
+      (value_says_told network old w well same c (omega (arith, below, many_cells network old same)))))
       (sound_told network well old new cell fact same kind takes.told takes.kept takes.others takes.kinds sound)
+    where
+      w : Premises
+      w = settled.worldview
+
+      kept_says : Implies (kept_in old cell w) (shows w fact)
+      kept_says =
+          also_implies (shows w fact) (info_at settled.infos cell) (kept_in old cell w)
+          (sym (said_at network settled cell there) ∙ is.said cell ∙ sym (is.kept cell)) says
 
 -- ---- as a callable is attached that is not visible
 

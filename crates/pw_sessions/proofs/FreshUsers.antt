@@ -1,18 +1,18 @@
 -- Who is fresh stays so, line after line, but for the lines that may end it.
 use Rattle.std.proofs.Common.{◌≡◌, ℕ, ◌<◌, ◌≤◌, eqb, true, false, zero, suc, List, All, replicate, length, map, get_or, set, Option, None, Some, refl, sym, ap, ◌∙◌, subst, inl, inr, arith, get_or-set_other, get_or-set_same}
-use Rattle.std.specs.Prelude.{◌⊎◌, IfSome}
+use Rattle.std.specs.Prelude.{◌⊎◌, IfSome, nat_lt}
 use Rattle.std.specs.FinSet.{empty, is_subset}
 use Rattle.std.specs.Option.{option_map}
 use Rattle.std.proofs.Math.ListN.{get_or-map}
-use Rattle.std.proofs.lemmas.Bool.{both_ways, cases_Bool, eqb-true, eqb-false}
-use Rattle.std.proofs.lemmas.List.{get_or_default, length-replicate}
+use Rattle.std.proofs.lemmas.Bool.{both_ways, cases_Bool, eqb-true, eqb-false, ltb-false, ltb-true}
+use Rattle.std.proofs.lemmas.List.{get_or_past, length-replicate}
 use Rattle.std.proofs.lemmas.Option.{none-some, same_Some}
-use Rattle.pw_info.specs.declared.kind.Kind.TheVariants as kinds
 use Rattle.pw_info.specs.declared.info.Info.{Info}
-use Rattle.pw_info.specs.Information.{kind_of, nothing}
+use Rattle.pw_info.specs.Information.{Implies, kind_of}
 use Rattle.pw_premises.specs.Premises.{Premises}
 use Rattle.pw_premises.specs.PremiseSubsets.{is_subset_refl}
 use Rattle.pw_facts.specs.declared.fact.Fact.{Fact}
+use Rattle.pw_facts.specs.Facts.{shows}
 use Rattle.pw_cells.specs.Cells.{kind_in_store, kinds_of}
 use Rattle.pw_decl.specs.declared.step.Callable.{Callable}
 use Rattle.pw_decl.specs.Declaration.{Declared}
@@ -21,8 +21,9 @@ use Rattle.pw_network.specs.Network.{Attached, Network, IsWellNetwork}
 use Rattle.pw_settle.specs.Agenda.{is_set}
 use Rattle.pw_settle.specs.Calls.{visible_count}
 use Rattle.pw_settle.specs.Settled.{Settled, info_at}
-use Rattle.pw_settle.specs.Values.{kinds_in, numbered, value_in}
+use Rattle.pw_settle.specs.Values.{kinds_in, value_in}
 use Rattle.pw_settle.specs.Wider.{IsWider}
+use Rattle.pw_settle.proofs.KeptFacts.{also_implies}
 use Rattle.pw_sessions.specs.declared.command.Command.{Command}
 use Rattle.pw_sessions.specs.declared.reply.Refusal.TheVariants as refusal
 use Rattle.pw_sessions.specs.Answer.{user_of}
@@ -30,10 +31,10 @@ use Rattle.pw_sessions.specs.Freshness.{CallsDueFor, CallsFew, CountsCalls, IsAs
 use Rattle.pw_sessions.specs.LineReading.{LineReading}
 use Rattle.pw_sessions.specs.Reply.{Reply}
 use Rattle.pw_sessions.specs.Reply as reply
-use Rattle.pw_sessions.specs.Session.{IsCurrent, IsSessionOf, KeepsValues, Session, after_entry}
+use Rattle.pw_sessions.specs.Session.{Becomes, IsAfterTell, IsCurrent, IsSessionOf, KeepsValues, Session, after_entry}
 use Rattle.pw_sessions.specs.Steps.{IsAsBefore, IsAttached, IsTold, OnlyKeepsMore, StoreFits}
 use Rattle.pw_sessions.specs.Workbench.{IsLeftBy, Workbench, beliefs_in, session_in}
-use Rattle.pw_sessions.proofs.CurrentValues.{current_attached, current_keeping, current_told, hidden_after}
+use Rattle.pw_sessions.proofs.CurrentValues.{current_attached, current_keeping, current_told, hidden_after, said_at}
 use Rattle.pw_sessions.proofs.FewCalls.{no_flags, none_due}
 use Rattle.pw_sessions.proofs.LastValues.{keeps_more_alike}
 
@@ -66,7 +67,7 @@ fresh_as_before old new fits still user =
     (current_keeping old.network old.store new.store settled fits.kinds fits.sound
     (keeps_more_alike old.network old.store new.store still.cells_are) is))
 
--- ---- what comes under premises
+-- ---- what is attached under premises
 
 -- a user to whom it is not visible has the session still, and stays fresh where its values stay current
 after_hidden : (old new : Workbench) (support : Premises) → new.beliefs ≡ old.beliefs → new.sessions ≡ map (option_map (after_entry support)) old.sessions →
@@ -91,12 +92,48 @@ seen_or_fresh old new support beliefs sessions still user is =
       | inr hidden ↦ inr (after_hidden old new support beliefs sessions still user hidden is)
     ]
 
-pub fresh_told : (old new : Workbench) (cell : ℕ) (fact : Fact) → IsWellNetwork old.network → StoreFits old → kind_of fact.info ≡ kind_in_store old.store cell →
-    IsTold old cell fact new → (user : ℕ) → IsFresh old user → (is_subset fact.support (beliefs_in old user) ≡ true) ⊎ IsFresh new user
-fresh_told old new cell fact well fits kind told =
-    seen_or_fresh old new fact.support told.beliefs told.sessions
-    (λ settled hidden is. subst (λ (n : Network). IsCurrent n new.store settled) (sym told.network)
-    (current_told old.network well old.store new.store cell fact fits.kinds kind told.store fits.sound settled hidden is))
+-- a user who has a session is there, and the session fits
+session_there : (bench : Workbench) (user : ℕ) (session : Session) → session_in bench user ≡ Some session → user < length bench.sessions
+session_there bench user session has = elim (cases_Bool (nat_lt user (length bench.sessions))) [
+  | inl is ↦ ltb-true user (length bench.sessions) is
+  | inr not ↦ absurd (none-some session
+      (sym (get_or_past bench.sessions user None (ltb-false user (length bench.sessions) not)) ∙ has))
+]
+
+its_session : (bench : Workbench) (user : ℕ) (session : Session) → session_in bench user ≡ Some session → StoreFits bench →
+    IsSessionOf bench.network bench.store session
+its_session bench user session has fits =
+    subst (λ (o : Option Session). IfSome o (IsSessionOf bench.network bench.store)) has
+    (fits.sessions user None (session_there bench user session has))
+
+-- where a fact is told, who is fresh stays so, or it says what does not follow there
+pub fresh_told : (old new : Workbench) (cell : ℕ) (fact : Fact) → IsWellNetwork old.network → StoreFits old → cell < length old.network.declared.cells →
+    kind_of fact.info ≡ kind_in_store old.store cell → IsTold old cell fact new → (user : ℕ) → IsFresh old user →
+    (Implies (value_in old.network old.store (beliefs_in old user) cell) (shows (beliefs_in old user) fact) → ⊥) ⊎ IsFresh new user
+fresh_told old new cell fact well fits declared kind told user is = elim came.2.current [
+  | inl says ↦ inr (record {
+    session = came.0;
+    has = came.1;
+    worldview =
+        ap (λ (v : Settled). v.worldview) came.2.values ∙ is.worldview
+        ∙ sym (ap (λ (bs : List Premises). get_or bs user empty) told.beliefs);
+    current = subst (λ (n : Network). IsCurrent n new.store came.0.values) (sym told.network)
+        (subst (IsCurrent old.network new.store) (sym came.2.values)
+        (current_told old.network well old.store new.store cell fact fits.kinds kind told.store fits.sound values there says.0 is.current));
+  })
+  | inr news ↦ inl (λ follows. news.0
+      (also_implies (shows values.worldview fact) (value_in old.network old.store values.worldview cell) (info_at values.infos cell)
+      (sym (is.current.said cell) ∙ said_at old.network values cell there)
+      (subst (λ (w : Premises). Implies (value_in old.network old.store w cell) (shows w fact)) (sym is.worldview) follows)))
+] where
+  values : Settled
+  values = is.session.values
+
+  there : cell < length values.infos
+  there = omega (arith, declared, (its_session old user is.session is.has fits).declared)
+
+  came : (after : Session) × (session_in new user ≡ Some after) × IsAfterTell cell fact is.session after
+  came = subst (λ (o : Option Session). Becomes (IsAfterTell cell fact) o (session_in new user)) is.has (told.sessions.each user)
 
 pub fresh_attached : (old new : Workbench) (line : ℕ) (callable : Callable) (cells : List ℕ) (support : Premises) → IsWellNetwork old.network →
     IsWellNetwork new.network → StoreFits old → kinds_of new.store ≡ kinds_in new.network → (wide : IsWider old.network new.network) →
@@ -292,29 +329,22 @@ asked_known old user Settling answer fresh none = record {
 
 -- ---- what a user knows
 
--- the session of a user fits
-its_session : (bench : Workbench) (user : ℕ) (session : Session) → session_in bench user ≡ Some session → user < length bench.sessions → StoreFits bench →
-    IsSessionOf bench.network bench.store session
-its_session bench user session has there fits =
-    subst (λ (o : Option Session). IfSome o (IsSessionOf bench.network bench.store)) has (fits.sessions user None there)
-
 -- a user whose session is known to be current is fresh, where its values were found under what the user believes
-pub known_fresh : (bench : Workbench) (user : ℕ) (session : Session) → session_in bench user ≡ Some session → user < length bench.sessions → StoreFits bench →
+pub known_fresh : (bench : Workbench) (user : ℕ) (session : Session) → session_in bench user ≡ Some session → StoreFits bench →
     session.is_current ≡ true → session.values.worldview ≡ beliefs_in bench user → IsFresh bench user
-known_fresh bench user session has there fits known worldview = record {
+known_fresh bench user session has fits known worldview = record {
   session = session;
   has = has;
   worldview = worldview;
-  current = (its_session bench user session has there fits).current known;
+  current = (its_session bench user session has fits).current known;
 }
 
 -- and a declared cell has its value there
-pub known_value : (bench : Workbench) (user cell : ℕ) (session : Session) (info : Info) → session_in bench user ≡ Some session → user < length bench.sessions →
+pub known_value : (bench : Workbench) (user cell : ℕ) (session : Session) (info : Info) → session_in bench user ≡ Some session →
     StoreFits bench → session.is_current ≡ true → session.values.worldview ≡ beliefs_in bench user → cell < length bench.network.declared.cells →
     info ≡ info_at session.values.infos cell → info ≡ value_in bench.network bench.store (beliefs_in bench user) cell
-known_value bench user cell session info has there fits known worldview here is =
-    let its = its_session bench user session has there fits in
+known_value bench user cell session info has fits known worldview here is =
+    let its = its_session bench user session has fits in
     is
-    ∙ sym (get_or_default session.values.infos cell (nothing ((numbered (kinds_in bench.network)).kind cell)) (nothing kinds.Interval)
-    (omega (arith, here, its.declared)))
+    ∙ sym (said_at bench.network session.values cell (omega (arith, here, its.declared)))
     ∙ (its.current known).said cell ∙ ap (λ (w : Premises). value_in bench.network bench.store w cell) worldview

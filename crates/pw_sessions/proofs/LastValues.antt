@@ -1,10 +1,10 @@
 -- The last sessions of users, as more is kept, told and attached.
-use Rattle.std.proofs.Common.{◌≡◌, ℕ, ◌≤◌, true, false, List, ◌++◌, All, length, map, replicate, set, Option, None, Some, refl, sym, ap, ◌∙◌, subst, arith, get_or-set_other}
+use Rattle.std.proofs.Common.{◌≡◌, ℕ, ◌<◌, ◌≤◌, true, false, List, ◌++◌, All, length, map, replicate, get_or, set, Option, None, Some, inl, inr, refl, sym, ap, ◌∙◌, subst, arith, get_or-set_other}
 use Rattle.std.specs.Prelude.{IfSome, not}
 use Rattle.std.specs.FinSet.{is_subset}
 use Rattle.std.specs.Option.{option_map}
-use Rattle.std.proofs.lemmas.Bool.{not-true}
-use Rattle.std.proofs.lemmas.List.{length-map, length-set}
+use Rattle.std.proofs.lemmas.Bool.{both_ways, not-true}
+use Rattle.std.proofs.lemmas.List.{get_or_default, length-map, length-set}
 use Rattle.std.proofs.lemmas.List.Elements.{All-map, All-replicate, All-set, All-weaker}
 use Rattle.std.proofs.lemmas.Option.{IfSome_then}
 use Rattle.pw_info.specs.declared.kind.Kind.{Kind}
@@ -15,17 +15,19 @@ use Rattle.pw_facts.specs.declared.fact.Fact.{Fact}
 use Rattle.pw_cells.specs.Cells.{Cell, Store, kept_in, kind_in_store, kinds_of, new_cell, told_in}
 use Rattle.pw_decl.specs.Declaration.{Declared}
 use Rattle.pw_network.specs.Network.{Attached, Network, IsWellNetwork}
+use Rattle.pw_settle.specs.Fitting.{IsFitting}
 use Rattle.pw_settle.specs.Growth.{KeepsMore, StaysUpstream}
-use Rattle.pw_settle.specs.Settled.{IsSettled, Settled}
+use Rattle.pw_settle.specs.Settled.{IsSettled, Settled, info_at}
 use Rattle.pw_settle.specs.Sound.{IsSound}
 use Rattle.pw_settle.specs.Values.{kinds_in}
 use Rattle.pw_settle.specs.Wider.{IsWider}
 use Rattle.pw_settle.proofs.FittingLaws.{fits_added, fits_more, fits_wider}
 use Rattle.pw_settle.proofs.Growing.{keeps_more_same, keeps_more_then}
+use Rattle.pw_settle.proofs.KeptFacts.{implies_shown, kind_there}
 use Rattle.pw_settle.proofs.SettledValues.{kinds_many}
 use Rattle.pw_reasons.specs.Nogood.{AreNogoods}
 use Rattle.pw_reasons.proofs.NogoodLemmas.{nogoods_same}
-use Rattle.pw_sessions.specs.Session.{IsCurrent, Session, IsSessionOf, after_entry}
+use Rattle.pw_sessions.specs.Session.{Becomes, EachBecomes, HaveValues, IsAfterTell, IsCurrent, SayAlready, Session, IsSessionOf, after_entry}
 use Rattle.pw_sessions.specs.Steps.{OnlyKeepsMore, StoreFits, TakesFact}
 use Rattle.pw_sessions.specs.Workbench.{SessionsFit, Workbench, beliefs_in}
 use Rattle.pw_sessions.proofs.CurrentValues.{current_attached, current_keeping, current_told, hidden_after}
@@ -69,7 +71,7 @@ sessions_same network old new sessions same sound alike =
 
 -- ---- as something comes under premises
 
--- once each fits that was told what came, they do
+-- once each fits that was told what was attached, they do
 all_after : (support : Premises) (network after : Network) (old new : Store) →
     ((session : Session) → IsSessionOf network old session → IsSessionOf after new (after_entry support session)) → (sessions : List (Option Session)) →
     SessionsFit network old sessions → SessionsFit after new (map (option_map (after_entry support)) sessions)
@@ -83,25 +85,62 @@ all_after support network after old new still sessions fit =
     each None fits = fits
     each (Some session) fits = still session fits
 
--- what is known to be current still was so before, and what came is not visible to it
+-- what is known to be current still was so before, and what was attached is not visible to it
 known_still : (support : Premises) (session : Session) → (after_entry support session).is_current ≡ true →
     (session.is_current ≡ true) × (is_subset support session.values.worldview ≡ false)
 known_still support session is =
     let parts = true_both session.is_current (not (is_subset support session.values.worldview)) is in
     (parts.0, not-true (is_subset support session.values.worldview) parts.1)
 
+-- values say already what a fact shows that is not visible in their worldview
+pub says_of_hidden : (values : Settled) (cell : ℕ) (fact : Fact) → kind_of (info_at values.infos cell) ≡ kind_of fact.info →
+    is_subset fact.support values.worldview ≡ false → SayAlready cell fact values
+says_of_hidden values cell fact kind hidden =
+    implies_shown (info_at values.infos cell) fact values.worldview kind
+    (λ seen. absurd (both_ways (is_subset fact.support values.worldview) hidden seen))
+
 -- where a fact is told
-pub sessions_told : (network : Network) → IsWellNetwork network → (old new : Store) (cell : ℕ) (fact : Fact) → kinds_of old ≡ kinds_in network →
-    kind_of fact.info ≡ kind_in_store old cell → TakesFact cell fact old new → IsSound network old → (sessions : List (Option Session)) →
-    SessionsFit network old sessions → SessionsFit network new (map (option_map (after_entry fact.support)) sessions)
-sessions_told network well old new cell fact same kind takes sound =
-    all_after fact.support network network old new (λ session fits. record {
-      fits = fits_more network old new session.values (more_kept network old new same cell fact kind takes.kept takes.others) fits.fits;
-      declared = fits.declared;
-      current = λ is.
-          let known = known_still fact.support session is in
-          current_told network well old new cell fact same kind takes sound session.values known.1 (fits.current known.0);
-    })
+module _ (network : Network) (old : Store) (cell : ℕ) (fact : Fact) (same : kinds_of old ≡ kinds_in network)
+    (kind : kind_of fact.info ≡ kind_in_store old cell) (declared : cell < length network.declared.cells) where
+  -- each session has a value of the cell, of the kind of the fact
+  pub have_values : (sessions : List (Option Session)) → SessionsFit network old sessions → HaveValues cell (kind_of fact.info) sessions
+  have_values sessions fit =
+      All-weaker (λ session. IfSome session (IsSessionOf network old))
+      (λ session. IfSome session (λ session. (cell < length session.values.infos) × (kind_of (info_at session.values.infos cell) ≡ kind_of fact.info)))
+      (λ session fits. IfSome_then session fits (λ session fits. (
+        there session fits,
+        fits.fits.kinds cell (there session fits) ∙ sym (kind_there network old same cell) ∙ sym kind,
+      ))) sessions fit
+    where
+      there : (session : Session) → IsSessionOf network old session → cell < length session.values.infos
+      there session fits = omega (arith, declared, fits.declared)
+
+  module _ (well : IsWellNetwork network) (new : Store) (takes : TakesFact cell fact old new) (sound : IsSound network old) where
+    session_told : (session after : Session) → IsAfterTell cell fact session after → IsSessionOf network old session → IsSessionOf network new after
+    session_told session after is fits = record {
+      fits = subst (IsFitting network new) (sym is.values)
+          (fits_more network old new session.values (more_kept network old new same cell fact kind takes.kept takes.others) fits.fits);
+      declared = subst (λ (values : Settled). length network.declared.cells ≤ length values.infos) (sym is.values) fits.declared;
+      current = λ known. elim is.current [
+        | inl says ↦
+            subst (IsCurrent network new) (sym is.values)
+            (current_told network well old new cell fact same kind takes sound session.values (omega (arith, declared, fits.declared)) says.0
+            (fits.current (sym says.1 ∙ known)))
+        | inr news ↦ absurd (both_ways after.is_current news.1 known)
+      ];
+    }
+
+    each_told : (session after : Option Session) → Becomes (IsAfterTell cell fact) session after → IfSome session (IsSessionOf network old) →
+        IfSome after (IsSessionOf network new)
+    each_told None after none fits = subst (λ o. IfSome o (IsSessionOf network new)) (sym none) fits
+    each_told (Some session) after came fits =
+        subst (λ o. IfSome o (IsSessionOf network new)) (sym came.1) (session_told session came.0 came.2 fits)
+
+    pub sessions_told : (sessions after : List (Option Session)) → EachBecomes (IsAfterTell cell fact) sessions after →
+        SessionsFit network old sessions → SessionsFit network new after
+    sessions_told sessions after became fit user d there =
+        subst (λ o. IfSome o (IsSessionOf network new)) (get_or_default after user None d there)
+        (each_told (get_or sessions user None) (get_or after user None) (became.each user) (fit user None (omega (arith, there, became.many))))
 
 -- where more is attached, with new cells
 pub sessions_attached : (network wider : Network) (wide : IsWider network wider) → IsWellNetwork network → IsWellNetwork wider → (old new : Store)

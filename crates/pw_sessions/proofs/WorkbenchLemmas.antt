@@ -246,10 +246,11 @@ module _ (d : Declared) (many : length d.kinds ≡ length d.cells) where
         nogoods = subst (λ (n : Network). AreNogoods n new.store new.nogoods) (sym told.network)
             (subst (AreNogoods old.network new.store) (sym told.nogoods)
             (nogoods_told old.network network old.store new.store cell fact left.set_up.kinds kind takes old.nogoods left.set_up.nogoods));
-        sessions = ap length told.sessions ∙ length-map old.sessions (option_map (after_entry fact.support)) ∙ left.set_up.sessions;
+        sessions = told.sessions.many ∙ left.set_up.sessions;
         fit = subst (λ (n : Network). SessionsFit n new.store new.sessions) (sym told.network)
-            (subst (SessionsFit old.network new.store) (sym told.sessions)
-            (sessions_told old.network network old.store new.store cell fact left.set_up.kinds kind takes left.set_up.sound old.sessions left.set_up.fit));
+            (sessions_told old.network old.store cell fact left.set_up.kinds kind
+            (omega (arith, named.0, ap (λ (e : Declared). length e.cells) left.set_up.declared)) network new.store takes left.set_up.sound old.sessions
+            new.sessions told.sessions left.set_up.fit);
       })
       (All-push (FitsDeclared d) es entry left.fit named)
       (told.network ∙ left.network ∙ sym (fold_push with_entry (bare d) es entry))

@@ -1,13 +1,16 @@
 -- When a user's next question is answered from what the last one found, and how often procedures are called for it.
 use Rattle.std.specs.Prelude.{◌≡◌, ◌⊎◌, ℕ, ◌≤◌, Bool, true, false, List, Option, None, Some}
 use Rattle.std.specs.FinSet.{is_subset}
+use Rattle.pw_info.specs.Information.{Implies}
 use Rattle.pw_premises.specs.Premises.{Premises}
+use Rattle.pw_facts.specs.Facts.{shows}
 use Rattle.pw_cells.specs.Cells.{Store}
 use Rattle.pw_decl.specs.Declaration.{Declared}
 use Rattle.pw_network.specs.Network.{Network}
 use Rattle.pw_settle.specs.Agenda.{tally}
 use Rattle.pw_settle.specs.Calls.{visible_count}
 use Rattle.pw_settle.specs.Due.{AreDue}
+use Rattle.pw_settle.specs.Values.{value_in}
 use Rattle.pw_sessions.specs.declared.command.Command.{Command}
 use Rattle.pw_sessions.specs.declared.command.Command.TheVariants as commands
 use Rattle.pw_sessions.specs.declared.reply.Refusal.TheVariants as refusal
@@ -40,19 +43,20 @@ ChangesBeliefs user (commands.Believe own premises) = own ≡ user
 ChangesBeliefs user (commands.Doubt own premises) = own ≡ user
 ChangesBeliefs user command = ⊥
 
--- the command tells or attaches under premises that are all believed
-abbrev pub IsSeen : Premises → Command → Type 0
-IsSeen beliefs (commands.Tell user cell fact) = is_subset fact.support beliefs ≡ true
-IsSeen beliefs (commands.Attach user callable cells support) = is_subset support beliefs ≡ true
-IsSeen beliefs command = ⊥
+-- the command attaches under premises that the user believes, or tells what does not follow under what the user believes
+abbrev pub IsNews : Workbench → ℕ → Command → Type 0
+IsNews workbench user (commands.Tell own cell fact) =
+    Implies (value_in workbench.network workbench.store (beliefs_in workbench user) cell) (shows (beliefs_in workbench user) fact) → ⊥
+IsNews workbench user (commands.Attach own callable cells support) = is_subset support (beliefs_in workbench user) ≡ true
+IsNews workbench user command = ⊥
 
 -- the line may end the freshness of the user: it changes the user's beliefs, or is the user's own and was refused, or it told or
--- attached what the user sees
+-- attached what is news to the user
 abbrev pub MayEndFreshness : Workbench → ℕ → Command → Reply → Type 0
 MayEndFreshness workbench user command answer =
     ChangesBeliefs user command
     ⊎ (((user_of command ≡ user) × (answer ≡ reply.Refused refusal.Memory))
-    ⊎ ((answer ≡ reply.Done) × IsSeen (beliefs_in workbench user) command))
+    ⊎ ((answer ≡ reply.Done) × IsNews workbench user command))
 
 -- after a question that settled, its user is fresh; and who was fresh is so still, but for lines that may end it
 pub record KeepsFresh (old : Workbench) (command : Command) (new : Workbench) (answer : Reply) : Type 0 where

@@ -1,12 +1,16 @@
 -- What a user's last question found, and what it is for that to be all that there is to find now.
-use Rattle.std.specs.Prelude.{◌≡◌, ℕ, ◌≤◌, Bool, true, false, ◌&&◌, not, length}
+use Rattle.std.specs.Prelude.{◌≡◌, ◌⊎◌, ℕ, ◌<◌, ◌≤◌, Bool, true, false, ◌&&◌, not, List, All, length, Option, None, Some, IfSome, slice_index_or}
 use Rattle.std.specs.FinSet.{is_subset}
+use Rattle.pw_info.specs.declared.kind.Kind.{Kind}
+use Rattle.pw_info.specs.Information.{Implies, kind_of}
 use Rattle.pw_premises.specs.Premises.{Premises}
+use Rattle.pw_facts.specs.declared.fact.Fact.{Fact}
+use Rattle.pw_facts.specs.Facts.{shows}
 use Rattle.pw_cells.specs.Cells.{Store, kept_in}
 use Rattle.pw_network.specs.Network.{Network}
 use Rattle.pw_settle.specs.Calls.{visible_at}
 use Rattle.pw_settle.specs.Fitting.{IsFitting, said_of}
-use Rattle.pw_settle.specs.Settled.{Settled}
+use Rattle.pw_settle.specs.Settled.{Settled, info_at}
 use Rattle.pw_settle.specs.Values.{value_in}
 
 -- the values that it settled, and whether they are known to be current
@@ -32,10 +36,37 @@ pub record IsSessionOf (network : Network) (store : Store) (session : Session) :
   pub declared : length network.declared.cells ≤ length session.values.infos
   pub current : session.is_current ≡ true → IsCurrent network store session.values
 
--- the session once something came under these premises: where that is visible in the worldview of its values, they are not known to
--- be current any more
+-- the session once something was attached under these premises: where that is visible in the worldview of its values, they are not
+-- known to be current any more
 abbrev pub after_entry : Premises → Session → Session
 after_entry support session = record {
   values = session.values;
   is_current = session.is_current && not (is_subset support session.values.worldview);
 }
+
+-- the values say already what a fact shows of the cell in their worldview: nothing, where it is not visible there
+abbrev pub SayAlready : ℕ → Fact → Settled → Type 0
+SayAlready cell fact values = Implies (info_at values.infos cell) (shows values.worldview fact)
+
+-- the session once a fact was told of the cell: it has the values that it had, and they are known to be current as they were, where
+-- they say already what the fact shows, and not any more where they do not
+pub record IsAfterTell (cell : ℕ) (fact : Fact) (old new : Session) : Type 0 where
+  pub values : new.values ≡ old.values
+  pub current : (SayAlready cell fact old.values × (new.is_current ≡ old.is_current))
+      ⊎ ((SayAlready cell fact old.values → ⊥) × (new.is_current ≡ false))
+
+-- each session that is there has a value of the cell, which is of this kind
+abbrev pub HaveValues : ℕ → Kind → List (Option Session) → Type 0
+HaveValues cell kind sessions =
+    All (λ session. IfSome session
+    (λ session. (cell < length session.values.infos) × (kind_of (info_at session.values.infos cell) ≡ kind))) sessions
+
+-- the session that came of one before, where there was one; else there is none
+abbrev pub Becomes : (Session → Session → Type 0) → Option Session → Option Session → Type 0
+Becomes From None new = new ≡ None
+Becomes From (Some session) new = (after : Session) × (new ≡ Some after) × From session after
+
+-- so it is for each user
+pub record EachBecomes (From : Session → Session → Type 0) (old new : List (Option Session)) : Type 0 where
+  pub many : length new ≡ length old
+  pub each : (user : ℕ) → Becomes From (slice_index_or old user None) (slice_index_or new user None)

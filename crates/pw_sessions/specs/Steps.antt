@@ -24,7 +24,7 @@ use Rattle.pw_sessions.specs.Reply as reply
 use Rattle.pw_sessions.specs.declared.reply.Refusal.TheVariants as refusal
 use Rattle.pw_sessions.specs.LineReading.{LineReading, Says}
 use Rattle.pw_sessions.specs.NamesDeclared.{IsDeclared}
-use Rattle.pw_sessions.specs.Session.{after_entry}
+use Rattle.pw_sessions.specs.Session.{EachBecomes, IsAfterTell, after_entry}
 use Rattle.pw_sessions.specs.Workbench.{Workbench, IsLeftBy, IsSetUpFor, IsCarriedOut, SessionsFit, beliefs_in, session_in}
 
 -- the workbench can carry out the command: what it names is declared, and the line comes after those of all attachments
@@ -61,13 +61,13 @@ pub record TakesFact (cell : ℕ) (fact : Fact) (old new : Store) : Type 0 where
   pub others : LeavesOthers cell old new
   pub kinds : kinds_of new ≡ kinds_of old
 
--- a fact was told of the cell: the store took it, and sessions know that it came
+-- a fact was told of the cell: the store took it, and each session knows whether it is news
 pub record IsTold (old : Workbench) (cell : ℕ) (fact : Fact) (new : Workbench) : Type 0 where
   pub network : new.network ≡ old.network
   pub store : TakesFact cell fact old.store new.store
   pub nogoods : new.nogoods ≡ old.nogoods
   pub beliefs : new.beliefs ≡ old.beliefs
-  pub sessions : new.sessions ≡ map (option_map (after_entry fact.support)) old.sessions
+  pub sessions : EachBecomes (IsAfterTell cell fact) old.sessions new.sessions
   pub calls : new.calls ≡ old.calls
 
 -- a callable was attached, and its inner cells added, of which nothing was told; and sessions know that it came

@@ -25,7 +25,7 @@ ghost use Rattle.pw_sessions.specs.Fields.{workbench_by};
 ghost use Rattle.pw_sessions.specs.Freshness.{CallsDue, CallsDueFor, CallsFew, CountsCalls, IsAsked, IsFresh, KeepsFresh};
 ghost use Rattle.pw_sessions.specs.LineReading.{LineReading};
 ghost use Rattle.pw_sessions.specs.Reply.{reply_by};
-ghost use Rattle.pw_sessions.specs.Session.{Session as LastSession, IsCurrent, KeepsValues, after_entry};
+ghost use Rattle.pw_sessions.specs.Session.{Session as LastSession, EachBecomes, HaveValues, IsAfterTell, IsCurrent, KeepsValues, after_entry};
 ghost use Rattle.pw_sessions.specs.Steps.{AnswersAsk, AnswersConflicts, AnswersWhy, CanCarryOut, CarriesOutNext, IsAsBefore, IsAttached, IsTold};
 ghost use Rattle.pw_sessions.specs.Steps.{OnlyKeepsMore, StoreFits, is_written};
 ghost use Rattle.pw_sessions.specs.Workbench.{IsLeftBy, beliefs_in};
@@ -89,13 +89,25 @@ fn no_sessions<A: Allocator + Copy>(
     Ok(sessions)
 }
 
-// Something came under these premises, a fact or an attachment: the sessions that see it know it.
+// Something was attached under these premises: the sessions that see it know it.
 fn note_in_each<A: Allocator>(sessions: &mut [Option<Session<A>>], support: &PremiseSet)
     ensures { sessions.new ≡ map (option_map (after_entry support.now)) sessions.old }
 {
     for session in sessions.iter_mut() {
         if let Some(session) = session {
             session.note_entry(support);
+        }
+    }
+}
+
+// A fact was told of the cell, of which each session has a value of the fact's kind: those to which it is news know it.
+fn note_tell_in_each<A: Allocator>(sessions: &mut [Option<Session<A>>], cell: u32, fact: &Fact)
+    requires { HaveValues cell (kind_of fact.now.info) sessions.old }
+    ensures { EachBecomes (IsAfterTell cell fact.now) sessions.old sessions.new }
+{
+    for session in sessions.iter_mut() {
+        if let Some(session) = session {
+            session.note_tell(cell, fact);
         }
     }
 }
@@ -176,7 +188,7 @@ impl<'d, 'r, A: Allocator + Copy> Workbench<'d, 'r, A> {
         self.beliefs[usize::from(user)] = premises;
     }
 
-    // Something came under these premises, and the sessions that see it know it.
+    // Something was attached under these premises, and the sessions that see it know it.
     fn note_entry(&mut self, support: &PremiseSet)
         ensures { workbench_by self.new ≡ record (workbench_by self.old) {
           sessions = map (option_map (after_entry support.now)) (workbench_by self.old).sessions;
@@ -185,15 +197,17 @@ impl<'d, 'r, A: Allocator + Copy> Workbench<'d, 'r, A> {
         note_in_each(&mut self.sessions, support);
     }
 
-    // Tells a fact of a cell, which is there and of its kind. It fails only for want of memory, and then nothing changes.
+    // Tells a fact of a declared cell, of its kind. It fails only for want of memory, and then nothing changes.
     fn tell(&mut self, cell: u32, fact: Fact) -> Result<(), AllocError>
+        requires declared { cell < length (workbench_by self.old).network.declared.cells }
         requires there { cell < length (workbench_by self.old).store.cells }
+        requires fits { StoreFits (workbench_by self.old) }
         requires kind { kind_of fact.info ≡ kind_in_store (workbench_by self.old).store cell }
         ensures ok { OnOk result (IsTold (workbench_by self.old) cell fact (workbench_by self.new)) }
         ensures err { OnErr result (workbench_by self.new ≡ workbench_by self.old) }
     {
         self.store.tell(cell, fact)?;
-        self.note_entry(&fact.support);
+        note_tell_in_each(&mut self.sessions, cell, &fact);
         Ok(())
     }
 
@@ -424,8 +438,8 @@ impl<'d, 'r, A: Allocator + Copy> Workbench<'d, 'r, A> {
     ///
     /// After an answered why or conflicts, or an answered ask of a cell that an instance writes whose premises are all believed,
     /// its user is fresh: nothing is left to derive. A fresh user stays so until a line changes the beliefs of this user, or
-    /// is this user's own and refused, or tells or attaches something under premises that this user believes. `last_calls` says
-    /// what that saves.
+    /// is this user's own and refused, attaches something under premises that this user believes, or tells what does not follow
+    /// already under what this user believes. `last_calls` says what that saves.
     pub fn command(&mut self, line: u32, command: &Command) -> Reply<A>
         requires { CanBeCarriedOut (workbench_by self.old) line command.now }
         ensures carried { CarriesOut (workbench_by self.old) line command.now (workbench_by self.new)

@@ -62,7 +62,8 @@ fn may_use<A: Allocator + Copy>(declaration: &Declaration<'_, A>, user: u8, prem
 }
 
 // The premises that the words name, and whether the user may tell or attach under each; or the refusal of a word that
-// names none, whoever the premises before it belong to.
+// names none, whoever the premises before it belong to. Inlined, so that what it answers need not be stored.
+#[inline(always)]
 fn support_of<A: Allocator + Copy>(
     declaration: &Declaration<'_, A>,
     user: u8,

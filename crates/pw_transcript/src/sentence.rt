@@ -85,7 +85,8 @@ fn is_under(word: &[u8]) -> bool
     matches!(word, [b'u', b'n', b'd', b'e', b'r'])
 }
 
-// The premises at the end of a tell or of an attach.
+// The premises at the end of a tell or of an attach. Inlined, as `read_cell` is: a call costs as much as what it does.
+#[inline(always)]
 fn read_under<'a>(mut tail: Words<'a>) -> Option<Words<'a>>
     ensures { MatchOption result (under_form tail.entry ≡ None) (λ premises.
         under_form tail.entry ≡ Some premises) }
@@ -168,6 +169,7 @@ fn read_bare<'a>(said: Said<'a>, rest: Words<'a>) -> Option<Said<'a>>
 }
 
 // The cell that follows `ask` and `why`, alone.
+#[inline(always)]
 fn read_cell<'a>(mut rest: Words<'a>) -> Option<&'a [u8]>
     ensures { (says : List ℕ → spec.Said) →
         option_map says (option_copied result) ≡ cell_form says rest.entry }

@@ -1,7 +1,10 @@
 //! What is kept of a user's last question.
-ghost use Rattle.std.specs.Prelude.{◌≡◌};
-ghost use Rattle.pw_sessions.specs.Session.{after_entry};
+ghost use Rattle.std.specs.Prelude.{◌≡◌, ◌<◌, ◌↔◌, IsTrue, length};
+ghost use Rattle.pw_info.specs.Information.{kind_of};
+ghost use Rattle.pw_settle.specs.Settled.{info_at};
+ghost use Rattle.pw_sessions.specs.Session.{IsAfterTell, SayAlready, after_entry};
 
+use pw_facts::Fact;
 use pw_premises::PremiseSet;
 use pw_settle::Settled;
 use std::alloc::{Allocator, Global};
@@ -28,11 +31,33 @@ impl<A: Allocator> Model for Session<A> {
 }
 
 impl<A: Allocator> Session<A> {
-    // Something came under these premises: where that is visible in the worldview of the values, they may not be those of now.
+    // Something was attached under these premises: where that is visible in the worldview of the values, they may not be those of
+    // now.
     pub(super) fn note_entry(&mut self, support: &PremiseSet)
         ensures { self.new ≡ after_entry support.now self.old }
     {
         if support.is_subset(self.values.worldview()) {
+            self.is_current = false;
+        }
+    }
+
+    // Whether the values say already what the fact, which is of the cell's kind, shows of it in their worldview.
+    fn say_already(&self, cell: u32, fact: &Fact) -> bool
+        requires there { cell < length self.now.values.infos }
+        requires kind { kind_of (info_at self.now.values.infos cell) ≡ kind_of fact.now.info }
+        ensures { IsTrue result ↔ SayAlready cell fact.now self.now.values }
+    {
+        !fact.support.is_subset(self.values.worldview())
+            || self.values.value(cell).info.implies(&fact.info)
+    }
+
+    // A fact of the cell's kind was told of it: where the values say less than it shows, they may not be those of now.
+    pub(super) fn note_tell(&mut self, cell: u32, fact: &Fact)
+        requires there { cell < length self.old.values.infos }
+        requires kind { kind_of (info_at self.old.values.infos cell) ≡ kind_of fact.now.info }
+        ensures { IsAfterTell cell fact.now self.old self.new }
+    {
+        if !self.say_already(cell, fact) {
             self.is_current = false;
         }
     }

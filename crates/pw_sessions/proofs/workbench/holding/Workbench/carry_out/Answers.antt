@@ -28,6 +28,14 @@ tell-requires-clause-there g c =
     let many = cells_kept (network_by c.args.self.now.network) c.args.self.now.store c.args.self.now.network.well c.requires.can.set_up.kinds in
     omega (arith, named.1.0, many)
 
+pub tell-requires-clause-declared : goal.tell-requires-clause-declared
+tell-requires-clause-declared g c =
+    let named = subst (λ (x : Command). IsDeclared (network_by c.args.self.now.network).declared (Says x)) c.in-Tell.is c.requires.can.declared in
+    named.1.0
+
+pub tell-requires-clause-fits : goal.tell-requires-clause-fits
+tell-requires-clause-fits g c = store_fits (workbench_by c.args.self.now) c.requires.can
+
 pub tell-requires-clause-kind : goal.tell-requires-clause-kind
 tell-requires-clause-kind g c = kind_of_told (workbench_by c.args.self.now) c.args.self.now.network.well c.requires.can.set_up c.in-Tell.user c.in-Tell.cell c.in-Tell.fact
     (subst (λ (x : Command). IsDeclared (network_by c.args.self.now.network).declared (Says x)) c.in-Tell.is c.requires.can.declared)
@@ -71,7 +79,7 @@ returns-in-Ok-clause-fresh g c =
     let named = subst (λ (x : Command). IsDeclared (network_by c.args.self.now.network).declared (Says x)) c.in-Tell.is c.requires.can.declared in
     subst (λ (x : Command). KeepsFresh bench x new reply.Done) (sym c.in-Tell.is)
     (keeps_fresh bench new (commands.Tell c.in-Tell.user c.in-Tell.cell c.in-Tell.fact) reply.Done (λ d before settles. settles)
-    (λ user is. elim (fresh_told bench new c.in-Tell.cell c.in-Tell.fact c.args.self.now.network.well (store_fits bench c.requires.can)
+    (λ user is. elim (fresh_told bench new c.in-Tell.cell c.in-Tell.fact c.args.self.now.network.well (store_fits bench c.requires.can) named.1.0
     (kind_of_told bench c.args.self.now.network.well c.requires.can.set_up c.in-Tell.user c.in-Tell.cell c.in-Tell.fact named) c.in-Ok.ensures.ok user is) [
       | inl seen ↦ inl (inr (inr (refl, seen)))
       | inr fresh ↦ inr fresh

@@ -17,7 +17,7 @@ returns-clause-value g c =
     ∙ sym c.index.ensures ∙ sym c.in_ok-session.ensures.value in
     let same : c.worldview.result.now ≡ c.beliefs_of.result =
     (same_numbers_equal c.worldview.result.now c.beliefs_of.result).0 (not-false (has_same_numbers c.worldview.result.now c.beliefs_of.result) (sym c.ne.ensures ∙ c.if-ne.false)) in
-    known_value (workbench_by c.args.self.now) c.args.user c.args.cell c.in_ok-session.session.now c.value.result.info has c.requires.session c.requires.fits
+    known_value (workbench_by c.args.self.now) c.args.user c.args.cell c.in_ok-session.session.now c.value.result.info has c.requires.fits
     (ap (λ (s : Session). s.is_current) (sym c.session.view_is) ∙ c.if-not-session.false)
     (ap (λ (s : Session). s.values.worldview) (sym c.session.view_is) ∙ sym c.worldview.ensures ∙ same ∙ c.beliefs_of.ensures) c.requires.cell
     (c.value.ensures.info ∙ ap (λ (s : Session). info_at s.values.infos c.args.cell) c.session.view_is)
@@ -30,6 +30,6 @@ returns-clause-fresh g c =
     ∙ sym c.index.ensures ∙ sym c.in_ok-session.ensures.value in
     let same : c.worldview.result.now ≡ c.beliefs_of.result =
     (same_numbers_equal c.worldview.result.now c.beliefs_of.result).0 (not-false (has_same_numbers c.worldview.result.now c.beliefs_of.result) (sym c.ne.ensures ∙ c.if-ne.false)) in
-    known_fresh (workbench_by c.args.self.now) c.args.user c.in_ok-session.session.now has c.requires.session c.requires.fits
+    known_fresh (workbench_by c.args.self.now) c.args.user c.in_ok-session.session.now has c.requires.fits
     (ap (λ (s : Session). s.is_current) (sym c.session.view_is) ∙ c.if-not-session.false)
     (ap (λ (s : Session). s.values.worldview) (sym c.session.view_is) ∙ sym c.worldview.ensures ∙ same ∙ c.beliefs_of.ensures)
