@@ -137,6 +137,3 @@ fn bad_command_line(alloc: Global, message: &str) -> Error {
         Err(error) => error,
     }
 }
-
-#[cfg(test)]
-mod tests;

@@ -1,5 +1,5 @@
-//! For tests alone: an allocator that refuses the growths that a test chooses, and tests of what stands below networks: those that
-//! need the allocator or cross crates, and all of `pw_info` and `pw_procs`, which would be proved twice with tests of their own.
+//! For tests alone: an allocator that refuses the growths that a test chooses, and all tests of what stands below networks: a
+//! crate with tests of its own would be proved twice.
 //! Helpers come first (`texts`, `procedures`, `worlds` and `facts`, which the tests of `pw_settlings` and `pw_runs` use too), then a
 //! folder for each thing tested.
 #![tactic(auto)]
@@ -110,6 +110,12 @@ unsafe impl<B: Allocator> Allocator for Refusing<B> {
 mod declarations;
 #[cfg(test)]
 mod info;
+#[cfg(test)]
+mod kinds;
+#[cfg(test)]
+mod merges;
+#[cfg(test)]
+mod premises;
 #[cfg(test)]
 mod procs;
 #[cfg(test)]

@@ -1,0 +1,4 @@
+//! Tests of sets of premises.
+
+mod numbers;
+mod sets;
