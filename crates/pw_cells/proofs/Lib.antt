@@ -9,3 +9,4 @@ pub mod ToldSupports
 pub mod Late
 pub mod Tells
 pub mod RightAnswers
+mod LastFirst

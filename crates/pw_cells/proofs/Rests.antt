@@ -1,6 +1,7 @@
 -- What is left of facts where those that one subsumes are dropped, one fact more at a time.
-use Rattle.std.proofs.Common.{◌≡◌, ℕ, ◌+◌, List, [], ◌∷◌, ◌++◌, true, false, not, cond, get_or, drop, sym, ◌∙◌, ap, arith}
-use Rattle.std.proofs.lemmas.List.{append-nil, get_or-drop, drop-drop}
+use Rattle.std.proofs.Common.{◌≡◌, ℕ, ◌+◌, ◌-◌, ◌<◌, ◌≤◌, List, [], ◌∷◌, ◌++◌, true, false, not, cond, length, get_or, take, drop, length-drop, refl, sym, ◌∙◌, ap, subst, arith}
+use Rattle.std.proofs.Math.Seq.{take-append_seam, drop-append_seam}
+use Rattle.std.proofs.lemmas.List.{append-nil, get_or-drop, drop-drop, length-take-le, take_more, take_all}
 use Rattle.std.proofs.lemmas.List.Elements.{filter-append}
 use Rattle.pw_facts.specs.declared.fact.Fact.{Fact}
 use Rattle.pw_cells.specs.Assimilated.{does_subsume, unsubsumed}
@@ -23,3 +24,73 @@ same_ahead xs ys n d e = let at : get_or (drop n xs) 0 d ≡ get_or (drop n ys) 
 
 pub less_ahead : {X : Type 0} (xs ys : List X) (n : ℕ) → drop n xs ≡ drop n ys → drop (n + 1) xs ≡ drop (n + 1) ys
 less_ahead xs ys n e = sym (drop-drop 1 n xs) ∙ ap (drop 1) e ∙ drop-drop 1 n ys
+
+-- what is left of facts where those that one subsumes are dropped from the first of them, and the others are still ahead: before the
+-- place are those that stay
+pub record AreSifted (f : Fact) (all left : List Fact) (place : ℕ) : Type 0 where
+  pub seen : ℕ
+  pub stay : take place left ≡ unsubsumed f (take seen all)
+  pub ahead : drop place left ≡ drop seen all
+
+-- at first all are ahead
+pub none_sifted : (f : Fact) (all : List Fact) → AreSifted f all all 0
+none_sifted f all = record { seen = 0; stay = refl; ahead = refl }
+
+-- as many are ahead on either side
+as_many_ahead : (all left : List Fact) (seen place : ℕ) → drop place left ≡ drop seen all → length left - place ≡ length all - seen
+as_many_ahead all left seen place ahead = sym (length-drop place left) ∙ ap length ahead ∙ length-drop seen all
+
+-- the next one is the next of all
+pub next_of_all : (f : Fact) (all left : List Fact) (place : ℕ) (d : Fact) (sifted : AreSifted f all left place) → place < length left
+    → (sifted.seen < length all) × (get_or left place d ≡ get_or all sifted.seen d)
+next_of_all f all left place d sifted below =
+    let many = as_many_ahead all left sifted.seen place sifted.ahead in
+    let at : get_or (drop place left) 0 d ≡ get_or (drop sifted.seen all) 0 d = ap (λ l. get_or l 0 d) sifted.ahead in
+    let here : get_or (drop place left) 0 d ≡ get_or left place d = grind (arith, get_or-drop place left 0 d) in
+    let there : get_or (drop sifted.seen all) 0 d ≡ get_or all sifted.seen d = grind (arith, get_or-drop sifted.seen all 0 d) in
+    (omega (arith, many, below), sym here ∙ at ∙ there)
+
+one_less : (all left : List Fact) (seen place : ℕ) → drop place left ≡ drop seen all → drop (place + 1) left ≡ drop (seen + 1) all
+one_less all left seen place ahead = sym (drop-drop 1 place left) ∙ ap (drop 1) ahead ∙ drop-drop 1 seen all
+
+-- where the fact subsumes the next one, that is dropped
+pub one_dropped : (f x : Fact) (all left : List Fact) (place : ℕ) → AreSifted f all left place → place < length left → x ≡ get_or left place x
+    → does_subsume f x ≡ true → AreSifted f all (take place left ++ drop (place + 1) left) place
+one_dropped f x all left place sifted below is subsumed =
+    let next = next_of_all f all left place x sifted below in
+    let longer : take (sifted.seen + 1) all ≡ take sifted.seen all ++ x ∷ [] =
+    take_more all sifted.seen x next.0 ∙ ap (λ y. take sifted.seen all ++ y ∷ []) (sym (is ∙ next.1)) in
+    let long : length (take place left) ≡ place = length-take-le place left (omega (arith, below)) in
+    record {
+      seen = sifted.seen + 1;
+      stay =
+          subst (λ n. take n (take place left ++ drop (place + 1) left) ≡ take place left) long (take-append_seam (take place left) (drop (place + 1) left))
+          ∙ unsubsumed_drops f x (take sifted.seen all) (take place left) sifted.stay subsumed
+          ∙ ap (unsubsumed f) (sym longer);
+      ahead =
+          subst (λ n. drop n (take place left ++ drop (place + 1) left) ≡ drop (place + 1) left) long (drop-append_seam (take place left) (drop (place + 1) left))
+          ∙ one_less all left sifted.seen place sifted.ahead;
+    }
+
+-- else it stays
+pub one_stays : (f x : Fact) (all left : List Fact) (place : ℕ) → AreSifted f all left place → place < length left → x ≡ get_or left place x
+    → does_subsume f x ≡ false → AreSifted f all left (place + 1)
+one_stays f x all left place sifted below is other =
+    let next = next_of_all f all left place x sifted below in
+    let longer : take (sifted.seen + 1) all ≡ take sifted.seen all ++ x ∷ [] =
+    take_more all sifted.seen x next.0 ∙ ap (λ y. take sifted.seen all ++ y ∷ []) (sym (is ∙ next.1)) in
+    record {
+      seen = sifted.seen + 1;
+      stay =
+          take_more left place x below ∙ ap (λ y. take place left ++ y ∷ []) (sym is)
+          ∙ unsubsumed_stays f x (take sifted.seen all) (take place left) sifted.stay other
+          ∙ ap (unsubsumed f) (sym longer);
+      ahead = one_less all left sifted.seen place sifted.ahead;
+    }
+
+-- where none is ahead, just those are left that the fact does not subsume
+pub all_sifted : (f : Fact) (all left : List Fact) (place : ℕ) → AreSifted f all left place → length left ≤ place → left ≡ unsubsumed f all
+all_sifted f all left place sifted end =
+    let many = as_many_ahead all left sifted.seen place sifted.ahead in
+    let last : length all ≤ sifted.seen = omega (arith, many, end) in
+    sym (take_all place left end) ∙ sifted.stay ∙ ap (unsubsumed f) (take_all sifted.seen all last)

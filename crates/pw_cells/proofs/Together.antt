@@ -1,9 +1,9 @@
 -- What facts of one kind show together: a value stays possible just where each of them leaves it possible.
-use Rattle.std.proofs.Common.{◌≡◌, ℕ, ℤ, ◌<◌, true, false, ◌&&◌, refl, length, get_or, set, get_or-set_same, get_or-set_other, length-set, arith, List, [], ◌∷◌, ◌++◌, inl, inr, sym, ◌∙◌, ap, subst}
+use Rattle.std.proofs.Common.{◌≡◌, ℕ, ℤ, ◌<◌, ◌-◌, reverse, true, false, ◌&&◌, refl, length, get_or, set, get_or-set_same, get_or-set_other, length-set, arith, List, [], ◌∷◌, ◌++◌, inl, inr, sym, ◌∙◌, ap, subst}
 use Rattle.std.specs.Prelude.{fold, All, Contains}
 use Rattle.std.specs.FinSet.{is_subset}
 use Rattle.std.proofs.lemmas.Bool.{cases_Bool, cases_eq}
-use Rattle.std.proofs.lemmas.List.{get_or_default}
+use Rattle.std.proofs.lemmas.List.{get_or_default, get_or-reverse, length-reverse, reverse-reverse}
 use Rattle.std.proofs.lemmas.List.Elements.{All-nil, All-cons, All-head, All-tail, All-weaker, All-push, All-set, All-contains, Contains-push, Contains-append_left, All-contains_itself}
 use Rattle.std.proofs.lemmas.List.Sums.{fold_push}
 use Rattle.pw_kinds.proofs.Order.{both_true, true_both}
@@ -82,6 +82,19 @@ same_shown : (k : Kind) (w : Premises) (xs ys : List Fact) → AreOfKind k xs �
     → shown_by k w xs ≡ shown_by k w ys
 same_shown k w xs ys all_x all_y to from = Implies-antisym _ _ (kind-shown_by k w xs ∙ sym (kind-shown_by k w ys))
     (shown_implies k w w xs ys all_x all_y to) (shown_implies k w w ys xs all_y all_x from)
+
+-- what holds of each element holds of each, the last first
+all_reversed : {X : Type 0} (P : X → Type 0) (xs : List X) → All P xs → All P (reverse xs)
+all_reversed P xs all j d below =
+    let there : j < length xs = subst (λ n. j < n) (length-reverse xs) below in
+    subst P (sym (get_or-reverse xs j d there)) (all (length xs - 1 - j) d (omega (arith, there)))
+
+-- the last first they say the same together
+pub shown-reversed : (k : Kind) (w : Premises) (fs : List Fact) → AreOfKind k fs → shown_by k w (reverse fs) ≡ shown_by k w fs
+shown-reversed k w fs all =
+    same_shown k w (reverse fs) fs (all_reversed (λ f. kind_of f.info ≡ k) fs all) all
+    (λ v open_all. subst (All (LeavesOpen w v)) (reverse-reverse fs) (all_reversed (LeavesOpen w v) (reverse fs) open_all))
+    (λ v. all_reversed (LeavesOpen w v) fs)
 
 -- with one more fact they say what both say
 pub shown-push : (k : Kind) (w : Premises) (fs : List Fact) (f : Fact) → shown_by k w (fs ++ f ∷ []) ≡ meet (shown_by k w fs) (shows w f)

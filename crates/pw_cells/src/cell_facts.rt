@@ -2,8 +2,9 @@
 
 ghost use Rattle.std.specs.Prelude.{◌≡◌, ◌+◌, ◌<◌, ◌≤◌, ◌↔◌, ◌++◌, ◌∷◌, [], true, false, if◌then◌else◌, None};
 ghost use Rattle.std.specs.Prelude.{map, vec_len, vec_capacity, IsTrue, IfOk, OnOk, OnErr};
+ghost use Rattle.std.specs.FinSet.{is_subset, union};
 ghost use Rattle.pw_info.specs.Information.{kind_of, Implies};
-ghost use Rattle.pw_facts.specs.Facts.{IsMergeOfAll, visible_facts};
+ghost use Rattle.pw_facts.specs.Facts.{IsMerge, IsMergeOfAll, ShowTogether, visible_facts};
 ghost use Rattle.pw_facts.specs.Worldviews.{IsLeastAbove, IsMostBelow};
 ghost use Rattle.pw_cells.specs.Cells.{new_cell, shown_by, told_of, kept_of, IsSubsumedBy};
 ghost use Rattle.pw_cells.specs.Changes.{GainsFact, Assimilates, TellsNews};
@@ -269,22 +270,22 @@ fn assimilate<A: Allocator>(kept: &mut Vec<Fact, A>, known: bool, fact: &Fact)
     }
 }
 
-// Drops the facts that this one subsumes. (`retain` takes no test that may be asked of facts of one kind alone.)
+// Drops the facts that this one subsumes. (`retain` takes no test that may be asked of facts of one kind alone.) Few are dropped
+// at a time, so the later ones move down together, and not one by one.
 fn drop_subsumed<A: Allocator>(kept: &mut Vec<Fact, A>, fact: &Fact)
     requires { AreOfKind (kind_of fact.now.info) kept.old.items }
     ensures rest { kept.new.items ≡ unsubsumed fact.now kept.old.items }
     ensures len { vec_len kept.new ≤ vec_len kept.old }
     ensures capacity { vec_capacity kept.new ≡ vec_capacity kept.old }
 {
-    let mut left = 0;
-    for place in 0..kept.len() {
-        let held = kept[place];
-        if !subsumes(fact, &held) {
-            kept[left] = held;
-            left += 1;
+    let mut place = 0;
+    while place < kept.len() {
+        if subsumes(fact, &kept[place]) {
+            kept.remove(place);
+        } else {
+            place += 1;
         }
     }
-    kept.truncate(left);
 }
 
 // Appends a fact where there is room.
@@ -320,10 +321,28 @@ fn merged(kind: Kind, facts: &[Fact], worldview: &PremiseSet) -> Fact
         info: Info::nothing(kind),
         support: PremiseSet::empty(),
     };
-    for held in facts {
+    // The last come first: what came last mostly says the most, and then a look at each of the others is enough.
+    for back in 0..facts.len() {
+        let held = &facts[facts.len() - 1 - back];
         if held.support.is_subset(worldview) {
-            merge = merge_facts(&merge, held);
+            merge_in(&mut merge, held);
         }
     }
     merge
+}
+
+// Merges one more fact into what is merged so far, as `merge_facts` does. Mostly that says as much already: then it stays where it
+// is, and nothing is copied.
+#[inline(always)]
+fn merge_in(merge: &mut Fact, held: &Fact)
+    requires { kind_of merge.old.info ≡ kind_of held.now.info }
+    ensures rule { IsMerge merge.old held.now merge.new }
+    ensures shows { ShowTogether merge.old held.now merge.new }
+    ensures rests { is_subset merge.new.support (union merge.old.support held.now.support) ≡ true }
+{
+    if !merge.info.implies(&held.info) {
+        *merge = merge_facts(merge, held);
+    } else if held.support.is_subset(&merge.support) && held.info.implies(&merge.info) {
+        *merge = *held;
+    }
 }

@@ -53,5 +53,6 @@ pub fn subsumes(a: &Fact, b: &Fact) -> bool
     // Then it shows at least as much in every worldview.
     ensures shows { IsTrue result → (w : Premises) → Implies (shows w a.now) (shows w b.now) }
 {
-    a.info.implies(&b.info) && a.support.is_subset(&b.support)
+    // The supports come first: they are the cheaper test, and the one that mostly fails.
+    a.support.is_subset(&b.support) && a.info.implies(&b.info)
 }

@@ -1,49 +1,58 @@
-use Rattle.std.proofs.Common.{◌≡◌, ◌+◌, ◌<◌, true, false, [], ◌∷◌, ◌++◌, length, get_or, take, length-set, sym, ◌∙◌, ap, arith}
-use Rattle.std.proofs.lemmas.List.{take_more, take_more_set, drop-set-lt}
+use Rattle.std.proofs.Common.{◌≡◌, ℕ, ◌<◌, List, true, false, length, get_or, sym, ◌∙◌, ap, subst, arith}
 use Rattle.pw_kinds.proofs.Order.{not_both}
 use Rattle.pw_info.specs.Information.{kind_of}
+use Rattle.pw_facts.specs.declared.fact.Fact.{Fact}
 use Rattle.pw_cells.specs.Assimilated.{does_subsume}
+use Rattle.pw_cells.specs.OneCell.{AreOfKind}
 use Rattle.pw_cells.proofs.Late.{unsubsumed_test, subsume_test}
-use Rattle.pw_cells.proofs.Rests.{unsubsumed_drops, unsubsumed_stays, same_ahead, less_ahead}
+use Rattle.pw_cells.proofs.Rests.{AreSifted, next_of_all, one_dropped, one_stays}
 use Rattle.pw_cells.proofs.cell_facts.drop_subsumed.Goals as goal
-use Rattle.pw_cells.proofs.cell_facts.drop_subsumed.Goals.{then-not-subsumes, else-not-subsumes}
+
+-- the next one is of the fact's kind
+kind_of_next : (f x : Fact) (all left : List Fact) (place : ℕ) → AreOfKind (kind_of f.info) all → AreSifted f all left place → place < length left
+    → x ≡ get_or left place x → kind_of f.info ≡ kind_of x.info
+kind_of_next f x all left place kinds sifted below is =
+    let next = next_of_all f all left place x sifted below in
+    sym (ap (λ (y : Fact). kind_of y.info) (is ∙ next.1) ∙ kinds sifted.seen x next.0)
 
 pub subsumes-requires : goal.subsumes-requires
 subsumes-requires g c =
-    let facts = c.args.kept.now.items in
-    let held = c.index.result.now in
-    let within : c.loop-place.place < length facts = omega arith in
-    let read : held ≡ get_or facts c.loop-place.place held = c.index.ensures ∙ same_ahead c.loop-place.kept.items facts c.loop-place.place held c.loop-place.invariant.ahead in
-    sym (ap (λ f. kind_of f.info) read ∙ c.requires c.loop-place.place held within)
+    kind_of_next c.args.fact.now c.index.result.now c.args.kept.now.items c.loop-place.kept.items c.loop-place.place c.requires c.loop-place.invariant.sifted
+    (omega arith) c.index.ensures
+
+pub loop-place-preserved-then-subsumes : goal.loop-place-preserved-then-subsumes
+loop-place-preserved-then-subsumes g c =
+    let fact = c.args.fact.now in
+    let held : Fact = c.index.result.now in
+    let all = c.args.kept.now.items in
+    let left = c.loop-place.kept.items in
+    let place = c.loop-place.place in
+    let sifted = c.loop-place.invariant.sifted in
+    let below : place < length left = omega arith in
+    let one = kind_of_next fact held all left place c.requires sifted below c.index.ensures in
+    let subsumed : does_subsume fact held ≡ true = subsume_test fact held one (c.subsumes.ensures.answer.0 c.if-subsumes.true) in
+    record {
+      sifted =
+          subst (λ l. AreSifted fact all l place) (sym c.remove.ensures.by_index.2)
+          (one_dropped fact held all left place sifted below c.index.ensures subsumed);
+      len = omega (arith, c.remove.ensures.len, c.loop-place.invariant.len);
+      capacity = c.remove.ensures.capacity ∙ c.loop-place.invariant.capacity;
+    }
 
 pub loop-place-preserved : goal.loop-place-preserved
 loop-place-preserved g c =
-    let facts = c.args.kept.now.items in
-    let kept = c.loop-place.kept.items in
+    let fact = c.args.fact.now in
+    let held : Fact = c.index.result.now in
+    let all = c.args.kept.now.items in
+    let left = c.loop-place.kept.items in
     let place = c.loop-place.place in
-    let left = c.loop-place.left in
-    let held = c.index.result.now in
-    let within : place < length facts = omega arith in
-    let read : held ≡ get_or facts place held = c.index.ensures ∙ same_ahead kept facts place held c.loop-place.invariant.ahead in
-    let one : kind_of c.args.fact.now.info ≡ kind_of held.info = sym (ap (λ f. kind_of f.info) read ∙ c.requires place held within) in
-    let longer : take (place + 1) facts ≡ take place facts ++ held ∷ [] = take_more facts place held within ∙ ap (λ f. take place facts ++ f ∷ []) (sym read) in
-    elim c.if-not-subsumes.branch [
-      | then-not-subsumes w ↦
-          let room : left < length kept = omega arith in
-          let other : does_subsume c.args.fact.now held ≡ false = unsubsumed_test c.args.fact.now held one (λ subsumed. not_both _ (c.subsumes.ensures.answer.1 subsumed) w.if-not-subsumes.true) in
-          let behind : left < place + 1 = omega arith in
-          rw (w.left-is, w.kept-is) (record {
-            rest = rw (longer, take_more_set kept left held room) (unsubsumed_stays c.args.fact.now held (take place facts) (take left kept) c.loop-place.invariant.rest other);
-            ahead = drop-set-lt (place + 1) kept left held behind ∙ less_ahead kept facts place c.loop-place.invariant.ahead;
-            behind = omega arith;
-            long = length-set kept left held ∙ c.loop-place.invariant.long;
-          })
-      | else-not-subsumes w ↦
-          let subsumed : does_subsume c.args.fact.now held ≡ true = subsume_test c.args.fact.now held one (c.subsumes.ensures.answer.0 w.if-not-subsumes.false) in
-          rw (w.left-is, w.kept-is) (record {
-            rest = rw longer (unsubsumed_drops c.args.fact.now held (take place facts) (take left kept) c.loop-place.invariant.rest subsumed);
-            ahead = less_ahead kept facts place c.loop-place.invariant.ahead;
-            behind = omega arith;
-            long = c.loop-place.invariant.long;
-          })
-    ]
+    let sifted = c.loop-place.invariant.sifted in
+    let below : place < length left = omega arith in
+    let one = kind_of_next fact held all left place c.requires sifted below c.index.ensures in
+    let other : does_subsume fact held ≡ false =
+    unsubsumed_test fact held one (λ subsumed. not_both _ (c.subsumes.ensures.answer.1 subsumed) c.if-subsumes.false) in
+    record {
+      sifted = one_stays fact held all left place sifted below c.index.ensures other;
+      len = c.loop-place.invariant.len;
+      capacity = c.loop-place.invariant.capacity;
+    }
