@@ -154,12 +154,13 @@ impl Info {
         requires { kind_of self.now ≡ kind_of other.now }
         ensures { IsTrue result ↔ Implies self.now other.now }
     {
-        match (*self, *other) {
-            (Info::Interval(one), Info::Interval(another)) => one.within(another),
+        // By reference: facts in a list are compared where they stand.
+        match (self, other) {
+            (Info::Interval(one), Info::Interval(another)) => one.within(*another),
             (Info::Members { part: one, .. }, Info::Members { part: another, .. }) => {
-                one.within(another)
+                one.within(*another)
             }
-            (Info::Exact(one), Info::Exact(another)) => one.within(another),
+            (Info::Exact(one), Info::Exact(another)) => one.within(*another),
             _ => unreachable!("two kinds"),
         }
     }

@@ -2,7 +2,8 @@
 ghost use Rattle.std.specs.Prelude.{ℕ, ℤ, ◌≤◌, IfSome, IfNone};
 ghost use Rattle.pw_info.specs.Number.{IsUpTo, SpellsNumber, SpellsPositive, greatest_number};
 
-// Reads a digit 1 to 9 and further digits.
+// Reads a digit 1 to 9 and further digits. Never inlined: among much else its loop would keep the number in memory.
+#[inline(never)]
 fn read_positive(word: &[u8], most: u32) -> Option<u32>
     requires { most ≤ greatest_number }
     ensures some { IfSome result (λ n. SpellsPositive word.now n × (n ≤ most)) }

@@ -97,7 +97,8 @@ fn word_len(bytes: &[u8]) -> usize
     end
 }
 
-// The first word, and what comes after it.
+// The first word, and what comes after it. Inlined, as `Words::next` is: a call costs as much as what it does.
+#[inline(always)]
 fn split_word(bytes: &[u8]) -> Option<(&[u8], &[u8])>
     ensures { MatchOption result (spec.words_of bytes.now ≡ [])
         (λ parts. spec.words_of bytes.now ≡ parts.0.now ∷ spec.words_of parts.1.now) }
@@ -136,6 +137,7 @@ impl<'a> Words<'a> {
     }
 
     /// Takes the next word, or gives `None` where no word is left.
+    #[inline(always)]
     pub fn next(&mut self) -> Option<&'a [u8]>
         ensures { MatchOption result ((self.old ≡ []) × (self.new ≡ []))
             (λ word. self.old ≡ word.now ∷ self.new) }
