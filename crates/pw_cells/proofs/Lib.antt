@@ -10,3 +10,4 @@ pub mod Late
 pub mod Tells
 pub mod RightAnswers
 mod LastFirst
+mod Bounds

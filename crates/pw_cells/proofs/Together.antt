@@ -84,7 +84,7 @@ same_shown k w xs ys all_x all_y to from = Implies-antisym _ _ (kind-shown_by k 
     (shown_implies k w w xs ys all_x all_y to) (shown_implies k w w ys xs all_y all_x from)
 
 -- what holds of each element holds of each, the last first
-all_reversed : {X : Type 0} (P : X → Type 0) (xs : List X) → All P xs → All P (reverse xs)
+pub all_reversed : {X : Type 0} (P : X → Type 0) (xs : List X) → All P xs → All P (reverse xs)
 all_reversed P xs all j d below =
     let there : j < length xs = subst (λ n. j < n) (length-reverse xs) below in
     subst P (sym (get_or-reverse xs j d there)) (all (length xs - 1 - j) d (omega (arith, there)))

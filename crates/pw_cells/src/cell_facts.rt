@@ -1,16 +1,17 @@
 // The facts of one cell.
 
 ghost use Rattle.std.specs.Prelude.{◌≡◌, ◌+◌, ◌<◌, ◌≤◌, ◌↔◌, ◌++◌, ◌∷◌, [], true, false, if◌then◌else◌, None};
-ghost use Rattle.std.specs.Prelude.{map, vec_len, vec_capacity, IsTrue, IfOk, OnOk, OnErr};
-ghost use Rattle.std.specs.FinSet.{is_subset, union};
+ghost use Rattle.std.specs.Prelude.{map, reverse, vec_len, vec_capacity, IsTrue, IfOk, OnOk, OnErr};
 ghost use Rattle.pw_info.specs.Information.{kind_of, Implies};
-ghost use Rattle.pw_facts.specs.Facts.{IsMerge, IsMergeOfAll, ShowTogether, visible_facts};
+ghost use Rattle.pw_facts.specs.Facts.{IsMerge, IsMergeOfAll, MergesTo, visible_facts};
 ghost use Rattle.pw_facts.specs.Worldviews.{IsLeastAbove, IsMostBelow};
+ghost use Rattle.pw_cells.specs.Bound.{Bounds};
 ghost use Rattle.pw_cells.specs.Cells.{new_cell, shown_by, told_of, kept_of, IsSubsumedBy};
 ghost use Rattle.pw_cells.specs.Changes.{GainsFact, Assimilates, TellsNews};
 ghost use Rattle.pw_cells.specs.Assimilated.{assimilated, all_assimilated, unsubsumed};
 ghost use Rattle.pw_cells.specs.OneCell.{AreApart, AreOfKind, place_of_support, with_support, ShowsMore, StandsFor};
 
+use crate::bound::Bound;
 use crate::supports::Supports;
 use pw_facts::{Fact, merge_facts, subsumes};
 use pw_info::{Info, Kind};
@@ -33,6 +34,8 @@ pub(crate) struct CellFacts<A: Allocator> {
     supports: Supports<A>,
     // What is kept, but for what is late, for which it has room.
     kept: Vec<Fact, A>,
+    // How much the older of these say at most.
+    bound: Bound,
     // What was told since, and is not assimilated yet.
     late: Vec<Fact, A>,
 }
@@ -42,6 +45,7 @@ impl<A: Allocator> Model for CellFacts<A> {
     ghost use Rattle.pw_info.specs.contracts.kind.Kind as kinds;
     ghost use Rattle.pw_facts.specs.contracts.fact.Fact as facts;
     ghost use Rattle.pw_cells.specs.Assimilated.{all_assimilated};
+    ghost use Rattle.pw_cells.specs.Bound.{Bounds};
     ghost use Rattle.pw_cells.specs.Cells.{Cell};
     ghost use Rattle.pw_cells.specs.CellCode.{cell_code};
     ghost use Rattle.pw_cells.specs.OneCell.{IsWhole};
@@ -57,7 +61,7 @@ impl<A: Allocator> Model for CellFacts<A> {
     } };
 
     ghost invariant = { λ a. IsWhole a.kind a.told.items a.supports a.kept.items a.late.items
-        × (vec_len a.kept + vec_len a.late ≤ vec_capacity a.kept) };
+        × (vec_len a.kept + vec_len a.late ≤ vec_capacity a.kept) × Bounds a.kind a.kept.items a.bound };
 }
 
 impl<A: Allocator + Copy> CellFacts<A> {
@@ -70,6 +74,7 @@ impl<A: Allocator + Copy> CellFacts<A> {
             told: Vec::new(alloc),
             supports: Supports::new(alloc),
             kept: Vec::new(alloc),
+            bound: Bound::none(kind),
             late: Vec::new(alloc),
         }
     }
@@ -111,10 +116,10 @@ impl<A: Allocator + Copy> CellFacts<A> {
         ensures kind { self.new.kind ≡ self.old.kind }
         ensures err { OnErr result (self.new ≡ self.old) }
     {
-        assimilate_late(self.kind, &mut self.kept, &mut self.late);
-        let known = is_subsumed(self.kept.as_slice(), fact);
+        assimilate_late(self.kind, &mut self.kept, &mut self.bound, &mut self.late);
+        let known = is_subsumed(self.kept.as_slice(), &self.bound, fact);
         reserve_unless(&mut self.kept, known)?;
-        assimilate(&mut self.kept, known, fact);
+        assimilate(&mut self.kept, &mut self.bound, known, fact);
         Ok(!known)
     }
 
@@ -143,8 +148,8 @@ impl<A: Allocator + Copy> CellFacts<A> {
         ensures larger { IsLeastAbove result.support (kept_of self.old) result.info }
         ensures smaller { IsMostBelow worldview.now (kept_of self.old) result.info }
     {
-        assimilate_late(self.kind, &mut self.kept, &mut self.late);
-        merged(self.kind, self.kept.as_slice(), worldview)
+        assimilate_late(self.kind, &mut self.kept, &mut self.bound, &mut self.late);
+        merged(self.kind, self.kept.as_slice(), &self.bound, worldview)
     }
 }
 
@@ -163,18 +168,31 @@ fn is_lately_subsumed(facts: &[Fact], fact: &Fact) -> bool
     false
 }
 
-// Whether a kept fact subsumes this one. Inlined, as `assimilate` is, so that a fact that is told is taken as it stands.
-#[inline(always)]
-fn is_subsumed(kept: &[Fact], fact: &Fact) -> bool
-    requires { AreOfKind (kind_of fact.now.info) kept.now }
-    ensures { IsTrue result ↔ IsSubsumedBy kept.now fact.now }
+// Whether one of the facts subsumes this one.
+fn is_subsumed_by(facts: &[Fact], fact: &Fact) -> bool
+    requires { AreOfKind (kind_of fact.now.info) facts.now }
+    ensures { IsTrue result ↔ IsSubsumedBy facts.now fact.now }
 {
-    for held in kept {
+    for held in facts {
         if subsumes(held, fact) {
             return true;
         }
     }
     false
+}
+
+// Whether a kept fact subsumes this one. The older ones are gone over only where one of them may say as much.
+#[inline(always)]
+fn is_subsumed(kept: &[Fact], bound: &Bound, fact: &Fact) -> bool
+    requires kinds { AreOfKind (kind_of fact.now.info) kept.now }
+    requires bounds { Bounds (kind_of fact.now.info) kept.now bound.now }
+    ensures { IsTrue result ↔ IsSubsumedBy kept.now fact.now }
+{
+    let (older, newer) = kept.split_at(bound.count);
+    if is_subsumed_by(newer, fact) {
+        return true;
+    }
+    bound.info.implies(&fact.info) && is_subsumed_by(older, fact)
 }
 
 // Makes room for one more fact, unless it is known.
@@ -238,35 +256,47 @@ fn add_late<A: Allocator>(late: &mut Vec<Fact, A>, known: bool, fact: &Fact)
 }
 
 // Assimilates what is late: then nothing is. The kept facts have room for it.
-fn assimilate_late<A: Allocator>(kind: Kind, kept: &mut Vec<Fact, A>, late: &mut Vec<Fact, A>)
+fn assimilate_late<A: Allocator>(
+    kind: Kind,
+    kept: &mut Vec<Fact, A>,
+    bound: &mut Bound,
+    late: &mut Vec<Fact, A>,
+)
     requires kinds { AreOfKind kind kept.old.items }
     requires late_kinds { AreOfKind kind late.old.items }
     requires apart { AreApart kept.old.items }
+    requires bounds { Bounds kind kept.old.items bound.old }
     requires room { vec_len kept.old + vec_len late.old ≤ vec_capacity kept.old }
     ensures kept { kept.new.items ≡ all_assimilated kept.old.items late.old.items }
+    ensures bounds { Bounds kind kept.new.items bound.new }
     ensures late { late.new.items ≡ [] }
     ensures none { vec_len late.new ≡ 0 }
 {
     for fact in late.as_slice() {
-        let known = is_subsumed(kept.as_slice(), fact);
-        assimilate(kept, known, fact);
+        let known = is_subsumed(kept.as_slice(), bound, fact);
+        assimilate(kept, bound, known, fact);
     }
     late.clear();
 }
 
 // Keeps a fact where there is room and drops those that it subsumes, unless it is known: then a kept fact subsumes it.
 #[inline(always)]
-fn assimilate<A: Allocator>(kept: &mut Vec<Fact, A>, known: bool, fact: &Fact)
+fn assimilate<A: Allocator>(kept: &mut Vec<Fact, A>, bound: &mut Bound, known: bool, fact: &Fact)
     requires kinds { AreOfKind (kind_of fact.now.info) kept.old.items }
+    requires bounds { Bounds (kind_of fact.now.info) kept.old.items bound.old }
     requires known { IsTrue known ↔ IsSubsumedBy kept.old.items fact.now }
     requires room { known ≡ false → vec_len kept.old < vec_capacity kept.old }
     ensures assimilated { kept.new.items ≡ assimilated kept.old.items fact.now }
+    ensures bounds { Bounds (kind_of fact.now.info) kept.new.items bound.new }
     ensures len { vec_len kept.new ≤ vec_len kept.old + 1 }
     ensures capacity { vec_capacity kept.old ≤ vec_capacity kept.new }
 {
     if !known {
+        let before = kept.len();
         drop_subsumed(kept, fact);
+        bound.lower(before - kept.len());
         append(kept, fact);
+        bound.raise(kept.as_slice());
     }
 }
 
@@ -312,23 +342,39 @@ fn shown(kind: Kind, facts: &[Fact], worldview: &PremiseSet) -> Info
 }
 
 // The merge of the facts that rest on premises of the worldview alone.
-fn merged(kind: Kind, facts: &[Fact], worldview: &PremiseSet) -> Fact
-    requires { AreOfKind kind facts.now }
+fn merged(kind: Kind, facts: &[Fact], bound: &Bound, worldview: &PremiseSet) -> Fact
+    requires kinds { AreOfKind kind facts.now }
+    requires bounds { Bounds kind facts.now bound.now }
     ensures stands { StandsFor kind worldview.now facts.now result }
     ensures merge { IsMergeOfAll (visible_facts worldview.now facts.now) result }
 {
+    let (older, newer) = facts.split_at(bound.count);
     let mut merge = Fact {
         info: Info::nothing(kind),
         support: PremiseSet::empty(),
     };
-    // The last come first: what came last mostly says the most, and then a look at each of the others is enough.
+    merge_all_in(&mut merge, newer, worldview);
+    // Mostly that says more than each of the older ones: then none of them changes it.
+    if merge.info.implies(&bound.info) && !bound.info.implies(&merge.info) {
+        return merge;
+    }
+    merge_all_in(&mut merge, older, worldview);
+    merge
+}
+
+// Merges the facts that rest on premises of the worldview alone into what is merged so far. The last come first: what came last mostly
+// says the most, and then a look at each of the others is enough.
+fn merge_all_in(merge: &mut Fact, facts: &[Fact], worldview: &PremiseSet)
+    requires { AreOfKind (kind_of merge.old.info) facts.now }
+    ensures merges { MergesTo merge.old (visible_facts worldview.now (reverse facts.now)) merge.new }
+    ensures kind { kind_of merge.new.info ≡ kind_of merge.old.info }
+{
     for back in 0..facts.len() {
         let held = &facts[facts.len() - 1 - back];
         if held.support.is_subset(worldview) {
-            merge_in(&mut merge, held);
+            merge_in(merge, held);
         }
     }
-    merge
 }
 
 // Merges one more fact into what is merged so far, as `merge_facts` does. Mostly that says as much already: then it stays where it
@@ -336,9 +382,7 @@ fn merged(kind: Kind, facts: &[Fact], worldview: &PremiseSet) -> Fact
 #[inline(always)]
 fn merge_in(merge: &mut Fact, held: &Fact)
     requires { kind_of merge.old.info ≡ kind_of held.now.info }
-    ensures rule { IsMerge merge.old held.now merge.new }
-    ensures shows { ShowTogether merge.old held.now merge.new }
-    ensures rests { is_subset merge.new.support (union merge.old.support held.now.support) ≡ true }
+    ensures { IsMerge merge.old held.now merge.new }
 {
     if !merge.info.implies(&held.info) {
         *merge = merge_facts(merge, held);

@@ -3,6 +3,8 @@ use Rattle.std.specs.Prelude.{◌↔◌, IsTrue}
 use Rattle.std.proofs.lemmas.List.{take_more}
 use Rattle.pw_info.specs.Information.{kind_of}
 use Rattle.pw_facts.specs.declared.fact.Fact.{Fact}
+use Rattle.pw_info.specs.declared.kind.Kind.{Kind}
+use Rattle.pw_cells.specs.Bound.{Bounds}
 use Rattle.pw_cells.specs.Cells.{IsSubsumedBy}
 use Rattle.pw_cells.specs.Assimilated.{assimilated, all_assimilated}
 use Rattle.pw_cells.specs.OneCell.{AreApart, AreOfKind}
@@ -30,5 +32,6 @@ loop-fact-preserved g c =
           ∙ sym (ap (all_assimilated start) longer ∙ late_push start (take i late) fact);
       kinds = subst (AreOfKind c.args.kind) (sym {A = List Fact} c.assimilate.ensures.assimilated) one.kinds;
       apart = subst AreApart (sym {A = List Fact} c.assimilate.ensures.assimilated) one.apart;
+      bounds = subst (λ (k : Kind). Bounds k c.assimilate.new.kept.items c.assimilate.new.bound) is c.assimilate.ensures.bounds;
       room = omega (arith, c.loop-fact.invariant.room, c.assimilate.ensures.len, c.assimilate.ensures.capacity);
     }

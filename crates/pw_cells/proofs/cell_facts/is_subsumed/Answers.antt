@@ -1,18 +1,41 @@
-use Rattle.std.proofs.Common.{refl, sym, subst}
-use Rattle.std.specs.Prelude.{All}
-use Rattle.std.proofs.lemmas.List.{take_all}
-use Rattle.std.proofs.lemmas.List.Elements.{All-contains}
-use Rattle.pw_facts.specs.Facts.{Subsumes}
+use Rattle.std.proofs.Common.{List, inl, inr, refl, sym, subst}
+use Rattle.pw_kinds.proofs.Order.{not_both}
+use Rattle.pw_info.specs.Information.{kind_of}
+use Rattle.pw_facts.specs.declared.fact.Fact.{Fact}
+use Rattle.pw_cells.specs.Cells.{IsSubsumedBy}
+use Rattle.pw_cells.proofs.Bounds.{subsumed_first, subsumed_last, subsumed_apart, none_older}
 use Rattle.pw_cells.proofs.cell_facts.is_subsumed.Goals as goal
 
-pub returns-then-subsumes : goal.returns-then-subsumes
-returns-then-subsumes c = (
-  λ _. (c.held-item.result, (c.loop-held.held-index, c.loop-held-test.true, sym c.held-item.is), c.subsumes.ensures.answer.0 c.if-subsumes.true),
+pub returns-then-is_subsumed_by : goal.returns-then-is_subsumed_by
+returns-then-is_subsumed_by c = (
+  λ _. subsumed_last c.args.bound.now.count c.args.kept.now c.args.fact.now
+      (subst (λ (l : List Fact). IsSubsumedBy l c.args.fact.now) c.split_at.ensures.back (c.is_subsumed_by.ensures.0 c.if-is_subsumed_by.true)),
   λ _. refl,
 )
 
-pub returns : goal.returns
-returns c =
-    let none : All (λ f. Subsumes f c.args.fact.now → ⊥) c.args.kept.now =
-    subst (All (λ f. Subsumes f c.args.fact.now → ⊥)) (take_all c.loop-held.held-index c.args.kept.now c.loop-held-test.false) c.loop-held.invariant in
-    (λ e. absurd (cc), λ known. absurd (All-contains (λ f. Subsumes f c.args.fact.now → ⊥) c.args.kept.now known.0 none known.1 known.2))
+pub returns-then-implies : goal.returns-then-implies
+returns-then-implies c =
+    let n = c.args.bound.now.count in
+    let kept = c.args.kept.now in
+    let f = c.args.fact.now in (
+      λ yes. subsumed_first n kept f (subst (λ (l : List Fact). IsSubsumedBy l f) c.split_at.ensures.front (c.is_subsumed_by-then-implies.ensures.0 yes)),
+      λ held. elim (subsumed_apart n kept f held) [
+        | inl older ↦ c.is_subsumed_by-then-implies.ensures.1 (subst (λ (l : List Fact). IsSubsumedBy l f) (sym {A = List Fact} c.split_at.ensures.front) older)
+        | inr newer ↦
+            absurd (not_both _ (c.is_subsumed_by.ensures.1 (subst (λ (l : List Fact). IsSubsumedBy l f) (sym {A = List Fact} c.split_at.ensures.back) newer)) c.if-is_subsumed_by.false)
+      ],
+    )
+
+pub returns-else-implies : goal.returns-else-implies
+returns-else-implies c =
+    let n = c.args.bound.now.count in
+    let kept = c.args.kept.now in
+    let f = c.args.fact.now in (
+      λ yes. absurd (not_both _ yes c.if-implies.false),
+      λ held. elim (subsumed_apart n kept f held) [
+        | inl older ↦
+            absurd (none_older (kind_of f.info) kept c.args.bound.now f c.requires.bounds (λ more. not_both _ (c.implies.ensures.1 more) c.if-implies.false) older)
+        | inr newer ↦
+            absurd (not_both _ (c.is_subsumed_by.ensures.1 (subst (λ (l : List Fact). IsSubsumedBy l f) (sym {A = List Fact} c.split_at.ensures.back) newer)) c.if-is_subsumed_by.false)
+      ],
+    )

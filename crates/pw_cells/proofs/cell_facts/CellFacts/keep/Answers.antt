@@ -5,6 +5,7 @@ use Rattle.pw_info.specs.Information.{kind_of, meet}
 use Rattle.pw_facts.specs.declared.fact.Fact.{Fact}
 use Rattle.pw_facts.specs.Facts.{shows}
 use Rattle.pw_cells.specs.Assimilated.{assimilated, all_assimilated}
+use Rattle.pw_cells.specs.Bound.{Bounds}
 use Rattle.pw_cells.specs.Cells.{Cell, shown_by, IsSubsumedBy}
 use Rattle.pw_cells.specs.Changes.{Assimilates}
 use Rattle.pw_cells.specs.OneCell.{AreOfKind}
@@ -12,13 +13,19 @@ use Rattle.pw_cells.proofs.Late.{any_subsumes, assimilated_known}
 use Rattle.pw_cells.proofs.Tells.{whole_caught_up, whole_kept, kept_more}
 use Rattle.pw_cells.proofs.cell_facts.CellFacts.keep.Goals as goal
 
-pub is_subsumed-known-requires : goal.is_subsumed-known-requires
-is_subsumed-known-requires g c =
+pub is_subsumed-known-requires-clause-kinds : goal.is_subsumed-known-requires-clause-kinds
+is_subsumed-known-requires-clause-kinds g c =
     let self = c.self.inside in
     let is : kind_of c.args.fact.now.info ≡ self.kind = c.requires ∙ sym (ap (λ (cell : Cell). cell.kind) c.self.view_is) in
     let whole = whole_caught_up self.kind self.told.items self.supports self.kept.items self.late.items c.self.invariant.0 in
     subst (λ (k : _). AreOfKind k c.as_slice.result.now) (sym is)
     (subst (AreOfKind self.kind) (sym {A = List Fact} (c.as_slice.ensures.value ∙ c.assimilate_late.ensures.kept)) whole.kept_kinds)
+
+pub is_subsumed-known-requires-clause-bounds : goal.is_subsumed-known-requires-clause-bounds
+is_subsumed-known-requires-clause-bounds g c =
+    let is : kind_of c.args.fact.now.info ≡ c.self.inside.kind = c.requires ∙ sym (ap (λ (cell : Cell). cell.kind) c.self.view_is) in
+    subst (λ (k : _). Bounds k c.as_slice.result.now c.assimilate_late.new.bound) (sym is)
+    (subst (λ (l : List Fact). Bounds c.self.inside.kind l c.assimilate_late.new.bound) (sym {A = List Fact} c.as_slice.ensures.value) c.assimilate_late.ensures.bounds)
 
 pub invariant_of-self : goal.invariant_of-self
 invariant_of-self g c =
@@ -26,6 +33,7 @@ invariant_of-self g c =
       rw (c.reserve_unless.ensures.items, c.assimilate_late.ensures.kept, c.assimilate_late.ensures.late)
           (whole_caught_up self.kind self.told.items self.supports self.kept.items self.late.items c.self.invariant.0),
       omega (arith, c.assimilate_late.ensures.none, c.reserve_unless.new.facts.ok),
+      subst (λ (l : List Fact). Bounds self.kind l c.assimilate_late.new.bound) (sym {A = List Fact} c.reserve_unless.ensures.items) c.assimilate_late.ensures.bounds,
     )
 
 pub assimilate-requires-clause-kinds : goal.assimilate-requires-clause-kinds
@@ -35,6 +43,12 @@ assimilate-requires-clause-kinds g c =
     let whole = whole_caught_up self.kind self.told.items self.supports self.kept.items self.late.items c.self.invariant.0 in
     subst (λ (k : _). AreOfKind k c.reserve_unless.new.facts.items) (sym is)
     (subst (AreOfKind self.kind) (sym {A = List Fact} (c.reserve_unless.ensures.items ∙ c.assimilate_late.ensures.kept)) whole.kept_kinds)
+
+pub assimilate-requires-clause-bounds : goal.assimilate-requires-clause-bounds
+assimilate-requires-clause-bounds g c =
+    let is : kind_of c.args.fact.now.info ≡ c.self.inside.kind = c.requires ∙ sym (ap (λ (cell : Cell). cell.kind) c.self.view_is) in
+    subst (λ (k : _). Bounds k c.reserve_unless.new.facts.items c.assimilate_late.new.bound) (sym is)
+    (subst (λ (l : List Fact). Bounds c.self.inside.kind l c.assimilate_late.new.bound) (sym {A = List Fact} c.reserve_unless.ensures.items) c.assimilate_late.ensures.bounds)
 
 pub assimilate-requires-clause-known : goal.assimilate-requires-clause-known
 assimilate-requires-clause-known g c =
@@ -48,6 +62,7 @@ invariant_of-self-2 g c =
       rw (c.assimilate.ensures.assimilated, c.reserve_unless.ensures.items, c.assimilate_late.ensures.kept, c.assimilate_late.ensures.late)
           (whole_kept self.kind c.args.fact.now self.told.items self.supports (all_assimilated self.kept.items self.late.items) is whole),
       omega (arith, c.assimilate_late.ensures.none, c.assimilate.new.kept.ok),
+      subst (λ (k : _). Bounds k c.assimilate.new.kept.items c.assimilate.new.bound) is c.assimilate.ensures.bounds,
     )
 
 pub returns-clause-answer : goal.returns-clause-answer

@@ -1,6 +1,7 @@
 use Rattle.std.proofs.Common.{List, sym, ◌∙◌, ap, subst, arith}
 use Rattle.pw_info.specs.Information.{kind_of}
 use Rattle.pw_facts.specs.declared.fact.Fact.{Fact}
+use Rattle.pw_cells.specs.Bound.{Bounds}
 use Rattle.pw_cells.specs.Cells.{Cell}
 use Rattle.pw_cells.specs.OneCell.{AreOfKind}
 use Rattle.pw_cells.proofs.Tells.{whole_caught_up}
@@ -20,11 +21,15 @@ pub returns-clause-smaller : goal.returns-clause-smaller
 returns-clause-smaller g c = λ w sub. rw (c.merged.ensures.stands.info, c.as_slice.ensures.value, c.assimilate_late.ensures.kept, ← c.self.view_is)
     (larger_shown c.self.inside.kind w c.args.worldview.now (all_assimilated c.self.inside.kept.items c.self.inside.late.items) sub)
 
-pub merged-requires : goal.merged-requires
-merged-requires g c =
+pub merged-requires-clause-kinds : goal.merged-requires-clause-kinds
+merged-requires-clause-kinds g c =
     let self = c.self.inside in
     let whole = whole_caught_up self.kind self.told.items self.supports self.kept.items self.late.items c.self.invariant.0 in
     subst (AreOfKind self.kind) (sym {A = List Fact} (c.as_slice.ensures.value ∙ c.assimilate_late.ensures.kept)) whole.kept_kinds
+
+pub merged-requires-clause-bounds : goal.merged-requires-clause-bounds
+merged-requires-clause-bounds g c =
+    subst (λ (l : List Fact). Bounds c.self.inside.kind l c.assimilate_late.new.bound) (sym {A = List Fact} c.as_slice.ensures.value) c.assimilate_late.ensures.bounds
 
 pub invariant_of-self : goal.invariant_of-self
 invariant_of-self g c =
@@ -32,4 +37,5 @@ invariant_of-self g c =
       rw (c.assimilate_late.ensures.kept, c.assimilate_late.ensures.late)
           (whole_caught_up self.kind self.told.items self.supports self.kept.items self.late.items c.self.invariant.0),
       omega (arith, c.assimilate_late.ensures.none, c.assimilate_late.new.kept.ok),
+      c.assimilate_late.ensures.bounds,
     )

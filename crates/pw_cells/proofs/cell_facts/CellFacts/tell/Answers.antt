@@ -5,6 +5,7 @@ use Rattle.pw_info.specs.declared.kind.Kind.{Kind}
 use Rattle.pw_facts.specs.declared.fact.Fact.{Fact}
 use Rattle.pw_facts.specs.Facts.{shows}
 use Rattle.pw_cells.specs.Assimilated.{assimilated, all_assimilated}
+use Rattle.pw_cells.specs.Bound.{Bounds}
 use Rattle.pw_cells.specs.Cells.{Cell, shown_by, IsSubsumedBy}
 use Rattle.pw_cells.specs.Changes.{Assimilates}
 use Rattle.pw_cells.specs.OneCell.{AreOfKind, with_support, ShowsMore}
@@ -37,6 +38,7 @@ invariant_of-self-2 g c =
         | inl e ↦ let same = c.add_late.ensures.known e in omega (arith, same, c.reserve_late.ensures.room)
         | inr e ↦ let more = c.in_ok-reserve_late.ensures.more e in omega (arith, more, c.add_late.ensures.len)
       ],
+      subst (λ (l : List Fact). Bounds self.kind l self.bound) (sym {A = List Fact} c.reserve_late.ensures.kept) c.self.invariant.2,
     )
 
 pub returns-clause-kept : goal.returns-clause-kept

@@ -1,0 +1,210 @@
+-- How much the older facts say at most: what that spares a search and a merge, and how it is kept up.
+use Rattle.std.proofs.Common.{◌≡◌, ◌⊎◌, ℕ, zero, suc, ◌+◌, ◌-◌, ◌<◌, ◌≤◌, Bool, cond, List, [], ◌∷◌, ◌++◌, length, get_or, take, drop, reverse, inl, inr, refl, sym, ◌∙◌, ap, subst, arith, append_assoc, length-append}
+use Rattle.std.specs.Prelude.{All, Contains, filter}
+use Rattle.std.specs.FinSet.{is_subset}
+use Rattle.std.proofs.lemmas.Bool.{cases_Bool, cases_lt}
+use Rattle.std.proofs.lemmas.List.{append-nil, reverse-append, take_all, take_more, take-append-drop, take-append-le}
+use Rattle.std.proofs.lemmas.List.Elements.{All-nil, All-cons, All-head, All-tail, All-push, All-weaker, All-contains, Contains-append_cases, Contains-append_left, Contains-append_right, filter-append}
+use Rattle.pw_kinds.proofs.Order.{true_both}
+use Rattle.pw_info.specs.declared.kind.Kind.{Kind}
+use Rattle.pw_info.specs.declared.info.Info.{Info}
+use Rattle.pw_info.specs.Information.{kind_of, allows, meet, Implies}
+use Rattle.pw_info.proofs.Informations.{kind-meet, allows-meet}
+use Rattle.pw_premises.specs.Premises.{Premises}
+use Rattle.pw_facts.specs.declared.fact.Fact.{Fact}
+use Rattle.pw_facts.specs.Facts.{IsMerge, IsMergeOfAll, MergesTo, nothing_known, visible_facts}
+use Rattle.pw_facts.proofs.Merges.{merge_is_first, merge_rests, merge_shows}
+use Rattle.pw_cells.specs.declared.bound.Bound.{Bound}
+use Rattle.pw_cells.specs.Bound.{Bounds}
+use Rattle.pw_cells.specs.Cells.{IsSubsumedBy}
+use Rattle.pw_cells.specs.OneCell.{AreOfKind, StandsFor}
+use Rattle.pw_cells.proofs.Together.{all_reversed, kind-shown_by, meet_first}
+use Rattle.pw_cells.proofs.MergesTogether.{merge_none, merge_hidden, merge_visible}
+use Rattle.pw_cells.proofs.LastFirst.{stands_reversed, visible_reversed}
+
+-- ---- a search
+
+-- what one of the first facts subsumes, or one of the others, one of all subsumes
+pub subsumed_first : (n : ℕ) (xs : List Fact) (f : Fact) → IsSubsumedBy (take n xs) f → IsSubsumedBy xs f
+subsumed_first n xs f held =
+    (held.0, subst (λ (l : List Fact). Contains l held.0) (take-append-drop n xs) (Contains-append_left (take n xs) (drop n xs) held.0 held.1), held.2)
+
+pub subsumed_last : (n : ℕ) (xs : List Fact) (f : Fact) → IsSubsumedBy (drop n xs) f → IsSubsumedBy xs f
+subsumed_last n xs f held =
+    (held.0, subst (λ (l : List Fact). Contains l held.0) (take-append-drop n xs) (Contains-append_right (take n xs) (drop n xs) held.0 held.1), held.2)
+
+pub subsumed_apart : (n : ℕ) (xs : List Fact) (f : Fact) → IsSubsumedBy xs f → IsSubsumedBy (take n xs) f ⊎ IsSubsumedBy (drop n xs) f
+subsumed_apart n xs f held =
+    elim (Contains-append_cases (take n xs) (drop n xs) held.0 (subst (λ (l : List Fact). Contains l held.0) (sym (take-append-drop n xs)) held.1)) [
+      | inl first ↦ inl (held.0, first, held.2)
+      | inr last ↦ inr (held.0, last, held.2)
+    ]
+
+-- none of the older facts subsumes one that says more than they do
+pub none_older : (k : Kind) (xs : List Fact) (b : Bound) (f : Fact) → Bounds k xs b → (Implies b.info f.info → ⊥) → IsSubsumedBy (take b.count xs) f → ⊥
+none_older k xs b f bounds more held =
+    let below : Implies b.info held.0.info = All-contains (λ x. Implies b.info x.info) (take b.count xs) held.0 bounds.says held.1 in
+    more (λ v h. held.2.0 v (below v h))
+
+-- ---- a merge
+
+-- more facts are merged after some
+merges_on : (a b m : Fact) (xs ys : List Fact) → MergesTo a xs b → MergesTo b ys m → MergesTo a (xs ++ ys) m
+merges_on a b m [] ys first rest = subst (λ (x : Fact). MergesTo x ys m) first rest
+merges_on a b m (x ∷ xs) ys first rest = (first.0, first.1, merges_on first.0 b m xs ys first.2 rest)
+
+-- what says more than each of some facts stays as it is when they are merged into it
+merges_nothing : (w : Premises) (i : Info) (m : Fact) (fs : List Fact) → AreOfKind (kind_of m.info) fs → All (λ f. Implies i f.info) fs
+    → Implies m.info i → (Implies i m.info → ⊥) → MergesTo m (visible_facts w fs) m
+merges_nothing w i m [] kinds says more less = refl
+merges_nothing w i m (f ∷ fs) kinds says more less =
+    let rest : MergesTo m (visible_facts w fs) m =
+    merges_nothing w i m fs (All-tail (λ x. kind_of x.info ≡ kind_of m.info) f fs kinds) (All-tail (λ x. Implies i x.info) f fs says) more less in
+    let below : Implies i f.info = All-head (λ x. Implies i x.info) f fs says in
+    let merge : IsMerge m f m = merge_is_first m f (sym (All-head (λ x. kind_of x.info ≡ kind_of m.info) f fs kinds)) (λ v h. below v (more v h))
+    (λ back. absurd (less (λ v h. back v (below v h)))) in
+    elim (cases_Bool (is_subset f.support w)) [
+      | inl e ↦ subst (λ b. MergesTo m (cond b (f ∷ visible_facts w fs) (visible_facts w fs)) m) (sym e) (m, merge, rest)
+      | inr e ↦ subst (λ b. MergesTo m (cond b (f ∷ visible_facts w fs) (visible_facts w fs)) m) (sym e) rest
+    ]
+
+-- so the older facts change nothing that says more than they do
+pub merges_older : (k : Kind) (w : Premises) (xs : List Fact) (b : Bound) (m : Fact) → kind_of m.info ≡ k → AreOfKind k (take b.count xs) → Bounds k xs b
+    → Implies m.info b.info → (Implies b.info m.info → ⊥) → MergesTo m (visible_facts w (reverse (take b.count xs))) m
+merges_older k w xs b m is kinds bounds more less =
+    merges_nothing w b.info m (reverse (take b.count xs))
+    (all_reversed (λ x. kind_of x.info ≡ kind_of m.info) (take b.count xs) (subst (λ (x : Kind). AreOfKind x (take b.count xs)) (sym is) kinds))
+    (all_reversed (λ x. Implies b.info x.info) (take b.count xs) bounds.says) more less
+
+-- what facts are merged to, after what stands for some, stands for all
+merges_stand : (k : Kind) (w : Premises) (before fs : List Fact) (a m : Fact) → AreOfKind k fs → StandsFor k w before a → MergesTo a (visible_facts w fs) m
+    → StandsFor k w (before ++ fs) m
+merges_stand k w before [] a m kinds stands merges =
+    subst (λ (l : List Fact). StandsFor k w l m) (sym (append-nil before)) (subst (StandsFor k w before) (sym {A = Fact} merges) stands)
+merges_stand k w before (f ∷ fs) a m kinds stands merges =
+    let is : kind_of f.info ≡ k = All-head (λ x. kind_of x.info ≡ k) f fs kinds in
+    let rest : AreOfKind k fs = All-tail (λ x. kind_of x.info ≡ k) f fs kinds in
+    let alike : kind_of a.info ≡ kind_of f.info = ap kind_of stands.info ∙ kind-shown_by k w before ∙ sym is in
+    subst (λ (l : List Fact). StandsFor k w l m) (append_assoc before (f ∷ []) fs)
+    (elim (cases_Bool (is_subset f.support w)) [
+      | inl e ↦
+          let on : MergesTo a (f ∷ visible_facts w fs) m = subst (λ b. MergesTo a (cond b (f ∷ visible_facts w fs) (visible_facts w fs)) m) e merges in
+          merges_stand k w (before ++ f ∷ []) fs on.0 m rest
+          (merge_visible k w before f a on.0 is stands e on.1.info (λ u sub. merge_shows a f on.0 u alike on.1 sub) (merge_rests a f on.0 on.1)) on.2
+      | inr e ↦
+          let on : MergesTo a (visible_facts w fs) m = subst (λ b. MergesTo a (cond b (f ∷ visible_facts w fs) (visible_facts w fs)) m) e merges in
+          merges_stand k w (before ++ f ∷ []) fs a m rest (merge_hidden k w before f a is stands e) on
+    ])
+
+-- the later facts are merged first, then the older ones: so all are
+merges_whole : (k : Kind) (w : Premises) (n : ℕ) (fs : List Fact) (a m : Fact) → MergesTo (nothing_known k) (visible_facts w (reverse (drop n fs))) a
+    → MergesTo a (visible_facts w (reverse (take n fs))) m → MergesTo (nothing_known k) (visible_facts w (reverse fs)) m
+merges_whole k w n fs a m first rest =
+    subst (λ (l : List Fact). MergesTo (nothing_known k) l m)
+    (sym (filter-append (λ f. is_subset f.support w) (reverse (drop n fs)) (reverse (take n fs)))
+    ∙ ap (visible_facts w) (sym (reverse-append (take n fs) (drop n fs)) ∙ ap reverse (take-append-drop n fs)))
+    (merges_on (nothing_known k) a m (visible_facts w (reverse (drop n fs))) (visible_facts w (reverse (take n fs))) first rest)
+
+pub merged_stands : (k : Kind) (w : Premises) (n : ℕ) (fs : List Fact) (a m : Fact) → AreOfKind k fs
+    → MergesTo (nothing_known k) (visible_facts w (reverse (drop n fs))) a → MergesTo a (visible_facts w (reverse (take n fs))) m → StandsFor k w fs m
+merged_stands k w n fs a m kinds first rest =
+    stands_reversed k w fs m kinds (merges_stand k w [] (reverse fs) (nothing_known k) m (all_reversed (λ f. kind_of f.info ≡ k) fs kinds) (merge_none k w)
+    (merges_whole k w n fs a m first rest))
+
+pub merged_all : (k : Kind) (w : Premises) (n : ℕ) (fs : List Fact) (a m : Fact) → AreOfKind k fs
+    → MergesTo (nothing_known k) (visible_facts w (reverse (drop n fs))) a → MergesTo a (visible_facts w (reverse (take n fs))) m
+    → IsMergeOfAll (visible_facts w fs) m
+merged_all k w n fs a m kinds first rest =
+    let is : kind_of m.info ≡ k = ap kind_of (merged_stands k w n fs a m kinds first rest).info ∙ kind-shown_by k w fs in (
+      visible_facts w (reverse fs),
+      visible_reversed w fs,
+      subst (λ (x : Kind). MergesTo (nothing_known x) (visible_facts w (reverse fs)) m) (sym is) (merges_whole k w n fs a m first rest),
+    )
+
+-- ---- how it is kept up
+
+filter_le : {X : Type 0} (p : X → Bool) (xs : List X) → length (filter p xs) ≤ length xs
+filter_le p [] = omega arith
+filter_le p (x ∷ xs) =
+    let less = filter_le p xs in
+    elim (cases_Bool (p x)) [
+      | inl e ↦ subst (λ b. length (cond b (x ∷ filter p xs) (filter p xs)) ≤ length (x ∷ xs)) (sym e) (omega (arith, less))
+      | inr e ↦ subst (λ b. length (cond b (x ∷ filter p xs) (filter p xs)) ≤ length (x ∷ xs)) (sym e) (omega (arith, less))
+    ]
+
+-- one more, or none
+front_more : {X : Type 0} (P : X → Type 0) (x : X) (ys : List X) (n r : ℕ) → P x → All P (take (n - r) ys) → All P (take (suc n - r) (x ∷ ys))
+front_more P x ys n r head rest = elim (cases_lt n r) [
+  | inl less ↦ let none : suc n - r ≡ 0 = omega (arith, less) in subst (λ m. All P (take m (x ∷ ys))) (sym none) (All-nil P)
+  | inr more ↦
+      let one : suc n - r ≡ suc (n - r) = omega (arith, more) in
+      subst (λ m. All P (take m (x ∷ ys))) (sym one) (All-cons P x (take (n - r) ys) head rest)
+]
+
+-- what holds of each of the first n elements holds of each of the first that pass a test, but for as many as do not
+filter_front : {X : Type 0} (P : X → Type 0) (p : X → Bool) (xs : List X) (n : ℕ) → All P (take n xs)
+    → All P (take (n - (length xs - length (filter p xs))) (filter p xs))
+filter_front P p [] n all = subst (All P) (sym (take_all _ [] (omega arith))) (All-nil P)
+filter_front P p (x ∷ xs) zero all =
+    let none : zero - (length (x ∷ xs) - length (filter p (x ∷ xs))) ≡ 0 = omega arith in
+    subst (λ m. All P (take m (filter p (x ∷ xs)))) (sym none) (All-nil P)
+filter_front P p (x ∷ xs) (suc n) all =
+    let ys = filter p xs in
+    let fewer : length ys ≤ length xs = filter_le p xs in
+    let rest : All P (take (n - (length xs - length ys)) ys) = filter_front P p xs n (All-tail P x (take n xs) all) in
+    elim (cases_Bool (p x)) [
+      | inl e ↦
+          let as_many : length xs - length ys ≡ length (x ∷ xs) - length (x ∷ ys) = omega (arith, fewer) in
+          subst (λ b. All P (take (suc n - (length (x ∷ xs) - length (cond b (x ∷ ys) ys))) (cond b (x ∷ ys) ys))) (sym e)
+          (subst (λ r. All P (take (suc n - r) (x ∷ ys))) as_many
+          (front_more P x ys n (length xs - length ys) (All-head P x (take n xs) all) rest))
+      | inr e ↦
+          let as_many : n - (length xs - length ys) ≡ suc n - (length (x ∷ xs) - length ys) = omega (arith, fewer) in
+          subst (λ b. All P (take (suc n - (length (x ∷ xs) - length (cond b (x ∷ ys) ys))) (cond b (x ∷ ys) ys))) (sym e)
+          (subst (λ m. All P (take m ys)) as_many rest)
+    ]
+
+-- some facts are dropped, wherever they stand
+pub bounds_dropped : (k : Kind) (p : Fact → Bool) (xs ys : List Fact) (b b' : Bound) → ys ≡ filter p xs → b'.count ≡ b.count - (length xs - length ys)
+    → b'.info ≡ b.info → Bounds k xs b → Bounds k ys b'
+bounds_dropped k p xs ys b b' is count info bounds =
+    let fewer : length ys ≤ length xs = subst (λ (l : List Fact). length l ≤ length xs) (sym is) (filter_le p xs) in
+    let says : All (λ f. Implies b.info f.info) (take (b.count - (length xs - length ys)) ys) =
+    subst (λ (l : List Fact). All (λ f. Implies b.info f.info) (take (b.count - (length xs - length l)) l)) (sym is)
+    (filter_front (λ f. Implies b.info f.info) p xs b.count bounds.says) in
+    record {
+      of_kind = ap kind_of info ∙ bounds.of_kind;
+      within = omega (arith, count, fewer, bounds.within);
+      says =
+          subst (λ n. All (λ f. Implies b'.info f.info) (take n ys)) (sym count)
+          (subst (λ (i : Info). All (λ f. Implies i f.info) (take (b.count - (length xs - length ys)) ys)) (sym info) says);
+    }
+
+-- one more comes at the end
+pub bounds_push : (k : Kind) (xs : List Fact) (b : Bound) (f : Fact) → Bounds k xs b → Bounds k (xs ++ f ∷ []) b
+bounds_push k xs b f bounds = record {
+  of_kind = bounds.of_kind;
+  within = omega (arith, length-append xs (f ∷ []), bounds.within);
+  says = subst (All (λ x. Implies b.info x.info)) (sym (take-append-le b.count xs (f ∷ []) bounds.within)) bounds.says;
+}
+
+meet_second : (i j : Info) → kind_of i ≡ kind_of j → Implies (meet i j) j
+meet_second i j k v h = (true_both (allows i v) (allows j v) (sym (allows-meet i j k v) ∙ h)).1
+
+-- one more is among the older ones
+pub bounds_raised : (k : Kind) (xs : List Fact) (b b' : Bound) (x : Fact) → AreOfKind k xs → Bounds k xs b → b.count < length xs → x ≡ get_or xs b.count x
+    → b'.count ≡ b.count + 1 → b'.info ≡ meet b.info x.info → Bounds k xs b'
+bounds_raised k xs b b' x kinds bounds below read count info =
+    let alike : kind_of b.info ≡ kind_of x.info = bounds.of_kind ∙ sym (ap (λ (f : Fact). kind_of f.info) read ∙ kinds b.count x below) in
+    let longer : take (b.count + 1) xs ≡ take b.count xs ++ x ∷ [] = take_more xs b.count x below ∙ ap (λ f. take b.count xs ++ f ∷ []) (sym read) in
+    let older : All (λ f. Implies (meet b.info x.info) f.info) (take b.count xs) =
+    All-weaker (λ f. Implies b.info f.info) (λ f. Implies (meet b.info x.info) f.info) (λ f says v h. says v (meet_first b.info x.info alike v h)) (take b.count xs) bounds.says in
+    record {
+      of_kind = ap kind_of info ∙ kind-meet b.info x.info ∙ bounds.of_kind;
+      within = omega (arith, count, below);
+      says =
+          subst (λ n. All (λ f. Implies b'.info f.info) (take n xs)) (sym count)
+          (subst (All (λ f. Implies b'.info f.info)) (sym longer)
+          (subst (λ (i : Info). All (λ f. Implies i f.info) (take b.count xs ++ x ∷ [])) (sym info)
+          (All-push (λ f. Implies (meet b.info x.info) f.info) (take b.count xs) x older (meet_second b.info x.info alike))));
+    }
