@@ -654,6 +654,12 @@ module _ {O : Type 0} (passes : O → List ℕ → O → Type 0) (d : Declared) 
         (name ≡ (output_of t).ghost_name → last ≡ (output_of t).now) → failed last ≡ false
     gathered_works failed counts named a works ends = ap failed (ends (sym named ∙ sym a.passed.passed.0)) ∙ works
 
+    -- where something has failed of the output that it passed to, something has failed of its output
+    pub gathered_failed : (failed : O → Bool) → (output_of s).ghost_name ≡ name →
+        RepliesInPart takes (GatheredPasses passes) d i i' s t → failed (output_of t).now ≡ true →
+        (name ≡ (output_of t).ghost_name → last ≡ (output_of t).now) → failed last ≡ true
+    gathered_failed failed named a fails ends = ap failed (ends (sym named ∙ sym a.passed.front.part.0)) ∙ fails
+
     pub gathered_to_ended : (output_of s).ghost_name ≡ name → (output_of s).now ≡ first → held_of s ≡ [] → held_of t ≡ [] →
         RepliesToEnded takes (GatheredPasses passes) d i i' s t → (name ≡ (output_of t).ghost_name → last ≡ (output_of t).now) →
         RepliesToEnded takes passes d i i' first last

@@ -1,6 +1,6 @@
 use Rattle.std.proofs.Common.{rules}
 use Rattle.pw_decl.specs.Fields.{declared_by}
-use Rattle.pw_transcript.proofs.RunLemmas.{if_ok_both, gathered_to_all, gathered_to_ended, gathered_in_part, gathered_up_to_limit, gathered_works, nothing_in_part}
+use Rattle.pw_transcript.proofs.RunLemmas.{if_ok_both, gathered_to_all, gathered_to_ended, gathered_failed, gathered_in_part, gathered_up_to_limit, gathered_works, nothing_in_part}
 use Rattle.pw_transcript.proofs.transcript.run.Goals as goal
 
 pub returns-clause-ok : goal.returns-clause-ok
@@ -17,6 +17,13 @@ pub returns-clause-write : goal.returns-clause-write
 returns-clause-write g c = λ e.
     let write = c.answer_all.ensures.write e in
     search (rules, gathered_in_part)
+
+pub returns-clause-write_failed : goal.returns-clause-write_failed
+returns-clause-write_failed g c = λ e.
+    let write = c.answer_all.ensures.write e in
+    gathered_failed g.O.Output.passes (declared_by c.args.d.now) _ c.args.output.now _ c.new-gathered.result c.answer_all.new.output g.I.Input.takes
+    c.args.input.now c.answer_all.new.input g.O.Output.has_failed c.new-gathered.ensures.same_reference write (c.answer_all.ensures.write_failed e)
+    c.output-1.given.1
 
 pub returns-clause-limit : goal.returns-clause-limit
 returns-clause-limit g c = λ e.
