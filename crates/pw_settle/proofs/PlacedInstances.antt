@@ -113,3 +113,18 @@ pub all_filled : (known inputs : List Info) (cells : List ℕ) (place : ℕ) →
 all_filled known inputs cells place done past within =
     let same : length cells ≡ place = omega arith in
     ap (λ (n : ℕ). take n inputs) same ∙ done ∙ ap (map (info_at known)) (take_all place cells past)
+
+-- what is known of one cell, or of two, alone
+pub one_given : (known : List Info) (cells : List ℕ) (x : Info) → 1 ≤ length cells → length cells < 2 → get_or cells 0 0 < length known
+    → x ≡ get_or known (get_or cells 0 0) x → x ∷ [] ≡ map (info_at known) cells
+one_given known [] x some few there read = absurd (omega (arith, some))
+one_given known (a ∷ []) x some few there read = λ i. (read ∙ get_or_default known a x (nothing kinds.Interval) there) i ∷ []
+one_given known (a ∷ b ∷ cells) x some few there read = absurd (omega (arith, few))
+
+pub two_given : (known : List Info) (cells : List ℕ) (x y : Info) → 2 ≤ length cells → length cells < 3 → get_or cells 0 0 < length known → get_or cells 1 0 < length known
+    → x ≡ get_or known (get_or cells 0 0) x → y ≡ get_or known (get_or cells 1 0) y → x ∷ y ∷ [] ≡ map (info_at known) cells
+two_given known [] x y some few there_x there_y read_x read_y = absurd (omega (arith, some))
+two_given known (a ∷ []) x y some few there_x there_y read_x read_y = absurd (omega (arith, some))
+two_given known (a ∷ b ∷ []) x y some few there_x there_y read_x read_y =
+    λ i. (read_x ∙ get_or_default known a x (nothing kinds.Interval) there_x) i ∷ (read_y ∙ get_or_default known b y (nothing kinds.Interval) there_y) i ∷ []
+two_given known (a ∷ b ∷ d ∷ cells) x y some few there_x there_y read_x read_y = absurd (omega (arith, few))

@@ -21,8 +21,22 @@ use std::alloc::Allocator;
 // The most inputs that a procedure has.
 const MOST_INPUTS: usize = 8;
 
-// What the instance's procedure makes of what is known of its inputs. Nothing else calls procedures.
-fn answer(registry: &Registry, instance: &Instance, known: &[Info]) -> Info
+// What the instance's procedure makes of informations, which are what is known of its inputs. Nothing else calls procedures.
+fn procedure_value(registry: &Registry, instance: &Instance, known: &[Info], given: &[Info]) -> Info
+    requires placed { IsPlaced (procedures_in registry.now) (map kind_of known.now)
+        (attached_of instance.now).instance }
+    requires given { given.now ≡ map (info_at known.now) (attached_of instance.now).instance.inputs }
+    ensures says { All (λ source. said_by (info_at known.now) source ≡ result)
+        (propagators_of (procedures_in registry.now) ((attached_of instance.now).instance ∷ [])) }
+    ensures kind { kind_of result ≡ (numbered (map kind_of known.now)).kind instance.now.output }
+{
+    registry.get(instance.procedure).call(given)
+}
+
+// What the instance's procedure makes of what is known of its inputs, however many there are. Never inlined, so that other calls make
+// no room for so many.
+#[inline(never)]
+fn answer_on_many(registry: &Registry, instance: &Instance, known: &[Info]) -> Info
     requires { IsPlaced (procedures_in registry.now) (map kind_of known.now)
         (attached_of instance.now).instance }
     ensures says { All (λ source. said_by (info_at known.now) source ≡ result)
@@ -34,9 +48,25 @@ fn answer(registry: &Registry, instance: &Instance, known: &[Info]) -> Info
     for place in 0..cells.len() {
         inputs[place] = known[cells[place] as usize];
     }
-    registry
-        .get(instance.procedure)
-        .call(&inputs[..cells.len()])
+    procedure_value(registry, instance, known, &inputs[..cells.len()])
+}
+
+// What the instance's procedure makes of what is known of its inputs. Most have one or two.
+fn answer(registry: &Registry, instance: &Instance, known: &[Info]) -> Info
+    requires { IsPlaced (procedures_in registry.now) (map kind_of known.now)
+        (attached_of instance.now).instance }
+    ensures says { All (λ source. said_by (info_at known.now) source ≡ result)
+        (propagators_of (procedures_in registry.now) ((attached_of instance.now).instance ∷ [])) }
+    ensures kind { kind_of result ≡ (numbered (map kind_of known.now)).kind instance.now.output }
+{
+    match instance.inputs.as_slice() {
+        [one] => procedure_value(registry, instance, known, &[known[*one as usize]]),
+        [one, another] => {
+            let given = [known[*one as usize], known[*another as usize]];
+            procedure_value(registry, instance, known, &given)
+        }
+        _ => answer_on_many(registry, instance, known),
+    }
 }
 
 // What an instance makes of what is known of its inputs, as a fact about its output, where it is news there.

@@ -1,6 +1,6 @@
 use Rattle.std.proofs.Common.{◌≡◌, length, map, take}
 use Rattle.pw_settle.specs.Settled.{info_at}
-use Rattle.pw_settle.proofs.propagating.answer.Given as goal
+use Rattle.pw_settle.proofs.propagating.answer_on_many.Given as goal
 
 abbrev pub invariant-loop-place : goal.invariant-loop-place
 invariant-loop-place g l = record {
