@@ -11,7 +11,7 @@ ghost use Rattle.pw_reasons.specs.Nogood.{IsNogood};
 ghost use Rattle.pw_reasons.specs.Reason.{Grows, before_and_after, reason_of};
 ghost use Rattle.pw_reasons.specs.SameInfo.{same_info, is_contradiction};
 ghost use Rattle.pw_info.specs.Information.{Implies, IsContradiction};
-ghost use Rattle.pw_settle.specs.Values.{kinds_in};
+ghost use Rattle.pw_settle.specs.Values.{kinds_in, value_in};
 ghost use Rattle.pw_settle.specs.Wider.{IsWider};
 
 /// The test of two informations for being one is exact, and so is that of a contradiction.
@@ -36,6 +36,13 @@ pub fn reasons_keep_what_is_needed()
         → premise < most_premises → contains worldview premise ≡ true
         → (contains (reason_of value worldview) premise ≡ true)
         ↔ (value (before_and_after worldview (reason_of value worldview) premise) ≢ value worldview) }
+{}
+
+/// More is known of each cell of a network where more is believed. So the laws of reasons hold of what `reason` answers: without any
+/// one of its premises the cell has another value.
+pub fn values_grow()
+    ensures { (network : Networks) (store : Store) → IsWellNetwork network
+        → kinds_of store ≡ kinds_in network → (cell : ℕ) → Grows (λ w. value_in network store w cell) }
 {}
 
 /// A nogood stays one, whatever comes: where more is believed; and where more is attached, and no less is told of any cell in the

@@ -27,3 +27,4 @@ pub mod NewInstances
 pub mod WiderNetworks
 pub mod SoundStores
 pub mod StoreCells
+pub mod GrowingGains

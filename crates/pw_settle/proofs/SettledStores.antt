@@ -19,7 +19,7 @@ use Rattle.pw_decl.proofs.FlatKept.{range_below}
 use Rattle.pw_network.specs.Network.{Network, IsWellNetwork, cells_in}
 use Rattle.pw_network.specs.Readers.{reads, readers_of}
 use Rattle.pw_settle.specs.Agenda.{is_set, tally}
-use Rattle.pw_settle.specs.Calls.{gains, reader_count, sum_below, visible_at}
+use Rattle.pw_settle.specs.Calls.{gains, most_calls, reader_count, sum_below, visible_at}
 use Rattle.pw_settle.specs.Growth.{KeepsMore}
 use Rattle.pw_settle.specs.Known.{AreKept, SaysTold}
 use Rattle.pw_settle.specs.Progress.{AreSatisfied, weight}
@@ -128,7 +128,7 @@ weight_most network store w =
 
 -- so one more call can be counted
 pub calls_fit : (calls tally_now weight_now start_tally start_weight cells count : ℕ) → calls + (tally_now + weight_now) ≤ start_tally + start_weight →
-    start_tally ≤ count → start_weight ≤ cells * (2000001 * count) → cells ≤ 4294967295 → count < 2 ^ 64 → calls + 1 < 2 ^ 128
+    start_tally ≤ count → start_weight ≤ cells * (2000001 * count) → cells ≤ 4294967295 → count < 2 ^ 64 → calls < most_calls
 calls_fit calls tally_now weight_now start_tally start_weight cells count so_far few less cells_few count_few =
     let most : count ≤ 18446744073709551615 = omega (arith, count_few) in
     let each : 2000001 * count ≤ 2000001 * 18446744073709551615 = omega (arith, most) in

@@ -1,5 +1,5 @@
 -- How often a settling calls procedures.
-use Rattle.std.specs.Prelude.{ℕ, zero, suc, ◌+◌, ◌-◌, ◌*◌, Bool, false, length, map, slice_index_or}
+use Rattle.std.specs.Prelude.{ℕ, zero, suc, ◌+◌, ◌-◌, ◌*◌, ◌^◌, Bool, false, length, map, slice_index_or}
 use Rattle.std.specs.FinSet.{is_subset}
 use Rattle.std.specs.List.{count_by}
 use Rattle.pw_info.specs.Rank.{rank_of}
@@ -7,6 +7,10 @@ use Rattle.pw_premises.specs.Premises.{Premises}
 use Rattle.pw_cells.specs.Cells.{Store, kept_in}
 use Rattle.pw_network.specs.Network.{Attached, Network}
 use Rattle.pw_network.specs.Readers.{readers_of}
+
+-- a count of calls stays below this: what a network can gain is less by far
+abbrev pub most_calls : ℕ
+most_calls = 2 ^ 127
 
 -- all premises under which the instance was attached are in the worldview
 abbrev pub is_visible : Premises → Attached → Bool

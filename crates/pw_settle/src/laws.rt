@@ -8,13 +8,17 @@ ghost use Rattle.pw_info.specs.declared.kind.Kind.{Kind};
 ghost use Rattle.pw_info.specs.declared.info.Info.{Info};
 ghost use Rattle.pw_info.specs.Information.{Implies};
 ghost use Rattle.pw_premises.specs.Premises.{Premises};
-ghost use Rattle.pw_cells.specs.Cells.{Store, kept_in, new_cell};
-ghost use Rattle.pw_network.specs.Network.{Network as Networks, IsWellNetwork, cells_in};
+ghost use Rattle.pw_cells.specs.Cells.{Store, kept_in, kinds_of, new_cell};
+ghost use Rattle.pw_decl.specs.declared.step.Callable.{Callable};
+ghost use Rattle.pw_network.specs.Network.{Network as Networks, IsWellNetwork, cells_in, with_attached};
+ghost use Rattle.pw_settle.specs.Calls.{gains};
 ghost use Rattle.pw_settle.specs.Fitting.{IsFitting};
+ghost use Rattle.pw_settle.specs.Growth.{KeepsMore};
 ghost use Rattle.pw_settle.specs.Settled.{Settled};
 ghost use Rattle.pw_settle.specs.Wider.{IsWider};
 ghost use Rattle.pw_settle.specs.Sources.{Cells, Source, AreOfTheirKinds, Fits, IsImplied, Names, cell_of, is_propagator, source_renamed};
 ghost use Rattle.pw_settle.specs.Fixpoint.{AreOver, AreNamesOf, fixpoint, round, told_in_one, told_of};
+ghost use Rattle.pw_settle.specs.Values.{kinds_in, numbered, numbers_of, sources_in};
 
 /// A round leaves the fixpoint as it is: nothing more follows.
 pub fn round_leaves_the_fixpoint<C>()
@@ -87,6 +91,26 @@ pub fn unwritten_cells_have_what_is_told<C>()
         → AreOver cells over sources
         → (c : C) → All (λ source. cell_of source ≡ c → is_propagator source ≡ true → ⊥) sources
         → fixpoint cells over sources c ≡ told_of cells sources c }
+{}
+
+/// What a network says of its cells in a worldview, with what its store was told, meets what these laws ask: so they hold of the
+/// values of its cells.
+pub fn networks_meet_the_laws()
+    ensures { (network : Networks) (store : Store) (w : Premises) → IsWellNetwork network
+        → kinds_of store ≡ kinds_in network
+        → AreOver (numbered (kinds_in network)) (numbers_of (kinds_in network)) (sources_in network store w) }
+{}
+
+/// A network in which something more is attached is wider: it has all cells and instances that it had, by the same numbers.
+pub fn attaching_widens()
+    ensures { (network : Networks) (line : ℕ) (callable : Callable) (cells : List ℕ) (support : Premises)
+        → IsWider network (with_attached network line callable cells support) }
+{}
+
+/// No less was gained where still more is kept afterwards.
+pub fn gains_grow()
+    ensures { (network : Networks) (old new newer : Store) (w : Premises)
+        → KeepsMore network new newer → gains network old new w ≤ gains network old newer w }
 {}
 
 /// Values of a settling that fit still fit, whatever comes: where more is attached, where cells are added, and where no less is

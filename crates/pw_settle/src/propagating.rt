@@ -1,9 +1,10 @@
 //! Calls of procedures on what is known of the inputs of their instances.
-ghost use Rattle.std.specs.Prelude.{◌≡◌, ◌<◌, ◌∷◌, [], All, IfNone, IfSome, length, map};
+ghost use Rattle.std.specs.Prelude.{◌≡◌, ◌<◌, ◌+◌, ◌∷◌, [], All, IfNone, IfSome, length, map};
 ghost use Rattle.pw_info.specs.Information.{kind_of};
 ghost use Rattle.pw_network.specs.Fields.{network_by};
 ghost use Rattle.pw_network.specs.Kept.{attached_of};
 ghost use Rattle.pw_procs.specs.Registry.{procedures_in};
+ghost use Rattle.pw_settle.specs.Calls.{most_calls};
 ghost use Rattle.pw_settle.specs.Placed.{IsPlaced};
 ghost use Rattle.pw_settle.specs.Progress.{IsNews, IsSatisfied, attached_no};
 ghost use Rattle.pw_settle.specs.Settled.{info_at};
@@ -21,24 +22,41 @@ use std::alloc::Allocator;
 // The most inputs that a procedure has.
 const MOST_INPUTS: usize = 8;
 
-// What the instance's procedure makes of informations, which are what is known of its inputs. Nothing else calls procedures.
-fn procedure_value(registry: &Registry, instance: &Instance, known: &[Info], given: &[Info]) -> Info
+// What the instance's procedure makes of informations, which are what is known of its inputs. Nothing else calls procedures, and
+// each call is counted here.
+fn procedure_value(
+    registry: &Registry,
+    instance: &Instance,
+    known: &[Info],
+    given: &[Info],
+    calls: &mut u128,
+) -> Info
     requires placed { IsPlaced (procedures_in registry.now) (map kind_of known.now)
         (attached_of instance.now).instance }
     requires given { given.now ≡ map (info_at known.now) (attached_of instance.now).instance.inputs }
+    requires room { calls.old < most_calls }
+    ensures counted { calls.new ≡ calls.old + 1 }
     ensures says { All (λ source. said_by (info_at known.now) source ≡ result)
         (propagators_of (procedures_in registry.now) ((attached_of instance.now).instance ∷ [])) }
     ensures kind { kind_of result ≡ (numbered (map kind_of known.now)).kind instance.now.output }
 {
+    *calls += 1;
     registry.get(instance.procedure).call(given)
 }
 
 // What the instance's procedure makes of what is known of its inputs, however many there are. Never inlined, so that other calls make
 // no room for so many.
 #[inline(never)]
-fn answer_on_many(registry: &Registry, instance: &Instance, known: &[Info]) -> Info
-    requires { IsPlaced (procedures_in registry.now) (map kind_of known.now)
+fn answer_on_many(
+    registry: &Registry,
+    instance: &Instance,
+    known: &[Info],
+    calls: &mut u128,
+) -> Info
+    requires room { calls.old < most_calls }
+    requires placed { IsPlaced (procedures_in registry.now) (map kind_of known.now)
         (attached_of instance.now).instance }
+    ensures counted { calls.new ≡ calls.old + 1 }
     ensures says { All (λ source. said_by (info_at known.now) source ≡ result)
         (propagators_of (procedures_in registry.now) ((attached_of instance.now).instance ∷ [])) }
     ensures kind { kind_of result ≡ (numbered (map kind_of known.now)).kind instance.now.output }
@@ -48,24 +66,26 @@ fn answer_on_many(registry: &Registry, instance: &Instance, known: &[Info]) -> I
     for place in 0..cells.len() {
         inputs[place] = known[cells[place] as usize];
     }
-    procedure_value(registry, instance, known, &inputs[..cells.len()])
+    procedure_value(registry, instance, known, &inputs[..cells.len()], calls)
 }
 
 // What the instance's procedure makes of what is known of its inputs. Most have one or two.
-fn answer(registry: &Registry, instance: &Instance, known: &[Info]) -> Info
-    requires { IsPlaced (procedures_in registry.now) (map kind_of known.now)
+fn answer(registry: &Registry, instance: &Instance, known: &[Info], calls: &mut u128) -> Info
+    requires room { calls.old < most_calls }
+    requires placed { IsPlaced (procedures_in registry.now) (map kind_of known.now)
         (attached_of instance.now).instance }
+    ensures counted { calls.new ≡ calls.old + 1 }
     ensures says { All (λ source. said_by (info_at known.now) source ≡ result)
         (propagators_of (procedures_in registry.now) ((attached_of instance.now).instance ∷ [])) }
     ensures kind { kind_of result ≡ (numbered (map kind_of known.now)).kind instance.now.output }
 {
     match instance.inputs.as_slice() {
-        [one] => procedure_value(registry, instance, known, &[known[*one as usize]]),
+        [one] => procedure_value(registry, instance, known, &[known[*one as usize]], calls),
         [one, another] => {
             let given = [known[*one as usize], known[*another as usize]];
-            procedure_value(registry, instance, known, &given)
+            procedure_value(registry, instance, known, &given, calls)
         }
-        _ => answer_on_many(registry, instance, known),
+        _ => answer_on_many(registry, instance, known, calls),
     }
 }
 
@@ -75,10 +95,13 @@ pub(crate) fn news<A: Allocator + Copy>(
     infos: &[Info],
     supports: &[PremiseSet],
     number: usize,
+    calls: &mut u128,
 ) -> Option<(u32, Fact)>
     requires there { number < length (network_by network.now).attached }
     requires kinds { map kind_of infos.now ≡ kinds_in (network_by network.now) }
     requires as_many { length supports.now ≡ length infos.now }
+    requires room { calls.old < most_calls }
+    ensures counted { calls.new ≡ calls.old + 1 }
     ensures news { IfSome result (λ (cell, fact). (d : _)
         → IsNews (network_by network.now) infos.now supports.now
         (attached_no (network_by network.now) number d) cell fact) }
@@ -89,7 +112,7 @@ pub(crate) fn news<A: Allocator + Copy>(
         (attached_no (network_by network.now) number d)) }
 {
     let instance = &network.instances()[number];
-    let info = answer(network.declaration().registry(), instance, infos);
+    let info = answer(network.declaration().registry(), instance, infos, calls);
     if infos[instance.output as usize].implies(&info) {
         return None;
     }

@@ -154,6 +154,7 @@ pub fn resettle<A: Allocator + Copy>(
         → IsSettled (network_by network.now) store.old worldview.now settled) }
     ensures kept { OnOk result (IsSound (network_by network.now) store.old → (cell : ℕ)
         → kept_in store.new cell worldview.now ≡ value_in (network_by network.now) store.old worldview.now cell) }
+    ensures cells { IfOk result (λ settled. length settled.infos ≡ cells_in (network_by network.now)) }
     ensures fits { IfOk result (λ settled. IsFitting (network_by network.now) store.new settled) }
     ensures worldview { IfOk result (λ settled. settled.worldview ≡ worldview.now) }
     ensures instances { IfOk result (λ settled. settled.instances ≡ length (network_by network.now).attached) }

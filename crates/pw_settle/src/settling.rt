@@ -4,9 +4,10 @@ ghost use Rattle.std.specs.List.{count_by};
 ghost use Rattle.pw_cells.specs.Cells.{kept_in, kinds_of};
 ghost use Rattle.pw_network.specs.Fields.{network_by};
 ghost use Rattle.pw_network.specs.Kept.{attached_of};
+ghost use Rattle.pw_network.specs.Network.{cells_in};
 ghost use Rattle.pw_network.specs.Readers.{readers_of};
 ghost use Rattle.pw_settle.specs.Agenda.{is_set, tally};
-ghost use Rattle.pw_settle.specs.Calls.{gains, is_visible, reader_count, visible_at, visible_count};
+ghost use Rattle.pw_settle.specs.Calls.{gains, is_visible, most_calls, reader_count, visible_at, visible_count};
 ghost use Rattle.pw_settle.specs.Due.{QueuesReaders};
 ghost use Rattle.pw_settle.specs.Fitting.{IsFitting};
 ghost use Rattle.pw_settle.specs.Growth.{KeepsMore, StaysUpstream};
@@ -86,6 +87,7 @@ fn call<A: Allocator + Copy>(
     visible: &[bool],
     agenda: &mut Agenda<A>,
     number: usize,
+    calls: &mut u128,
 ) -> Result<(), AllocError>
     requires kinds { kinds_of store.old ≡ kinds_in (network_by network.now) }
     requires kept { AreKept store.old worldview.now known.old.infos.items known.old.supports.items }
@@ -93,8 +95,10 @@ fn call<A: Allocator + Copy>(
     requires flags { length agenda.old ≡ length (network_by network.now).attached }
     requires seen { (n : ℕ) → is_set agenda.old n ≡ true → visible_at (network_by network.now) worldview.now n ≡ true }
     requires number { visible_at (network_by network.now) worldview.now number ≡ true }
+    requires room { calls.old < most_calls }
     requires others { AreOthersSatisfied (network_by network.now) worldview.now
         (λ cell. kept_in store.old cell worldview.now) agenda.old number }
+    ensures counted { calls.new ≡ calls.old + 1 }
     ensures grows { KeepsMore (network_by network.now) store.old store.new }
     ensures upstream { (given : ℕ → ℕ → Bool)
         → AreUpstream (network_by network.now) given store.old known.old.supports.items
@@ -108,7 +112,7 @@ fn call<A: Allocator + Copy>(
     ensures most { OnOk result (tally agenda.new + weight (network_by network.now) store.new worldview.now
         ≤ tally agenda.old + weight (network_by network.now) store.old worldview.now) }
 {
-    if let Some((cell, fact)) = news(network, &known.infos, &known.supports, number) {
+    if let Some((cell, fact)) = news(network, &known.infos, &known.supports, number, calls) {
         store.keep(cell, fact)?;
         take_in(&mut known.infos, &mut known.supports, cell, &fact);
         queue_readers(network, visible, agenda, cell);
@@ -149,8 +153,9 @@ fn work<A: Allocator + Copy>(
     let _instances = visible.len();
     let mut calls = 0;
     while let Some(number) = agenda.take() {
-        calls += 1;
-        call(network, store, worldview, known, visible, agenda, number)?;
+        call(
+            network, store, worldview, known, visible, agenda, number, &mut calls,
+        )?;
     }
     Ok(calls)
 }
@@ -178,6 +183,7 @@ pub(crate) fn settle_from<A: Allocator + Copy>(
         → IsSettled (network_by network.now) store.old worldview.now settled) }
     ensures kept { OnOk result (IsSound (network_by network.now) store.old → (cell : ℕ)
         → kept_in store.new cell worldview.now ≡ value_in (network_by network.now) store.old worldview.now cell) }
+    ensures cells { IfOk result (λ settled. length settled.infos ≡ cells_in (network_by network.now)) }
     ensures fits { IfOk result (λ settled. IsFitting (network_by network.now) store.new settled) }
     ensures worldview { IfOk result (λ settled. settled.worldview ≡ worldview.now) }
     ensures instances { IfOk result (λ settled. settled.instances ≡ length (network_by network.now).attached) }
@@ -219,6 +225,7 @@ pub fn settle<A: Allocator + Copy>(
         → IsSettled (network_by network.now) store.old worldview.now settled) }
     ensures kept { OnOk result (IsSound (network_by network.now) store.old → (cell : ℕ)
         → kept_in store.new cell worldview.now ≡ value_in (network_by network.now) store.old worldview.now cell) }
+    ensures cells { IfOk result (λ settled. length settled.infos ≡ cells_in (network_by network.now)) }
     ensures fits { IfOk result (λ settled. IsFitting (network_by network.now) store.new settled) }
     ensures worldview { IfOk result (λ settled. settled.worldview ≡ worldview.now) }
     ensures instances { IfOk result (λ settled. settled.instances ≡ length (network_by network.now).attached) }

@@ -15,26 +15,26 @@ is_there known inputs cells place same there below =
     omega (arith, all place 0 below, length-map known kind_of)
 
 pub bounds-known-one : goal.bounds-known-one
-bounds-known-one g c = is_there c.args.known.now _ c.as_slice.result.now 0 c.as_slice.ensures c.requires.0.0 (omega (arith, c.in-len1.len_at_least))
+bounds-known-one g c = is_there c.args.known.now _ c.as_slice.result.now 0 c.as_slice.ensures c.requires.placed.0.0 (omega (arith, c.in-len1.len_at_least))
 
 pub procedure_value-requires-clause-given : goal.procedure_value-requires-clause-given
 procedure_value-requires-clause-given g c =
     let cells = c.as_slice.result.now in
-    let first = is_there c.args.known.now _ cells 0 c.as_slice.ensures c.requires.0.0 (omega (arith, c.in-len1.len_at_least)) in
+    let first = is_there c.args.known.now _ cells 0 c.as_slice.ensures c.requires.placed.0.0 (omega (arith, c.in-len1.len_at_least)) in
     one_given c.args.known.now cells c.index-known-one.result (omega (arith, c.in-len1.len_at_least)) (omega (arith, c.in-len1.len_below)) first c.index-known-one.is
     ∙ ap (map (info_at c.args.known.now)) c.as_slice.ensures
 
 pub bounds-known-one-in-len2 : goal.bounds-known-one-in-len2
-bounds-known-one-in-len2 g c = is_there c.args.known.now _ c.as_slice.result.now 0 c.as_slice.ensures c.requires.0.0 (omega (arith, c.in-len2.len_at_least))
+bounds-known-one-in-len2 g c = is_there c.args.known.now _ c.as_slice.result.now 0 c.as_slice.ensures c.requires.placed.0.0 (omega (arith, c.in-len2.len_at_least))
 
 pub bounds-known-another : goal.bounds-known-another
-bounds-known-another g c = is_there c.args.known.now _ c.as_slice.result.now 1 c.as_slice.ensures c.requires.0.0 (omega (arith, c.in-len2.len_at_least))
+bounds-known-another g c = is_there c.args.known.now _ c.as_slice.result.now 1 c.as_slice.ensures c.requires.placed.0.0 (omega (arith, c.in-len2.len_at_least))
 
 pub procedure_value-requires-in-len2-clause-given : goal.procedure_value-requires-in-len2-clause-given
 procedure_value-requires-in-len2-clause-given g c =
     let cells = c.as_slice.result.now in
-    let first = is_there c.args.known.now _ cells 0 c.as_slice.ensures c.requires.0.0 (omega (arith, c.in-len2.len_at_least)) in
-    let second = is_there c.args.known.now _ cells 1 c.as_slice.ensures c.requires.0.0 (omega (arith, c.in-len2.len_at_least)) in
+    let first = is_there c.args.known.now _ cells 0 c.as_slice.ensures c.requires.placed.0.0 (omega (arith, c.in-len2.len_at_least)) in
+    let second = is_there c.args.known.now _ cells 1 c.as_slice.ensures c.requires.placed.0.0 (omega (arith, c.in-len2.len_at_least)) in
     two_given c.args.known.now cells c.index-known-one-in-len2.result c.index-known-another.result (omega (arith, c.in-len2.len_at_least))
     (omega (arith, c.in-len2.len_below)) first second c.index-known-one-in-len2.is c.index-known-another.is
     ∙ ap (map (info_at c.args.known.now)) c.as_slice.ensures

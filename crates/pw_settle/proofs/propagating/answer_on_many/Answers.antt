@@ -13,9 +13,9 @@ loop-place-preserved g c =
     let instance = (attached_of c.args.instance.now).instance in
     let known = c.args.known.now in
     let cells = c.as_slice-cells.result.now in
-    let few = few_inputs (procedures_in c.args.registry.now) (map kind_of known) instance c.requires in
+    let few = few_inputs (procedures_in c.args.registry.now) (map kind_of known) instance c.requires.placed in
     let there : All (λ cell. cell < length (map kind_of known)) cells =
-    subst (All (λ cell. cell < length (map kind_of known))) (sym c.as_slice-cells.ensures) c.requires.0.0 in
+    subst (All (λ cell. cell < length (map kind_of known))) (sym c.as_slice-cells.ensures) c.requires.placed.0.0 in
     record {
       done = filled_more known c.loop-place.inputs cells c.loop-place.place c.index-known-cells.result c.loop-place-test.true
           (omega (arith, few, ap length c.as_slice-cells.ensures, c.loop-place.invariant.room))
@@ -27,12 +27,12 @@ pub bounds-known-cells : goal.bounds-known-cells
 bounds-known-cells g c =
     let known = c.args.known.now in
     let there : All (λ cell. cell < length (map kind_of known)) c.as_slice-cells.result.now =
-    subst (All (λ cell. cell < length (map kind_of known))) (sym c.as_slice-cells.ensures) c.requires.0.0 in
+    subst (All (λ cell. cell < length (map kind_of known))) (sym c.as_slice-cells.ensures) c.requires.placed.0.0 in
     omega (arith, there c.loop-place.place 0 c.loop-place-test.true, length-map known kind_of)
 
 pub bounds-inputs-place : goal.bounds-inputs-place
 bounds-inputs-place g c =
-    let few = few_inputs (procedures_in c.args.registry.now) (map kind_of c.args.known.now) (attached_of c.args.instance.now).instance c.requires in
+    let few = few_inputs (procedures_in c.args.registry.now) (map kind_of c.args.known.now) (attached_of c.args.instance.now).instance c.requires.placed in
     omega (arith, few, ap length c.as_slice-cells.ensures, c.loop-place-test.true)
 
 pub procedure_value-requires-clause-given : goal.procedure_value-requires-clause-given

@@ -9,8 +9,8 @@ use Rattle.pw_settle.specs.Known.{joined}
 use Rattle.pw_settle.proofs.NewsLemmas.{inputs_there, kept_instance, output_kind, output_read, output_there, placed_here, said_here, satisfied_here}
 use Rattle.pw_settle.proofs.propagating.news.Goals as goal
 
-pub answer-info-requires : goal.answer-info-requires
-answer-info-requires g c =
+pub answer-info-requires-clause-placed : goal.answer-info-requires-clause-placed
+answer-info-requires-clause-placed g c =
     placed_here (network_by c.args.network.now) c.args.network.now.well c.args.infos.now (procedures_in c.registry.result.now) c.args.number
     (attached_of c.index-instances-number.result) (c.registry.ensures ∙ ap (λ d. d.procedures) c.declaration.ensures) c.requires.kinds c.requires.there
     (λ d. kept_instance (network_by c.args.network.now) c.instances.result.now c.args.number c.index-instances-number.result d c.instances.ensures.instances

@@ -11,9 +11,9 @@ use Rattle.pw_settle.proofs.TakenFlags.{taken_less, taken_others, tally_none}
 use Rattle.pw_settle.proofs.settling.work.Given as given
 use Rattle.pw_settle.proofs.settling.work.Goals as goal
 
-pub overflow_add-calls : goal.overflow_add-calls
-overflow_add-calls g c =
-    let counted = calls_fit c.loop-number.calls (tally c.loop-number.agenda) (weight (network_by c.args.network.now) c.loop-number.store c.args.worldview.now)
+pub call-requires-clause-room : goal.call-requires-clause-room
+call-requires-clause-room g c =
+    calls_fit c.loop-number.calls (tally c.loop-number.agenda) (weight (network_by c.args.network.now) c.loop-number.store c.args.worldview.now)
     (tally c.args.agenda.now) (weight (network_by c.args.network.now) c.args.store.now c.args.worldview.now)
     (length c.args.store.now.cells) (length (network_by c.args.network.now).attached) c.loop-number.invariant.most
     (omega (
@@ -26,8 +26,7 @@ overflow_add-calls g c =
       arith,
       ap length c.requires.visible,
       length-map (network_by c.args.network.now).attached (is_visible c.args.worldview.now),
-    )) in
-    omega (arith, counted)
+    ))
 
 pub call-requires-clause-others : goal.call-requires-clause-others
 call-requires-clause-others g c n d below other seen free =
@@ -46,8 +45,8 @@ loop-number-preserved g c = record {
   flags = c.call.ensures.flags ∙ ap length c.in-Some.ensures.some.1 ∙ length-set c.loop-number.agenda c.in-Some.number false ∙ c.loop-number.invariant.flags;
   seen = c.call.ensures.seen;
   satisfied = c.in_ok-call.ensures.satisfied;
-  least = omega (arith, c.loop-number.invariant.least, c.call.ensures.least, less g c);
-  most = omega (arith, c.loop-number.invariant.most, c.in_ok-call.ensures.most, less g c);
+  least = omega (arith, c.loop-number.invariant.least, c.call.ensures.least, c.call.ensures.counted, less g c);
+  most = omega (arith, c.loop-number.invariant.most, c.in_ok-call.ensures.most, c.call.ensures.counted, less g c);
 }
 
 pub returns-in_err-call-clause-grows : goal.returns-in_err-call-clause-grows
