@@ -16,8 +16,10 @@ use Rattle.pw_settle.specs.Growth.{KeepsMore}
 use Rattle.pw_settle.specs.Settled.{IsSettled, Settled}
 use Rattle.pw_settle.specs.Sound.{IsSound}
 use Rattle.pw_settle.specs.Values.{kinds_in, value_in}
-use Rattle.pw_sessions.specs.Freshness.{CallsDue}
+use Rattle.pw_settle.proofs.GrowingGains.{gains_more}
+use Rattle.pw_sessions.specs.Freshness.{AreCalls, CallsDue, CallsDueFor}
 use Rattle.pw_sessions.specs.Session.{IsCurrent, KeepsValues, Session}
+use Rattle.pw_sessions.specs.Workbench.{Workbench, beliefs_in, session_in}
 use Rattle.pw_sessions.proofs.CurrentValues.{current_settled}
 use Rattle.pw_sessions.proofs.FewCalls.{due_most, due_none, no_gains}
 
@@ -42,14 +44,16 @@ module _ (network : Network) (well : IsWellNetwork network) (old new : Store) (w
   once_anew (Ok settled) kept most = λ full. let none = no_gains network old new w full (kept sound) in omega (arith, most, none)
   once_anew (Err e) kept most = most
 
-  pub least_anew : {E : Type 0} (r : Result Settled E) (last : Option Session) → last ≡ None →
-      IfOk r (λ settled. visible_count network w ≤ settled.calls) → IfOk r (λ settled. CallsDue network old w last settled.calls)
-  least_anew (Ok settled) last none least = record {
-    anew = λ so. least;
+  pub due_anew : {E : Type 0} (r : Result Settled E) (last : Option Session) → last ≡ None →
+      IfOk r (λ settled. visible_count network w ≤ settled.calls) →
+      IfOk r (λ settled. settled.calls ≤ visible_count network w + gains network old new w) →
+      IfOk r (λ settled. CallsDue network old new w last settled.calls)
+  due_anew (Ok settled) last none least most = record {
+    anew = λ so. record { least = least; most = most };
     other = λ session has. absurd (none-some session (sym none ∙ has));
     further = λ session has. absurd (none-some session (sym none ∙ has));
   }
-  least_anew (Err e) last none least = least
+  due_anew (Err e) last none least most = least
 
   pub none_anew : {E : Type 0} (r : Result Settled E) (last : Option Session) → last ≡ None →
       IfOk r (λ settled. visible_count network w ≤ settled.calls) → IfOk r (λ settled. (session : Session) → last ≡ Some session →
@@ -99,12 +103,36 @@ module _ (network : Network) (well : IsWellNetwork network) (old new : Store) (w
         omega (arith, up, zero, none)
     none_again (Err e) kept due = due
 
-    pub least_again : {E : Type 0} (r : Result Settled E) → IfOk r Due → IfOk r Least → IfOk r (λ settled. CallsDue network old w last settled.calls)
-    least_again (Ok settled) due least = record {
+    pub due_again : {E : Type 0} (r : Result Settled E) → IfOk r Due → IfOk r Least → IfOk r Most →
+        IfOk r (λ settled. CallsDue network old new w last settled.calls)
+    due_again (Ok settled) due least most = record {
       anew = λ none. absurd (none-some before (sym none ∙ had));
-      other = λ session has outside. least (subst (λ (s : Session). is_subset s.values.worldview w ≡ false) (sym (its session has)) outside);
+      other = λ session has outside.
+          let out = subst (λ (s : Session). is_subset s.values.worldview w ≡ false) (sym (its session has)) outside in
+          record { least = least out; most = most out };
       further = λ session has inside.
-          let (flags, are, least, up) = due (subst (λ (s : Session). is_subset s.values.worldview w ≡ true) (sym (its session has)) inside) in
-          (flags, subst (λ (s : Session). AreDue network old w s.values flags) (its session has) are, least);
+          let (flags, are, first, up) = due (subst (λ (s : Session). is_subset s.values.worldview w ≡ true) (sym (its session has)) inside) in
+          (flags, subst (λ (s : Session). AreDue network old w s.values flags) (its session has) are, record { least = first; most = up });
     }
-    least_again (Err e) due least = least
+    due_again (Err e) due least most = least
+
+-- so it is where still more is kept afterwards
+pub due_still : (network : Network) (old found new : Store) (w : Premises) (last : Option Session) (calls : ℕ) → KeepsMore network found new →
+    CallsDue network old found w last calls → CallsDue network old new w last calls
+due_still network old found new w last calls more due = record {
+  anew = λ none. wider (due.anew none);
+  other = λ session has outside. wider (due.other session has outside);
+  further = λ session has inside.
+      let (flags, are, count) = due.further session has inside in
+      (flags, are, wider count);
+} where
+  wider : {first : ℕ} → AreCalls first (gains network old found w) calls → AreCalls first (gains network old new w) calls
+  wider count = let grown = gains_more network old found new w more in record { least = count.least; most = omega (arith, count.most, grown) }
+
+-- the same for a user, where the network and the calls stay
+pub due_for_still : (old found new : Workbench) (user : ℕ) → found.network ≡ old.network → KeepsMore found.network found.store new.store →
+    new.calls ≡ found.calls → CallsDueFor old user found → CallsDueFor old user new
+due_for_still old found new user network more calls due =
+    subst (CallsDue old.network old.store new.store (beliefs_in old user) (session_in old user)) (sym calls)
+    (due_still old.network old.store found.store new.store (beliefs_in old user) (session_in old user) found.calls
+    (subst (λ (n : Network). KeepsMore n found.store new.store) network more) due)

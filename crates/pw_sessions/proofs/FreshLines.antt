@@ -72,7 +72,7 @@ module _ (bench : Workbench) (network : IsWellNetwork bench.network) (user cell 
 -- who was fresh is so still, or sees it
 pub attached_seen : (old new : Workbench) (line user : ℕ) (callable : Callable) (on : Arguments) (support : Premises) → IsWellNetwork old.network →
     IsWellNetwork new.network → StoreFits old → IsAttached old line callable (cells_of on) support new → (other : ℕ) → IsFresh old other →
-    MayEndFreshness old other (commands.Attach user callable on support) reply.Done ⊎ IsFresh new other
+    MayEndFreshness old other (commands.Attach user callable on support) new reply.Done ⊎ IsFresh new other
 attached_seen old new line user callable on support well also fits attached other is =
     elim (fresh_attached old new line callable (cells_of on) support well also fits kinds widened.0 widened.1 attached other is) [
       | inl seen ↦ inl (inr (inr (refl, seen)))

@@ -1,6 +1,6 @@
 -- Who is fresh stays so, line after line, but for the lines that may end it.
-use Rattle.std.proofs.Common.{◌≡◌, ℕ, ◌<◌, ◌≤◌, eqb, true, false, zero, suc, List, All, replicate, length, map, get_or, set, Option, None, Some, refl, sym, ap, ◌∙◌, subst, inl, inr, arith, get_or-set_other, get_or-set_same}
-use Rattle.std.specs.Prelude.{◌⊎◌, IfSome, nat_lt}
+use Rattle.std.proofs.Common.{◌≡◌, ℕ, ◌<◌, ◌≤◌, eqb, true, false, zero, suc, List, All, replicate, length, map, get_or, set, Option, None, Some, refl, sym, ap, ◌∙◌, subst, inl, inr, arith, get_or-set_same}
+use Rattle.std.specs.Prelude.{◌≢◌, ◌⊎◌, IfSome, nat_lt}
 use Rattle.std.specs.FinSet.{empty, is_subset}
 use Rattle.std.specs.Option.{option_map}
 use Rattle.std.proofs.Math.ListN.{get_or-map}
@@ -10,7 +10,7 @@ use Rattle.std.proofs.lemmas.Option.{none-some, same_Some}
 use Rattle.pw_info.specs.declared.info.Info.{Info}
 use Rattle.pw_info.specs.Information.{Implies, kind_of}
 use Rattle.pw_premises.specs.Premises.{Premises}
-use Rattle.pw_premises.specs.PremiseSubsets.{is_subset_refl}
+use Rattle.pw_premises.specs.PremiseSubsets.{has_same_numbers, is_subset_refl, same_numbers_equal}
 use Rattle.pw_facts.specs.declared.fact.Fact.{Fact}
 use Rattle.pw_facts.specs.Facts.{shows}
 use Rattle.pw_cells.specs.Cells.{kind_in_store, kinds_of}
@@ -27,7 +27,7 @@ use Rattle.pw_settle.proofs.KeptFacts.{also_implies}
 use Rattle.pw_sessions.specs.declared.command.Command.{Command}
 use Rattle.pw_sessions.specs.declared.reply.Refusal.TheVariants as refusal
 use Rattle.pw_sessions.specs.Answer.{user_of}
-use Rattle.pw_sessions.specs.Freshness.{CallsDueFor, CallsFew, CountsCalls, IsAsked, IsFresh, KeepsFresh, MayEndFreshness, Settles}
+use Rattle.pw_sessions.specs.Freshness.{CallsDueFor, CallsFew, CountsCalls, CountsSettling, IsAsked, IsFresh, KeepsFresh, MayEndFreshness, Settles}
 use Rattle.pw_sessions.specs.LineReading.{LineReading}
 use Rattle.pw_sessions.specs.Reply.{Reply}
 use Rattle.pw_sessions.specs.Reply as reply
@@ -160,33 +160,35 @@ module _ (old new : Workbench) (command : Command) (answer : Reply)
   pub counts_none : new.calls ≡ 0 → CountsCalls old command new answer
   counts_none none = record {
     few = calls_none old (user_of command) new.calls none;
-    least = λ d before left settles. absurd (quiet d before settles);
+    due = λ d before left settles. absurd (quiet d before settles);
     none = λ d before left not. none;
   }
 
-  pub keeps_fresh : ((user : ℕ) → IsFresh old user → MayEndFreshness old user command answer ⊎ IsFresh new user) → KeepsFresh old command new answer
+  pub keeps_fresh : ((user : ℕ) → IsFresh old user → MayEndFreshness old user command new answer ⊎ IsFresh new user) → KeepsFresh old command new answer
   keeps_fresh stays = record {
     becomes = λ d before left settles. absurd (quiet d before settles);
     stays = stays;
   }
 
--- a change of the beliefs of one user
-pub fresh_believed : (old : Workbench) (own : ℕ) (premises : Premises) (user : ℕ) → IsFresh old user →
-    (own ≡ user) ⊎ IsFresh (record old { beliefs = set old.beliefs own premises }) user
-fresh_believed old own premises user is =
-    elim (cases_Bool (eqb own user)) [
-      | inl same ↦ inl (eqb-true own user same)
-      | inr other ↦
+-- a change of beliefs: who was fresh is so still, or believes something else
+pub fresh_believed : (old : Workbench) (beliefs : List Premises) (user : ℕ) → IsFresh old user →
+    (beliefs_in (record old { beliefs = beliefs }) user ≢ beliefs_in old user) ⊎ IsFresh (record old { beliefs = beliefs }) user
+fresh_believed old beliefs user is =
+    let now : Premises = get_or beliefs user empty in
+    let decides = same_numbers_equal now (beliefs_in old user) in
+    elim (cases_Bool (has_same_numbers now (beliefs_in old user))) [
+      | inl same ↦
           inr (record {
             session = is.session;
             has = is.has;
-            worldview = is.worldview ∙ sym (get_or-set_other old.beliefs own user premises empty (λ same. eqb-false own user other (sym same)));
+            worldview = is.worldview ∙ sym (decides.0 same);
             current = is.current;
           })
+      | inr other ↦ inl (λ same. both_ways (has_same_numbers now (beliefs_in old user)) other (decides.1 same))
     ]
 
 pub fresh_refused : (old new : Workbench) → StoreFits old → IsAsBefore old new → (user : ℕ) (command : Command) (answer : Reply) → IsFresh old user →
-    MayEndFreshness old user command answer ⊎ IsFresh new user
+    MayEndFreshness old user command new answer ⊎ IsFresh new user
 fresh_refused old new fits still user command answer is = inr (fresh_as_before old new fits still user is)
 
 -- ---- questions
@@ -213,7 +215,7 @@ module _ (old : Workbench) (command : Command) (Settling : Type 0) (new : Workbe
       CountsCalls old command new answer
   question_counts settling settles = record {
     few = asked.few;
-    least = λ d before left so. asked.least (settling d before left so);
+    due = λ d before left so. asked.due (settling d before left so);
     none = λ d before left not. asked.none (λ settling. not (settles d before left settling));
   }
 
@@ -242,8 +244,8 @@ calls_few old user calls none once = record {
 }
 
 -- a user who is fresh has nothing due
-pub due_fresh : (old : Workbench) (user : ℕ) → IsFresh old user → CallsDueFor old user 0
-due_fresh old user is = record {
+pub due_fresh : (old : Workbench) (user : ℕ) → IsFresh old user → old.calls ≡ 0 → CallsDueFor old user old
+due_fresh old user is uncounted = record {
   anew = λ none. absurd (none-some is.session (sym none ∙ is.has));
   other = λ session has hidden.
       absurd (both_ways (is_subset session.values.worldview w) hidden
@@ -258,8 +260,13 @@ due_fresh old user is = record {
             (subst (λ (s : Session). IsCurrent old.network old.store s.values) (sym (own session has)) is.current) n due),
       );
     },
-    no_flags (replicate (length old.network.attached) false)
-        (λ n flag. both_ways (is_set (replicate (length old.network.attached) false) n) (get_or-replicate_same (length old.network.attached) n) flag),
+    record {
+      least =
+          let none = no_flags (replicate (length old.network.attached) false)
+          (λ n flag. both_ways (is_set (replicate (length old.network.attached) false) n) (get_or-replicate_same (length old.network.attached) n) flag) in
+          omega (arith, none);
+      most = omega (arith, uncounted);
+    },
   );
 } where
   w : Premises
@@ -282,7 +289,7 @@ due_fresh old user is = record {
 -- with values that are remembered
 pub asked_remembered : (old found : Workbench) (user : ℕ) (settled : Settled) (Settling : Type 0) (answer : Reply) → Settling →
     user < length found.sessions → found.beliefs ≡ old.beliefs → settled.worldview ≡ beliefs_in old user → IsCurrent found.network found.store settled →
-    CallsFew old user found.calls → CallsDueFor old user found.calls →
+    CallsFew old user found.calls → CallsDueFor old user found →
     IsAsked old user Settling (record found { sessions = set found.sessions user (Some (record { values = settled; is_current = true })) }) answer
 asked_remembered old found user settled Settling answer settling there beliefs worldview current few due =
     let fresh = fresh_remembered found user settled there (worldview ∙ sym (ap (λ (bs : List Premises). get_or bs user empty) beliefs)) current in
@@ -290,18 +297,18 @@ asked_remembered old found user settled Settling answer settling there beliefs w
       becomes = λ so. inr fresh;
       stays = λ is. inr fresh;
       few = few;
-      least = λ so. inr due;
+      due = λ so. inr due;
       none = λ not. absurd (not settling);
     }
 
--- for want of memory
+-- out of memory
 pub asked_refused : (old found : Workbench) (user : ℕ) (Settling : Type 0) → Settling → CallsFew old user found.calls →
-    IsAsked old user Settling found (reply.Refused refusal.Memory)
-asked_refused old found user Settling settling few = record {
+    CountsSettling old user found (reply.Refused refusal.Memory) → IsAsked old user Settling found (reply.Refused refusal.Memory)
+asked_refused old found user Settling settling few due = record {
   becomes = λ so. inl refl;
   stays = λ is. inl refl;
   few = few;
-  least = λ so. inl refl;
+  due = λ so. due;
   none = λ not. absurd (not settling);
 }
 
@@ -312,7 +319,7 @@ asked_quiet old user Settling answer quiet none = record {
   becomes = λ so. absurd (quiet so);
   stays = λ is. inr is;
   few = calls_none old user old.calls none;
-  least = λ so. absurd (quiet so);
+  due = λ so. absurd (quiet so);
   none = λ not. none;
 }
 
@@ -323,7 +330,7 @@ asked_known old user Settling answer fresh none = record {
   becomes = λ so. inr fresh;
   stays = λ is. inr is;
   few = calls_none old user old.calls none;
-  least = λ so. inr (subst (CallsDueFor old user) (sym none) (due_fresh old user fresh));
+  due = λ so. inr (due_fresh old user fresh none);
   none = λ not. none;
 }
 

@@ -16,12 +16,14 @@ use Rattle.pw_settle.proofs.FixpointLemmas.{fixpoint_more}
 use Rattle.pw_settle.proofs.Membership.{contains_filter, each_member}
 use Rattle.pw_reasons.specs.Reason.{Grows}
 use Rattle.pw_sessions.specs.declared.command.Command.TheVariants as commands
-use Rattle.pw_sessions.specs.Answer.{is_visible, sources_after, sources_of, value_under, visible_in}
+use Rattle.pw_sessions.specs.Answer.{MeetTheLaws, is_visible, sources_after, sources_of, value_under, visible_in}
 use Rattle.pw_sessions.specs.CellNames.{named_cells, names_after}
 use Rattle.pw_sessions.specs.Entries.{Entry, FitsDeclared, RiseFrom, entries_before, entries_from, entries_of, support_of}
 use Rattle.pw_sessions.specs.LineReading.{LineReading, Blank, Refused, Says}
 use Rattle.pw_sessions.specs.NamesDeclared.{IsDeclared}
-use Rattle.pw_sessions.proofs.EntriesRise.{rise_before}
+use Rattle.pw_sessions.proofs.EntriesRise.{finds_kinds, rise_before, rise_kept}
+use Rattle.pw_sessions.proofs.NameMembers.{inner_named}
+use Rattle.pw_sessions.proofs.NamedSources.{sources_over}
 use Rattle.pw_sessions.proofs.EntryLemmas.{kind-value_in}
 use Rattle.pw_sessions.proofs.NamedValues.{seen_over, seen_value}
 
@@ -99,3 +101,12 @@ values_grow d readings cell well named here =
           (fixpoint_more (named_cells d entries) (names_after d entries) (names_after d entries) (said s) (said t) (over s).fit (over t)
           (some_among (sources_of d) (visible_in entries s) (visible_in entries t) (still_visible entries s t within)) (DeclaredCell cell)));
     }
+
+-- what visible entries say is over the names that they make
+pub visible_meet : (d : Declared) (readings : List LineReading) (w : Premises) → IsWellDeclared d → All (IsDeclared d) readings →
+    MeetTheLaws d (visible_in (entries_before readings) w)
+visible_meet d readings w well named =
+    let entries : List Entry = entries_before readings in
+    let fit : All (FitsDeclared d) entries = fit_from d 1 readings named in
+    sources_over d (visible_in entries w) well.kinds well.steps (visible_in entries w) (All-filter (is_visible w) (FitsDeclared d) entries fit)
+    (finds_kinds d 0 (visible_in entries w) (rise_kept (is_visible w) 0 entries (rise_before readings))) (inner_named d (visible_in entries w))

@@ -30,3 +30,4 @@ pub mod WorkbenchLemmas
 pub mod WrittenCells
 pub mod WrittenLemmas
 pub mod LastValues
+mod UnchangedReplies

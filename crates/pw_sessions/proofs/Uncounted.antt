@@ -4,7 +4,7 @@ use Rattle.pw_decl.specs.Declaration.{Declared}
 use Rattle.pw_network.specs.Network.{IsWellNetwork}
 use Rattle.pw_sessions.specs.declared.command.Command.{Command}
 use Rattle.pw_sessions.specs.Answer.{user_of}
-use Rattle.pw_sessions.specs.Carrying.{CanBeCarriedOut}
+use Rattle.pw_sessions.specs.Carrying.{CanBeCarriedOut, ShowsNoChange}
 use Rattle.pw_sessions.specs.Freshness.{CountsCalls, IsFresh, KeepsFresh}
 use Rattle.pw_sessions.specs.LineReading.{LineReading}
 use Rattle.pw_sessions.specs.Reply.{Reply}
@@ -51,6 +51,15 @@ counts_from_uncounted bench network command new answer counts = record {
     none = λ is. counts.few.none (fresh_uncounted bench (user_of command) is);
     once = λ other is. counts.few.once other (fresh_uncounted bench other is);
   };
-  least = λ d before left. counts.least d before (left_uncounted d before bench network left);
+  due = λ d before left. counts.due d before (left_uncounted d before bench network left);
   none = λ d before left. counts.none d before (left_uncounted d before bench network left);
+}
+
+pub unchanged_from_uncounted : (bench : Workbench) → IsWellNetwork bench.network → (new : Workbench) → ShowsNoChange (uncounted bench) new →
+    ShowsNoChange bench new
+unchanged_from_uncounted bench network new still = record {
+  network = still.network;
+  told = still.told;
+  beliefs = still.beliefs;
+  left = λ d before left. still.left d before (left_uncounted d before bench network left);
 }

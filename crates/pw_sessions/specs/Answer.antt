@@ -9,7 +9,7 @@ use Rattle.pw_decl.specs.Expansion.{expansion_of}
 use Rattle.pw_network.specs.Names.{Name, DeclaredCell, InnerCellOf}
 use Rattle.pw_settle.specs.Sources as sources
 use Rattle.pw_settle.specs.Sources.{Source, cell_of, is_propagator}
-use Rattle.pw_settle.specs.Fixpoint.{fixpoint}
+use Rattle.pw_settle.specs.Fixpoint.{AreOver, fixpoint}
 use Rattle.pw_settle.specs.Values.{propagators_of}
 use Rattle.pw_reasons.specs.Conflicts.{Conflicts}
 use Rattle.pw_reasons.specs.Reason.{reason_of}
@@ -45,6 +45,10 @@ sources_after d entries = flat_map (sources_of d) entries
 -- what follows from entries, at each cell: the least informed fixpoint of all that they say
 abbrev pub value_by_name : Declared → List Entry → Name → Info
 value_by_name d entries name = fixpoint (named_cells d entries) (names_after d entries) (sources_after d entries) name
+
+-- what the entries say fits their cells and informs no others, as the laws of the fixpoint ask
+abbrev pub MeetTheLaws : Declared → List Entry → Type 0
+MeetTheLaws d entries = AreOver (named_cells d entries) (names_after d entries) (sources_after d entries)
 
 -- the value of a declared cell
 abbrev pub value_in : Declared → List Entry → ℕ → Info

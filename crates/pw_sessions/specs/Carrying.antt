@@ -1,9 +1,15 @@
 -- Which commands can be carried out, and what that comes to whatever the declaration and the lines before.
-use Rattle.std.specs.Prelude.{◌≡◌, ℕ, ◌+◌, ◌<◌, ◌≤◌, List, [], ◌∷◌, ◌++◌, length}
+use Rattle.std.specs.Prelude.{◌≡◌, ℕ, ◌+◌, ◌<◌, ◌≤◌, true, List, [], ◌∷◌, ◌++◌, length}
+use Rattle.pw_info.specs.declared.info.Info.{Info}
+use Rattle.pw_info.specs.Information.{IsContradiction}
+use Rattle.pw_premises.specs.Premises.{Premises}
+use Rattle.pw_cells.specs.Cells.{told_in}
 use Rattle.pw_decl.specs.Declaration.{Declared}
 use Rattle.pw_network.specs.Limits.{most_lines}
+use Rattle.pw_reasons.specs.Nogoods.{covers}
 use Rattle.pw_sessions.specs.declared.command.Command.{Command}
 use Rattle.pw_sessions.specs.Reply.{Reply}
+use Rattle.pw_sessions.specs.Reply as reply
 use Rattle.pw_sessions.specs.Answer.{answer_to, user_of}
 use Rattle.pw_sessions.specs.Beliefs.{beliefs_at}
 use Rattle.pw_sessions.specs.Entries.{entries_before}
@@ -32,6 +38,19 @@ CarriesOut old line command new reply =
 pub record IsAnswered (d : Declared) (before : List LineReading) (command : Command) (new : Workbench) (reply : Reply) : Type 0 where
   pub left : IsLeftBy d (before ++ Says command ∷ []) new
   pub answer : reply ≡ answer_to d (entries_before before) (beliefs_at d (user_of command) before) command
+
+-- nothing changed that a reply shows: what is attached, what is told of each cell and what users believe are as they were; so what
+-- lines left is still what they left, and each later reply is as it would have been
+pub record ShowsNoChange (old new : Workbench) : Type 0 where
+  pub network : new.network ≡ old.network
+  pub told : (cell : ℕ) (w : Premises) → told_in new.store cell w ≡ told_in old.store cell w
+  pub beliefs : new.beliefs ≡ old.beliefs
+  pub left : (d : Declared) (before : List LineReading) → IsLeftBy d before old → IsLeftBy d before new
+
+-- what noted sets covered is covered still; and where a why was answered with a contradiction, its reason is covered
+pub record NotesReasons (old new : List Premises) (answer : Reply) : Type 0 where
+  pub stay : (w : Premises) → covers old w ≡ true → covers new w ≡ true
+  pub noted : (info : Info) (reason : Premises) → answer ≡ reply.Because info reason → IsContradiction info → covers new reason ≡ true
 
 -- some lines left the workbench, and the user is declared
 pub record IsUserOf (workbench : Workbench) (user : ℕ) : Type 0 where

@@ -1,5 +1,5 @@
 -- When a user's next question is answered from what the last one found, and how often procedures are called for it.
-use Rattle.std.specs.Prelude.{◌≡◌, ◌⊎◌, ℕ, ◌≤◌, Bool, true, false, List, Option, None, Some}
+use Rattle.std.specs.Prelude.{◌≡◌, ◌≢◌, ◌⊎◌, ℕ, ◌+◌, ◌≤◌, Bool, true, false, List, Option, None, Some}
 use Rattle.std.specs.FinSet.{is_subset}
 use Rattle.pw_info.specs.Information.{Implies}
 use Rattle.pw_premises.specs.Premises.{Premises}
@@ -8,7 +8,7 @@ use Rattle.pw_cells.specs.Cells.{Store}
 use Rattle.pw_decl.specs.Declaration.{Declared}
 use Rattle.pw_network.specs.Network.{Network}
 use Rattle.pw_settle.specs.Agenda.{tally}
-use Rattle.pw_settle.specs.Calls.{visible_count}
+use Rattle.pw_settle.specs.Calls.{gains, visible_count}
 use Rattle.pw_settle.specs.Due.{AreDue}
 use Rattle.pw_settle.specs.Values.{value_in}
 use Rattle.pw_sessions.specs.declared.command.Command.{Command}
@@ -37,12 +37,6 @@ Settles d before (commands.Why user cell) = Unit {0}
 Settles d before (commands.Conflicts user) = Unit {0}
 Settles d before command = ⊥
 
--- the command changes what the user believes
-abbrev pub ChangesBeliefs : ℕ → Command → Type 0
-ChangesBeliefs user (commands.Believe own premises) = own ≡ user
-ChangesBeliefs user (commands.Doubt own premises) = own ≡ user
-ChangesBeliefs user command = ⊥
-
 -- the command attaches under premises that the user believes, or tells what does not follow under what the user believes
 abbrev pub IsNews : Workbench → ℕ → Command → Type 0
 IsNews workbench user (commands.Tell own cell fact) =
@@ -50,19 +44,19 @@ IsNews workbench user (commands.Tell own cell fact) =
 IsNews workbench user (commands.Attach own callable cells support) = is_subset support (beliefs_in workbench user) ≡ true
 IsNews workbench user command = ⊥
 
--- the line may end the freshness of the user: it changes the user's beliefs, or is the user's own and was refused, or it told or
--- attached what is news to the user
-abbrev pub MayEndFreshness : Workbench → ℕ → Command → Reply → Type 0
-MayEndFreshness workbench user command answer =
-    ChangesBeliefs user command
+-- the line may end the freshness of the user: the user believes something else after it, or it is the user's own and was refused,
+-- or it told or attached what is news to the user
+abbrev pub MayEndFreshness : Workbench → ℕ → Command → Workbench → Reply → Type 0
+MayEndFreshness old user command new answer =
+    (beliefs_in new user ≢ beliefs_in old user)
     ⊎ (((user_of command ≡ user) × (answer ≡ reply.Refused refusal.Memory))
-    ⊎ ((answer ≡ reply.Done) × IsNews workbench user command))
+    ⊎ ((answer ≡ reply.Done) × IsNews old user command))
 
 -- after a question that settled, its user is fresh; and who was fresh is so still, but for lines that may end it
 pub record KeepsFresh (old : Workbench) (command : Command) (new : Workbench) (answer : Reply) : Type 0 where
   pub becomes : (d : Declared) (before : List LineReading) → IsLeftBy d before old → Settles d before command →
       (answer ≡ reply.Refused refusal.Memory) ⊎ IsFresh new (user_of command)
-  pub stays : (user : ℕ) → IsFresh old user → MayEndFreshness old user command answer ⊎ IsFresh new user
+  pub stays : (user : ℕ) → IsFresh old user → MayEndFreshness old user command new answer ⊎ IsFresh new user
 
 -- a settling of the user called procedures so often: not at all where the user was fresh, and at most once for each visible
 -- instance where someone of the same beliefs was
@@ -71,18 +65,29 @@ pub record CallsFew (old : Workbench) (user : ℕ) (calls : ℕ) : Type 0 where
   pub once : (other : ℕ) → IsFresh old other → beliefs_in old other ≡ beliefs_in old user →
       calls ≤ visible_count old.network (beliefs_in old user)
 
--- a settling in the worldview, after this session where there is one, called procedures at least so often: once for each instance
--- that is due; or, where the values are none or of a worldview that is not within this one, for each that is visible
-pub record CallsDue (network : Network) (store : Store) (w : Premises) (last : Option Session) (calls : ℕ) : Type 0 where
-  pub anew : last ≡ None → visible_count network w ≤ calls
-  pub other : (session : Session) → last ≡ Some session → is_subset session.values.worldview w ≡ false → visible_count network w ≤ calls
-  pub further : (session : Session) → last ≡ Some session → is_subset session.values.worldview w ≡ true →
-      (due : List Bool) × AreDue network store w session.values due × (tally due ≤ calls)
+-- procedures were called at least `first` times, and at most `gained` times more
+pub record AreCalls (first gained calls : ℕ) : Type 0 where
+  pub least : first ≤ calls
+  pub most : calls ≤ first + gained
 
--- the same for a user
-abbrev pub CallsDueFor : Workbench → ℕ → ℕ → Type 0
-CallsDueFor workbench user calls =
-    CallsDue workbench.network workbench.store (beliefs_in workbench user) (session_in workbench user) calls
+-- how often a settling in the worldview called procedures, after this session where there is one: once for each instance that is
+-- due; or, where there are no values or those of a worldview that is not within this one, for each that is visible; and at most so
+-- often again as what is kept of cells gained, for each visible reader
+pub record CallsDue (network : Network) (old new : Store) (w : Premises) (last : Option Session) (calls : ℕ) : Type 0 where
+  pub anew : last ≡ None → AreCalls (visible_count network w) (gains network old new w) calls
+  pub other : (session : Session) → last ≡ Some session → is_subset session.values.worldview w ≡ false →
+      AreCalls (visible_count network w) (gains network old new w) calls
+  pub further : (session : Session) → last ≡ Some session → is_subset session.values.worldview w ≡ true →
+      (due : List Bool) × AreDue network old w session.values due × AreCalls (tally due) (gains network old new w) calls
+
+-- the same for a user, from one workbench to another
+abbrev pub CallsDueFor : Workbench → ℕ → Workbench → Type 0
+CallsDueFor old user new = CallsDue old.network old.store new.store (beliefs_in old user) (session_in old user) new.calls
+
+-- a question was refused before it had settled, and no call is counted; or it settled, and this is how often it called
+abbrev pub CountsSettling : Workbench → ℕ → Workbench → Reply → Type 0
+CountsSettling old user new answer =
+    ((answer ≡ reply.Refused refusal.Memory) × (new.calls ≡ 0)) ⊎ CallsDueFor old user new
 
 -- a question of the user was answered, which settles where this holds: then its user is fresh after it, and who was fresh still is,
 -- but where it was refused
@@ -90,12 +95,12 @@ pub record IsAsked (old : Workbench) (user : ℕ) (Settling : Type 0) (new : Wor
   pub becomes : Settling → (answer ≡ reply.Refused refusal.Memory) ⊎ IsFresh new user
   pub stays : IsFresh old user → (answer ≡ reply.Refused refusal.Memory) ⊎ IsFresh new user
   pub few : CallsFew old user new.calls
-  pub least : Settling → (answer ≡ reply.Refused refusal.Memory) ⊎ CallsDueFor old user new.calls
+  pub due : Settling → CountsSettling old user new answer
   pub none : (Settling → ⊥) → new.calls ≡ 0
 
 -- so did the command; one that does not settle called none
 pub record CountsCalls (old : Workbench) (command : Command) (new : Workbench) (answer : Reply) : Type 0 where
   pub few : CallsFew old (user_of command) new.calls
-  pub least : (d : Declared) (before : List LineReading) → IsLeftBy d before old → Settles d before command →
-      (answer ≡ reply.Refused refusal.Memory) ⊎ CallsDueFor old (user_of command) new.calls
+  pub due : (d : Declared) (before : List LineReading) → IsLeftBy d before old → Settles d before command →
+      CountsSettling old (user_of command) new answer
   pub none : (d : Declared) (before : List LineReading) → IsLeftBy d before old → (Settles d before command → ⊥) → new.calls ≡ 0

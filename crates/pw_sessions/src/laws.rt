@@ -14,7 +14,7 @@ ghost use Rattle.pw_sessions.specs.Entries.{Entry, entries_before};
 ghost use Rattle.pw_sessions.specs.NamesDeclared.{IsDeclared};
 ghost use Rattle.pw_reasons.specs.Reason.{Grows};
 ghost use Rattle.pw_sessions.specs.Answer.{visible_in, answer_to, reply_to, replies_after};
-ghost use Rattle.pw_sessions.specs.Answer.{reason_in, value_under};
+ghost use Rattle.pw_sessions.specs.Answer.{MeetTheLaws, reason_in, value_under};
 ghost use Rattle.pw_sessions.specs.Blanking.{blanked_for};
 ghost use Rattle.pw_sessions.specs.Carrying.{IsAnswered};
 ghost use Rattle.pw_sessions.specs.Workbench.{Workbench, IsCarriedOut, IsLeftBy};
@@ -34,6 +34,13 @@ pub fn refused_lines_count_as_blank()
 pub fn unbelieved_entries_change_nothing()
     ensures { (d : Declared) (entries : List Entry) (beliefs : Premises) (command : Command) →
         answer_to d (visible_in entries beliefs) beliefs command ≡ answer_to d entries beliefs command }
+{}
+
+/// What visible entries say meets what the laws of the fixpoint ask. So these hold of each value in a reply: a round leaves it as it
+/// is, and it is the least informed such.
+pub fn visible_entries_meet_the_laws()
+    ensures { (d : Declared) (before : List LineReading) (beliefs : Premises) → IsWellDeclared d
+        → All (IsDeclared d) before → MeetTheLaws d (visible_in (entries_before before) beliefs) }
 {}
 
 /// More is known where more is believed; so the laws of reasons hold of the reason in a reply to `why`: it is a part of what

@@ -1,33 +1,28 @@
 //! What the lines so far left: the network, what they told of each of its cells, what was derived from it so far, which premises
 //! were found to contradict themselves, what each user believes, and what each user's last question found.
 
-ghost use Rattle.std.specs.Prelude.{◌≡◌, ◌<◌, ◌≤◌, true, [], List, length, map, replicate, slice_set, IfOk, IfSome, None, OnOk, OnErr, Some};
+ghost use Rattle.std.specs.Prelude.{◌≡◌, ◌<◌, ◌≤◌, [], List, length, map, replicate, slice_set, IfOk, None, OnOk, OnErr, Some};
 ghost use Rattle.std.specs.Option.{option_map};
 ghost use Rattle.pw_info.specs.Information.{kind_of};
-ghost use Rattle.pw_cells.specs.Cells.{kind_in_store, kinds_of};
+ghost use Rattle.pw_cells.specs.Cells.{kind_in_store};
 ghost use Rattle.pw_decl.specs.Declaration.{Declared, IsCallable};
 ghost use Rattle.pw_decl.specs.Expansion.{inner_kinds_of};
 ghost use Rattle.pw_decl.specs.Fields.{declared_by};
 ghost use Rattle.pw_decl.specs.Limits.{most_inner_cells};
 ghost use Rattle.pw_network.specs.Fields.{network_by};
-ghost use Rattle.pw_network.specs.Kept.{attached_of};
 ghost use Rattle.pw_network.specs.Network.{MayAttach, bare};
 ghost use Rattle.pw_procs.specs.Arguments.{cells_of};
-ghost use Rattle.pw_settle.specs.Calls.{visible_count};
-ghost use Rattle.pw_settle.specs.Fitting.{IsFitting};
-ghost use Rattle.pw_settle.specs.Growth.{KeepsMore, StaysUpstream};
-ghost use Rattle.pw_settle.specs.Settled.{IsSettled};
-ghost use Rattle.pw_settle.specs.Sound.{IsSound};
-ghost use Rattle.pw_settle.specs.Values.{kinds_in, value_in};
 ghost use Rattle.pw_sessions.specs.Beliefs.{beliefs_at};
-ghost use Rattle.pw_sessions.specs.Carrying.{CanBeCarriedOut, CarriesOut, IsUserOf};
+ghost use Rattle.pw_sessions.specs.Carrying.{CanBeCarriedOut, CarriesOut, IsUserOf, NotesReasons, ShowsNoChange};
 ghost use Rattle.pw_sessions.specs.Fields.{workbench_by};
-ghost use Rattle.pw_sessions.specs.Freshness.{CallsDue, CallsDueFor, CallsFew, CountsCalls, IsAsked, IsFresh, KeepsFresh};
+ghost use Rattle.pw_sessions.specs.Freshness.{CountsCalls, KeepsFresh};
 ghost use Rattle.pw_sessions.specs.LineReading.{LineReading};
 ghost use Rattle.pw_sessions.specs.Reply.{reply_by};
-ghost use Rattle.pw_sessions.specs.Session.{Session as LastSession, EachBecomes, HaveValues, IsAfterTell, IsCurrent, KeepsValues, after_entry};
-ghost use Rattle.pw_sessions.specs.Steps.{AnswersAsk, AnswersConflicts, AnswersWhy, CanCarryOut, CarriesOutNext, IsAsBefore, IsAttached, IsTold};
-ghost use Rattle.pw_sessions.specs.Steps.{OnlyKeepsMore, StoreFits, is_written};
+ghost use Rattle.pw_sessions.specs.Reply as replies;
+ghost use Rattle.pw_sessions.specs.declared.reply.Refusal.TheVariants as refusals;
+ghost use Rattle.pw_sessions.specs.Session.{EachBecomes, HaveValues, IsAfterTell, after_entry};
+ghost use Rattle.pw_sessions.specs.Steps.{CanCarryOut, CarriesOutNext, IsAsBefore, IsAttached, IsTold};
+ghost use Rattle.pw_sessions.specs.Steps.{StoreFits};
 ghost use Rattle.pw_sessions.specs.Workbench.{IsLeftBy, beliefs_in};
 
 use crate::command::Command;
@@ -35,30 +30,22 @@ use crate::reply::{Refusal, Reply};
 use pw_cells::CellStore;
 use pw_decl::{Callable, Declaration};
 use pw_facts::Fact;
-use pw_info::{Info, Kind};
-use pw_network::{Instance, Network};
+use pw_info::Kind;
+use pw_network::Network;
 use pw_premises::PremiseSet;
 use pw_procs::Arguments;
-use pw_reasons::{Nogoods, list_conflicts, reason};
-use pw_settle::{Settled, resettle, settle};
+use pw_reasons::Nogoods;
 use std::alloc::{AllocError, Allocator};
 
 // The most inner cells that an attachment makes.
 const MOST_INNER_CELLS: u32 = 256;
 
 mod holding;
+mod questions;
 mod session;
 
 pub use holding::Workbench;
 use session::Session;
-
-// Whether an instance that is visible in the worldview writes the cell.
-fn is_written_by(instances: &[Instance], cell: u32, worldview: &PremiseSet) -> bool
-    ensures { result ≡ is_written (map attached_of instances.now) cell worldview.now }
-{
-    instances.iter().any(|instance| instance.output == cell
-        && instance.support.is_subset(worldview))
-}
 
 // The kinds of the inner cells that the callable makes.
 fn inner_kinds<'a, A: Allocator + Copy>(
@@ -112,36 +99,6 @@ fn note_tell_in_each<A: Allocator>(sessions: &mut [Option<Session<A>>], cell: u3
     }
 }
 
-// Settles in a worldview, from the values of a session where there is one, which are given up. It fails only for want of memory.
-fn settle_after<A: Allocator + Copy>(
-    alloc: A,
-    last: Option<Session<A>>,
-    network: &Network<'_, '_, A>,
-    store: &mut CellStore<A>,
-    worldview: &PremiseSet,
-) -> Result<Settled<A>, AllocError>
-    requires kinds { kinds_of store.old ≡ kinds_in (network_by network.now) }
-    requires sound { IsSound (network_by network.now) store.old }
-    requires fits { IfSome last (λ session. IsFitting (network_by network.now) store.old session.values) }
-    ensures settled { IfOk result (λ settled.
-        IsSettled (network_by network.now) store.old worldview.now settled) }
-    ensures current { IfOk result (λ settled. IsCurrent (network_by network.now) store.new settled) }
-    ensures none { IfOk result (λ settled. (session : LastSession) → last ≡ Some session
-        → session.values.worldview ≡ worldview.now → IsCurrent (network_by network.now) store.old session.values
-        → settled.calls ≡ 0) }
-    ensures once { IfOk result (λ settled. KeepsValues (network_by network.now) store.old worldview.now
-        → settled.calls ≤ visible_count (network_by network.now) worldview.now) }
-    ensures least { IfOk result (λ settled.
-        CallsDue (network_by network.now) store.old worldview.now last settled.calls) }
-    ensures grows { KeepsMore (network_by network.now) store.old store.new }
-    ensures upstream { StaysUpstream (network_by network.now) store.old store.new }
-{
-    match last {
-        Some(last) => resettle(alloc, last.values, network, store, worldview),
-        None => settle(alloc, network, store, worldview),
-    }
-}
-
 impl<'d, 'r, A: Allocator + Copy> Workbench<'d, 'r, A> {
     /// What is there before the first line, from a new network of the declaration: nothing was told of its cells, and each
     /// user believes every premise. It fails only for want of memory.
@@ -151,8 +108,9 @@ impl<'d, 'r, A: Allocator + Copy> Workbench<'d, 'r, A> {
         network: Network<'d, 'r, A>,
     ) -> Result<Workbench<'d, 'r, A>, AllocError>
         requires { network_by network ≡ bare (declared_by declaration.now) }
-        ensures { IfOk result (λ workbench.
+        ensures left { IfOk result (λ workbench.
             IsLeftBy (declared_by declaration.now) [] (workbench_by workbench)) }
+        ensures calls { IfOk result (λ workbench. (workbench_by workbench).calls ≡ 0) }
     {
         let mut store = CellStore::new(alloc);
         store.add_cells(declaration.kinds())?;
@@ -241,146 +199,6 @@ impl<'d, 'r, A: Allocator + Copy> Workbench<'d, 'r, A> {
         Ok(())
     }
 
-    // Settles under what the user, who is there, believes, from the user's last session, which is given up. It fails only for want
-    // of memory.
-    fn settle_for(&mut self, user: u8) -> Result<Settled<A>, AllocError>
-        requires fits { StoreFits (workbench_by self.old) }
-        requires user { user < length (workbench_by self.old).beliefs }
-        requires session { user < length (workbench_by self.old).sessions }
-        requires calls { (workbench_by self.old).calls ≡ 0 }
-        ensures settled { IfOk result (λ settled. IsSettled (workbench_by self.old).network
-            (workbench_by self.old).store (beliefs_in (workbench_by self.old) user) settled) }
-        ensures current { IfOk result (λ settled.
-            IsCurrent (workbench_by self.new).network (workbench_by self.new).store settled) }
-        ensures calls { CallsFew (workbench_by self.old) user (workbench_by self.new).calls }
-        ensures least { IfOk result (λ settled.
-            CallsDueFor (workbench_by self.old) user (workbench_by self.new).calls) }
-        ensures grows { OnlyKeepsMore (workbench_by self.old) user (workbench_by self.new) }
-    {
-        let alloc = *self.beliefs.allocator();
-        let beliefs = self.beliefs_of(user);
-        let last = self.sessions[usize::from(user)].take();
-        let settled = settle_after(alloc, last, &self.network, &mut self.store, &beliefs)?;
-        self.calls = settled.calls();
-        Ok(settled)
-    }
-
-    // From now on these are the last values of the user, who is there, and current.
-    fn remember(&mut self, user: u8, settled: Settled<A>)
-        requires { user < length (workbench_by self.old).sessions }
-        ensures { workbench_by self.new ≡ record (workbench_by self.old) {
-          sessions = slice_set (workbench_by self.old).sessions user
-              (Some (record { values = settled; is_current = true }));
-        } }
-    {
-        self.sessions[usize::from(user)] = Some(Session {
-            values: settled,
-            is_current: true,
-        });
-    }
-
-    // The value of the declared cell under what the user, who is there, believes, where the user's last session is known to have it.
-    fn known_to(&self, user: u8, cell: u32) -> Option<Info>
-        requires fits { StoreFits (workbench_by self.now) }
-        requires user { user < length (workbench_by self.now).beliefs }
-        requires session { user < length (workbench_by self.now).sessions }
-        requires cell { cell < length (workbench_by self.now).network.declared.cells }
-        ensures value { IfSome result (λ info. info ≡ value_in (workbench_by self.now).network
-            (workbench_by self.now).store (beliefs_in (workbench_by self.now) user) cell) }
-        ensures fresh { IfSome result (λ info. IsFresh (workbench_by self.now) user) }
-    {
-        let session = self.sessions[usize::from(user)].as_ref()?;
-        if !session.is_current || *session.values.worldview() != self.beliefs_of(user) {
-            return None;
-        }
-        Some(session.values.value(cell).info)
-    }
-
-    // What is known of the declared cell under what the user, who is there, believes.
-    fn ask(&mut self, user: u8, cell: u32) -> Reply<A>
-        requires fits { StoreFits (workbench_by self.old) }
-        requires user { user < length (workbench_by self.old).beliefs }
-        requires session { user < length (workbench_by self.old).sessions }
-        requires cell { cell < length (workbench_by self.old).network.declared.cells }
-        requires calls { (workbench_by self.old).calls ≡ 0 }
-        ensures answer { (d : Declared) (before : List LineReading)
-            → IsLeftBy d before (workbench_by self.old)
-            → AnswersAsk (workbench_by self.old) user cell (reply_by result) }
-        ensures asked { IsAsked (workbench_by self.old) user (is_written
-            (workbench_by self.old).network.attached cell (beliefs_in (workbench_by self.old) user) ≡ true)
-            (workbench_by self.new) (reply_by result) }
-        ensures grows { OnlyKeepsMore (workbench_by self.old) user (workbench_by self.new) }
-    {
-        if let Some(info) = self.known_to(user, cell) {
-            return Reply::Value(info);
-        }
-        let beliefs = self.beliefs_of(user);
-        if !is_written_by(self.network.instances(), cell, &beliefs) {
-            return Reply::Value(self.store.recall(user, cell, &beliefs));
-        }
-        let Ok(settled) = self.settle_for(user) else {
-            return Reply::Refused(Refusal::Memory);
-        };
-        let info = settled.value(cell).info;
-        self.remember(user, settled);
-        Reply::Value(info)
-    }
-
-    // What is known of the declared cell under what the user, who is there, believes, and why.
-    #[inline(never)]
-    fn why(&mut self, user: u8, cell: u32) -> Reply<A>
-        requires fits { StoreFits (workbench_by self.old) }
-        requires user { user < length (workbench_by self.old).beliefs }
-        requires session { user < length (workbench_by self.old).sessions }
-        requires cell { cell < length (workbench_by self.old).network.declared.cells }
-        requires calls { (workbench_by self.old).calls ≡ 0 }
-        ensures answer { AnswersWhy (workbench_by self.old) user cell (reply_by result) }
-        ensures asked { IsAsked (workbench_by self.old) user Unit (workbench_by self.new)
-            (reply_by result) }
-        ensures grows { OnlyKeepsMore (workbench_by self.old) user (workbench_by self.new) }
-    {
-        let alloc = *self.beliefs.allocator();
-        let Ok(settled) = self.settle_for(user) else {
-            return Reply::Refused(Refusal::Memory);
-        };
-        let Ok(reason) = reason(
-            alloc,
-            &self.network,
-            &mut self.store,
-            &mut self.nogoods,
-            &settled,
-            cell,
-        ) else {
-            return Reply::Refused(Refusal::Memory);
-        };
-        let info = settled.value(cell).info;
-        self.remember(user, settled);
-        Reply::Because(info, reason)
-    }
-
-    // What is contradictory under what the user, who is there, believes.
-    #[inline(never)]
-    fn conflicts(&mut self, user: u8) -> Reply<A>
-        requires fits { StoreFits (workbench_by self.old) }
-        requires user { user < length (workbench_by self.old).beliefs }
-        requires session { user < length (workbench_by self.old).sessions }
-        requires calls { (workbench_by self.old).calls ≡ 0 }
-        ensures answer { AnswersConflicts (workbench_by self.old) user (reply_by result) }
-        ensures asked { IsAsked (workbench_by self.old) user Unit (workbench_by self.new)
-            (reply_by result) }
-        ensures grows { OnlyKeepsMore (workbench_by self.old) user (workbench_by self.new) }
-    {
-        let alloc = *self.beliefs.allocator();
-        let Ok(settled) = self.settle_for(user) else {
-            return Reply::Refused(Refusal::Memory);
-        };
-        let Ok(conflicts) = list_conflicts(alloc, &self.network, &settled) else {
-            return Reply::Refused(Refusal::Memory);
-        };
-        self.remember(user, settled);
-        Reply::Listed(conflicts)
-    }
-
     // Carries out a command at the line after the last, blank ones among them.
     fn carry_out(&mut self, line: u32, command: &Command) -> Reply<A>
         requires can { CanCarryOut (workbench_by self.old) line command.now }
@@ -391,6 +209,10 @@ impl<'d, 'r, A: Allocator + Copy> Workbench<'d, 'r, A> {
             (reply_by result) }
         ensures calls { CountsCalls (workbench_by self.old) command.now (workbench_by self.new)
             (reply_by result) }
+        ensures noted { NotesReasons (workbench_by self.old).nogoods (workbench_by self.new).nogoods
+            (reply_by result) }
+        ensures refused { reply_by result ≡ replies.Refused refusals.Memory
+            → ShowsNoChange (workbench_by self.old) (workbench_by self.new) }
     {
         match *command {
             Command::Tell { cell, fact, .. } => {
@@ -437,9 +259,11 @@ impl<'d, 'r, A: Allocator + Copy> Workbench<'d, 'r, A> {
     /// users. Nobody sees it: a reply is what it would be from scratch.
     ///
     /// After an answered why or conflicts, or an answered ask of a cell that an instance writes whose premises are all believed,
-    /// its user is fresh: nothing is left to derive. A fresh user stays so until a line changes the beliefs of this user, or
-    /// is this user's own and refused, attaches something under premises that this user believes, or tells what does not follow
+    /// its user is fresh: nothing is left to derive. A fresh user stays so until the user believes something else, or a line is
+    /// this user's own and refused, attaches something under premises that this user believes, or tells what does not follow
     /// already under what this user believes. `last_calls` says what that saves.
+    ///
+    /// After a why that is answered with a contradiction the reason is noted, and what was noted is never forgotten.
     pub fn command(&mut self, line: u32, command: &Command) -> Reply<A>
         requires { CanBeCarriedOut (workbench_by self.old) line command.now }
         ensures carried { CarriesOut (workbench_by self.old) line command.now (workbench_by self.new)
@@ -448,6 +272,10 @@ impl<'d, 'r, A: Allocator + Copy> Workbench<'d, 'r, A> {
             (reply_by result) }
         ensures calls { CountsCalls (workbench_by self.old) command.now (workbench_by self.new)
             (reply_by result) }
+        ensures noted { NotesReasons (workbench_by self.old).nogoods (workbench_by self.new).nogoods
+            (reply_by result) }
+        ensures refused { reply_by result ≡ replies.Refused refusals.Memory
+            → ShowsNoChange (workbench_by self.old) (workbench_by self.new) }
     {
         self.calls = 0;
         self.carry_out(line, command)
@@ -455,7 +283,8 @@ impl<'d, 'r, A: Allocator + Copy> Workbench<'d, 'r, A> {
 
     /// How often the last command called procedures to settle: not at all where its user was fresh, and at most once for each
     /// instance that is visible where a user of the same beliefs was fresh. 0 before the first command, and after one that
-    /// settled nothing or was refused in settling. Calls made to find a reason are not counted.
+    /// settled nothing or was refused in settling; a why or conflicts that was refused after it had settled counts these calls.
+    /// Calls made to find a reason are not counted.
     pub fn last_calls(&self) -> u128
         ensures { result ≡ (workbench_by self.now).calls }
     {

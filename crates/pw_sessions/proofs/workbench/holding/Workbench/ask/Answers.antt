@@ -1,4 +1,4 @@
-use Rattle.std.proofs.Common.{◌≡◌, true, Some, sym, ap, ◌∙◌, subst, arith, inl}
+use Rattle.std.proofs.Common.{◌≡◌, true, Some, refl, sym, ap, ◌∙◌, subst, arith, inl}
 use Rattle.std.proofs.lemmas.Bool.{both_ways}
 use Rattle.pw_cells.specs.Cells.{Store, told_in}
 use Rattle.pw_network.specs.Fields.{network_by}
@@ -10,6 +10,7 @@ use Rattle.pw_sessions.specs.Workbench.{Workbench, beliefs_in}
 use Rattle.pw_sessions.proofs.AskedCells.{told_answers}
 use Rattle.pw_sessions.proofs.FreshUsers.{asked_known, asked_quiet, asked_remembered}
 use Rattle.pw_sessions.proofs.LastValues.{only_keeps_itself, only_keeps_then, only_remembers, session_of}
+use Rattle.pw_sessions.proofs.UnchangedReplies.{notes_none}
 use Rattle.pw_settle.proofs.StoreCells.{cells_kept}
 use Rattle.pw_sessions.proofs.workbench.holding.Workbench.ask.Goals as goal
 
@@ -67,7 +68,7 @@ returns-clause-asked g c =
     subst (λ (new : Workbench). IsAsked old c.args.user Settling new (reply.Value c.value-info.result.info)) (sym c.remember.ensures)
     (asked_remembered old (workbench_by c.settle_for.new.self) c.args.user c.in-Ok.settled Settling (reply.Value c.value-info.result.info) (sym written ∙ c.if-not-is_written_by.false)
     (omega (arith, c.requires.session, c.settle_for.ensures.grows.users)) c.settle_for.ensures.grows.beliefs c.in-Ok.ensures.settled.worldview_is
-    c.in-Ok.ensures.current c.settle_for.ensures.calls c.in-Ok.ensures.least)
+    c.in-Ok.ensures.current c.settle_for.ensures.calls c.in-Ok.ensures.due)
 
 pub returns-clause-grows : goal.returns-clause-grows
 returns-clause-grows g c =
@@ -76,3 +77,18 @@ returns-clause-grows g c =
     (only_remembers (workbench_by c.settle_for.new.self) c.args.user (Some (record { values = c.in-Ok.settled; is_current = true }))
     (session_of (workbench_by c.args.self.now) c.args.user (workbench_by c.settle_for.new.self) c.in-Ok.settled c.args.self.now.network.well
     c.settle_for.ensures.grows c.in-Ok.ensures.settled c.in-Ok.ensures.current)))
+
+-- ---- what is noted
+
+pub returns-in-Some-clause-noted : goal.returns-in-Some-clause-noted
+returns-in-Some-clause-noted g c = notes_none _ _ _ refl (λ info reason is. absurd (cc))
+
+pub returns-then-not-is_written_by-clause-noted : goal.returns-then-not-is_written_by-clause-noted
+returns-then-not-is_written_by-clause-noted g c = notes_none _ _ _ refl (λ info reason is. absurd (cc))
+
+pub returns-in_default-settle_for-clause-noted : goal.returns-in_default-settle_for-clause-noted
+returns-in_default-settle_for-clause-noted g c = notes_none _ _ _ c.settle_for.ensures.nogoods (λ info reason is. absurd (cc))
+
+pub returns-clause-noted : goal.returns-clause-noted
+returns-clause-noted g c =
+    notes_none _ _ _ (ap (λ (bench : Workbench). bench.nogoods) c.remember.ensures ∙ c.settle_for.ensures.nogoods) (λ info reason is. absurd (cc))

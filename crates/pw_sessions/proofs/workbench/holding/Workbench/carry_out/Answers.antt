@@ -1,5 +1,5 @@
 use Rattle.std.proofs.Common.{refl, sym, ap, subst, ◌∙◌, inl, inr, arith}
-use Rattle.std.specs.Prelude.{slice_set}
+use Rattle.std.specs.Prelude.{◌≢◌, ◌⊎◌, slice_set}
 use Rattle.std.specs.FinSet.{union, difference}
 use Rattle.pw_premises.specs.Premises.{Premises}
 use Rattle.pw_sessions.specs.declared.command.Command.{Command}
@@ -9,13 +9,15 @@ use Rattle.pw_sessions.specs.Reply.{reply_by}
 use Rattle.pw_sessions.specs.declared.reply.Refusal.TheVariants as refusal
 use Rattle.pw_network.specs.Fields.{network_by}
 use Rattle.pw_sessions.specs.Fields.{workbench_by}
+use Rattle.pw_sessions.specs.Carrying.{ShowsNoChange}
 use Rattle.pw_sessions.specs.Freshness.{CountsCalls, IsFresh, KeepsFresh}
 use Rattle.pw_sessions.specs.LineReading.{Says}
 use Rattle.pw_sessions.specs.NamesDeclared.{IsDeclared}
-use Rattle.pw_sessions.specs.Workbench.{Workbench, IsCarriedOut}
+use Rattle.pw_sessions.specs.Workbench.{Workbench, IsCarriedOut, beliefs_in}
 use Rattle.pw_sessions.proofs.AskedCells.{well_left}
 use Rattle.pw_sessions.proofs.CarriedCommands.{carried_ask, carried_attach, carried_beliefs, carried_believe, carried_conflicts, carried_doubt, carried_keeping, carried_tell, carried_why, refused_attach, refused_tell}
 use Rattle.pw_sessions.proofs.FreshLines.{asks_written, attached_seen, kind_of_told, store_fits, written_asks}
+use Rattle.pw_sessions.proofs.UnchangedReplies.{no_change_as_before, no_change_itself, no_change_keeping, notes_none}
 use Rattle.pw_sessions.proofs.FreshUsers.{counts_none, fresh_believed, fresh_refused, fresh_told, keeps_fresh, question_counts, question_keeps}
 use Rattle.pw_settle.proofs.StoreCells.{cells_kept}
 use Rattle.pw_sessions.proofs.workbench.holding.Workbench.carry_out.Goals as goal
@@ -198,9 +200,10 @@ pub returns-in-Believe-clause-fresh : goal.returns-in-Believe-clause-fresh
 returns-in-Believe-clause-fresh g c =
     subst (λ (x : Command). KeepsFresh (workbench_by c.args.self.now) x (workbench_by c.set_beliefs.new.self) (reply.Done)) (sym c.in-Believe.is)
     (keeps_fresh (workbench_by c.args.self.now) (workbench_by c.set_beliefs.new.self) (commands.Believe c.in-Believe.user c.in-Believe.premises) (reply.Done) (λ d before settles. settles)
-    (λ user is. elim (fresh_believed (workbench_by c.args.self.now) c.in-Believe.user _ user is) [
-      | inl own ↦ inl (inl own)
-      | inr fresh ↦ inr (subst (λ (new : Workbench). IsFresh new user) (sym c.set_beliefs.ensures) fresh)
+    (λ user is. elim (subst (λ (new : Workbench). (beliefs_in new user ≢ beliefs_in (workbench_by c.args.self.now) user) ⊎ IsFresh new user)
+    (sym c.set_beliefs.ensures) (fresh_believed (workbench_by c.args.self.now) _ user is)) [
+      | inl other ↦ inl (inl other)
+      | inr fresh ↦ inr fresh
     ]))
 
 pub returns-in-Believe-clause-calls : goal.returns-in-Believe-clause-calls
@@ -213,9 +216,10 @@ pub returns-in-Doubt-clause-fresh : goal.returns-in-Doubt-clause-fresh
 returns-in-Doubt-clause-fresh g c =
     subst (λ (x : Command). KeepsFresh (workbench_by c.args.self.now) x (workbench_by c.set_beliefs-in-Doubt.new.self) (reply.Done)) (sym c.in-Doubt.is)
     (keeps_fresh (workbench_by c.args.self.now) (workbench_by c.set_beliefs-in-Doubt.new.self) (commands.Doubt c.in-Doubt.user c.in-Doubt.premises) (reply.Done) (λ d before settles. settles)
-    (λ user is. elim (fresh_believed (workbench_by c.args.self.now) c.in-Doubt.user _ user is) [
-      | inl own ↦ inl (inl own)
-      | inr fresh ↦ inr (subst (λ (new : Workbench). IsFresh new user) (sym c.set_beliefs-in-Doubt.ensures) fresh)
+    (λ user is. elim (subst (λ (new : Workbench). (beliefs_in new user ≢ beliefs_in (workbench_by c.args.self.now) user) ⊎ IsFresh new user)
+    (sym c.set_beliefs-in-Doubt.ensures) (fresh_believed (workbench_by c.args.self.now) _ user is)) [
+      | inl other ↦ inl (inl other)
+      | inr fresh ↦ inr fresh
     ]))
 
 pub returns-in-Doubt-clause-calls : goal.returns-in-Doubt-clause-calls
@@ -283,3 +287,64 @@ returns-in-Conflicts-clause-calls g c =
     (store_fits (workbench_by c.args.self.now) c.requires.can) c.conflicts.ensures.grows c.conflicts.ensures.asked
     (λ d before left settles. tt)
     (λ d before left settling. tt))
+
+-- ---- what is noted
+
+pub returns-in_default-clause-noted : goal.returns-in_default-clause-noted
+returns-in_default-clause-noted g c =
+    notes_none _ _ _ (ap (λ (new : Workbench). new.nogoods) c.in_default.ensures.err) (λ info reason is. absurd (cc))
+
+pub returns-in-Ok-clause-noted : goal.returns-in-Ok-clause-noted
+returns-in-Ok-clause-noted g c = notes_none _ _ _ c.in-Ok.ensures.ok.nogoods (λ info reason is. absurd (cc))
+
+pub returns-in_default-attach-clause-noted : goal.returns-in_default-attach-clause-noted
+returns-in_default-attach-clause-noted g c = notes_none _ _ _ c.in_default-attach.ensures.err.nogoods (λ info reason is. absurd (cc))
+
+pub returns-in-Ok-attach-clause-noted : goal.returns-in-Ok-attach-clause-noted
+returns-in-Ok-attach-clause-noted g c = notes_none _ _ _ c.in-Ok-attach.ensures.ok.nogoods (λ info reason is. absurd (cc))
+
+pub returns-in-Believe-clause-noted : goal.returns-in-Believe-clause-noted
+returns-in-Believe-clause-noted g c = notes_none _ _ _ (ap (λ (new : Workbench). new.nogoods) c.set_beliefs.ensures) (λ info reason is. absurd (cc))
+
+pub returns-in-Doubt-clause-noted : goal.returns-in-Doubt-clause-noted
+returns-in-Doubt-clause-noted g c = notes_none _ _ _ (ap (λ (new : Workbench). new.nogoods) c.set_beliefs-in-Doubt.ensures) (λ info reason is. absurd (cc))
+
+pub returns-in-Beliefs-clause-noted : goal.returns-in-Beliefs-clause-noted
+returns-in-Beliefs-clause-noted g c = notes_none _ _ _ refl (λ info reason is. absurd (cc))
+
+-- ---- what a refusal leaves
+
+pub returns-in_default-clause-refused : goal.returns-in_default-clause-refused
+returns-in_default-clause-refused g c = λ refused.
+    subst (ShowsNoChange (workbench_by c.args.self.now)) (sym c.in_default.ensures.err) (no_change_itself (workbench_by c.args.self.now))
+
+pub returns-in-Ok-clause-refused : goal.returns-in-Ok-clause-refused
+returns-in-Ok-clause-refused g c = λ refused. absurd (cc)
+
+pub returns-in_default-attach-clause-refused : goal.returns-in_default-attach-clause-refused
+returns-in_default-attach-clause-refused g c = λ refused.
+    no_change_as_before (workbench_by c.args.self.now) (workbench_by c.attach.new.self) c.args.self.now.network.well c.in_default-attach.ensures.err
+
+pub returns-in-Ok-attach-clause-refused : goal.returns-in-Ok-attach-clause-refused
+returns-in-Ok-attach-clause-refused g c = λ refused. absurd (cc)
+
+pub returns-in-Believe-clause-refused : goal.returns-in-Believe-clause-refused
+returns-in-Believe-clause-refused g c = λ refused. absurd (cc)
+
+pub returns-in-Doubt-clause-refused : goal.returns-in-Doubt-clause-refused
+returns-in-Doubt-clause-refused g c = λ refused. absurd (cc)
+
+pub returns-in-Beliefs-clause-refused : goal.returns-in-Beliefs-clause-refused
+returns-in-Beliefs-clause-refused g c = λ refused. absurd (cc)
+
+pub returns-in-Ask-clause-refused : goal.returns-in-Ask-clause-refused
+returns-in-Ask-clause-refused g c = λ refused.
+    no_change_keeping (workbench_by c.args.self.now) c.in-Ask.user (workbench_by c.ask.new.self) c.args.self.now.network.well c.ask.ensures.grows
+
+pub returns-in-Why-clause-refused : goal.returns-in-Why-clause-refused
+returns-in-Why-clause-refused g c = λ refused.
+    no_change_keeping (workbench_by c.args.self.now) c.in-Why.user (workbench_by c.why.new.self) c.args.self.now.network.well c.why.ensures.grows
+
+pub returns-in-Conflicts-clause-refused : goal.returns-in-Conflicts-clause-refused
+returns-in-Conflicts-clause-refused g c = λ refused.
+    no_change_keeping (workbench_by c.args.self.now) c.in-Conflicts.user (workbench_by c.conflicts.new.self) c.args.self.now.network.well c.conflicts.ensures.grows

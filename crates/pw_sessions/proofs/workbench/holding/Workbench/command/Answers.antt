@@ -4,7 +4,7 @@ use Rattle.pw_sessions.specs.LineReading.{and_blank_lines}
 use Rattle.pw_sessions.specs.Workbench.{Workbench}
 use Rattle.pw_sessions.proofs.AskedCells.{well_left}
 use Rattle.pw_sessions.proofs.BlankLines.{can_carry_out, count_blanks, left_blanks}
-use Rattle.pw_sessions.proofs.Uncounted.{can_uncounted, counts_from_uncounted, fresh_from_uncounted, left_uncounted, uncounted}
+use Rattle.pw_sessions.proofs.Uncounted.{can_uncounted, counts_from_uncounted, fresh_from_uncounted, left_uncounted, unchanged_from_uncounted, uncounted}
 use Rattle.pw_sessions.proofs.workbench.holding.Workbench.command.Goals as goal
 
 pub carry_out-requires-clause-can : goal.carry_out-requires-clause-can
@@ -27,3 +27,7 @@ returns-clause-fresh g c =
 pub returns-clause-calls : goal.returns-clause-calls
 returns-clause-calls g c =
     counts_from_uncounted (workbench_by c.args.self.now) c.args.self.now.network.well _ _ _ c.carry_out.ensures.calls
+
+pub returns-clause-refused : goal.returns-clause-refused
+returns-clause-refused g c = λ refused.
+    unchanged_from_uncounted (workbench_by c.args.self.now) c.args.self.now.network.well _ (c.carry_out.ensures.refused refused)

@@ -7,8 +7,8 @@ use Rattle.pw_sessions.specs.Workbench.{Workbench}
 use Rattle.pw_sessions.proofs.WorkbenchLemmas.{IsLeftBy-new}
 use Rattle.pw_sessions.proofs.workbench.holding.Workbench.new.Goals as goal
 
-pub returns : goal.returns
-returns g c =
+pub returns-clause-left : goal.returns-clause-left
+returns-clause-left g c =
     let bench : Workbench = record {
       network = network_by c.args.network;
       store = c.add_cells.new.self;

@@ -1,4 +1,4 @@
-use Rattle.std.proofs.Common.{◌≡◌, List, Option, ◌++◌, length, take, drop, refl, sym, ap, ◌∙◌, subst}
+use Rattle.std.proofs.Common.{List, Option, length, refl, sym, ap, ◌∙◌, subst}
 use Rattle.pw_network.specs.Fields.{network_by}
 use Rattle.pw_info.specs.Information.{kind_of}
 use Rattle.pw_settle.proofs.SourceLists.{came_back}

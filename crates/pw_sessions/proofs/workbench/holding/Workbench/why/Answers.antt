@@ -1,4 +1,4 @@
-use Rattle.std.proofs.Common.{◌≡◌, ◌<◌, Some, true, sym, ap, ◌∙◌, subst, inl, arith}
+use Rattle.std.proofs.Common.{◌≡◌, ◌<◌, Some, true, refl, sym, ap, ◌∙◌, subst, inl, inr, arith}
 use Rattle.pw_info.specs.declared.info.Info.{Info}
 use Rattle.pw_premises.specs.Premises.{Premises}
 use Rattle.pw_cells.specs.Cells.{Store}
@@ -11,13 +11,16 @@ use Rattle.pw_settle.proofs.Growing.{same_value, settled_still}
 use Rattle.pw_reasons.specs.Nogood.{AreNogoods}
 use Rattle.pw_reasons.specs.Reason.{reason_of}
 use Rattle.pw_sessions.specs.Fields.{workbench_by}
+use Rattle.pw_sessions.specs.Carrying.{NotesReasons}
 use Rattle.pw_sessions.specs.Reply as reply
 use Rattle.pw_sessions.specs.Freshness.{IsAsked}
 use Rattle.pw_sessions.specs.Steps.{OnlyKeepsMore, StoreFits}
 use Rattle.pw_sessions.specs.Workbench.{Workbench, beliefs_in}
+use Rattle.pw_sessions.proofs.AfterSettling.{due_for_still}
 use Rattle.pw_sessions.proofs.LastValues.{fits_after, only_keeps_then, only_notes, only_remembers, session_keeping, session_of}
 use Rattle.pw_sessions.proofs.CurrentValues.{current_keeping}
 use Rattle.pw_sessions.proofs.FreshUsers.{asked_refused, asked_remembered}
+use Rattle.pw_sessions.proofs.UnchangedReplies.{notes_none, notes_reason, notes_refused}
 use Rattle.pw_sessions.proofs.workbench.holding.Workbench.why.Goals as goal
 
 pub reason-requires-clause-sound : goal.reason-requires-clause-sound
@@ -46,11 +49,15 @@ returns-in_default-reason-clause-grows g c =
 pub returns-in_default-clause-asked : goal.returns-in_default-clause-asked
 returns-in_default-clause-asked g c =
     asked_refused (workbench_by c.args.self.now) (workbench_by c.settle_for.new.self) c.args.user Unit tt c.settle_for.ensures.calls
+    (inl (refl, c.in_default.ensures.refused))
 
 pub returns-in_default-reason-clause-asked : goal.returns-in_default-reason-clause-asked
 returns-in_default-reason-clause-asked g c =
     asked_refused (workbench_by c.args.self.now) (record (workbench_by c.settle_for.new.self) { store = c.reason.new.store; nogoods = c.reason.new.nogoods }) c.args.user Unit tt
-    c.settle_for.ensures.calls
+    c.settle_for.ensures.calls (inr (due_for_still (workbench_by c.args.self.now) (workbench_by c.settle_for.new.self)
+    (record (workbench_by c.settle_for.new.self) { store = c.reason.new.store; nogoods = c.reason.new.nogoods }) c.args.user
+    c.settle_for.ensures.grows.network c.reason.ensures.grows refl
+    c.in-Ok.ensures.due))
 
 pub returns-clause-answer : goal.returns-clause-answer
 returns-clause-answer g c =
@@ -78,7 +85,8 @@ returns-clause-asked g c =
     (asked_remembered (workbench_by c.args.self.now) after c.args.user c.in-Ok.settled Unit (reply.Because c.value-info.result.info c.in-Ok-reason.reason) tt
     (omega (arith, c.requires.session, c.settle_for.ensures.grows.users)) c.settle_for.ensures.grows.beliefs c.in-Ok.ensures.settled.worldview_is
     (current_keeping found.network found.store c.reason.new.store c.in-Ok.settled fits.kinds fits.sound c.reason.ensures.grows c.in-Ok.ensures.current)
-    c.settle_for.ensures.calls c.in-Ok.ensures.least)
+    c.settle_for.ensures.calls
+    (due_for_still (workbench_by c.args.self.now) found after c.args.user c.settle_for.ensures.grows.network c.reason.ensures.grows refl c.in-Ok.ensures.due))
 
 pub returns-clause-grows : goal.returns-clause-grows
 returns-clause-grows g c =
@@ -94,3 +102,25 @@ returns-clause-grows g c =
     (session_keeping found.network found.store c.reason.new.store fits.kinds fits.sound c.reason.ensures.grows
     (record { values = c.in-Ok.settled; is_current = true })
     (session_of old c.args.user found c.in-Ok.settled c.args.self.now.network.well c.settle_for.ensures.grows c.in-Ok.ensures.settled c.in-Ok.ensures.current)))))
+
+-- ---- what is noted
+
+pub returns-in_default-clause-noted : goal.returns-in_default-clause-noted
+returns-in_default-clause-noted g c = notes_none _ _ _ c.settle_for.ensures.nogoods (λ info reason is. absurd (cc))
+
+pub returns-in_default-reason-clause-noted : goal.returns-in_default-reason-clause-noted
+returns-in_default-reason-clause-noted g c =
+    notes_refused _ _ _ _ c.settle_for.ensures.nogoods c.reason.ensures.covers (λ info reason is. absurd (cc))
+
+pub returns-clause-noted : goal.returns-clause-noted
+returns-clause-noted g c =
+    let found : Workbench = workbench_by c.settle_for.new.self in
+    let there : c.args.cell < cells_in (network_by c.args.self.now.network) = omega (arith, c.requires.cell) in
+    let settled : IsSettled found.network found.store c.in-Ok.settled.worldview c.in-Ok.settled =
+    subst (λ (n : Network). IsSettled n found.store c.in-Ok.settled.worldview c.in-Ok.settled) (sym c.settle_for.ensures.grows.network)
+    (settled_still (network_by c.args.self.now.network) c.args.self.now.store found.store
+    (beliefs_in (workbench_by c.args.self.now) c.args.user) c.in-Ok.settled c.settle_for.ensures.grows.grows c.in-Ok.ensures.settled) in
+    let here : c.args.cell < cells_in found.network = subst (λ (n : Network). c.args.cell < cells_in n) (sym c.settle_for.ensures.grows.network) there in
+    subst (λ (bench : Workbench). NotesReasons (workbench_by c.args.self.now).nogoods bench.nogoods (reply.Because c.value-info.result.info c.in-Ok-reason.reason)) (sym c.remember.ensures)
+    (notes_reason (workbench_by c.args.self.now).nogoods found.nogoods c.reason.new.nogoods c.value-info.result.info (value_in found.network found.store c.in-Ok.settled.worldview c.args.cell) c.in-Ok-reason.reason
+    c.settle_for.ensures.nogoods c.reason.ensures.covers (c.value-info.ensures.info ∙ settled.values c.args.cell here) c.in-Ok-reason.ensures.covered)

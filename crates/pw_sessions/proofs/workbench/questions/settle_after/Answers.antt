@@ -1,8 +1,8 @@
 use Rattle.std.proofs.Common.{Some, sym, ap, ◌∙◌}
 use Rattle.pw_network.specs.Fields.{network_by}
 use Rattle.pw_sessions.specs.Session.{Session}
-use Rattle.pw_sessions.proofs.AfterSettling.{current_after, least_again, least_anew, none_again, none_anew, once_again, once_anew}
-use Rattle.pw_sessions.proofs.workbench.settle_after.Goals as goal
+use Rattle.pw_sessions.proofs.AfterSettling.{current_after, due_again, due_anew, none_again, none_anew, once_again, once_anew}
+use Rattle.pw_sessions.proofs.workbench.questions.settle_after.Goals as goal
 
 -- ---- from earlier values
 
@@ -23,11 +23,11 @@ returns-in-Some-clause-once g c =
     (record { values = c.last.inside.values; is_current = c.last.inside.is_current }) c.args.last
     (c.in-Some.is ∙ ap (λ (s : Session). Some s) (sym c.last.view_is)) c.resettle.result c.resettle.ensures.kept c.resettle.ensures.due c.resettle.ensures.most
 
-pub returns-in-Some-clause-least : goal.returns-in-Some-clause-least
-returns-in-Some-clause-least g c =
-    least_again (network_by c.args.network.now) c.args.network.now.well c.args.store.now c.resettle.new.store c.args.worldview.now c.requires.kinds c.requires.sound
+pub returns-in-Some-clause-due : goal.returns-in-Some-clause-due
+returns-in-Some-clause-due g c =
+    due_again (network_by c.args.network.now) c.args.network.now.well c.args.store.now c.resettle.new.store c.args.worldview.now c.requires.kinds c.requires.sound
     (record { values = c.last.inside.values; is_current = c.last.inside.is_current }) c.args.last
-    (c.in-Some.is ∙ ap (λ (s : Session). Some s) (sym c.last.view_is)) c.resettle.result c.resettle.ensures.due c.resettle.ensures.least
+    (c.in-Some.is ∙ ap (λ (s : Session). Some s) (sym c.last.view_is)) c.resettle.result c.resettle.ensures.due c.resettle.ensures.least c.resettle.ensures.most
 
 -- ---- anew
 
@@ -46,7 +46,7 @@ returns-in-None-clause-once g c =
     once_anew (network_by c.args.network.now) c.args.network.now.well c.args.store.now c.settle.new.store c.args.worldview.now c.requires.kinds c.requires.sound
     c.settle.result c.settle.ensures.kept c.settle.ensures.most
 
-pub returns-in-None-clause-least : goal.returns-in-None-clause-least
-returns-in-None-clause-least g c =
-    least_anew (network_by c.args.network.now) c.args.network.now.well c.args.store.now c.settle.new.store c.args.worldview.now c.requires.kinds c.requires.sound
-    c.settle.result c.args.last c.in-None.is c.settle.ensures.least
+pub returns-in-None-clause-due : goal.returns-in-None-clause-due
+returns-in-None-clause-due g c =
+    due_anew (network_by c.args.network.now) c.args.network.now.well c.args.store.now c.settle.new.store c.args.worldview.now c.requires.kinds c.requires.sound
+    c.settle.result c.args.last c.in-None.is c.settle.ensures.least c.settle.ensures.most

@@ -2,7 +2,7 @@ use Rattle.std.proofs.Common.{rules, tests, ◌∙◌}
 use Rattle.std.proofs.lemmas.Iterator.{YieldsList-from_slice}
 use Rattle.std.proofs.lemmas.Iterator.Search.{any_from_yields_List}
 use Rattle.pw_sessions.proofs.WrittenLemmas.{is_written-by, writes}
-use Rattle.pw_sessions.proofs.workbench.is_written_by.Goals as goal
+use Rattle.pw_sessions.proofs.workbench.questions.is_written_by.Goals as goal
 
 pub returns : goal.returns
 returns c =
