@@ -1,5 +1,6 @@
 pub mod CompoundLaws
 pub mod CompoundLemmas
+pub mod CompoundsKept
 pub mod Decided
 pub mod DeclarationLines
 pub mod DeclarationSteps
@@ -15,4 +16,6 @@ pub mod LineLaw
 pub mod MemberLemmas
 pub mod ParameterLemmas
 pub mod Places
+pub mod PreludeLaw
+pub mod PreludeLemmas
 pub mod SetLemmas

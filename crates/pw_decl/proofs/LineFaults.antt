@@ -235,7 +235,7 @@ same_kind d word (kinds.Members s) (kinds.Members t) p q =
     same_set s t number (sym p.1 ∙ ap (λ n. length (members_of d n)) number ∙ q.1)
 
 -- words name one list of kinds at most
-same_kinds : (d : Declared) (words : List (List ℕ)) (js ks : List Kind) → NameKinds d words js → NameKinds d words ks → js ≡ ks
+pub same_kinds : (d : Declared) (words : List (List ℕ)) (js ks : List Kind) → NameKinds d words js → NameKinds d words ks → js ≡ ks
 same_kinds d [] [] [] p q = refl
 same_kinds d (word ∷ words) (j ∷ js) (k ∷ ks) (p, ps) (q, qs) =
     ap (λ (x : Kind). x ∷ js) (same_kind d word j k p q) ∙ ap (λ (l : List Kind). k ∷ l) (same_kinds d words js ks ps qs)
@@ -290,7 +290,7 @@ one_led so_far (line ∷ lines) a b (m, p, ps) (n, q, qs) =
     let e = one_declared so_far line m n p q in
     one_led n lines a b (subst (λ (x : SoFar). Leads x lines a) e ps) qs
 
-outside_is : (a b : Declared) → Outside a ≡ Outside b → a ≡ b
+pub outside_is : (a b : Declared) → Outside a ≡ Outside b → a ≡ b
 outside_is a b e = cc
 
 -- lines without fault that lead out of every compound lead to one declaration

@@ -1,3 +1,4 @@
+pub mod BuiltIn
 pub mod Compound
 pub mod Declaration
 pub mod Expansion

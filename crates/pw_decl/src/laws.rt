@@ -5,6 +5,7 @@ ghost use Rattle.pw_info.specs.declared.kind.Kind.{Kind as KindOfCell};
 ghost use Rattle.pw_procs.specs.Procedure.{Procedure};
 ghost use Rattle.pw_decl.specs.declared.step.Callable.{Callable};
 ghost use Rattle.pw_decl.specs.declared.decl_fault.DeclFaultKind.{DeclFaultKind as FaultKind};
+ghost use Rattle.pw_decl.specs.BuiltIn.{HasPrelude};
 ghost use Rattle.pw_decl.specs.Compound.{Compound, AreCompoundsAfter, size_of_callable, sizes_of};
 ghost use Rattle.pw_decl.specs.Expansion.{expansion_of, inner_kinds_of, renamed, at_place, on_places, SpeaksOf, FitsCells, IsOfInnerKinds, HasSize};
 ghost use Rattle.pw_decl.specs.Declaration.{Declared, Takes, SoFar, DeclarationSentence, IsSentenceAt};
@@ -47,12 +48,15 @@ pub fn every_text()
     ensures { (ps : List Procedure) (text : List ℕ) → SpellsOne ps text ⊎ HasAFirstFault ps text }
 {}
 
-/// What holds of every declaration stays so from line to line, and holds of what a text spells.
+/// What holds of every declaration stays so from line to line, and holds of what a text spells; and the compounds of what a
+/// text spells begin with those of the prelude.
 pub fn well_declared()
     ensures line { (so_far after : SoFar) (line : List ℕ) → IsWellSoFar so_far
         → Declares so_far line after → IsWellSoFar after }
     ensures text { (ps : List Procedure) (text : List ℕ) (d : Declared)
         → SpellsDeclaration ps text d → IsWellDeclared d }
+    ensures prelude { (ps : List Procedure) (text : List ℕ) (d : Declared)
+        → SpellsDeclaration ps text d → HasPrelude d }
 {}
 
 /// Other names of cells change nothing but the names: expanding on cells that are named anew gives the instances, named anew.
