@@ -4,6 +4,7 @@ ghost use Rattle.pw_info.specs.Lines.{lines_of};
 ghost use Rattle.pw_procs.specs.Registry.{procedures_in};
 ghost use Rattle.pw_decl.specs.declared.decl_fault.DeclFaultKind.{DeclFaultKind as FaultKind};
 ghost use Rattle.pw_decl.specs.declared.decl_fault.DeclFaultKind.TheVariants.{Memory};
+ghost use Rattle.pw_decl.specs.BuiltIn.{HasPrelude};
 ghost use Rattle.pw_decl.specs.Declaration.{Declared, Outside, nothing_declared};
 ghost use Rattle.pw_decl.specs.Faults.{Leads, PreludeDeclares, SpellsDeclaration, IsUnfinished, IsFirstFault, IsFaultOfPrelude, IsClearUpTo};
 ghost use Rattle.pw_decl.specs.Faults.{IsClearInPrelude, IsToldAmong, HasNoFaultUpTo, IsTold, IsReadAs, IsFaultAt};
@@ -125,6 +126,8 @@ pub fn read_declaration<'r, A: Allocator + Copy>(
 ) -> Result<Declaration<'r, A>, DeclFault>
     ensures ok { IfOk result (λ declaration.
         SpellsDeclaration (procedures_in registry.entry.now) text.now (declared_by declaration)) }
+    // The compounds `sum`, `product` and `conditional` stand first.
+    ensures prelude { IfOk result (λ declaration. HasPrelude (declared_by declaration)) }
     ensures err { IfErr result (λ fault. IsTold (procedures_in registry.entry.now) text.now fault) }
     // Want of memory is told at a line that has no fault, and the lines before it have none.
     ensures memory { IfErr result (λ fault. fault.why ≡ Memory

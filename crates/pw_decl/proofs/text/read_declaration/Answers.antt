@@ -5,6 +5,7 @@ use Rattle.pw_decl.specs.declared.decl_fault.DeclFaultKind.TheVariants.{Memory}
 use Rattle.pw_decl.specs.Faults.{SpellsDeclaration, IsTold, HasNoFaultUpTo, IsReadAs, IsFaultAt}
 use Rattle.pw_decl.specs.Fields.{declared_by}
 use Rattle.pw_decl.proofs.DeclarationSteps.{given_back, over, told_only, told_first, only_declaration, only_fault}
+use Rattle.pw_decl.proofs.PreludeLaw.{spelled_prelude}
 use Rattle.pw_decl.proofs.text.read_declaration.Goals as goal
 
 -- a fault is told
@@ -46,6 +47,10 @@ pub returns-clause-ok : goal.returns-clause-ok
 returns-clause-ok g c =
     over (λ ps. SpellsDeclaration ps c.args.text.now (declared_by c.read_text.new.declaration)) (declared_by c.new-declaration.result) (procedures_in c.args.registry.now)
     c.new-declaration.ensures c.in_ok-read_text.ensures.ok
+
+pub returns-clause-prelude : goal.returns-clause-prelude
+returns-clause-prelude g c =
+    spelled_prelude (procedures_in c.args.registry.now) c.args.text.now (declared_by c.read_text.new.declaration) (returns-clause-ok g c)
 
 pub returns-clause-only_ok : goal.returns-clause-only_ok
 returns-clause-only_ok g c =
