@@ -140,7 +140,9 @@ fn registry_of<'a>(alloc: Global, list: Vec<Stored>) -> Result<Registry, Fault<'
 pub trait OverProcedures {
     type Answer;
 
-    fn over(self, registry: &Registry) -> Self::Answer;
+    /// What the task answers. The registry that it is handed holds the fifteen procedures of the program, and no others.
+    fn over(self, registry: &Registry) -> Self::Answer
+        requires { AreOfProgram (procedures_in registry.now) };
 }
 
 /// Makes the procedures and a registry of them, which it lends to a task; what the task answers.
