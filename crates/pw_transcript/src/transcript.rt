@@ -123,7 +123,7 @@ fn answer_all<A: Allocator + Copy, I: Input, O: Output>(
 /// What is taken is answered before more is taken, and what was written is passed on then. A line ends at a line feed;
 /// the last one needs none. There are at most 1,000,000 lines and 67,108,864 bytes. At most 67,108,865 bytes are taken,
 /// and at most 65,536 past the limits. A failure ends it with
-/// - `Memory`, before anything is taken or written, if there is no memory for the cells and the users' beliefs,
+/// - `Memory`, if there is no memory for the cells and the users' beliefs: neither the input nor the output is touched,
 /// - `Read`, if the input failed: the replies to all lines that ended are written then,
 /// - `Write`, if the output failed, or had failed before: a front of the replies is written then,
 /// - `Limit`, at a byte after 1,000,000 ended lines, or at the 67,108,865th byte: the replies to all lines that end
@@ -145,8 +145,8 @@ pub fn run<A: Allocator + Copy, I: Input, O: Output>(
     ensures write { IsErrOf result RunFault.Write → RepliesInPart I.takes O.passes
         (declared_by d.now) input.old input.new output.old output.new }
     ensures write_failed { IsErrOf result RunFault.Write → O.has_failed output.new ≡ true }
-    ensures memory { IsErrOf result RunFault.Memory → I.takes input.old [] input.new
-        × O.passes output.old [] output.new }
+    ensures memory { IsErrOf result RunFault.Memory → (input.new ≡ input.old)
+        × (output.new ≡ output.old) }
     ensures limit { IsErrOf result RunFault.Limit → RepliesUpToLimit I.takes O.passes
         (declared_by d.now) input.old input.new output.old output.new }
 {
