@@ -2,9 +2,10 @@
 use Rattle.std.proofs.Common.{◌≡◌, ◌≢◌, ℕ, ◌+◌, ◌<◌, ◌≤◌, Bool, true, false, eqb, nat_le, List, [], ◌∷◌, ◌++◌, length, Result, Ok, Err, IfOk, OnOk, OnErr, refl, sym, ap, ◌∙◌, subst, inl, inr, append-nil, append_assoc, length-append, length-take-le, take, drop, arith}
 use Rattle.std.proofs.lemmas.List.{take-append-le, take-append-drop}
 use Rattle.std.specs.Prelude.{if◌then◌else◌}
-use Rattle.std.specs.List.{AllByRecursion}
+use Rattle.std.specs.List.{AllByRecursion, flat_map}
 use Rattle.std.proofs.lemmas.Bool.{cases_Bool, eqb-true, eqb-false}
 use Rattle.std.proofs.lemmas.Bool.Decides.{nat_tests}
+use Rattle.std.proofs.lemmas.Grind.{flat_map-append}
 use Rattle.std.specs.Prelude.{Option, Some}
 use Rattle.std.specs.Borrow.{GName}
 use Rattle.pw_info.specs.Passing.{PassesPart}
@@ -14,19 +15,19 @@ use Rattle.pw_transcript.specs.declared.progress.Fed.{Fed}
 use Rattle.pw_transcript.specs.declared.progress.Fed.TheVariants as feds
 use Rattle.pw_transcript.specs.declared.transcript.Lines.{Lines}
 use Rattle.pw_info.specs.Bytes.{line_feed}
-use Rattle.pw_info.specs.Lines.{lines_of, HasNoEnd, text_of_lines, last_line}
+use Rattle.pw_info.specs.Lines.{lines_of, HasNoEnd, text_of_lines, last_line, AreLines}
 use Rattle.pw_transcript.specs.Limits.{most_lines, most_bytes, most_at_once, GoesPastLimits}
 use Rattle.pw_decl.specs.Declaration.{Declared}
 use Rattle.pw_sessions.specs.LineReading.{LineReading}
 use Rattle.pw_sessions.specs.Answer.{reply_to, replies_of}
 use Rattle.pw_sessions.specs.Workbench.{IsLeftBy}
 use Rattle.pw_transcript.specs.ReplyText.{text_if_any, text_of_replies}
-use Rattle.pw_transcript.specs.FromScratch.{LinesComeTo, GetReplies, count_of_replies, PassesAll, PassesEnded, PassesFront, RepliesToAll, RepliesToEnded, RepliesUpToLimit, RepliesInPart}
+use Rattle.pw_transcript.specs.FromScratch.{LinesComeTo, GetReplies, count_of_replies, EndIn, PassesAll, PassesEnded, PassesFront, RepliesToAll, RepliesToEnded, RepliesUpToLimit, RepliesInPart}
 use Rattle.pw_transcript.specs.Steps.Answering.{held_line, PassesReply, FailsInReply, PassesHeldReply, FailsInHeldReply}
 use Rattle.pw_transcript.specs.Steps.Gatherers.{output_of, held_of, GatheredPasses}
 use Rattle.pw_transcript.specs.Steps.Running.{Progress, SoFar, FrontSoFar, LimitSoFar}
 use Rattle.pw_transcript.proofs.GatheringFacts.{gathered_part, gathered_whole}
-use Rattle.pw_info.proofs.LineLemmas.{lines_of_ended_lines, lines_of_text, text_held, text_ended, HasNoEnd-append, ended_more}
+use Rattle.pw_info.proofs.LineLemmas.{lines_of_ended_lines, lines_of_text, text_held, text_ended, HasNoEnd-append, ended_more, found_at}
 use Rattle.pw_transcript.proofs.ReplyLemmas.{text_of_replies_of-snoc, count_of_replies_of-snoc, LinesComeTo-snoc, length-LinesComeTo, ReadAs-from_ComeTo}
 
 -- ---- readings
@@ -148,6 +149,31 @@ few_ended : (text : List ℕ) (ended : List (List ℕ)) (last : List ℕ) → te
 few_ended text ended last whole no_end unended few =
     omega (arith, ap length (all_lines text ended last whole no_end unended), length-append ended (last_line last))
 
+-- ---- which lines end in bytes
+
+cut_at_last : (bytes : List ℕ) (lines : List (List ℕ)) → AreLines bytes lines → (ended : List (List ℕ)) × (rest : List ℕ) × EndIn bytes ended rest
+cut_at_last bytes lines (ended, rest, whole, no_end, unended, all) = (ended, rest, record { whole = whole; no_end = no_end; unended = unended })
+
+-- some lines end in any bytes, perhaps none, and a piece comes after the last of them, perhaps an empty one
+some_end : (bytes : List ℕ) → (ended : List (List ℕ)) × (rest : List ℕ) × EndIn bytes ended rest
+some_end bytes = cut_at_last bytes (lines_of bytes) (found_at bytes (lines_of bytes) refl)
+
+no_end-append : (ended others : List (List ℕ)) → AllByRecursion HasNoEnd ended → AllByRecursion HasNoEnd others → AllByRecursion HasNoEnd (ended ++ others)
+no_end-append [] others none more = more
+no_end-append (line ∷ ended) others none more = (none.0, no_end-append ended others none.1 more)
+
+-- lines that have ended, and then those that end in what came after them
+end_after : (bytes : List ℕ) (ended : List (List ℕ)) (rest : List ℕ) (others : List (List ℕ)) (last : List ℕ) → bytes ≡ text_of_lines ended rest →
+    AllByRecursion HasNoEnd ended → EndIn rest others last → EndIn bytes (ended ++ others) last
+end_after bytes ended rest others last whole none e =
+    let with_end : List ℕ → List ℕ = λ line. line ++ 10 ∷ [] in
+    record {
+      whole = whole ∙ ap (text_of_lines ended) e.whole ∙ sym (append_assoc (flat_map with_end ended) (flat_map with_end others) last)
+          ∙ ap (λ (text : List ℕ). text ++ last) (sym (flat_map-append with_end ended others));
+      no_end = no_end-append ended others none e.no_end;
+      unended = e.unended;
+    }
+
 -- ---- step by step
 
 -- a line feed after a text
@@ -197,8 +223,28 @@ module _ {O : Type 0} (passes : O → List ℕ → O → Type 0) (d : Declared) 
         reply_count = a.reply_count;
       }
 
-  pub FrontSoFar-front : (first now : O) (bytes : List ℕ) → FrontSoFar passes d first now bytes → PassesFront passes d first now bytes
-  FrontSoFar-front first now bytes p =
+  -- a front of the replies to the lines that end in the bytes was passed
+  pub FrontSoFar-ended : (first now : O) (bytes : List ℕ) → FrontSoFar passes d first now bytes →
+      (lines : List (List ℕ)) × (rest : List ℕ) × EndIn bytes lines rest × PassesFront passes d first now lines
+  FrontSoFar-ended first now bytes p =
+      let after : (others : List (List ℕ)) × (last : List ℕ) × EndIn p.rest others last = some_end p.rest in (
+        p.ended ++ after.0,
+        after.1,
+        end_after bytes p.ended p.rest after.0 after.1 p.whole p.no_end after.2,
+        record {
+          lines = p.ended;
+          others = after.0;
+          replies = replies_of d p.readings;
+          first = refl;
+          few = p.few;
+          get = get_replies d p.ended p.readings p.come;
+          front = p.front;
+        },
+      )
+
+  -- and so of all their lines
+  FrontSoFar-lines : (first now : O) (bytes : List ℕ) → FrontSoFar passes d first now bytes → PassesFront passes d first now (lines_of bytes)
+  FrontSoFar-lines first now bytes p =
       record {
         lines = p.ended;
         others = lines_of p.rest;
@@ -208,11 +254,6 @@ module _ {O : Type 0} (passes : O → List ℕ → O → Type 0) (d : Declared) 
         get = get_replies d p.ended p.readings p.come;
         front = p.front;
       }
-
-  PassesFront-unended : (first now : O) (bytes : List ℕ) → lines_of (bytes ++ 10 ∷ []) ≡ lines_of bytes →
-      PassesFront passes d first now (bytes ++ 10 ∷ []) → PassesFront passes d first now bytes
-  PassesFront-unended first now bytes same p =
-      record { lines = p.lines; others = p.others; replies = p.replies; first = sym same ∙ p.first; few = p.few; get = p.get; front = p.front }
 
   pub LimitSoFar-front : (first now : O) (before bytes : List ℕ) → LimitSoFar passes d first now before bytes → FrontSoFar passes d first now (before ++ bytes)
   LimitSoFar-front first now before bytes a =
@@ -228,7 +269,7 @@ module _ {O : Type 0} (passes : O → List ℕ → O → Type 0) (d : Declared) 
       }
 
   pub PassesAll-front : (first now : O) (counts : Lines) (bytes : List ℕ) → length (lines_of bytes) ≤ most_lines → PassesAll passes d first now counts bytes →
-      PassesFront passes d first now bytes
+      PassesFront passes d first now (lines_of bytes)
   PassesAll-front first now counts bytes few a =
       record {
         lines = lines_of bytes;
@@ -438,10 +479,10 @@ module _ {O : Type 0} (passes : O → List ℕ → O → Type 0) (d : Declared) 
 
   pub SoFar-last_front : (first now next : O) (p : Progress) (bytes : List ℕ) (test : Bool) →
       ((line : List ℕ) → p.line ≡ held_line line → test ≡ eqb (length line) 0) → test ≡ false →
-      SoFar passes d first now p bytes → FrontSoFar passes d first next (bytes ++ 10 ∷ []) → PassesFront passes d first next bytes
+      SoFar passes d first now p bytes → FrontSoFar passes d first next (bytes ++ 10 ∷ []) → PassesFront passes d first next (lines_of bytes)
   SoFar-last_front first now next p bytes test tests more s f =
-      PassesFront-unended passes d first next bytes (unended_same first now p bytes test tests more s)
-      (FrontSoFar-front passes d first next (bytes ++ 10 ∷ []) f)
+      subst (PassesFront passes d first next) (unended_same first now p bytes test tests more s)
+      (FrontSoFar-lines passes d first next (bytes ++ 10 ∷ []) f)
 
   -- ---- what was passed whole, and a flush
 
@@ -547,16 +588,25 @@ past_last_byte within past few full one =
 -- ---- the ends
 
 module _ {I O : Type 0} (takes : I → List ℕ → I → Type 0) (passes : O → List ℕ → O → Type 0) (d : Declared) where
-  -- the lines of a front of the bytes taken are answered in part
-  pub replies_in_part : (i i' : I) (o o' : O) (bytes more all : List ℕ) → takes i all i' → length all ≤ most_bytes + 1 → bytes ++ more ≡ all →
-      FrontSoFar passes d o o' bytes → RepliesInPart takes passes d i i' o o'
-  replies_in_part i i' o o' bytes more all taken most whole p =
+  -- the lines that end in a front of the bytes taken are answered in part
+  pub replies_in_part : (has_ended : I → Bool) (i i' : I) (o o' : O) (bytes more all : List ℕ) → takes i all i' → length all ≤ most_bytes + 1 →
+      bytes ++ more ≡ all → FrontSoFar passes d o o' bytes → RepliesInPart takes passes d has_ended i i' o o'
+  replies_in_part has_ended i i' o o' bytes more all taken most whole p =
+      let front = FrontSoFar-ended passes d o o' (bytes ++ more) (FrontSoFar-more passes d o o' bytes more p) in
       record {
-        bytes = all;
-        taken = taken;
-        most = most;
-        passed = subst (PassesFront passes d o o') whole (FrontSoFar-front passes d o o' (bytes ++ more) (FrontSoFar-more passes d o o' bytes more p));
+        bytes = bytes ++ more;
+        taken = subst (λ (l : List ℕ). takes i l i') (sym whole) taken;
+        most = omega (arith, ap length whole, most);
+        lines = front.0;
+        to_answer = inr (front.1, front.2);
+        passed = front.3;
       }
+
+  -- where the input has ended, all lines of the bytes taken are answered in part
+  pub replies_in_part_at_end : (has_ended : I → Bool) (i i' : I) (o o' : O) (bytes : List ℕ) → takes i bytes i' → length bytes ≤ most_bytes + 1 →
+      has_ended i' ≡ true → PassesFront passes d o o' (lines_of bytes) → RepliesInPart takes passes d has_ended i i' o o'
+  replies_in_part_at_end has_ended i i' o o' bytes taken most ended p =
+      record { bytes = bytes; taken = taken; most = most; lines = lines_of bytes; to_answer = inl (ended, refl); passed = p }
 
   -- after the last line that a run answers there is a byte
   pub replies_up_to_line : (i i' : I) (o o' : O) (before bytes more all : List ℕ) → takes i all i' → length all ≤ most_bytes + 1 →
@@ -626,10 +676,10 @@ module _ {O : Type 0} (passes : O → List ℕ → O → Type 0) (d : Declared) 
       }
 
   -- where nothing was held at first, of a front that was passed to it a front was passed to its output
-  gathered_front : (bytes : List ℕ) → (output_of s).ghost_name ≡ name → (output_of s).now ≡ first → held_of s ≡ [] →
-      PassesFront (GatheredPasses passes) d s t bytes → (name ≡ (output_of t).ghost_name → last ≡ (output_of t).now) →
-      PassesFront passes d first last bytes
-  gathered_front bytes named at none p ends =
+  gathered_front : (all : List (List ℕ)) → (output_of s).ghost_name ≡ name → (output_of s).now ≡ first → held_of s ≡ [] →
+      PassesFront (GatheredPasses passes) d s t all → (name ≡ (output_of t).ghost_name → last ≡ (output_of t).now) →
+      PassesFront passes d first last all
+  gathered_front all named at none p ends =
       record {
         lines = p.lines;
         others = p.others;
@@ -655,10 +705,10 @@ module _ {O : Type 0} (passes : O → List ℕ → O → Type 0) (d : Declared) 
     gathered_works failed counts named a works ends = ap failed (ends (sym named ∙ sym a.passed.passed.0)) ∙ works
 
     -- where something has failed of the output that it passed to, something has failed of its output
-    pub gathered_failed : (failed : O → Bool) → (output_of s).ghost_name ≡ name →
-        RepliesInPart takes (GatheredPasses passes) d i i' s t → failed (output_of t).now ≡ true →
+    pub gathered_failed : (failed : O → Bool) (has_ended : I → Bool) → (output_of s).ghost_name ≡ name →
+        RepliesInPart takes (GatheredPasses passes) d has_ended i i' s t → failed (output_of t).now ≡ true →
         (name ≡ (output_of t).ghost_name → last ≡ (output_of t).now) → failed last ≡ true
-    gathered_failed failed named a fails ends = ap failed (ends (sym named ∙ sym a.passed.front.part.0)) ∙ fails
+    gathered_failed failed has_ended named a fails ends = ap failed (ends (sym named ∙ sym a.passed.front.part.0)) ∙ fails
 
     pub gathered_to_ended : (output_of s).ghost_name ≡ name → (output_of s).now ≡ first → held_of s ≡ [] → held_of t ≡ [] →
         RepliesToEnded takes (GatheredPasses passes) d i i' s t → (name ≡ (output_of t).ghost_name → last ≡ (output_of t).now) →
@@ -672,19 +722,28 @@ module _ {O : Type 0} (passes : O → List ℕ → O → Type 0) (d : Declared) 
     gathered_up_to_limit named at none left a ends =
         record { within = a.within; past = a.past; taken = a.taken; goes_past = a.goes_past; passed = gathered_ended a.within named at none left a.passed ends }
 
-    pub gathered_in_part : (output_of s).ghost_name ≡ name → (output_of s).now ≡ first → held_of s ≡ [] →
-        RepliesInPart takes (GatheredPasses passes) d i i' s t → (name ≡ (output_of t).ghost_name → last ≡ (output_of t).now) →
-        RepliesInPart takes passes d i i' first last
-    gathered_in_part named at none p ends =
-        record { bytes = p.bytes; taken = p.taken; most = p.most; passed = gathered_front p.bytes named at none p.passed ends }
+    pub gathered_in_part : (has_ended : I → Bool) → (output_of s).ghost_name ≡ name → (output_of s).now ≡ first → held_of s ≡ [] →
+        RepliesInPart takes (GatheredPasses passes) d has_ended i i' s t → (name ≡ (output_of t).ghost_name → last ≡ (output_of t).now) →
+        RepliesInPart takes passes d has_ended i i' first last
+    gathered_in_part has_ended named at none p ends =
+        record {
+          bytes = p.bytes;
+          taken = p.taken;
+          most = p.most;
+          lines = p.lines;
+          to_answer = p.to_answer;
+          passed = gathered_front p.lines named at none p.passed ends;
+        }
 
 -- where nothing was taken and nothing was passed, a front of no replies was
-pub nothing_in_part : {I O : Type 0} (takes : I → List ℕ → I → Type 0) (passes : O → List ℕ → O → Type 0) (d : Declared) (i : I) (o : O) →
-    takes i [] i → passes o [] o → RepliesInPart takes passes d i i o o
-nothing_in_part takes passes d i o taken none = record {
+pub nothing_in_part : {I O : Type 0} (takes : I → List ℕ → I → Type 0) (passes : O → List ℕ → O → Type 0) (d : Declared) (has_ended : I → Bool) (i : I) (o : O) →
+    takes i [] i → passes o [] o → RepliesInPart takes passes d has_ended i i o o
+nothing_in_part takes passes d has_ended i o taken none = record {
   bytes = [];
   taken = taken;
   most = omega arith;
+  lines = [];
+  to_answer = inr ([], record { whole = refl; no_end = tt; unended = tt });
   passed = record {
     lines = [];
     others = [];

@@ -1,5 +1,5 @@
 -- The theorem of a run: what is written is, line by line, the reply that each line gets from scratch.
-use Rattle.std.specs.Prelude.{◌≡◌, ℕ, ◌+◌, ◌≤◌, List, [], ◌∷◌, ◌++◌, length, Option, Some, None, ◌⊎◌, Contains}
+use Rattle.std.specs.Prelude.{◌≡◌, ℕ, ◌+◌, ◌≤◌, Bool, true, List, [], ◌∷◌, ◌++◌, length, Option, Some, None, ◌⊎◌, Contains}
 use Rattle.std.specs.List.{AllByRecursion}
 use Rattle.pw_info.specs.Passing.{PassesPart}
 use Rattle.pw_sessions.specs.declared.command.Command.{Command}
@@ -61,6 +61,11 @@ pub record EndIn (bytes : List ℕ) (ended : List (List ℕ)) (rest : List ℕ) 
   pub no_end : AllByRecursion HasNoEnd ended
   pub unended : HasNoEnd rest
 
+-- the lines of the bytes that a run answers: those that end in them; and, once the input has ended, what came after the last of
+-- these too
+abbrev pub AreToAnswer : Bool → List ℕ → List (List ℕ) → Type 0
+AreToAnswer has_ended bytes lines = ((has_ended ≡ true) × (lines ≡ lines_of bytes)) ⊎ ((rest : List ℕ) × EndIn bytes lines rest)
+
 -- ---- what is passed for bytes, between two moments of an output
 
 module _ {O : Type 0} (passes : O → List ℕ → O → Type 0) (d : Declared) where
@@ -81,12 +86,12 @@ module _ {O : Type 0} (passes : O → List ℕ → O → Type 0) (d : Declared) 
     pub get : GetReplies d ended replies
     pub passed : passes o (text_of_replies d replies) o'
 
-  -- a front of the replies to the first lines of the bytes, which are no more than a run answers
-  pub record PassesFront (o o' : O) (bytes : List ℕ) : Type 0 where
+  -- a front of the replies to the first of these lines, which are no more than a run answers
+  pub record PassesFront (o o' : O) (all : List (List ℕ)) : Type 0 where
     pub lines : List (List ℕ)
     pub others : List (List ℕ)
     pub replies : List (Option Reply)
-    pub first : lines_of bytes ≡ lines ++ others
+    pub first : all ≡ lines ++ others
     pub few : length lines ≤ most_lines
     pub get : GetReplies d lines replies
     pub front : PassesPart passes o o' (text_of_replies d replies)
@@ -116,9 +121,12 @@ module _ {I O : Type 0} (takes : I → List ℕ → I → Type 0) (passes : O �
     pub goes_past : GoesPastLimits within past
     pub passed : PassesEnded passes d o o' within
 
-  -- bytes were taken, at most one more than a run answers, and a front of the replies to their first lines was passed
-  pub record RepliesInPart (i i' : I) (o o' : O) : Type 0 where
+  -- bytes were taken, at most one more than a run answers, and a front of the replies to those of their lines that a run
+  -- answers was passed. A last piece that no line feed ends is such a line only where the input has ended.
+  pub record RepliesInPart (has_ended : I → Bool) (i i' : I) (o o' : O) : Type 0 where
     pub bytes : List ℕ
     pub taken : takes i bytes i'
     pub most : length bytes ≤ most_bytes + 1
-    pub passed : PassesFront passes d o o' bytes
+    pub lines : List (List ℕ)
+    pub to_answer : AreToAnswer (has_ended i') bytes lines
+    pub passed : PassesFront passes d o o' lines

@@ -69,7 +69,8 @@ fn answer_all<A: Allocator + Copy, I: Input, O: Output>(
     ensures read_failed { IsErrOf result RunFault.Read → I.has_failed input.new ≡ true }
     ensures read_passed_on { IsErrOf result RunFault.Read → held_of output.new ≡ [] }
     ensures write { IsErrOf result RunFault.Write →
-        RepliesInPart I.takes (GatheredPasses O.passes) (declared_by d.now) input.old input.new output.old output.new }
+        RepliesInPart I.takes (GatheredPasses O.passes) (declared_by d.now) I.has_ended
+        input.old input.new output.old output.new }
     ensures write_failed { IsErrOf result RunFault.Write
         → O.has_failed (output_of output.new).now ≡ true }
     ensures limit { IsErrOf result RunFault.Limit →
@@ -125,7 +126,8 @@ fn answer_all<A: Allocator + Copy, I: Input, O: Output>(
 /// and at most 65,536 past the limits. A failure ends it with
 /// - `Memory`, if there is no memory for the cells and the users' beliefs: neither the input nor the output is touched,
 /// - `Read`, if the input failed: the replies to all lines that ended are written then,
-/// - `Write`, if the output failed, or had failed before: a front of the replies is written then,
+/// - `Write`, if the output failed, or had failed before: a front of the replies is written then, to lines that
+///   ended, and to a last one without a line feed only where the input has ended,
 /// - `Limit`, at a byte after 1,000,000 ended lines, or at the 67,108,865th byte: the replies to all lines that end
 ///   before it are written then.
 pub fn run<A: Allocator + Copy, I: Input, O: Output>(
@@ -143,7 +145,7 @@ pub fn run<A: Allocator + Copy, I: Input, O: Output>(
         (declared_by d.now) input.old input.new output.old output.new }
     ensures read_failed { IsErrOf result RunFault.Read → I.has_failed input.new ≡ true }
     ensures write { IsErrOf result RunFault.Write → RepliesInPart I.takes O.passes
-        (declared_by d.now) input.old input.new output.old output.new }
+        (declared_by d.now) I.has_ended input.old input.new output.old output.new }
     ensures write_failed { IsErrOf result RunFault.Write → O.has_failed output.new ≡ true }
     ensures memory { IsErrOf result RunFault.Memory → (input.new ≡ input.old)
         × (output.new ≡ output.old) }

@@ -98,4 +98,4 @@ module _ {O : Type 0} (passes : O → List ℕ → O → Type 0) (d : Declared) 
   -- no more bytes come, and the output failed in the last line
   abbrev pub FailsAtEnd : Progress → O → O → Type 0
   FailsAtEnd old o o' =
-      (first : O) (bytes : List ℕ) → SoFar first o old bytes → PassesFront passes d first o' bytes
+      (first : O) (bytes : List ℕ) → SoFar first o old bytes → PassesFront passes d first o' (lines_of bytes)

@@ -1,4 +1,4 @@
-use Rattle.std.proofs.Common.{◌≡◌, ◌+◌, ◌≤◌, ℕ, List, [], ◌++◌, length, take, drop, refl, sym, ap, ◌∙◌, subst, arith}
+use Rattle.std.proofs.Common.{◌≡◌, ◌+◌, ◌<◌, ◌≤◌, ℕ, List, [], ◌++◌, length, take, drop, refl, sym, ap, ◌∙◌, subst, arith}
 use Rattle.std.proofs.lemmas.Grind.{common_steps}
 use Rattle.pw_decl.specs.Fields.{declared_by}
 use Rattle.pw_transcript.specs.Steps.Fields.{progress_by}
@@ -6,7 +6,7 @@ use Rattle.pw_transcript.specs.Limits.{most_bytes, most_at_once}
 use Rattle.pw_sessions.specs.Workbench.{IsLeftBy}
 use Rattle.pw_transcript.specs.Steps.Gatherers.{GatheredPasses, GatheredPasses-none, GatheredPasses-joins}
 use Rattle.pw_transcript.specs.Steps.Running.{SoFar}
-use Rattle.pw_transcript.proofs.RunLemmas.{SoFar-start, SoFar-still, SoFar-ended_lines, LimitSoFar-still, PassesAll-still, PassesAll-front, flush_failed, replies_in_part, replies_up_to_line, replies_up_to_byte, taken_no_more, kept_whole, kept_all, kept_size, length_taken, length_kept}
+use Rattle.pw_transcript.proofs.RunLemmas.{SoFar-start, SoFar-still, SoFar-ended_lines, LimitSoFar-still, PassesAll-still, PassesAll-front, flush_failed, replies_in_part, replies_in_part_at_end, replies_up_to_line, replies_up_to_byte, taken_no_more, kept_whole, kept_all, kept_size, length_taken, length_kept}
 use Rattle.pw_transcript.proofs.transcript.answer_all.Goals as goal
 
 pub loop-taken-init : goal.loop-taken-init
@@ -53,7 +53,7 @@ returns-in-Err-feed-clause-write g c = λ _.
     let size : length new ≤ c.min-room.result = grind (arith, common_steps) in
     let below : kept ≤ taken = grind (arith, common_steps) in
     let most : length (inv.bytes ++ take taken new) ≤ most_bytes + 1 = omega (arith, length_taken inv.bytes new taken within) in
-    replies_in_part g.I.Input.takes passes (declared_by c.args.d.now) _ _ _ _ (inv.bytes ++ take kept (new ++ rest)) (drop kept (take taken new)) (inv.bytes ++ take taken new) all most
+    replies_in_part g.I.Input.takes passes (declared_by c.args.d.now) g.I.Input.has_ended _ _ _ _ (inv.bytes ++ take kept (new ++ rest)) (drop kept (take taken new)) (inv.bytes ++ take taken new) all most
     (kept_whole inv.bytes new rest kept taken below within) (c.in-Err-feed.ensures.err _ inv.bytes inv.so_far)
 
 pub returns-in-Err-flush-clause-write : goal.returns-in-Err-flush-clause-write
@@ -69,7 +69,7 @@ returns-in-Err-flush-clause-write g c = λ _.
     let size : length new ≤ c.min-room.result = grind (arith, common_steps) in
     let below : kept ≤ taken = grind (arith, common_steps) in
     let most : length (inv.bytes ++ take taken new) ≤ most_bytes + 1 = omega (arith, length_taken inv.bytes new taken within) in
-    replies_in_part g.I.Input.takes passes (declared_by c.args.d.now) _ _ _ _ (inv.bytes ++ take kept (new ++ rest)) (drop kept (take taken new)) (inv.bytes ++ take taken new) all most
+    replies_in_part g.I.Input.takes passes (declared_by c.args.d.now) g.I.Input.has_ended _ _ _ _ (inv.bytes ++ take kept (new ++ rest)) (drop kept (take taken new)) (inv.bytes ++ take taken new) all most
     (kept_whole inv.bytes new rest kept taken below within)
     (flush_failed passes (declared_by c.args.d.now) (GatheredPasses-joins g.O.Output.passes g.met.O.Output.joins) _ _ _ (progress_by c.feed.new.self) inv.bytes (take kept (new ++ rest)) c.in-Ok-feed.fed
     (λ e. c.in-Ok-feed.ensures.whole e _ inv.bytes inv.so_far) (λ e. c.in-Ok-feed.ensures.limit e _ inv.bytes inv.so_far) c.flush.ensures.passed)
@@ -144,13 +144,11 @@ pub returns-in-Err-end-clause-write : goal.returns-in-Err-end-clause-write
 returns-in-Err-end-clause-write g c = λ _.
     let inv = c.loop-taken.invariant in
     let nothing : take c.in-Ok.taken c.take.new.buffer ≡ [] = ap (λ n. take n c.take.new.buffer) c.if-taken-eq0.true in
-    record {
-      bytes = inv.bytes;
-      taken = taken_no_more g.I.Input.takes g.met.I.Input.joins _ _ _ inv.bytes inv.taken
-          (subst (λ (l : List ℕ). g.I.Input.takes c.loop-taken.input l c.take.new.self) nothing c.in-Ok.ensures.taken.1);
-      most = omega (arith, inv.count, inv.bound);
-      passed = c.in-Err-end.ensures.err _ inv.bytes inv.so_far;
-    }
+    let room : 0 < length c.take.new.buffer = grind (arith, common_steps) in
+    replies_in_part_at_end g.I.Input.takes (GatheredPasses g.O.Output.passes) (declared_by c.args.d.now) g.I.Input.has_ended _ _ _ _ inv.bytes
+    (taken_no_more g.I.Input.takes g.met.I.Input.joins _ _ _ inv.bytes inv.taken
+    (subst (λ (l : List ℕ). g.I.Input.takes c.loop-taken.input l c.take.new.self) nothing c.in-Ok.ensures.taken.1))
+    (omega (arith, inv.count, inv.bound)) (c.in-Ok.ensures.ended room c.if-taken-eq0.true) (c.in-Err-end.ensures.err _ inv.bytes inv.so_far)
 
 pub returns-in-Ok-flush-2-clause-ok : goal.returns-in-Ok-flush-2-clause-ok
 returns-in-Ok-flush-2-clause-ok g c =
@@ -169,12 +167,11 @@ pub returns-clause-write : goal.returns-clause-write
 returns-clause-write g c = λ _.
     let inv = c.loop-taken.invariant in
     let nothing : take c.in-Ok.taken c.take.new.buffer ≡ [] = ap (λ n. take n c.take.new.buffer) c.if-taken-eq0.true in
-    record {
-      bytes = inv.bytes;
-      taken = taken_no_more g.I.Input.takes g.met.I.Input.joins _ _ _ inv.bytes inv.taken
-          (subst (λ (l : List ℕ). g.I.Input.takes c.loop-taken.input l c.take.new.self) nothing c.in-Ok.ensures.taken.1);
-      most = omega (arith, inv.count, inv.bound);
-      passed = PassesAll-front (GatheredPasses g.O.Output.passes) (declared_by c.args.d.now) _ _ c.end.new.self.counts inv.bytes inv.so_far.few
-          (PassesAll-still (GatheredPasses g.O.Output.passes) (declared_by c.args.d.now) (GatheredPasses-joins g.O.Output.passes g.met.O.Output.joins) _ _ _ c.end.new.self.counts inv.bytes
-          (c.in-Ok-end.ensures.ok _ inv.bytes inv.so_far) c.flush-2.ensures.passed);
-    }
+    let room : 0 < length c.take.new.buffer = grind (arith, common_steps) in
+    replies_in_part_at_end g.I.Input.takes (GatheredPasses g.O.Output.passes) (declared_by c.args.d.now) g.I.Input.has_ended _ _ _ _ inv.bytes
+    (taken_no_more g.I.Input.takes g.met.I.Input.joins _ _ _ inv.bytes inv.taken
+    (subst (λ (l : List ℕ). g.I.Input.takes c.loop-taken.input l c.take.new.self) nothing c.in-Ok.ensures.taken.1))
+    (omega (arith, inv.count, inv.bound)) (c.in-Ok.ensures.ended room c.if-taken-eq0.true)
+    (PassesAll-front (GatheredPasses g.O.Output.passes) (declared_by c.args.d.now) _ _ c.end.new.self.counts inv.bytes inv.so_far.few
+    (PassesAll-still (GatheredPasses g.O.Output.passes) (declared_by c.args.d.now) (GatheredPasses-joins g.O.Output.passes g.met.O.Output.joins) _ _ _ c.end.new.self.counts inv.bytes
+    (c.in-Ok-end.ensures.ok _ inv.bytes inv.so_far) c.flush-2.ensures.passed))
