@@ -1,6 +1,6 @@
-"""Reads a declaration by the rules of docs/FORMATS.md, in Python and on its own: what the text declares, or its first fault.
+"""A reader of declarations in Python, by the rules of docs/FORMATS.md alone: what a text declares, or its first fault.
 
-`check_of` says what `check` has to answer. Scripts of this folder compare that with what the built program answers.
+`check_of` gives the line that `check` has to write. Scripts of this folder compare it with what the built program writes.
 """
 BLANKS, VISIBLE = b" \t\r", bytes(range(0x21, 0x7F))
 AS_SPACES = bytes.maketrans(BLANKS, b" " * len(BLANKS))
@@ -112,7 +112,7 @@ class Declaration:
             forms.get(first, lambda arguments: self.call(first, arguments))(rest)
         else:
             forms = {
-                b"user": self.user, b"premise": self.premise, b"set": self.set, b"cell": self.cell, b"compound": self.compound,
+                b"user": self.user, b"premise": self.premise, b"set": self.set_kind, b"cell": self.cell, b"compound": self.compound,
             }
             faulty(SYNTAX, first not in forms)
             forms[first](rest)
@@ -137,7 +137,7 @@ class Declaration:
         faulty(UNKNOWN, len(words) == 3 and words[2] not in self.users)
         self.add("premises", words[0], words[2] if len(words) == 3 else None)
 
-    def set(self, words):
+    def set_kind(self, words):
         faulty(SYNTAX, not words or not all(map(is_name, words)))
         name, *members = words
         faulty(DUPLICATE, name in self.kinds() or len(set(members)) < len(members))

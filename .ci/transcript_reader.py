@@ -1,5 +1,6 @@
-"""Reads a transcript by the rules of docs/FORMATS.md, in Python and on its own: the reply to each line, as long as no question
-is asked after a line that changed what follows.
+"""A reader of transcripts in Python, by the rules of docs/FORMATS.md alone: the reply to each line where nothing is told, nothing
+attached and every premise believed. So what it says of a question holds only while no line before it was accepted that
+changes the answer.
 """
 import re
 
