@@ -1,0 +1,368 @@
+"""The rules of the manual, read once more: what a declaration declares or its first fault, and of each line of a transcript
+whether it gets a reply, its first refusal, and whether a reply may be its reply. The values of cells that no attachment writes
+are known, and of the other values how they are written.
+
+A text is a string of which each character is a byte.
+"""
+import re
+
+SYNTAX, DUPLICATE, UNKNOWN, ARGUMENTS, LIMIT, END = (
+    "syntax", "duplicate name", "unknown name", "wrong arguments", "limit", "missing end",
+)
+REFUSALS = {
+    1: "syntax", 2: "unknown user", 3: "unknown command", 4: "unknown cell", 5: "unknown premise", 6: "unknown procedure",
+    7: "not your premise", 8: "wrong information", 9: "wrong arguments", 10: "line too long",
+}
+RESERVED = {"under", "none", "nothing", "contradiction", "line", "of", "local", "end"}
+NUMBER = "(0|-?[1-9][0-9]*)"
+RANGES = {"interval": 1_000_000, "exact": 1_000_000_000}
+# A kind that stands for one of any kind, the same in all its places.
+SAME = "same"
+THREE = ["interval"] * 3
+PROCEDURES = {
+    "adder": THREE, "subtractor": THREE, "multiplier": THREE, "divider": THREE, "squarer": ["interval"] * 2,
+    "at_most": ["interval", "interval", "bool"], "equal": [SAME, SAME, "bool"], "inverter": ["bool"] * 2,
+    "conjoiner": ["bool"] * 3, "disjoiner": ["bool"] * 3, "switch": ["bool", SAME, SAME], "copy": [SAME, SAME],
+    "point": ["exact", "interval"], "fixed": ["interval", "exact"], "sign": ["interval", "sign"],
+}
+
+
+def lines_of(text):
+    lines = text.split("\n")
+    return lines if lines[-1] else lines[:-1]
+
+
+def words_of(line):
+    return re.findall(r"[^ \t\r]+", line)
+
+
+def is_silent(line):
+    """Whether the line is blank or a comment."""
+    return not line.strip(" \t\r") or line.strip(" \t\r")[0] == "#"
+
+
+def has_wrong_byte(line):
+    return re.search(r"[^ \t\r\x21-\x7e]", line) is not None
+
+
+class Refused(Exception):
+    """The first fault of a line."""
+
+
+def check(holds, why):
+    if not holds:
+        raise Refused(why)
+
+
+def is_name(word):
+    return re.fullmatch("[a-z][a-z0-9_]{0,31}", word) is not None and word not in RESERVED
+
+
+class Callable:
+    """What it takes, which places it writes, and how many instances and inner cells it becomes."""
+
+    def __init__(self, kinds, written, instances, inner):
+        self.kinds, self.written, self.instances, self.inner = kinds, written, instances, inner
+
+    def accepts(self, kinds):
+        same = {kind for wanted, kind in zip(self.kinds, kinds) if wanted == SAME}
+        fits = all(wanted in (SAME, kind) for wanted, kind in zip(self.kinds, kinds))
+        return len(kinds) == len(self.kinds) and fits and len(same) <= 1
+
+
+class Declared:
+    """What the lines of a declaration have declared so far."""
+
+    def __init__(self):
+        self.begun, self.name, self.compounds = False, None, 0
+        self.users, self.premises, self.cells = [], {}, {}
+        self.kinds = {"interval": None, "exact": None, "bool": ["false", "true"], "sign": ["neg", "zero", "pos"]}
+        self.callables = {name: Callable(kinds, {len(kinds) - 1}, 1, 0) for name, kinds in PROCEDURES.items()}
+        self.callables["sum"] = self.callables["product"] = Callable(THREE, {0, 1, 2}, 3, 0)
+        self.callables["conditional"] = Callable(["bool", *THREE], {3}, 3, 1)
+
+    def read_line(self, line):
+        check(len(line) <= 4096, LIMIT)
+        if is_silent(line):
+            return
+        check(not has_wrong_byte(line), SYNTAX)
+        first, *rest = words_of(line)
+        if not self.begun:
+            check([first, *rest] == ["workbench", "1"], SYNTAX)
+            self.begun = True
+        elif self.name is not None:
+            forms = {"local": self.read_local, "end": self.read_end}
+            forms.get(first, lambda words: self.read_call(first, words))(rest)
+        else:
+            forms = {"user": self.read_user, "premise": self.read_premise, "set": self.read_set, "cell": self.read_cell}
+            forms["compound"] = self.read_compound
+            check(first in forms, SYNTAX)
+            forms[first](rest)
+
+    def read_user(self, words):
+        check(len(words) == 1 and is_name(words[0]), SYNTAX)
+        check(words[0] not in self.users, DUPLICATE)
+        check(len(self.users) < 64, LIMIT)
+        self.users.append(words[0])
+
+    def read_premise(self, words):
+        check(len(words) == 1 or len(words) == 3 and words[1] == "of", SYNTAX)
+        check(is_name(words[0]), SYNTAX)
+        check(words[0] not in self.premises, DUPLICATE)
+        owner = words[2] if len(words) == 3 else None
+        check(owner is None or owner in self.users, UNKNOWN)
+        check(len(self.premises) < 64, LIMIT)
+        self.premises[words[0]] = owner
+
+    def read_set(self, words):
+        check(words and all(map(is_name, words)), SYNTAX)
+        name, *members = words
+        check(name not in self.kinds and len(set(members)) == len(members), DUPLICATE)
+        check(len(members) >= 2, ARGUMENTS)
+        check(len(members) <= 64 and len(self.kinds) < 4 + 32, LIMIT)
+        self.kinds[name] = members
+
+    def read_cell(self, words):
+        check(len(words) == 2 and is_name(words[0]), SYNTAX)
+        check(words[0] not in self.cells, DUPLICATE)
+        check(words[1] in self.kinds, UNKNOWN)
+        check(len(self.cells) < 1024, LIMIT)
+        self.cells[words[0]] = words[1]
+
+    def read_compound(self, words):
+        parameters, kinds = words[1::2], words[2::2]
+        check(len(words) % 2 == 1 and all(map(is_name, [words[0], *parameters])), SYNTAX)
+        check(words[0] not in self.callables and len(set(parameters)) == len(parameters), DUPLICATE)
+        check(all(kind in self.kinds for kind in kinds), UNKNOWN)
+        check(parameters, ARGUMENTS)
+        check(len(parameters) <= 8 and self.compounds < 64, LIMIT)
+        self.name, self.parameters, self.inner = words[0], parameters, dict(zip(parameters, kinds))
+        self.open = Callable(kinds, set(), 0, 0)
+
+    def read_local(self, words):
+        check(len(words) == 2 and is_name(words[0]), SYNTAX)
+        check(words[0] not in self.inner, DUPLICATE)
+        check(words[1] in self.kinds, UNKNOWN)
+        check(self.open.inner < 256, LIMIT)
+        self.inner[words[0]] = words[1]
+        self.open.inner += 1
+
+    def read_call(self, name, words):
+        check(words, SYNTAX)
+        check(name in self.callables and all(word in self.inner for word in words), UNKNOWN)
+        called, made = self.callables[name], self.open
+        check(called.accepts([self.inner[word] for word in words]), ARGUMENTS)
+        check(made.instances + called.instances <= 256 and made.inner + called.inner <= 256, LIMIT)
+        made.instances, made.inner = made.instances + called.instances, made.inner + called.inner
+        written = {words[place] for place in called.written}
+        made.written |= {place for place, parameter in enumerate(self.parameters) if parameter in written}
+
+    def read_end(self, words):
+        check(not words, SYNTAX)
+        self.callables[self.name], self.name = self.open, None
+        self.compounds += 1
+
+
+def reading_of(text):
+    """What the text declares, or else the text of its first fault."""
+    if len(text) > 1_048_576:
+        return None, f"declaration line 0: {LIMIT}"
+    declared, number = Declared(), 0
+    try:
+        for number, line in enumerate(lines_of(text), 1):
+            declared.read_line(line)
+        number += 1
+        check(declared.begun, SYNTAX)
+        check(declared.name is None, END)
+    except Refused as why:
+        return None, f"declaration line {number}: {why}"
+    return declared, None
+
+
+def read_info(word, kind, members):
+    """The least and the greatest number that are possible, or the set of members; None where the word spells nothing."""
+    if members is None:
+        most = RANGES[kind]
+        found = re.fullmatch(NUMBER + (rf"(?:\.\.{NUMBER})?" if kind == "interval" else "()"), word)
+        if found:
+            low, high = int(found[1]), int(found[2] or found[1])
+            return (low, high) if -most <= low <= high <= most else None
+        return {"nothing": (-most, most), "contradiction": (1, 0)}.get(word)
+    if word[:1] + word[-1:] == "{}":
+        named = word[1:-1].split(",")
+        return frozenset(named) if len(set(named)) == len(named) and set(named) <= set(members) else None
+    return {"nothing": frozenset(members), "contradiction": frozenset()}.get(word)
+
+
+def written(info, kind, members):
+    """How an information is written."""
+    if members is None:
+        low, high = info
+        if low > high:
+            return "contradiction"
+        whole = (low, high) == (-RANGES[kind], RANGES[kind])
+        return "nothing" if whole else str(low) if low == high else f"{low}..{high}"
+    if len(info) in (0, len(members)):
+        return "nothing" if info else "contradiction"
+    return "{" + ",".join(member for member in members if member in info) + "}"
+
+
+def meet(one, other, kind):
+    """What both allow."""
+    if isinstance(one, frozenset):
+        return one & other
+    low, high = max(one[0], other[0]), min(one[1], other[1])
+    # Two exact numbers have no number between them, so what is left is one of them, any number, or none.
+    return (low, high) if low <= high else (1, 0)
+
+
+class Session:
+    """What the lines of a transcript have left so far."""
+
+    def __init__(self, declared):
+        self.declared = declared
+        self.order = list(declared.premises)
+        self.beliefs = {user: set(self.order) for user in declared.users}
+        self.tells, self.attached = [], {}
+
+    def parts_of(self, words):
+        """The cells, the premises and the rest of a command that fits its form."""
+        command, rest = words[1], words[2:]
+        if command == "tell":
+            check(len(rest) == 2 or len(rest) > 3 and rest[2] == "under", 1)
+            return rest[:1], rest[3:], rest[1]
+        if command == "attach":
+            name, *cells = rest or [""]
+            under = cells.index("under") if "under" in cells else len(cells)
+            check(under > 0 and under + 1 != len(cells), 1)
+            return cells[:under], cells[under + 1 :], name
+        if command in ("believe", "doubt"):
+            check(rest, 1)
+            return [], rest, None
+        check(len(rest) == (command in ("ask", "why")), 1)
+        return rest, [], None
+
+    def read(self, line):
+        """The words and parts of a line; its first refusal is raised."""
+        check(len(line) <= 1024, 10)
+        words = words_of(line)
+        check(not has_wrong_byte(line) and len(words) > 1, 1)
+        known = words[1] in ("tell", "attach", "believe", "doubt", "beliefs", "ask", "why", "conflicts")
+        parts = cells, premises, rest = self.parts_of(words) if known else ([], [], None)
+        declared = self.declared
+        check(words[0] in declared.users, 2)
+        check(known, 3)
+        check(all(cell in declared.cells for cell in cells), 4)
+        kinds = [declared.cells[cell] for cell in cells]
+        if words[1] == "attach":
+            check(rest in declared.callables, 6)
+            check(declared.callables[rest].accepts(kinds), 9)
+        elif words[1] == "tell":
+            check(read_info(rest, kinds[0], declared.kinds[kinds[0]]) is not None, 8)
+        check(all(premise in declared.premises for premise in premises), 5)
+        if words[1] in ("tell", "attach"):
+            check(all(declared.premises[premise] in (None, words[0]) for premise in premises), 7)
+        return words, parts
+
+    def told(self, cell, beliefs):
+        """What was told of the cell under these beliefs."""
+        kind = self.declared.cells[cell]
+        value = read_info("nothing", kind, self.declared.kinds[kind])
+        for told, info, support in self.tells:
+            if told == cell and support <= beliefs:
+                value = meet(value, info, kind)
+        return value
+
+    def is_written(self, cell, beliefs):
+        """Whether an attachment that is visible under these beliefs writes the cell."""
+        return any(cell in cells for cells, _, support in self.attached.values() if support <= beliefs)
+
+    def text_of(self, cell, info):
+        kind = self.declared.cells[cell]
+        return written(info, kind, self.declared.kinds[kind])
+
+    def reason(self, cell, beliefs):
+        """The premises that what was told of the cell needs, found from the last to the first."""
+        needed = set(beliefs)
+        for premise in reversed(self.order):
+            if self.told(cell, needed - {premise}) == self.told(cell, beliefs):
+                needed.discard(premise)
+        return needed
+
+    def names(self, premises):
+        return " ".join(premise for premise in self.order if premise in premises) or "none"
+
+    def value_is_right(self, cell, beliefs, text):
+        """Whether the text is that of a value that the cell may have."""
+        kind, told = self.declared.cells[cell], self.told(cell, beliefs)
+        if not self.is_written(cell, beliefs):
+            return text == self.text_of(cell, told)
+        info = read_info(text, kind, self.declared.kinds[kind])
+        return info is not None and text == self.text_of(cell, info) and meet(info, told, kind) == info
+
+    def reason_is_right(self, cell, beliefs, text):
+        value, because, reason = text.partition(" because ")
+        if not because or not self.value_is_right(cell, beliefs, value):
+            return False
+        if not self.is_written(cell, beliefs):
+            return reason == self.names(self.reason(cell, beliefs))
+        premises = set() if reason == "none" else set(reason.split(" "))
+        return premises <= beliefs and reason == self.names(premises) and (value != "nothing" or not premises)
+
+    def conflicts_are_right(self, beliefs, text):
+        listed = re.fullmatch(r"conflicts((?: [a-z][a-z0-9_]*)*?)((?: line [1-9][0-9]*)*)", text)
+        if not listed:
+            return False
+        cells, lines = listed[1].split(), [int(number) for number in listed[2].split()[1::2]]
+        cells = [] if cells == ["none"] and not lines else cells
+        inner = [number for number, (_, inner, support) in self.attached.items() if inner and support <= beliefs]
+        empty = [cell for cell in self.declared.cells if self.text_of(cell, self.told(cell, beliefs)) == "contradiction"]
+        may_be = [cell for cell in self.declared.cells if cell in empty or self.is_written(cell, beliefs)]
+        return (
+            (text == "conflicts none") == (not cells and not lines)
+            and cells == [cell for cell in may_be if cell in cells] and set(empty) <= set(cells)
+            and lines == [number for number in inner if number in lines]
+        )
+
+    def is_right(self, number, line, text):
+        """Whether the text may be the reply to a line, which is then done."""
+        try:
+            words, (cells, premises, rest) = self.read(line)
+        except Refused as why:
+            return text == f"refused {why} {REFUSALS[why.args[0]]}"
+        user, command, support = words[0], words[1], set(premises)
+        beliefs = self.beliefs[user]
+        if command == "beliefs":
+            return text == f"believes {self.names(beliefs)}"
+        if command == "ask":
+            return self.value_is_right(cells[0], beliefs, text)
+        if command == "why":
+            return self.reason_is_right(cells[0], beliefs, text)
+        if command == "conflicts":
+            return self.conflicts_are_right(beliefs, text)
+        if command == "believe":
+            beliefs |= support
+        elif command == "doubt":
+            beliefs -= support
+        elif command == "tell":
+            kind = self.declared.cells[cells[0]]
+            self.tells.append((cells[0], read_info(rest, kind, self.declared.kinds[kind]), support))
+        else:
+            called = self.declared.callables[rest]
+            self.attached[number] = ({cells[place] for place in called.written}, called.inner, support)
+        return text == "ok"
+
+
+def wrong_replies(declared, transcript, out):
+    """What is wrong of the replies to a transcript; None where nothing is."""
+    session, replies = Session(declared), lines_of(out)
+    wanted = [(at, line) for at, line in enumerate(lines_of(transcript), 1) if len(line) > 1024 or not is_silent(line)]
+    if out and out[-1] != "\n":
+        return f"the last reply is not ended: {replies[-1]!r}"
+    for (number, line), reply in zip(wanted, replies):
+        head, colon, text = reply.partition(": ")
+        if head + colon != f"{number}: ":
+            return f"the reply to line {number} is missing: {reply!r}"
+        if not session.is_right(number, line, text):
+            return f"line {number}, {line[:200]!r}: {text[:200]!r}"
+    return None if len(wanted) == len(replies) else f"{len(replies)} replies to {len(wanted)} lines"
