@@ -1,10 +1,12 @@
 """The rules of the manual, read once more: what a declaration declares or its first fault, and of each line of a transcript
-whether it gets a reply, its first refusal, and whether a reply may be its reply. The values of cells that no attachment writes
-are known, and of the other values how they are written.
+whether it gets a reply, and which, from scratch. Where values take too long to follow, what is told of a cell is known, and how
+values are written.
 
 A text is a string of which each character is a byte.
 """
 import re
+
+from values import NONE, RANGES, contradiction, meet, nothing, settled
 
 SYNTAX, DUPLICATE, UNKNOWN, ARGUMENTS, LIMIT, END = (
     "syntax", "duplicate name", "unknown name", "wrong arguments", "limit", "missing end",
@@ -15,7 +17,6 @@ REFUSALS = {
 }
 RESERVED = {"under", "none", "nothing", "contradiction", "line", "of", "local", "end"}
 NUMBER = "(0|-?[1-9][0-9]*)"
-RANGES = {"interval": 1_000_000, "exact": 1_000_000_000}
 # A kind that stands for one of any kind, the same in all its places.
 SAME = "same"
 THREE = ["interval"] * 3
@@ -58,11 +59,31 @@ def is_name(word):
     return re.fullmatch("[a-z][a-z0-9_]{0,31}", word) is not None and word not in RESERVED
 
 
-class Callable:
-    """What it takes, which places it writes, and how many instances and inner cells it becomes."""
+PRELUDE = """compound sum x interval y interval t interval
+adder x y t
+subtractor t x y
+subtractor t y x
+end
+compound product x interval y interval t interval
+multiplier x y t
+divider t x y
+divider t y x
+end
+compound conditional p bool a interval b interval r interval
+local n bool
+inverter p n
+switch p a r
+switch n b r
+end
+"""
 
-    def __init__(self, kinds, written, instances, inner):
-        self.kinds, self.written, self.instances, self.inner = kinds, written, instances, inner
+
+class Callable:
+    """What it takes, how many instances and inner cells it becomes, and the lines of a compound."""
+
+    def __init__(self, kinds, instances=0, parameters=None):
+        self.kinds, self.instances, self.inner = kinds, instances, 0
+        self.parameters, self.body = parameters, []
 
     def accepts(self, kinds):
         same = {kind for wanted, kind in zip(self.kinds, kinds) if wanted == SAME}
@@ -77,9 +98,10 @@ class Declared:
         self.begun, self.name, self.compounds = False, None, 0
         self.users, self.premises, self.cells = [], {}, {}
         self.kinds = {"interval": None, "exact": None, "bool": ["false", "true"], "sign": ["neg", "zero", "pos"]}
-        self.callables = {name: Callable(kinds, {len(kinds) - 1}, 1, 0) for name, kinds in PROCEDURES.items()}
-        self.callables["sum"] = self.callables["product"] = Callable(THREE, {0, 1, 2}, 3, 0)
-        self.callables["conditional"] = Callable(["bool", *THREE], {3}, 3, 1)
+        self.callables = {name: Callable(kinds, 1) for name, kinds in PROCEDURES.items()}
+        for line in lines_of("workbench 1\n" + PRELUDE):
+            self.read_line(line)
+        self.begun, self.compounds = False, 0
 
     def read_line(self, line):
         check(len(line) <= 4096, LIMIT)
@@ -136,8 +158,8 @@ class Declared:
         check(all(kind in self.kinds for kind in kinds), UNKNOWN)
         check(parameters, ARGUMENTS)
         check(len(parameters) <= 8 and self.compounds < 64, LIMIT)
-        self.name, self.parameters, self.inner = words[0], parameters, dict(zip(parameters, kinds))
-        self.open = Callable(kinds, set(), 0, 0)
+        self.name, self.inner = words[0], dict(zip(parameters, kinds))
+        self.open = Callable(kinds, 0, parameters)
 
     def read_local(self, words):
         check(len(words) == 2 and is_name(words[0]), SYNTAX)
@@ -146,6 +168,7 @@ class Declared:
         check(self.open.inner < 256, LIMIT)
         self.inner[words[0]] = words[1]
         self.open.inner += 1
+        self.open.body.append(("local", words))
 
     def read_call(self, name, words):
         check(words, SYNTAX)
@@ -154,8 +177,7 @@ class Declared:
         check(called.accepts([self.inner[word] for word in words]), ARGUMENTS)
         check(made.instances + called.instances <= 256 and made.inner + called.inner <= 256, LIMIT)
         made.instances, made.inner = made.instances + called.instances, made.inner + called.inner
-        written = {words[place] for place in called.written}
-        made.written |= {place for place, parameter in enumerate(self.parameters) if parameter in written}
+        made.body.append((name, words))
 
     def read_end(self, words):
         check(not words, SYNTAX)
@@ -187,11 +209,10 @@ def read_info(word, kind, members):
         if found:
             low, high = int(found[1]), int(found[2] or found[1])
             return (low, high) if -most <= low <= high <= most else None
-        return {"nothing": (-most, most), "contradiction": (1, 0)}.get(word)
-    if word[:1] + word[-1:] == "{}":
+    elif word[:1] + word[-1:] == "{}":
         named = word[1:-1].split(",")
         return frozenset(named) if len(set(named)) == len(named) and set(named) <= set(members) else None
-    return {"nothing": frozenset(members), "contradiction": frozenset()}.get(word)
+    return {"nothing": nothing(kind, members), "contradiction": contradiction(members)}.get(word)
 
 
 def written(info, kind, members):
@@ -200,30 +221,26 @@ def written(info, kind, members):
         low, high = info
         if low > high:
             return "contradiction"
-        whole = (low, high) == (-RANGES[kind], RANGES[kind])
-        return "nothing" if whole else str(low) if low == high else f"{low}..{high}"
+        return "nothing" if info == nothing(kind, members) else str(low) if low == high else f"{low}..{high}"
     if len(info) in (0, len(members)):
         return "nothing" if info else "contradiction"
     return "{" + ",".join(member for member in members if member in info) + "}"
 
 
-def meet(one, other, kind):
-    """What both allow."""
-    if isinstance(one, frozenset):
-        return one & other
-    low, high = max(one[0], other[0]), min(one[1], other[1])
-    # Two exact numbers have no number between them, so what is left is one of them, any number, or none.
-    return (low, high) if low <= high else (1, 0)
+def is_empty(info):
+    return info in (NONE, frozenset())
 
 
 class Session:
-    """What the lines of a transcript have left so far."""
+    """What the lines of a transcript have left so far. A value is not followed further than by so many calls of procedures."""
 
-    def __init__(self, declared):
-        self.declared = declared
+    def __init__(self, declared, most=2000):
+        self.declared, self.most = declared, most
         self.order = list(declared.premises)
         self.beliefs = {user: set(self.order) for user in declared.users}
-        self.tells, self.attached = [], {}
+        # Inner cells too: each goes by the line and a number.
+        self.kinds = dict(declared.cells)
+        self.tells, self.attached, self.last = [], {}, (None, None)
 
     def parts_of(self, words):
         """The cells, the premises and the rest of a command that fits its form."""
@@ -264,28 +281,68 @@ class Session:
             check(all(declared.premises[premise] in (None, words[0]) for premise in premises), 7)
         return words, parts
 
+    def expand(self, number, name, cells):
+        """The instances that an attachment becomes, and its inner cells."""
+        called = self.declared.callables[name]
+        if called.parameters is None:
+            return [(name, cells[:-1], cells[-1])], []
+        names, instances, inner = dict(zip(called.parameters, cells)), [], []
+        for first, words in called.body:
+            if first == "local":
+                names[words[0]] = cell = (number, len(self.kinds))
+                self.kinds[cell] = words[1]
+                inner.append(cell)
+            else:
+                more, cells_of_call = self.expand(number, first, [names[word] for word in words])
+                instances, inner = instances + more, inner + cells_of_call
+        return instances, inner
+
+    def nothing_at(self, cell):
+        return nothing(self.kinds[cell], self.declared.kinds[self.kinds[cell]])
+
     def told(self, cell, beliefs):
         """What was told of the cell under these beliefs."""
-        kind = self.declared.cells[cell]
-        value = read_info("nothing", kind, self.declared.kinds[kind])
+        value = self.nothing_at(cell)
         for told, info, support in self.tells:
             if told == cell and support <= beliefs:
-                value = meet(value, info, kind)
+                value = meet(value, info)
         return value
 
     def is_written(self, cell, beliefs):
         """Whether an attachment that is visible under these beliefs writes the cell."""
-        return any(cell in cells for cells, _, support in self.attached.values() if support <= beliefs)
+        return any(cell in written for _, written, _, support in self.attached.values() if support <= beliefs)
+
+    def values(self, beliefs):
+        """The values of all cells under these beliefs, from scratch; None where following them takes too many calls."""
+        key = frozenset(beliefs), len(self.tells), len(self.attached)
+        if self.last[0] != key:
+            values = {cell: self.nothing_at(cell) for cell in self.kinds}
+            for cell, info, support in self.tells:
+                if support <= beliefs:
+                    values[cell] = meet(values[cell], info)
+            visible = [instances for instances, _, _, support in self.attached.values() if support <= beliefs]
+            self.last = key, settled(values, [instance for instances in visible for instance in instances], self.most)
+        return self.last[1]
+
+    def value(self, cell, beliefs):
+        """The value of the cell under these beliefs; None where following it takes too many calls."""
+        if not self.is_written(cell, beliefs):
+            return self.told(cell, beliefs)
+        values = self.values(beliefs) if self.most else None
+        return values and values[cell]
 
     def text_of(self, cell, info):
         kind = self.declared.cells[cell]
         return written(info, kind, self.declared.kinds[kind])
 
     def reason(self, cell, beliefs):
-        """The premises that what was told of the cell needs, found from the last to the first."""
-        needed = set(beliefs)
+        """The premises that the value of the cell needs, found from the last to the first; None as for a value."""
+        needed, value = set(beliefs), self.value(cell, beliefs)
         for premise in reversed(self.order):
-            if self.told(cell, needed - {premise}) == self.told(cell, beliefs):
+            without = self.value(cell, needed - {premise})
+            if without is None:
+                return None
+            if without == value:
                 needed.discard(premise)
         return needed
 
@@ -294,18 +351,20 @@ class Session:
 
     def value_is_right(self, cell, beliefs, text):
         """Whether the text is that of a value that the cell may have."""
+        value = self.value(cell, beliefs)
+        if value is not None:
+            return text == self.text_of(cell, value)
         kind, told = self.declared.cells[cell], self.told(cell, beliefs)
-        if not self.is_written(cell, beliefs):
-            return text == self.text_of(cell, told)
         info = read_info(text, kind, self.declared.kinds[kind])
-        return info is not None and text == self.text_of(cell, info) and meet(info, told, kind) == info
+        return info is not None and text == self.text_of(cell, info) and meet(info, told) == info
 
     def reason_is_right(self, cell, beliefs, text):
         value, because, reason = text.partition(" because ")
         if not because or not self.value_is_right(cell, beliefs, value):
             return False
-        if not self.is_written(cell, beliefs):
-            return reason == self.names(self.reason(cell, beliefs))
+        needed = self.reason(cell, beliefs)
+        if needed is not None:
+            return reason == self.names(needed)
         premises = set() if reason == "none" else set(reason.split(" "))
         return premises <= beliefs and reason == self.names(premises) and (value != "nothing" or not premises)
 
@@ -315,14 +374,18 @@ class Session:
             return False
         cells, lines = listed[1].split(), [int(number) for number in listed[2].split()[1::2]]
         cells = [] if cells == ["none"] and not lines else cells
-        inner = [number for number, (_, inner, support) in self.attached.items() if inner and support <= beliefs]
-        empty = [cell for cell in self.declared.cells if self.text_of(cell, self.told(cell, beliefs)) == "contradiction"]
+        if (text == "conflicts none") != (not cells and not lines):
+            return False
+        visible = {number: inner for number, (_, _, inner, support) in self.attached.items() if support <= beliefs}
+        values = self.values(beliefs) if self.most else None
+        if values is not None:
+            empty = [cell for cell in self.declared.cells if is_empty(values[cell])]
+            return cells == empty and lines == [at for at, inner in visible.items() if any(is_empty(values[cell]) for cell in inner)]
+        empty = {cell for cell in self.declared.cells if is_empty(self.told(cell, beliefs))}
         may_be = [cell for cell in self.declared.cells if cell in empty or self.is_written(cell, beliefs)]
-        return (
-            (text == "conflicts none") == (not cells and not lines)
-            and cells == [cell for cell in may_be if cell in cells] and set(empty) <= set(cells)
-            and lines == [number for number in inner if number in lines]
-        )
+        may_have = [number for number, inner in visible.items() if inner]
+        is_listed = cells == [cell for cell in may_be if cell in cells] and empty <= set(cells)
+        return is_listed and lines == [number for number in may_have if number in lines]
 
     def is_right(self, number, line, text):
         """Whether the text may be the reply to a line, which is then done."""
@@ -348,8 +411,8 @@ class Session:
             kind = self.declared.cells[cells[0]]
             self.tells.append((cells[0], read_info(rest, kind, self.declared.kinds[kind]), support))
         else:
-            called = self.declared.callables[rest]
-            self.attached[number] = ({cells[place] for place in called.written}, called.inner, support)
+            instances, inner = self.expand(number, rest, cells)
+            self.attached[number] = (instances, {output for _, _, output in instances}, inner, support)
         return text == "ok"
 
 
