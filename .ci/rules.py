@@ -380,7 +380,8 @@ class Session:
         values = self.values(beliefs) if self.most else None
         if values is not None:
             empty = [cell for cell in self.declared.cells if is_empty(values[cell])]
-            return cells == empty and lines == [at for at, inner in visible.items() if any(is_empty(values[cell]) for cell in inner)]
+            has_empty = [at for at, inner in visible.items() if any(is_empty(values[cell]) for cell in inner)]
+            return cells == empty and lines == has_empty
         empty = {cell for cell in self.declared.cells if is_empty(self.told(cell, beliefs))}
         may_be = [cell for cell in self.declared.cells if cell in empty or self.is_written(cell, beliefs)]
         may_have = [number for number, inner in visible.items() if inner]

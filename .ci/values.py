@@ -8,7 +8,9 @@ from collections import deque
 
 RANGES = {"interval": 1_000_000, "exact": 1_000_000_000}
 NONE = (1, 0)
-SIGNS = [((-1_000_000, -1), "neg"), ((0, 0), "zero"), ((1, 1_000_000), "pos"), ((-1_000_000, 0), "neg zero"), ((0, 1_000_000), "zero pos")]
+SIGNS = [
+    ((-1_000_000, -1), "neg"), ((0, 0), "zero"), ((1, 1_000_000), "pos"), ((-1_000_000, 0), "neg zero"), ((0, 1_000_000), "zero pos"),
+]
 
 
 def nothing(kind, members):
@@ -44,9 +46,11 @@ def truths(may_be_false, may_be_true):
 
 def each(function):
     """All that a function gives on truths."""
+
     def answers(*inputs):
         found = {function(*(word == "true" for word in words)) for words in itertools.product(*inputs)}
         return truths(False in found, True in found)
+
     return answers
 
 
