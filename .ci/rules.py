@@ -1,6 +1,6 @@
-"""The rules of the manual, read once more: what a declaration declares or its first fault, and of each line of a transcript
-whether it gets a reply, and which, from scratch. Where values take too long to follow, what is told of a cell is known, and how
-values are written.
+"""The rules of the manual, read once more, for the scripts beside this file: what a declaration declares, or its first fault; for
+each line of a transcript whether it gets a reply, and which, from scratch. Where a value takes too many steps to follow, only what
+was told of its cell is known, and how values are written.
 
 A text is a string of which each character is a byte.
 """

@@ -9,7 +9,8 @@ from collections import deque
 RANGES = {"interval": 1_000_000, "exact": 1_000_000_000}
 NONE = (1, 0)
 SIGNS = [
-    ((-1_000_000, -1), "neg"), ((0, 0), "zero"), ((1, 1_000_000), "pos"), ((-1_000_000, 0), "neg zero"), ((0, 1_000_000), "zero pos"),
+    ((-1_000_000, -1), "neg"), ((0, 0), "zero"), ((1, 1_000_000), "pos"),
+    ((-1_000_000, 0), "neg zero"), ((0, 1_000_000), "zero pos"),
 ]
 
 
