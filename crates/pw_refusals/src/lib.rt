@@ -15,7 +15,8 @@ pub mod procedures;
 pub mod texts;
 pub mod worlds;
 
-/// An allocator that passes each call on to the one it holds, but refuses some growths.
+/// An allocator that passes each call on to the one it holds, but refuses some growths. It counts the bytes that it grants and
+/// those that it gets back.
 ///
 /// A growth is a request for memory, granted or not: a first allocation, each time a list, a text or a map outgrows
 /// what it has, and a shrinking to fit, which asks for a smaller block. Growths are counted from 1. Lend it out as
@@ -52,14 +53,27 @@ impl<B: Allocator> Refusing<B> {
     pub fn calls(&self) -> u64 {
         self.growths.asked.get()
     }
+
+    /// How many bytes were granted so far.
+    pub fn taken(&self) -> u64 {
+        self.growths.taken.get()
+    }
+
+    /// How many bytes came back so far. Once all that was made with this allocator is dropped, they are as many as were granted.
+    pub fn given_back(&self) -> u64 {
+        self.growths.given_back.get()
+    }
 }
 
-/// How many growths were asked for, and the first and the last number that are refused.
+/// How many growths were asked for, the first and the last number that are refused, how many bytes were granted, and how many of
+/// these came back.
 #[derive(Drop)]
 struct Growths {
     asked: Cell<u64>,
     first: u64,
     last: u64,
+    taken: Cell<u64>,
+    given_back: Cell<u64>,
 }
 
 impl Growths {
@@ -72,14 +86,26 @@ impl Growths {
             asked: Cell::new(0),
             first,
             last,
+            taken: Cell::new(0),
+            given_back: Cell::new(0),
         }
     }
 
-    /// Counts one growth more, and says whether it is granted.
-    fn grants_next(&self) -> bool {
+    /// Counts one growth more, by so many bytes, and says whether it is granted.
+    fn grants_next(&self, size: usize) -> bool {
         let number = self.asked.get().saturating_add(1);
         self.asked.set(number);
-        !self.refuses(number)
+        if self.refuses(number) {
+            return false;
+        }
+        self.taken.set(self.taken.get().saturating_add(size as u64));
+        true
+    }
+
+    /// So many bytes came back.
+    fn take_back(&self, size: usize) {
+        let before = self.given_back.get();
+        self.given_back.set(before.saturating_add(size as u64));
     }
 
     /// Whether the growth of this number is refused.
@@ -94,7 +120,7 @@ unsafe impl<B: Allocator> Allocator for Refusing<B> {
     ghost dealloc_token = { λ heap ty ptr. B.dealloc_token heap.inner ty ptr };
 
     fn allocate(&self, size: usize, align: usize) -> Result<*mut u8, AllocError> {
-        if self.growths.grants_next() {
+        if self.growths.grants_next(size) {
             return self.inner.allocate(size, align);
         } else {
             return Err(AllocError);
@@ -102,6 +128,7 @@ unsafe impl<B: Allocator> Allocator for Refusing<B> {
     }
 
     unsafe fn deallocate(&self, ptr: *mut u8, size: usize, align: usize) {
+        self.growths.take_back(size);
         self.inner.deallocate(ptr, size, align);
     }
 }

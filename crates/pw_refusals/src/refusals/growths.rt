@@ -3,6 +3,7 @@
 use crate::Refusing;
 use std::alloc::{Allocator, Global};
 use std::process::Abort;
+use std::test::Fail;
 
 /// A list takes room for 4 small numbers first, then for 8, then for 16.
 const PUSHES: u64 = 9;
@@ -64,4 +65,41 @@ fn a_loop_ends_where_no_growth_is_refused(rt: HostRuntime) {
         assert_eq!(rt; refused, 1, "at {at}");
     }
     assert_eq!(rt; runs, 4);
+}
+
+#[test]
+fn what_is_held_is_not_given_back_yet(rt: HostRuntime) -> Result<(), Fail> {
+    let refusing = Refusing::nth(rt.alloc(), 0);
+    let mut list = Vec::new(&refusing);
+    for number in 0..5u64 {
+        list.push(number)?;
+    }
+    // Room for 4 numbers of 8 bytes, which was given back for room for 8 of them.
+    assert_eq!(rt; (refusing.taken(), refusing.given_back()), (96, 32));
+    drop(list);
+    assert_eq!(rt; (refusing.taken(), refusing.given_back()), (96, 96));
+    Ok(())
+}
+
+// A growth that is refused is asked for again at the next push, and the nine pushes ask for three in all.
+#[test]
+fn what_is_refused_is_not_taken(rt: HostRuntime) {
+    for (at, taken) in [(0u64, 224u64), (1, 96), (2, 96), (3, 96), (4, 224)] {
+        let alone = Refusing::nth(rt.alloc(), at);
+        refused_pushes(&alone);
+        assert_eq!(rt;
+            (alone.taken(), alone.given_back()),
+            (taken, taken),
+            "at {at}"
+        );
+    }
+    for (at, taken) in [(1u64, 0u64), (2, 32), (3, 96), (4, 224)] {
+        let later = Refusing::all_from(rt.alloc(), at);
+        refused_pushes(&later);
+        assert_eq!(rt;
+            (later.taken(), later.given_back()),
+            (taken, taken),
+            "all from {at}"
+        );
+    }
 }

@@ -79,7 +79,7 @@ module _ (Z : Al) {M : Type 1} {𝓤 : Ura M} (𝓛 : Logic 𝓤) (at_mem : Memo
         let p : ℕ × ℕ = (r.ref_ptr.0, r.ref_ptr.1 + up (align (α Z)) 0) in
         let c : ℕ × ℕ = (r.ref_ptr.0, r.ref_ptr.1 + up 8 (up (align (α Z)) 0 + size (α Z))) in
         let y : (Takes Z 𝓛 at_mem run).Ghost = at_takes Z 𝓛 at_mem run κ₁ q₁ p h n a τ in
-        let w : (Grants 𝓛 at_mem run).Ghost = at_grants 𝓛 at_mem run κ₁ q₁ c r.now.growths in
+        let w : (Grants 𝓛 at_mem run).Ghost = at_grants 𝓛 at_mem run κ₁ q₁ c r.now.growths n in
         let Said : Type 0 = (capped (size τ) ≡ n) × (capped (align τ) ≡ a) in
         let Post : Val → SProp 𝓤 = (walk_of 𝓛 (ended Z) (stayed Z) held).post bound in
         let refused : Sq 𝓛 (‵ (flft κ₁ q₁) ∷ (‵ (flft κ₂ q₂) ⊛ ‵ ftrue) ∷ []) (prop (Post (answer_val false 0 0))) =
@@ -91,9 +91,9 @@ module _ (Z : Al) {M : Type 1} {𝓤 : Ura M} (𝓛 : Logic 𝓤) (at_mem : Memo
         split ! $ split ! $ move ! (2 ∷ []) $ fsplit ! $ fsplit ! $ move ! (1 ∷ []) $ unhide ! $ fsplit ! $ fsplit ! $ use1 𝓛 (‵ (seen Z κ₁ p h)) (id⊢ 𝓤 _) $ move ! (1 ∷ []) $ fsplit ! $ keep ! (0 ∷ 6 ∷ 2 ∷ 7 ∷ []) $
         enter ! 𝓣.C 𝓣.Λ (here Z) vs _ $ alloc_all ! (λ l. pass_all ! refl ((tt, tt), ((tt, record { fits = fn }), ((tt, record { fits = fa }), tt))) $
         sets ! (addr ! (through ! refl (fld ! refl (stop !)))) refl (tt, tt) $
-        use2 𝓛 (raw ((Grants 𝓛 at_mem run).pre w)) (Grants-goes 𝓛 at_mem run κ₁ q₁ c r.now.growths) $
-        calls_at ! (fm_of 𝓤 H 𝓛.laws 𝓣) (Grants 𝓛 at_mem run) kn w (and_then ! (get ! refl) (no_more !)) (λ u.
-        use1 𝓛 (later (some (λ (b : Bool). given (u ≡ vbool b) (‵ (flft κ₁ q₁))))) (Grants-gives 𝓛 at_mem run κ₁ q₁ c r.now.growths u) $ await ! tt $ pick ! (λ b. learn ! (λ eu. lands_as ! eu refl (tt, tt) $ move ! (1 ∷ []) $
+        use2 𝓛 (raw ((Grants 𝓛 at_mem run).pre w)) (Grants-goes 𝓛 at_mem run κ₁ q₁ c r.now.growths n fn) $
+        calls_at ! (fm_of 𝓤 H 𝓛.laws 𝓣) (Grants 𝓛 at_mem run) kn w (and_then ! (get ! refl) (and_then ! (get ! refl) (no_more !))) (λ u.
+        use1 𝓛 (later (some (λ (b : Bool). given (u ≡ vbool b) (‵ (flft κ₁ q₁))))) (Grants-gives 𝓛 at_mem run κ₁ q₁ c r.now.growths n u) $ await ! tt $ pick ! (λ b. learn ! (λ eu. lands_as ! eu refl (tt, tt) $ move ! (1 ∷ []) $
         -- [the inner allocator; the two tokens]
         first ! $ branches ! (get ! refl)
         (λ granted. sets ! (addr ! (through ! refl (fld ! refl (stop !)))) refl (tt, tt) $
