@@ -42,8 +42,8 @@ fn light_set() -> SetKind
     SetKind { number: 2, size: 3 }
 }
 
-// The numbers from one to another.
-fn from_to(lo: i64, hi: i64) -> Info
+/// The numbers from one to another; the contradiction where there are none.
+pub(crate) fn from_to(lo: i64, hi: i64) -> Info
     ensures { kind_of result ≡ Kind.Interval }
 {
     Info::of_interval(Interval::new(lo, hi).unwrap_or(Interval::empty()))
@@ -69,8 +69,8 @@ fn light_rules(alloc: Global, light: SetKind) -> Result<Vec<Rule>, AllocError>
     Ok(rules)
 }
 
-// A copy of the rules, for the body to own.
-fn table_of(alloc: Global, rules: &[Rule], output: Kind) -> Result<Vec<Rule>, AllocError>
+/// A copy of the rules, for a body to own.
+pub(crate) fn table_of(alloc: Global, rules: &[Rule], output: Kind) -> Result<Vec<Rule>, AllocError>
     requires { AreRules (Kind.Interval ∷ []) output rules.now }
     ensures rules { IfOk result (λ table. AreRules (Kind.Interval ∷ []) output table.items) }
     ensures value { IfOk result (λ table. (inputs : List Information)

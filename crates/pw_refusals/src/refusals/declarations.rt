@@ -1,29 +1,56 @@
-//! A declaration with each growth of memory refused in turn.
+//! A declaration with growths of memory refused: it is read, or memory is told.
 
 use crate::Refusing;
-use crate::declarations::counted;
+use crate::declarations::{Counts, counted};
 use crate::procedures::SOUND;
-use crate::worlds::FORMS;
+use crate::worlds::GENERAL;
 use pw_decl::DeclFaultKind;
+use std::alloc::Global;
+use std::process::Abort;
 use std::test::Fail;
+
+// What the declaration declares.
+const WHOLE: Counts = Counts {
+    users: 2,
+    premises: 4,
+    cells: 9,
+    sets: 1,
+    compounds: 1,
+};
+
+// That the declaration is read whole where no growth was refused, and that memory is told otherwise; whether it was. All that was
+// taken is given back.
+fn is_read_or_refused<R: Abort + AllocGlobal>(
+    rt: &R,
+    refusing: &Refusing<Global>,
+    at: u64,
+) -> Result<bool, Fail> {
+    let read = counted(rt.alloc(), refusing, SOUND, GENERAL)?;
+    assert_eq!(rt; refusing.given_back(), refusing.taken(), "at {at}");
+    let is_refused = refusing.calls() >= at;
+    match read {
+        Ok(counts) => assert!(rt; !is_refused && counts == WHOLE, "at {at}"),
+        Err(fault) => {
+            assert!(rt; is_refused, "at {at}");
+            assert_eq!(rt; fault.why, DeclFaultKind::Memory, "at {at}");
+        }
+    }
+    Ok(is_refused)
+}
 
 #[test]
 fn a_declaration_is_read_or_memory_is_told(rt: HostRuntime) -> Result<(), Fail> {
-    let mut met = 0u32;
+    let mut met = 0u64;
     for at in 1..1000u64 {
-        let refusing = Refusing::nth(rt.alloc(), at);
-        match counted(rt.alloc(), &refusing, SOUND, FORMS)? {
-            Ok(world) => {
-                assert!(rt; refusing.calls() < at, "at {at}");
-                assert_eq!(rt; (world.cells, world.compounds), (3, 1), "at {at}");
-                break;
-            }
-            Err(fault) => {
-                assert_eq!(rt; fault.why, DeclFaultKind::Memory, "at {at}");
-                met = met.saturating_add(1);
-            }
+        let alone = Refusing::nth(rt.alloc(), at);
+        let later = Refusing::all_from(rt.alloc(), at);
+        let is_refused = is_read_or_refused(&rt, &alone, at)?;
+        assert_eq!(rt; is_read_or_refused(&rt, &later, at)?, is_refused, "at {at}");
+        if !is_refused {
+            break;
         }
+        met = at;
     }
-    assert!(rt; met > 40, "{met} growths were refused");
+    assert!(rt; met > 40 && met < 999, "{met} growths were refused");
     Ok(())
 }
