@@ -1,26 +1,51 @@
-//! Ends for tests: readers and writers that move a byte at a time, fail once, or know of each other.
+//! Ends for tests: readers and writers that move a byte at a time, fail once or for good, or know of each other.
 
 ghost use Rattle.std.specs.Prelude.{None};
 
+use std::alloc::Global;
 use std::cell::Cell;
 use std::io;
 use std::io::{ErrorKind, Read, Write};
 
-/// A reader that gives one byte a read. It fails once when it has given `breaks_at` bytes, and then goes on.
+/// How often an end fails: once, and then it goes on, or from then on.
+#[derive(Clone, Copy, PartialEq, Eq)]
+pub enum Failing {
+    Once,
+    ForGood,
+}
+
+impl Failing {
+    // Where an end fails next that has just failed at this byte.
+    fn next(self, breaks_at: usize) -> usize {
+        match self {
+            Failing::Once => usize::MAX,
+            Failing::ForGood => breaks_at,
+        }
+    }
+}
+
+/// A reader that gives one byte a read. It fails when it has given `breaks_at` bytes.
 #[derive(Drop)]
 pub struct Drip<'a> {
     pub text: &'a [u8],
     pub given: usize,
     pub breaks_at: usize,
+    pub failing: Failing,
 }
 
 impl<'a> Drip<'a> {
-    /// A reader of the text.
+    /// A reader of the text, which fails once.
     pub fn new(text: &'a str, breaks_at: usize) -> Drip<'a> {
+        Drip::failing(text, breaks_at, Failing::Once)
+    }
+
+    /// A reader of the text.
+    pub fn failing(text: &'a str, breaks_at: usize, failing: Failing) -> Drip<'a> {
         Drip {
             text: text.as_bytes(),
             given: 0,
             breaks_at,
+            failing,
         }
     }
 }
@@ -30,7 +55,7 @@ impl Read for Drip<'_> {
 
     fn read(&mut self, buffer: &mut [u8]) -> io::Result<usize> {
         if self.given == self.breaks_at {
-            self.breaks_at = usize::MAX;
+            self.breaks_at = self.failing.next(self.breaks_at);
             return Err(io::Error::from(ErrorKind::Interrupted));
         }
         if buffer.is_empty() || self.given >= self.text.len() {
@@ -64,11 +89,48 @@ impl Read for Repeated<'_> {
     }
 }
 
-/// A writer that takes one byte a write. It fails once when it has taken `breaks_at` bytes, and then goes on.
+/// A reader that gives a line a read, with its line feed, as often as there are such lines left, and then the rest.
+#[derive(Drop)]
+pub struct Lined<'a> {
+    pub line: &'a [u8],
+    pub left: u64,
+    pub rest: &'a [u8],
+}
+
+impl Read for Lined<'_> {
+    ghost remaining = { λ _. None };
+
+    fn read(&mut self, buffer: &mut [u8]) -> io::Result<usize> {
+        if self.left == 0 {
+            return self.rest.read(buffer);
+        }
+        let length = self.line.len();
+        if buffer.len() < length {
+            return Err(io::Error::from(ErrorKind::UnexpectedEof));
+        }
+        buffer[..length].copy_from_slice(self.line);
+        self.left -= 1;
+        Ok(length)
+    }
+}
+
+/// A writer that takes one byte a write. It fails when it has taken `breaks_at` bytes.
 #[derive(Drop)]
 pub struct Sink {
     pub text: Vec<u8>,
     pub breaks_at: usize,
+    pub failing: Failing,
+}
+
+impl Sink {
+    /// A writer that has taken nothing.
+    pub fn new(alloc: Global, breaks_at: usize, failing: Failing) -> Sink {
+        Sink {
+            text: Vec::new(alloc),
+            breaks_at,
+            failing,
+        }
+    }
 }
 
 impl Write for Sink {
@@ -79,7 +141,7 @@ impl Write for Sink {
             return Ok(0);
         };
         if self.text.len() == self.breaks_at {
-            self.breaks_at = usize::MAX;
+            self.breaks_at = self.failing.next(self.breaks_at);
             return Err(io::Error::from(ErrorKind::StorageFull));
         }
         self.text.push(*first)?;

@@ -8,3 +8,4 @@ mod putting;
 mod refused;
 mod replies;
 mod taking;
+mod worked;

@@ -75,6 +75,15 @@ pub fn said(alloc: Global, rows: &[(&str, &str)]) -> Result<String, AllocError> 
     joined(alloc, &lines)
 }
 
+/// The same, where its last line is ended too.
+pub fn whole(alloc: Global, rows: &[(&str, &str)]) -> Result<String, AllocError> {
+    let mut lines = Vec::new(alloc);
+    for (line, _) in rows {
+        lines.push(*line)?;
+    }
+    ended(alloc, &lines)
+}
+
 /// The replies of a session, each with the number of its line.
 pub fn answered(alloc: Global, rows: &[(&str, &str)]) -> Result<String, AllocError> {
     let mut text = String::new(alloc);

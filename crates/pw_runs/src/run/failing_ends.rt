@@ -1,11 +1,13 @@
-//! Ends that fail once, and then work: the first failure ends the run, and what was passed before it stays.
+//! Ends that fail, once or for good: the first failure ends the run, and what was passed before it stays.
 
-use crate::ends::{Drip, Sink};
-use crate::sessions::{answered, run_over, said};
+use super::worked::SWITCHING;
+use crate::ends::{Drip, Failing, Sink};
+use crate::sessions::{answered, run_over, said, whole};
 use pw_info::{Output, Writing};
-use pw_refusals::worlds::WORLD;
-use pw_transcript::{Input, Reading, RunFault};
+use pw_refusals::worlds::{GENERAL, WORLD};
+use pw_transcript::{Input, Lines, Reading, RunFault};
 use std::alloc::Global;
+use std::process::Abort;
 use std::test::Fail;
 
 #[test]
@@ -18,7 +20,7 @@ fn a_failing_input_leaves_the_replies_to_ended_lines(rt: HostRuntime) -> Result<
         rt.alloc(),
         rt.alloc(),
         rt.alloc(),
-        WORLD,
+        GENERAL,
         &mut input,
         &mut output,
     )?;
@@ -30,7 +32,7 @@ fn a_failing_input_leaves_the_replies_to_ended_lines(rt: HostRuntime) -> Result<
     Ok(())
 }
 
-// What a run over the transcript comes to where the output fails at this byte: whether the run answers all, whether the output
+// What a run over the transcript comes to where the output fails once, at this byte: whether the run answers all, whether the output
 // failed, and what it took.
 fn taken_until(
     alloc: Global,
@@ -38,32 +40,10 @@ fn taken_until(
     breaks_at: usize,
 ) -> Result<(bool, bool, Vec<u8>), Fail> {
     let mut input = Reading::new(transcript.as_bytes());
-    let mut output = Writing::new(Sink {
-        text: Vec::new(alloc),
-        breaks_at,
-    });
+    let mut output = Writing::new(Sink::new(alloc, breaks_at, Failing::Once));
     let answer = run_over(alloc, alloc, alloc, WORLD, &mut input, &mut output)?;
     let failed = output.failed();
     Ok((answer.is_ok(), failed, output.into_writer().text))
-}
-
-#[test]
-fn a_failing_output_gets_a_front_of_the_replies(rt: HostRuntime) -> Result<(), Fail> {
-    let rows = [
-        ("ann tell x 1..2", "ok"),
-        ("bob ask x", "1..2"),
-        ("eve ask x", "refused 2 unknown user"),
-    ];
-    let transcript = said(rt.alloc(), &rows)?;
-    let wanted = answered(rt.alloc(), &rows)?;
-    let wanted = wanted.as_bytes();
-    for breaks_at in 0..=wanted.len() {
-        let (all, failed, text) = taken_until(rt.alloc(), transcript.as_str(), breaks_at)?;
-        assert_eq!(rt; all, breaks_at == wanted.len(), "at {breaks_at}");
-        assert_eq!(rt; failed, breaks_at < wanted.len(), "at {breaks_at}");
-        assert_eq!(rt; text.as_slice(), &wanted[..breaks_at], "at {breaks_at}");
-    }
-    Ok(())
 }
 
 // More replies than are held back at once.
@@ -75,8 +55,9 @@ fn many_replies_are_passed_on_or_a_front(rt: HostRuntime) -> Result<(), Fail> {
     let wanted = wanted.as_bytes();
     assert_eq!(rt; wanted.len(), 26_893);
     for breaks_at in [0, 1, 16_383, 16_384, 16_385, 26_892, 26_893, 26_894usize] {
-        let (all, _, text) = taken_until(rt.alloc(), transcript.as_str(), breaks_at)?;
+        let (all, failed, text) = taken_until(rt.alloc(), transcript.as_str(), breaks_at)?;
         assert_eq!(rt; all, breaks_at >= wanted.len(), "at {breaks_at}");
+        assert_eq!(rt; failed, !all, "at {breaks_at}");
         let front = &wanted[..breaks_at.min(wanted.len())];
         assert_eq!(rt; text.as_slice(), front, "at {breaks_at}");
     }
@@ -94,4 +75,169 @@ fn each_fault_has_its_text(rt: HostRuntime) -> Result<(), Fail> {
         assert_eq!(rt; fault.to_string(rt.alloc())?.as_str(), text);
     }
     Ok(())
+}
+
+// What a run came to that took and put one byte at a time.
+#[derive(Drop)]
+struct Dripped {
+    answer: Result<Lines, RunFault>,
+    // How many bytes the input gave, whether it failed, and whether it ended.
+    given: usize,
+    input_failed: bool,
+    input_ended: bool,
+    // Whether the output failed, and what it took.
+    output_failed: bool,
+    written: Vec<u8>,
+}
+
+// A run whose input fails at one byte, and its output at another.
+fn drip(
+    alloc: Global,
+    transcript: &str,
+    input_breaks_at: usize,
+    output_breaks_at: usize,
+    failing: Failing,
+) -> Result<Dripped, Fail> {
+    let mut input = Reading::new(Drip::failing(transcript, input_breaks_at, failing));
+    let mut output = Writing::new(Sink::new(alloc, output_breaks_at, failing));
+    let answer = run_over(alloc, alloc, alloc, GENERAL, &mut input, &mut output)?;
+    Ok(Dripped {
+        answer,
+        given: input.reader().given,
+        input_failed: input.failed(),
+        input_ended: input.ended(),
+        output_failed: output.failed(),
+        written: output.into_writer().text,
+    })
+}
+
+// How many lines end before this byte of the text.
+fn ended_before(text: &[u8], byte: usize) -> usize {
+    let front = &text[..byte.min(text.len())];
+    front.iter().filter(|it| **it == b'\n').count()
+}
+
+// That a run without a failure answers each line.
+fn answers_all<R: Abort + AllocGlobal>(rt: &R, run: &Dripped) -> Result<(), Fail> {
+    let wanted = answered(rt.alloc(), SWITCHING.rows)?;
+    let all = Lines {
+        lines: 17,
+        replies: 17,
+    };
+    assert_eq!(rt; run.answer, Ok(all));
+    assert_eq!(rt; run.written.as_slice(), wanted.as_bytes());
+    assert!(rt; run.input_ended && !run.input_failed && !run.output_failed);
+    Ok(())
+}
+
+// That a run whose input fails at this byte takes no more of it, and writes the replies to just the lines that ended before.
+fn answers_ended_lines<R: Abort + AllocGlobal>(
+    rt: &R,
+    transcript: &str,
+    run: &Dripped,
+    breaks_at: usize,
+) -> Result<(), Fail> {
+    let lines = ended_before(transcript.as_bytes(), breaks_at);
+    let rows = SWITCHING.rows.get(..lines).ok_or("there are more lines")?;
+    let wanted = answered(rt.alloc(), rows)?;
+    assert_eq!(rt; run.answer, Err(RunFault::Read), "at {breaks_at}");
+    assert_eq!(rt; run.written.as_slice(), wanted.as_bytes(), "at {breaks_at}");
+    assert_eq!(rt; run.given, breaks_at);
+    assert!(rt;
+        run.input_failed && !run.input_ended && !run.output_failed,
+        "at {breaks_at}"
+    );
+    Ok(())
+}
+
+// That it is so at each take, until a run has no failure: one take more than there are bytes gives the end.
+fn input_fails_at_each_take<R: Abort + AllocGlobal>(
+    rt: &R,
+    transcript: &str,
+    failing: Failing,
+) -> Result<(), Fail> {
+    for breaks_at in 0..=transcript.len() {
+        let run = drip(rt.alloc(), transcript, breaks_at, usize::MAX, failing)?;
+        answers_ended_lines(rt, transcript, &run, breaks_at)?;
+    }
+    let breaks_at = transcript.len().saturating_add(1);
+    let run = drip(rt.alloc(), transcript, breaks_at, usize::MAX, failing)?;
+    answers_all(rt, &run)
+}
+
+// That a run whose output fails at this byte writes the replies up to it, and has taken the line whose reply that is, and no more:
+// up to its line feed, or to the end of the input.
+fn writes_a_front<R: Abort>(
+    rt: &R,
+    transcript: &[u8],
+    wanted: &[u8],
+    run: &Dripped,
+    breaks_at: usize,
+) {
+    let front = &wanted[..breaks_at.min(wanted.len())];
+    assert_eq!(rt; run.answer, Err(RunFault::Write), "at {breaks_at}");
+    assert_eq!(rt; run.written.as_slice(), front, "at {breaks_at}");
+    assert!(rt; run.output_failed && !run.input_failed, "at {breaks_at}");
+    let taken = &transcript[..run.given.min(transcript.len())];
+    assert!(rt; run.input_ended || taken.ends_with(b"\n"), "at {breaks_at}");
+    let is_cut_off = run.input_ended && !taken.ends_with(b"\n");
+    let lines = ended_before(transcript, run.given).saturating_add(usize::from(is_cut_off));
+    assert_eq!(rt;
+        lines,
+        ended_before(wanted, breaks_at).saturating_add(1),
+        "at {breaks_at}"
+    );
+}
+
+// That it is so at each put, until a run has no failure.
+fn output_fails_at_each_put<R: Abort + AllocGlobal>(
+    rt: &R,
+    transcript: &str,
+    failing: Failing,
+) -> Result<(), Fail> {
+    let wanted = answered(rt.alloc(), SWITCHING.rows)?;
+    for breaks_at in 0..wanted.len() {
+        let run = drip(rt.alloc(), transcript, usize::MAX, breaks_at, failing)?;
+        writes_a_front(
+            rt,
+            transcript.as_bytes(),
+            wanted.as_bytes(),
+            &run,
+            breaks_at,
+        );
+    }
+    let run = drip(rt.alloc(), transcript, usize::MAX, wanted.len(), failing)?;
+    answers_all(rt, &run)
+}
+
+#[test]
+fn an_input_fails_at_each_take(rt: HostRuntime) -> Result<(), Fail> {
+    let cut_off = said(rt.alloc(), SWITCHING.rows)?;
+    let whole = whole(rt.alloc(), SWITCHING.rows)?;
+    input_fails_at_each_take(&rt, cut_off.as_str(), Failing::Once)?;
+    input_fails_at_each_take(&rt, whole.as_str(), Failing::Once)
+}
+
+#[test]
+fn an_input_fails_from_each_take_on(rt: HostRuntime) -> Result<(), Fail> {
+    let cut_off = said(rt.alloc(), SWITCHING.rows)?;
+    let whole = whole(rt.alloc(), SWITCHING.rows)?;
+    input_fails_at_each_take(&rt, cut_off.as_str(), Failing::ForGood)?;
+    input_fails_at_each_take(&rt, whole.as_str(), Failing::ForGood)
+}
+
+#[test]
+fn an_output_fails_at_each_put(rt: HostRuntime) -> Result<(), Fail> {
+    let cut_off = said(rt.alloc(), SWITCHING.rows)?;
+    let whole = whole(rt.alloc(), SWITCHING.rows)?;
+    output_fails_at_each_put(&rt, cut_off.as_str(), Failing::Once)?;
+    output_fails_at_each_put(&rt, whole.as_str(), Failing::Once)
+}
+
+#[test]
+fn an_output_fails_from_each_put_on(rt: HostRuntime) -> Result<(), Fail> {
+    let cut_off = said(rt.alloc(), SWITCHING.rows)?;
+    let whole = whole(rt.alloc(), SWITCHING.rows)?;
+    output_fails_at_each_put(&rt, cut_off.as_str(), Failing::ForGood)?;
+    output_fails_at_each_put(&rt, whole.as_str(), Failing::ForGood)
 }

@@ -1,6 +1,6 @@
 //! The longest line, the most lines and the most bytes that a run answers.
 
-use crate::ends::Repeated;
+use crate::ends::{Lined, Repeated};
 use crate::sessions::{answers, run_over};
 use pw_info::Writing;
 use pw_refusals::worlds::WORLD;
@@ -96,5 +96,34 @@ fn an_endless_input_is_cut_at_its_67108865th_byte(rt: HostRuntime) -> Result<(),
     assert_eq!(rt; answer, Err(RunFault::Limit));
     assert_eq!(rt; written.as_str(), "");
     assert_eq!(rt; left, u64::MAX - 67_108_865);
+    Ok(())
+}
+
+#[test]
+fn a_run_answers_65536_lines_of_1023_spaces(rt: HostRuntime) -> Result<(), Fail> {
+    let mut line = [b' '; 1024];
+    line[1023] = b'\n';
+    let all = Lines {
+        lines: 65_536,
+        replies: 0,
+    };
+    for (rest, wanted) in [("", Ok(all)), ("\n", Err(RunFault::Limit))] {
+        let mut input = Reading::new(Lined {
+            line: &line,
+            left: 65_536,
+            rest: rest.as_bytes(),
+        });
+        let mut output = Writing::new(Vec::new(rt.alloc()));
+        let answer = run_over(
+            rt.alloc(),
+            rt.alloc(),
+            rt.alloc(),
+            WORLD,
+            &mut input,
+            &mut output,
+        )?;
+        assert_eq!(rt; answer, wanted);
+        assert_eq!(rt; output.into_writer().len(), 0);
+    }
     Ok(())
 }

@@ -1,6 +1,6 @@
 //! An end that takes bytes: what is passed of a text, and where it fails.
 
-use crate::ends::Sink;
+use crate::ends::{Failing, Sink};
 use pw_info::{Failed, Output, Writing, put_all};
 use std::test::Fail;
 
@@ -9,10 +9,7 @@ fn passes_the_text_or_a_front(rt: HostRuntime) -> Result<(), Fail> {
     let text = b"one byte at a time";
     for breaks_at in 0..20usize {
         let breaks = breaks_at < text.len();
-        let mut output = Writing::new(Sink {
-            text: Vec::new(rt.alloc()),
-            breaks_at,
-        });
+        let mut output = Writing::new(Sink::new(rt.alloc(), breaks_at, Failing::Once));
         let answer = put_all(&mut output, text);
         assert_eq!(rt; answer.is_err(), breaks, "at {breaks_at}");
         assert_eq!(rt; output.failed(), breaks, "at {breaks_at}");
