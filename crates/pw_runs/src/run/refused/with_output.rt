@@ -1,0 +1,111 @@
+//! A growth refused and an output that fails, in one run: what is written is a front of what is written where the growth alone is
+//! refused.
+
+use super::super::worked::{COPYING, Session};
+use super::{Outcome, growths_of, run_with};
+use crate::ends::{Drip, Failing, Sink};
+use crate::sessions::{run_over, said};
+use pw_info::{Output, Writing};
+use pw_refusals::Refusing;
+use pw_transcript::{Reading, RunFault};
+use std::process::Abort;
+use std::test::Fail;
+
+// A growth that is refused, the byte at which the output fails, and how often it does.
+#[derive(Clone, Copy)]
+struct Fault {
+    growth: u64,
+    byte: usize,
+    failing: Failing,
+}
+
+// That a run over the session with this fault writes what the growth alone leaves to write, up to the byte.
+fn writes_a_front<R: Abort + AllocGlobal>(
+    rt: &R,
+    session: Session<'_>,
+    fault: Fault,
+    alone: &Outcome,
+) -> Result<(), Fail> {
+    let Fault {
+        growth,
+        byte,
+        failing,
+    } = fault;
+    let alloc = rt.alloc();
+    let (ample, refusing) = (Refusing::nth(alloc, 0), Refusing::nth(alloc, growth));
+    let transcript = said(alloc, session.rows)?;
+    let mut input = Reading::new(Drip::new(transcript.as_str(), usize::MAX));
+    let mut output = Writing::new(Sink::new(alloc, byte, failing));
+    let answer = run_over(
+        alloc,
+        &ample,
+        &refusing,
+        session.declaration,
+        &mut input,
+        &mut output,
+    )?;
+    let wanted = alone.written.as_bytes();
+    let fails = byte < wanted.len();
+    assert_eq!(rt; output.failed(), fails, "at {growth} and {byte}");
+    let ends = if fails {
+        Err(RunFault::Write)
+    } else {
+        alone.answer
+    };
+    assert_eq!(rt; answer, ends, "at {growth} and {byte}");
+    let front = &wanted[..byte.min(wanted.len())];
+    assert_eq!(rt;
+        output.into_writer().text.as_slice(),
+        front,
+        "at {growth} and {byte}"
+    );
+    assert_eq!(rt; ample.given_back(), ample.taken(), "at {growth} and {byte}");
+    assert_eq!(rt;
+        refusing.given_back(),
+        refusing.taken(),
+        "at {growth} and {byte}"
+    );
+    Ok(())
+}
+
+// That it is so wherever the output fails, until it does not.
+fn writes_each_front<R: Abort + AllocGlobal>(
+    rt: &R,
+    session: Session<'_>,
+    growth: u64,
+    failing: Failing,
+) -> Result<(), Fail> {
+    let alone = run_with(rt, session, &Refusing::nth(rt.alloc(), growth))?;
+    for byte in 0..=alone.written.len() {
+        let fault = Fault {
+            growth,
+            byte,
+            failing,
+        };
+        writes_a_front(rt, session, fault, &alone)?;
+    }
+    Ok(())
+}
+
+// That it is so whichever growth is refused.
+fn writes_fronts_whichever_growth<R: Abort + AllocGlobal>(
+    rt: &R,
+    session: Session<'_>,
+    failing: Failing,
+) -> Result<(), Fail> {
+    let growths = growths_of(rt, session, session.rows.len())?;
+    for growth in 1..growths.saturating_add(1) {
+        writes_each_front(rt, session, growth, failing)?;
+    }
+    Ok(())
+}
+
+#[test]
+fn a_growth_refused_and_an_output_that_fails_once(rt: HostRuntime) -> Result<(), Fail> {
+    writes_fronts_whichever_growth(&rt, COPYING, Failing::Once)
+}
+
+#[test]
+fn a_growth_refused_and_an_output_that_fails_for_good(rt: HostRuntime) -> Result<(), Fail> {
+    writes_fronts_whichever_growth(&rt, COPYING, Failing::ForGood)
+}
