@@ -19,20 +19,7 @@ macro_rules! world {
 /// Two interval cells.
 pub const WORLD: &str = world! { "cell x interval" "cell y interval" };
 
-/// A line of each form.
-pub const FORMS: &str = world! {
-    "set color red green blue"
-    "cell x interval"
-    "cell y interval"
-    "cell g color"
-    "compound less x interval y interval p bool"
-    "local s interval"
-    "sum x s y"
-    "at_most x y p"
-    "end"
-};
-
-/// Cells of each kind.
+/// Cells of each kind, and a compound with an inner cell.
 pub const GENERAL: &str = world! {
     "set color red green blue"
     "cell x interval"
