@@ -12,6 +12,8 @@ mod counting;
 #[cfg(test)]
 mod ends;
 #[cfg(test)]
+mod random;
+#[cfg(test)]
 mod run;
 #[cfg(test)]
 mod sessions;

@@ -1,0 +1,104 @@
+//! Random calls: commands of several users over one workbench, drawn from a seed, with growths of memory refused among them. Each
+//! reply is the answer by rounds, or a refusal for memory where a growth was refused during the command.
+//!
+//! A failing test names the seed, the line that differs and the growths that were refused, and prints the lines that it takes: the
+//! sequence ends at that line, and each command is left out without which some reply still differs. To replay a seed set `FIRST` to
+//! it and `DRAWN` to 1. To try more than the tests of every day do, raise `DRAWN`, and give the tests more time, as
+//! `rt try --test --seconds 3600` does.
+
+mod answers;
+mod chance;
+mod cutting;
+mod declared;
+mod drawing;
+mod entries;
+mod lines;
+mod playing;
+mod refusing;
+mod rounds;
+
+use chance::Random;
+use cutting::{cut_short, lines_given};
+use drawing::COMMANDS;
+use playing::{Counts, Outcome, Play, played};
+use refusing::Refused;
+use std::process::Abort;
+use std::test::Fail;
+
+// The first seed, and how many sequences are drawn from it on.
+const FIRST: u64 = 0;
+
+const DRAWN: u64 = 300;
+
+// Ends the test, with the seed and the sequence cut short, where a reply differs from the answer by rounds. Else what was compared;
+// nothing where that takes too many rounds.
+fn compare<R: Abort + AllocGlobal>(rt: &R, play: &Play<'_>) -> Result<Option<Counts>, Fail> {
+    let alloc = rt.alloc();
+    match played(alloc, play)? {
+        Outcome::Same(counts) => Ok(Some(counts)),
+        Outcome::TooLong => Ok(None),
+        Outcome::Differs(difference) => {
+            let cut = cut_short(alloc, play, difference)?;
+            let left = Play {
+                is_given: &cut.is_given,
+                ..*play
+            };
+            let lines = lines_given(alloc, &left)?;
+            let (seed, refused) = (play.seed, play.refused);
+            let line = cut.difference.line;
+            assert_eq!(rt;
+                cut.difference.given,
+                cut.difference.wanted,
+                "seed {seed}, line {line}, {refused:?}\n{lines}"
+            );
+            Ok(None)
+        }
+    }
+}
+
+// Compares a sequence with ample memory, and twice with growths refused.
+fn compare_drawn<R: Abort + AllocGlobal>(rt: &R, seed: u64) -> Result<Option<Counts>, Fail> {
+    let mut play = Play {
+        seed,
+        is_given: &[true; COMMANDS],
+        refused: Refused::none(),
+    };
+    let Some(counts) = compare(rt, &play)? else {
+        return Ok(None);
+    };
+    let mut all = counts;
+    let mut random = Random::at(seed, COMMANDS as u64);
+    for _ in 0..2 {
+        play.refused = Refused::drawn(&mut random, counts.growths_before, counts.growths);
+        if let Some(more) = compare(rt, &play)? {
+            all = all.and(&more);
+        }
+    }
+    Ok(Some(all))
+}
+
+// That enough was compared of each kind of answer.
+fn is_telling<R: Abort>(rt: &R, compared: u64, all: &Counts) {
+    let half = DRAWN / 2;
+    assert!(rt; compared >= half, "{compared} sequences were compared");
+    assert!(rt; u64::from(all.values) >= half, "{all:?}");
+    assert!(rt; u64::from(all.reasons) >= half, "{all:?}");
+    assert!(rt; u64::from(all.cells_in_conflict) >= half, "{all:?}");
+    assert!(rt; u64::from(all.lines_in_conflict) >= half / 2, "{all:?}");
+    assert!(rt; u64::from(all.contradictions) >= half / 2, "{all:?}");
+    assert!(rt; u64::from(all.refused) >= half, "{all:?}");
+}
+
+#[test]
+fn replies_are_the_answers_by_rounds(rt: HostRuntime) -> Result<(), Fail> {
+    let mut all = Counts::none();
+    let mut compared = 0u64;
+    for place in 0..DRAWN {
+        if let Some(counts) = compare_drawn(&rt, FIRST.saturating_add(place))? {
+            compared = compared.saturating_add(1);
+            all = all.and(&counts);
+        }
+    }
+    is_telling(&rt, compared, &all);
+    Ok(())
+}

@@ -1,0 +1,148 @@
+//! The answer to each command, from what the lines before it left, by rounds.
+
+use super::declared::{CELLS, PREMISE_COUNT};
+use super::drawing::{Action, Command};
+use super::entries::{Cell, Entries};
+use pw_info::Info;
+use pw_premises::PremiseSet;
+use pw_procs::Registry;
+use pw_sessions::{Refusal, Reply};
+use std::alloc::{AllocError, Allocator, Global};
+use std::test::Fail;
+
+/// An answer to a command.
+#[derive(Debug, PartialEq, Eq, Drop)]
+pub enum Answer {
+    Done,
+    Value(Info),
+    Because(Info, PremiseSet),
+    /// Contradictory declared cells, and lines of attachments that have a contradictory inner cell.
+    Listed(Vec<u32>, Vec<u32>),
+    Believes(PremiseSet),
+    NoMemory,
+    /// Refused for another reason.
+    Refused,
+    /// The line says no command.
+    Blank,
+}
+
+impl Answer {
+    /// The answer that a reply gives; none is given to a line that says no command.
+    pub fn given<A: Allocator>(
+        alloc: Global,
+        reply: &Option<Reply<A>>,
+    ) -> Result<Answer, AllocError> {
+        let Some(reply) = reply else {
+            return Ok(Answer::Blank);
+        };
+        Ok(match reply {
+            Reply::Done => Answer::Done,
+            Reply::Value(info) => Answer::Value(*info),
+            Reply::Because(info, reason) => Answer::Because(*info, *reason),
+            Reply::Listed(conflicts) => Answer::Listed(
+                Vec::from_slice(alloc, conflicts.cells())?,
+                Vec::from_slice(alloc, conflicts.lines())?,
+            ),
+            Reply::Believes(premises) => Answer::Believes(*premises),
+            Reply::Refused(Refusal::Memory) => Answer::NoMemory,
+            Reply::Refused(_) => Answer::Refused,
+        })
+    }
+}
+
+// Adds the line of the attachment that has this inner cell, where it is visible, unless it is the last.
+fn add_line(lines: &mut Vec<u32>, cell: &Cell, worldview: &PremiseSet) -> Result<(), AllocError> {
+    if let Some((line, support)) = &cell.attached
+        && support.is_subset(worldview)
+        && lines.last() != Some(line)
+    {
+        lines.push(*line)?;
+    }
+    Ok(())
+}
+
+impl Entries {
+    // The value of a cell in the worldview; none where that takes too many rounds.
+    fn value(
+        &self,
+        registry: &Registry,
+        worldview: &PremiseSet,
+        cell: usize,
+    ) -> Result<Option<Info>, Fail> {
+        let Some(values) = self.values(registry, worldview)? else {
+            return Ok(None);
+        };
+        Ok(Some(*values.get(cell).ok_or("no cell")?))
+    }
+
+    // The value of a cell in the worldview, and its reason: from the last declared premise to the first, each is taken out without
+    // which the value stays.
+    fn because(
+        &self,
+        registry: &Registry,
+        worldview: &PremiseSet,
+        cell: usize,
+    ) -> Result<Option<Answer>, Fail> {
+        let Some(value) = self.value(registry, worldview, cell)? else {
+            return Ok(None);
+        };
+        let mut left = *worldview;
+        for premise in (0..PREMISE_COUNT).rev() {
+            let smaller = left.without(premise);
+            let Some(without) = self.value(registry, &smaller, cell)? else {
+                return Ok(None);
+            };
+            if without == value {
+                left = smaller;
+            }
+        }
+        Ok(Some(Answer::Because(value, left)))
+    }
+
+    // What is contradictory in the worldview.
+    fn conflicts(
+        &self,
+        registry: &Registry,
+        worldview: &PremiseSet,
+    ) -> Result<Option<Answer>, Fail> {
+        let Some(values) = self.values(registry, worldview)? else {
+            return Ok(None);
+        };
+        let (mut cells, mut lines) = (Vec::new(self.alloc), Vec::new(self.alloc));
+        for (place, (cell, value)) in self.cells.iter().zip(values.iter()).enumerate() {
+            if !value.is_contradiction() {
+                continue;
+            }
+            if place < CELLS.len() {
+                cells.push(place as u32)?;
+            } else {
+                add_line(&mut lines, cell, worldview)?;
+            }
+        }
+        Ok(Some(Answer::Listed(cells, lines)))
+    }
+
+    /// The answer to a command from what the lines so far left; none where that takes too many rounds.
+    pub fn answer(&self, registry: &Registry, command: &Command) -> Result<Option<Answer>, Fail> {
+        let beliefs = self.beliefs(command.user);
+        match command.action {
+            Action::Beliefs => Ok(Some(Answer::Believes(beliefs))),
+            Action::Ask(cell) => {
+                let value = self.value(registry, &beliefs, cell)?;
+                Ok(value.map(Answer::Value))
+            }
+            Action::Why(cell) => self.because(registry, &beliefs, cell),
+            Action::Conflicts => self.conflicts(registry, &beliefs),
+            _ => Ok(Some(Answer::Done)),
+        }
+    }
+
+    /// Whether the command takes no memory, so that it is never refused.
+    pub fn takes_no_memory(&self, command: &Command) -> bool {
+        match command.action {
+            Action::Believe(_) | Action::Doubt(_) | Action::Beliefs => true,
+            Action::Ask(cell) => !self.is_written(cell, &self.beliefs(command.user)),
+            _ => false,
+        }
+    }
+}

@@ -1,0 +1,63 @@
+//! A sequence in which a reply differs, cut short: commands are left out one by one, the last first, as long as some reply differs.
+
+use super::drawing::COMMANDS;
+use super::lines::line_of;
+use super::playing::{Difference, Outcome, Play, played};
+use std::alloc::{AllocError, Global};
+use std::test::Fail;
+
+/// Which commands are left, and the reply that differs then.
+#[derive(Drop)]
+pub struct Cut {
+    pub is_given: Vec<bool>,
+    pub difference: Difference,
+}
+
+// Whether the command at each place stands at a line up to this one.
+fn given_until(alloc: Global, line: u32) -> Result<Vec<bool>, AllocError> {
+    let mut is_given = Vec::new(alloc);
+    for place in 0..COMMANDS {
+        is_given.push(place < line as usize)?;
+    }
+    Ok(is_given)
+}
+
+/// The sequence up to the reply that differs, without each command without which some reply still does.
+pub fn cut_short(alloc: Global, play: &Play<'_>, found: Difference) -> Result<Cut, Fail> {
+    let mut is_given = given_until(alloc, found.line)?;
+    let mut difference = found;
+    for place in (0..is_given.len()).rev() {
+        let mut fewer = Vec::from_slice(alloc, &is_given)?;
+        let Some(it) = fewer.get_mut(place) else {
+            continue;
+        };
+        *it = false;
+        let cut = Play {
+            seed: play.seed,
+            is_given: &fewer,
+            refused: play.refused,
+        };
+        if let Outcome::Differs(other) = played(alloc, &cut)? {
+            difference = other;
+            is_given = fewer;
+        }
+    }
+    Ok(Cut {
+        is_given,
+        difference,
+    })
+}
+
+/// The lines that a sequence gives, each with its number.
+pub fn lines_given(alloc: Global, play: &Play<'_>) -> Result<String, AllocError> {
+    let mut text = String::new(alloc);
+    let mut number = 0u32;
+    for place in 0..COMMANDS {
+        number = number.saturating_add(1);
+        if let Some(command) = play.command(place) {
+            let line = line_of(alloc, &command)?;
+            write!(text, "{number} {line}\n")?;
+        }
+    }
+    Ok(text)
+}
