@@ -145,6 +145,18 @@ pub trait OverProcedures {
         requires { AreOfProgram (procedures_in registry.now) };
 }
 
+// Makes a registry of the program's procedures, which it lends to a task; what the task answers. It may be out of memory.
+fn lend<'a, T: OverProcedures + Drop>(
+    alloc: Global,
+    list: Vec<Stored>,
+    task: T,
+) -> Result<T::Answer, Fault<'a>>
+    requires { AreOfProgram (procedures_of list.items) }
+{
+    let registry = registry_of(alloc, list)?;
+    Ok(task.over(&registry))
+}
+
 /// Makes the procedures and a registry of them, which it lends to a task; what the task answers.
 ///
 /// The memory for them may be wanting. What holds a boxed closure stays inside this function.
@@ -174,6 +186,5 @@ pub fn over_procedures<'a, T: OverProcedures + Drop>(
         body,
     )?;
     add_table!(alloc, &mut list);
-    let registry = registry_of(alloc, list)?;
-    Ok(task.over(&registry))
+    lend(alloc, list, task)
 }

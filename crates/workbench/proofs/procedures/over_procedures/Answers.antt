@@ -5,8 +5,8 @@ use Rattle.pw_procs.proofs.AddedProcedures.{procedures-added}
 use Rattle.workbench.proofs.Program.{HasTable, one_more}
 use Rattle.workbench.proofs.procedures.over_procedures.Goals as goal
 
-pub registry_of-requires : goal.registry_of-requires
-registry_of-requires g c =
+pub lend-requires : goal.lend-requires
+lend-requires g c =
     let sign = c.in_ok-add_by_rules.ensures.ok in
     let start : HasTable (procedure_of sign.added) [] (procedures_of c.add_by_rules.new.list.items) = (
       [],
