@@ -1,7 +1,9 @@
 //! Tests of reasons: a network is made, facts are told, and in a worldview it is asked why a cell has its value, and what is noted
 //! then.
 
+mod drawn;
 mod noting;
+mod questions;
 mod refused;
 mod rows;
 

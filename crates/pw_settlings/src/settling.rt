@@ -1,11 +1,12 @@
 //! Tests of settling: a network is made, facts are told, and worldviews are settled one after another over one store.
 
 mod calls;
-mod drawing;
+pub mod drawing;
+mod drawn_refused;
 mod going_on;
-mod growing;
+pub mod growing;
 mod refused;
-mod rounds;
+pub mod rounds;
 mod rows;
 mod stages;
 

@@ -45,8 +45,8 @@ fn compare<R: Abort + AllocGlobal>(
     Ok(Some(telling))
 }
 
-// How many of so many attachments, and of twelve tells, come at first, by a second stage, and in all.
-fn draw_parts(random: &mut Random, most: u64) -> [(usize, usize); 3] {
+/// How many of so many attachments, and of twelve tells, come at first, by a second stage, and in all.
+pub fn draw_parts(random: &mut Random, most: u64) -> [(usize, usize); 3] {
     let first = random.below(most);
     let left = most.saturating_sub(first);
     let second = first.saturating_add(random.below(left)).saturating_add(1);
@@ -58,8 +58,12 @@ fn draw_parts(random: &mut Random, most: u64) -> [(usize, usize); 3] {
     ]
 }
 
-// The first part in a first worldview; then another part in a further one, the rest, and nothing more.
-fn stages_of(first: PremiseSet, further: PremiseSet, parts: &[(usize, usize); 3]) -> [Stage; 4] {
+/// The first part in a first worldview; then another part in a further one, the rest, and nothing more.
+pub fn stages_of(
+    first: PremiseSet,
+    further: PremiseSet,
+    parts: &[(usize, usize); 3],
+) -> [Stage; 4] {
     [
         Stage::new(parts[0].0, parts[0].1, first),
         Stage::new(parts[1].0, parts[1].1, further),
