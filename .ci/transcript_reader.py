@@ -1,113 +1,159 @@
-"""A reader of transcripts in Python, by the rules of docs/FORMATS.md alone: the reply to each line where nothing is told, nothing
-attached and every premise believed. So what it says of a question holds only while no line before it was accepted that
-changes the answer.
+"""A reader of transcripts, by the rules of docs/FORMATS.md alone: the command that each line says, or its first refusal; and the
+replies, worked out from scratch. Where a value takes too many steps to follow, only what was told of its cell is known, and how
+values are written.
 """
-import re
+from collections import namedtuple
 
-from declaration_reader import SETS, lines_of, words_of
+from texts import Refused, has_wrong_byte, is_silent, lines_of, require, words_of
+from values import Network, meet
 
-MOST_IN_LINE = 1024
 REFUSALS = {
     10: "line too long", 1: "syntax", 2: "unknown user", 3: "unknown command", 4: "unknown cell", 6: "unknown procedure",
     8: "wrong information", 9: "wrong arguments", 5: "unknown premise", 7: "not your premise",
 }
-NUMBER = re.compile(rb"0|-?[1-9][0-9]*")
-RANGES = {b"interval": 1_000_000, b"exact": 1_000_000_000}
+MOST_IN_LINE = 1024
+WORDS = ("tell", "attach", "believe", "doubt", "beliefs", "ask", "why", "conflicts")
+# `rest` is the information of a tell, and the callable of an attachment.
+Command = namedtuple("Command", "user word cells premises rest")
 
 
-class Refused(Exception):
-    """The number of a refusal."""
+def read_words(user, word, *rest):
+    """The command of these words, if they fit its form."""
+    if word == "tell":
+        require(len(rest) == 2 or len(rest) > 3 and rest[2] == "under", 1)
+        return Command(user, word, rest[:1], rest[3:], rest[1])
+    if word == "attach":
+        name, *cells = rest or [""]
+        under = cells.index("under") if "under" in cells else len(cells)
+        require(under > 0 and under + 1 != len(cells), 1)
+        return Command(user, word, cells[:under], cells[under + 1 :], name)
+    if word in ("believe", "doubt"):
+        require(rest, 1)
+        return Command(user, word, [], rest, None)
+    require(word not in WORDS or len(rest) == (word in ("ask", "why")), 1)
+    return Command(user, word, rest, [], None)
 
 
-def refused(number, condition):
-    if condition:
-        raise Refused(number)
+def read_line(line, declared):
+    """The command of a line; its first refusal is raised."""
+    require(len(line) <= MOST_IN_LINE, 10)
+    words = words_of(line)
+    require(not has_wrong_byte(line) and len(words) > 1, 1)
+    command = read_words(*words)
+    require(command.user in declared.users, 2)
+    require(command.word in WORDS, 3)
+    require(all(cell in declared.cells for cell in command.cells), 4)
+    kinds = [declared.cells[cell] for cell in command.cells]
+    if command.word == "attach":
+        require(command.rest in declared.callables, 6)
+        require(declared.callables[command.rest].accepts(kinds), 9)
+    elif command.word == "tell":
+        require(kinds[0].read(command.rest) is not None, 8)
+    require(all(premise in declared.premises for premise in command.premises), 5)
+    if command.word in ("tell", "attach"):
+        require(all(declared.premises[premise] in (None, command.user) for premise in command.premises), 7)
+    return command
 
 
-class Command:
-    """The words of a command by what they stand for, if they fit its form."""
+def conflicts_text(cells, lines):
+    """How conflicts are written."""
+    return " ".join(["conflicts", *cells, *(f"line {number}" for number in lines)] if cells or lines else ["conflicts none"])
 
-    def __init__(self, word, rest):
-        self.word, self.cells, self.callable, self.info, self.premises = word, [], None, None, []
-        if word in (b"ask", b"why"):
-            self.cells, self.fits = rest, len(rest) == 1
-        elif word in (b"beliefs", b"conflicts"):
-            self.fits = not rest
-        elif word in (b"believe", b"doubt"):
-            self.premises, self.fits = rest, len(rest) > 0
-        elif word == b"tell":
-            self.cells, self.info, self.premises = rest[:1], rest[1:2], rest[3:]
-            self.fits = len(rest) == 2 or len(rest) > 3 and rest[2] == b"under"
-        elif word == b"attach":
-            self.callable, self.cells, self.fits = rest[:1], rest[1:], len(rest) > 1
-            if b"under" in self.cells:
-                at = self.cells.index(b"under")
-                self.cells, self.premises = self.cells[:at], self.cells[at + 1 :]
-                self.fits = self.cells != [] and self.premises != []
+
+class Session:
+    """What the lines of a transcript have left so far. A value is not followed further than by so many calls of procedures."""
+
+    def __init__(self, declared, most=2000):
+        self.declared = declared
+        self.beliefs = {user: set(declared.premises) for user in declared.users}
+        self.network = Network({cell: kind.nothing for cell, kind in declared.cells.items()}, most)
+
+    def ordered(self, premises):
+        return [premise for premise in self.declared.premises if premise in premises]
+
+    def names(self, premises):
+        return " ".join(self.ordered(premises)) or "none"
+
+    def answer(self, number, line):
+        """The reply to a line, which is then done: its parts, which ` because ` joins, None for one that takes too many calls."""
+        try:
+            command = read_line(line, self.declared)
+        except Refused as why:
+            return [f"refused {why} {REFUSALS[why.args[0]]}"]
+        beliefs = self.beliefs[command.user]
+        if command.word == "beliefs":
+            return [f"believes {self.names(beliefs)}"]
+        if command.word == "conflicts":
+            found = self.network.conflicts(beliefs)
+            return [None if found is None else conflicts_text(*found)]
+        if command.word not in ("ask", "why"):
+            self.do(number, command)
+            return ["ok"]
+        value = self.network.value(command.cells[0], beliefs)
+        parts = [None if value is None else self.declared.cells[command.cells[0]].written(value)]
+        if command.word == "why":
+            reason = self.network.reason(command.cells[0], self.ordered(beliefs))
+            parts.append(None if reason is None else self.names(reason))
+        return parts
+
+    def do(self, number, command):
+        """Does what a command says that is no question."""
+        support, inner = set(command.premises), {}
+        if command.word == "believe":
+            self.beliefs[command.user] |= support
+        elif command.word == "doubt":
+            self.beliefs[command.user] -= support
+        elif command.word == "tell":
+            cell = command.cells[0]
+            self.network.tell(cell, self.declared.cells[cell].read(command.rest), support)
         else:
-            self.word, self.fits = None, True
+            instances = self.declared.expanded(command.rest, command.cells, inner)
+            self.network.attach(number, instances, {cell: kind.nothing for cell, kind in inner.items()}, support)
 
-    def uses_premises(self):
-        return self.word in (b"tell", b"attach")
+    def may_be(self, command, text, reason="none"):
+        """Whether the parts of a reply to a question may be right, by what was told and what attachments write."""
+        beliefs = self.beliefs[command.user]
+        if command.word == "conflicts":
+            words = text.split(" ")[1:]
+            lines = [int(word) for word in words if word.isdecimal()]
+            cells = [word for word in words if not word.isdecimal() and word not in ("none", "line")]
+            return text == conflicts_text(cells, lines) and self.network.may_conflict(cells, lines, beliefs)
+        cell = command.cells[0]
+        kind, told = self.declared.cells[cell], self.network.told(cell, beliefs)
+        info, premises = kind.read(text), set(reason.split(" ")) - {"none"}
+        is_value = info is not None and text == kind.written(info) and meet(info, told) == info
+        is_reason = premises <= beliefs and reason == self.names(premises) and (text != "nothing" or not premises)
+        return is_value and is_reason
 
-
-def spells(word, kind, declaration):
-    """Whether a word spells an information of a kind."""
-    if word in (b"nothing", b"contradiction"):
-        return True
-    if kind not in RANGES:
-        members = {**SETS, **declaration.sets}[kind]
-        named = word[1:-1].split(b",")
-        return (
-            word[:1] == b"{" and word[-1:] == b"}" and set(named) <= set(members) and len(set(named)) == len(named)
-        )
-    ends = word.split(b"..")
-    if len(ends) > (2 if kind == b"interval" else 1) or not all(map(NUMBER.fullmatch, ends)):
-        return False
-    ends = list(map(int, ends))
-    return ends == sorted(ends) and all(abs(end) <= RANGES[kind] for end in ends)
-
-
-def refuse(user, command, declaration):
-    """Raises the first refusal of a command, if there is one."""
-    refused(1, not command.fits)
-    refused(2, user not in declaration.users)
-    refused(3, command.word is None)
-    refused(4, not set(command.cells) <= set(declaration.cells))
-    kinds = [declaration.cells[cell] for cell in command.cells]
-    if command.callable:
-        refused(6, command.callable[0] not in declaration.callables)
-        refused(9, not declaration.callables[command.callable[0]].accepts(kinds))
-    if command.info:
-        refused(8, not spells(command.info[0], kinds[0], declaration))
-    refused(5, not set(command.premises) <= set(declaration.premises))
-    if command.uses_premises():
-        refused(7, any(declaration.premises[premise] not in (None, user) for premise in command.premises))
+    def is_right(self, number, line, text):
+        """Whether the text may be the reply to a line, which is then done."""
+        parts, texts = self.answer(number, line), text.split(" because ", 1)
+        if len(parts) != len(texts) or any(part not in (None, given) for part, given in zip(parts, texts)):
+            return False
+        return None not in parts or self.may_be(read_line(line, self.declared), *texts)
 
 
-def reply_to(line, declaration):
-    """The reply to a line where nothing is told and every premise believed; None for none."""
-    try:
-        refused(10, len(line) > MOST_IN_LINE)
-        words = words_of(line)
-        refused(1, words is None)
-        if not words:
-            return None
-        refused(1, len(words) == 1)
-        command = Command(words[1], words[2:])
-        refuse(words[0], command, declaration)
-    except Refused as refusal:
-        return "refused {} {}".format(refusal, REFUSALS[refusal.args[0]])
-    answers = {
-        b"ask": "nothing", b"why": "nothing because none", b"conflicts": "conflicts none",
-        b"beliefs": " ".join(["believes", *(name.decode() for name in declaration.premises or [b"none"])]),
-    }
-    return answers.get(command.word, "ok")
+def lines_with_replies(transcript):
+    """The lines that get a reply, each with its number."""
+    lines = enumerate(lines_of(transcript), 1)
+    return [(number, line) for number, line in lines if len(line) > MOST_IN_LINE or not is_silent(line)]
 
 
-def replies_to(text, declaration):
-    """The replies to the lines of a transcript, each with its line's number."""
-    for number, line in enumerate(lines_of(text), 1):
-        reply = reply_to(line, declaration)
-        if reply is not None:
-            yield f"{number}: {reply}"
+def replies_to(transcript, declared):
+    """The replies to a transcript of which each value can be followed."""
+    session = Session(declared)
+    return [f"{number}: {' because '.join(session.answer(number, line))}" for number, line in lines_with_replies(transcript)]
+
+
+def wrong_replies(declared, transcript, out):
+    """What is wrong of the replies to a transcript; None where nothing is."""
+    session, replies, wanted = Session(declared), lines_of(out), lines_with_replies(transcript)
+    if out and out[-1] != "\n":
+        return f"the last reply is not ended: {replies[-1]!r}"
+    for (number, line), reply in zip(wanted, replies):
+        head, colon, text = reply.partition(": ")
+        if head + colon != f"{number}: ":
+            return f"the reply to line {number} is missing: {reply!r}"
+        if not session.is_right(number, line, text):
+            return f"line {number}, {line[:200]!r}: {text[:200]!r}"
+    return None if len(wanted) == len(replies) else f"{len(replies)} replies to {len(wanted)} lines"

@@ -1,4 +1,4 @@
-"""What procedures give and which values follow, worked out once more from what the manual says of them.
+"""What procedures give, and which values, reasons and conflicts follow, worked out from scratch from what the manual says of them.
 
 What is known of a number is the least and the greatest that it may be, or NONE where it may be none; what is known of a member is
 the set of those that it may be.
@@ -6,7 +6,6 @@ the set of those that it may be.
 import itertools
 from collections import deque
 
-RANGES = {"interval": 1_000_000, "exact": 1_000_000_000}
 NONE = (1, 0)
 SIGNS = [
     ((-1_000_000, -1), "neg"), ((0, 0), "zero"), ((1, 1_000_000), "pos"),
@@ -14,13 +13,13 @@ SIGNS = [
 ]
 
 
-def nothing(kind, members):
-    """All that the kind has."""
-    return (-RANGES[kind], RANGES[kind]) if members is None else frozenset(members)
+def contradiction(info):
+    """What is known of a value that may be none, where something else was known of it."""
+    return NONE if isinstance(info, tuple) else frozenset()
 
 
-def contradiction(members):
-    return NONE if members is None else frozenset()
+def is_empty(info):
+    return info in (NONE, frozenset())
 
 
 def meet(one, other):
@@ -69,7 +68,7 @@ def quotient(t, x):
 
 def equal(one, other):
     is_one = len(one) == 1 if isinstance(one, frozenset) else one[0] == one[1]
-    return truths(not (is_one and one == other), meet(one, other) not in (NONE, frozenset()))
+    return truths(not (is_one and one == other), not is_empty(meet(one, other)))
 
 
 def sign(x):
@@ -91,7 +90,7 @@ def given(name, inputs):
     if name == "switch":
         truth, info = inputs
         return (info if truth == {"true"} else None) if truth else False
-    return MEANINGS[name](*inputs) if NONE not in inputs and frozenset() not in inputs else False
+    return False if any(map(is_empty, inputs)) else MEANINGS[name](*inputs)
 
 
 def settled(values, instances, most):
@@ -113,10 +112,91 @@ def settled(values, instances, most):
         if info is None:
             continue
         old = values[output]
-        new = meet(old, info) if info is not False else contradiction(None if isinstance(old, tuple) else [])
+        new = meet(old, info) if info is not False else contradiction(old)
         if new != old:
             values[output] = new
             due = [reader for reader in readers.get(output, []) if reader not in waiting]
             agenda.extend(due)
             waiting.update(due)
     return values
+
+
+class Network:
+    """What is told and attached, each under some premises, and what follows from it where some premises are believed. `nothing` is
+    what is known of each declared cell at first. Values are not followed further than by `most` calls of procedures."""
+
+    def __init__(self, nothing, most):
+        self.declared, self.nothing, self.most = list(nothing), nothing, most
+        self.tells, self.attached, self.last = [], {}, (None, None)
+
+    def tell(self, cell, info, support):
+        self.tells.append((cell, info, support))
+
+    def attach(self, number, instances, inner, support):
+        """Attaches procedures by the line of this number; `inner` is what is known at first of their inner cells."""
+        self.nothing.update(inner)
+        self.attached[number] = (instances, {output for _, _, output in instances}, [*inner], support)
+
+    def visible(self, beliefs):
+        """The attachments that count under these beliefs: the number of the line, procedures, outputs and inner cells of each."""
+        return [(number, *parts) for number, (*parts, support) in self.attached.items() if support <= beliefs]
+
+    def told(self, cell, beliefs):
+        """What was told of the cell under these beliefs."""
+        value = self.nothing[cell]
+        for told, info, support in self.tells:
+            if told == cell and support <= beliefs:
+                value = meet(value, info)
+        return value
+
+    def is_written(self, cell, beliefs):
+        """Whether an attachment that counts under these beliefs writes the cell."""
+        return any(cell in written for _, written, _, support in self.attached.values() if support <= beliefs)
+
+    def values(self, beliefs):
+        """The values of all cells under these beliefs, from scratch; None where following them takes too many calls."""
+        key = frozenset(beliefs), len(self.tells), len(self.attached)
+        if self.most and self.last[0] != key:
+            values = dict(self.nothing)
+            for cell, info, support in self.tells:
+                if support <= beliefs:
+                    values[cell] = meet(values[cell], info)
+            instances = [instance for _, instances, _, _ in self.visible(beliefs) for instance in instances]
+            self.last = key, settled(values, instances, self.most)
+        return self.last[1]
+
+    def value(self, cell, beliefs):
+        """The value of the cell under these beliefs; None where following it takes too many calls."""
+        if not self.is_written(cell, beliefs):
+            return self.told(cell, beliefs)
+        values = self.values(beliefs)
+        return values and values[cell]
+
+    def reason(self, cell, premises):
+        """The believed premises that the value of the cell needs, found from the last to the first; None as for a value."""
+        needed, value = set(premises), self.value(cell, set(premises))
+        if value is None:
+            return None
+        for premise in reversed(premises):
+            without = self.value(cell, needed - {premise})
+            if without is None:
+                return None
+            if without == value:
+                needed.discard(premise)
+        return needed
+
+    def conflicts(self, beliefs):
+        """The contradictory declared cells, and the lines of attachments with a contradictory inner cell; None as for a value."""
+        values = self.values(beliefs)
+        if values is None:
+            return None
+        lines = [number for number, _, _, inner in self.visible(beliefs) if any(is_empty(values[cell]) for cell in inner)]
+        return [cell for cell in self.declared if is_empty(values[cell])], lines
+
+    def may_conflict(self, cells, lines, beliefs):
+        """Whether these may be the conflicts, by what was told and what attachments write."""
+        empty = {cell for cell in self.declared if is_empty(self.told(cell, beliefs))}
+        may_be = [cell for cell in self.declared if cell in empty or self.is_written(cell, beliefs)]
+        may_have = [number for number, _, _, inner in self.visible(beliefs) if inner]
+        is_listed = cells == [cell for cell in may_be if cell in cells] and empty <= set(cells)
+        return is_listed and lines == [number for number in may_have if number in lines]
