@@ -16,7 +16,7 @@ command-requires g c =
     let m : Matter = c.args.matter.now in
     let made : Workbench = workbench_by c.in-Ok-new.workbench in
     host.can_by made 1 c.attaching.result (host.attach d m c.requires empty) c.attaching.ensures
-    (host.can_attach d m c.requires empty made c.in-Ok-new.ensures)
+    (host.can_attach d m c.requires empty made c.in-Ok-new.ensures.left)
 
 pub command-requires-2 : goal.command-requires-2
 command-requires-2 g c =
@@ -24,7 +24,7 @@ command-requires-2 g c =
     let m : Matter = c.args.matter.now in
     let made : Workbench = workbench_by c.in-Ok-new.workbench in
     let one : Workbench = workbench_by c.command.new.self in
-    let left_1 = host.attached d m c.requires empty made one c.in-Ok-new.ensures
+    let left_1 = host.attached d m c.requires empty made one c.in-Ok-new.ensures.left
     (host.out_by made 1 c.attaching.result (host.attach d m c.requires empty) one reply.Done c.attaching.ensures c.in-Done.ensures.carried) in
     host.can_by one 2 c.telling.result (host.tell d m c.requires empty) c.telling.ensures (host.can_tell d m c.requires empty one left_1)
 
@@ -35,7 +35,7 @@ command-requires-3 g c =
     let made : Workbench = workbench_by c.in-Ok-new.workbench in
     let one : Workbench = workbench_by c.command.new.self in
     let two : Workbench = workbench_by c.command-2.new.self in
-    let left_1 = host.attached d m c.requires empty made one c.in-Ok-new.ensures
+    let left_1 = host.attached d m c.requires empty made one c.in-Ok-new.ensures.left
     (host.out_by made 1 c.attaching.result (host.attach d m c.requires empty) one reply.Done c.attaching.ensures c.in-Done.ensures.carried) in
     let left_2 = host.told d m c.requires empty one two left_1
     (host.out_by one 2 c.telling.result (host.tell d m c.requires empty) two reply.Done c.telling.ensures c.in-Done-command.ensures.carried) in
@@ -49,7 +49,7 @@ command-requires-4 g c =
     let one : Workbench = workbench_by c.command.new.self in
     let two : Workbench = workbench_by c.command-2.new.self in
     let three : Workbench = workbench_by c.command-3.new.self in
-    let left_1 = host.attached d m c.requires empty made one c.in-Ok-new.ensures
+    let left_1 = host.attached d m c.requires empty made one c.in-Ok-new.ensures.left
     (host.out_by made 1 c.attaching.result (host.attach d m c.requires empty) one reply.Done c.attaching.ensures c.in-Done.ensures.carried) in
     let left_2 = host.told d m c.requires empty one two left_1
     (host.out_by one 2 c.telling.result (host.tell d m c.requires empty) two reply.Done c.telling.ensures c.in-Done-command.ensures.carried) in
@@ -66,7 +66,7 @@ command-requires-5 g c =
     let two : Workbench = workbench_by c.command-2.new.self in
     let three : Workbench = workbench_by c.command-3.new.self in
     let four : Workbench = workbench_by c.command-4.new.self in
-    let left_1 = host.attached d m c.requires empty made one c.in-Ok-new.ensures
+    let left_1 = host.attached d m c.requires empty made one c.in-Ok-new.ensures.left
     (host.out_by made 1 c.attaching.result (host.attach d m c.requires empty) one reply.Done c.attaching.ensures c.in-Done.ensures.carried) in
     let left_2 = host.told d m c.requires empty one two left_1
     (host.out_by one 2 c.telling.result (host.tell d m c.requires empty) two reply.Done c.telling.ensures c.in-Done-command.ensures.carried) in
@@ -86,7 +86,7 @@ returns g c =
     let three : Workbench = workbench_by c.command-3.new.self in
     let four : Workbench = workbench_by c.command-4.new.self in
     let five : Workbench = workbench_by c.command-5.new.self in
-    let left_1 = host.attached d m c.requires empty made one c.in-Ok-new.ensures
+    let left_1 = host.attached d m c.requires empty made one c.in-Ok-new.ensures.left
     (host.out_by made 1 c.attaching.result (host.attach d m c.requires empty) one reply.Done c.attaching.ensures c.in-Done.ensures.carried) in
     let left_2 = host.told d m c.requires empty one two left_1
     (host.out_by one 2 c.telling.result (host.tell d m c.requires empty) two reply.Done c.telling.ensures c.in-Done-command.ensures.carried) in
