@@ -2,7 +2,7 @@ use Rattle.std.proofs.Common.{[], refl}
 use Rattle.pw_runs.proofs.counting.calls_of_each.Goals as goal
 
 pub loop-line-init : goal.loop-line-init
-loop-line-init g c = ([], refl, c.in_ok-workbench.ensures)
+loop-line-init g c = ([], refl, c.in_ok-workbench.ensures.left)
 
 pub calls_of-of_line-requires-clause-left : goal.calls_of-of_line-requires-clause-left
 calls_of-of_line-requires-clause-left g c = c.loop-line.invariant
