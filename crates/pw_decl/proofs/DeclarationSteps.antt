@@ -8,7 +8,7 @@ use Rattle.pw_procs.specs.Procedure.{Procedure}
 use Rattle.pw_decl.specs.declared.decl_fault.DeclFault.{DeclFault}
 use Rattle.pw_decl.specs.declared.decl_fault.DeclFaultKind.{DeclFaultKind}
 use Rattle.pw_decl.specs.declared.decl_fault.DeclFaultKind.TheVariants.{Memory}
-use Rattle.pw_decl.specs.declared.declaration.holding.Declaration.{Declaration}
+use Rattle.pw_decl.specs.declared.declaration.Declaration.{Declaration}
 use Rattle.pw_decl.specs.Declaration.{Declared, nothing_declared, SoFar, BeforeHeader, Outside, Inside}
 use Rattle.pw_decl.specs.Faults.{LineFault, TooLong, BadSyntax, Duplicate, Unknown, Wrong, TooMany, kind_of_fault, Declares, Leads, PreludeDeclares, SpellsDeclaration, IsUnfinished, IsFaultAmong, IsClearUpTo, IsFaultOfPrelude, IsFirstFault, IsToldAmong, IsClearInPrelude, HasNoFaultUpTo, IsTold, IsReadAs, IsFaultAt}
 use Rattle.pw_decl.specs.Fields.{declared_by}

@@ -7,7 +7,7 @@ use Rattle.pw_kinds.specs.Limits.{most_members}
 use Rattle.pw_kinds.specs.Places.{fewest_members}
 use Rattle.pw_procs.specs.Place.{place_of_name}
 use Rattle.pw_decl.specs.declared.decl_fault.DeclFault.{DeclFault}
-use Rattle.pw_decl.specs.declared.declaration.holding.Declaration.{Declaration}
+use Rattle.pw_decl.specs.declared.declaration.Declaration.{Declaration}
 use Rattle.pw_decl.specs.Fields.{declared_by}
 use Rattle.pw_decl.specs.declared.decl_fault.DeclFaultKind.{DeclFaultKind}
 use Rattle.pw_decl.specs.declared.decl_fault.DeclFaultKind.TheVariants.{Syntax, DuplicateName, UnknownName, WrongArguments, Limit, MissingEnd, Memory}

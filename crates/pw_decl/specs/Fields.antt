@@ -1,6 +1,6 @@
 -- What a declaration in the code declares.
 use Rattle.std.specs.Prelude.{◌≡◌, ℕ, List, Some, slice_get}
-use Rattle.pw_decl.specs.declared.declaration.holding.Declaration.{Declaration}
+use Rattle.pw_decl.specs.declared.declaration.Declaration.{Declaration}
 use Rattle.pw_decl.specs.Compound.{Compound, Step}
 use Rattle.pw_decl.specs.Declaration.{Declared}
 use Rattle.pw_decl.specs.Kept.{declared_from}

@@ -1,7 +1,7 @@
 -- What fields in the code keep of compounds and of declarations.
 use Rattle.std.specs.Prelude.{ℕ, List, Option, map}
 use Rattle.pw_info.specs.declared.kind.Kind.{Kind}
-use Rattle.pw_procs.specs.declared.registry.holding.Registry.{Registry}
+use Rattle.pw_procs.specs.declared.registry.Registry.{Registry}
 use Rattle.pw_procs.specs.Registry.{procedures_in}
 use Rattle.pw_procs.specs.Arguments.{cells_of}
 use Rattle.pw_decl.specs.declared.step.Step.{Step as StepKept}

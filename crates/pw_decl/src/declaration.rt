@@ -1,43 +1,69 @@
 //! What a declaration declares: users, premises, cells, set kinds and compounds, by name and by number.
-ghost use Rattle.std.specs.Prelude.{◌≡◌, ◌↔◌, ℕ, ◌+◌, ◌-◌, ◌++◌, ◌∷◌, [], All, None, Some, ◌<◌, ◌≤◌, IsTrue};
-ghost use Rattle.std.specs.Prelude.{length, vec_len, vec_capacity, is_some, slice_get, Contains, IfSome, IfNone, OnOk, OnErr};
+ghost use Rattle.std.specs.Prelude.{◌≡◌, ◌↔◌, ◌+◌, ◌-◌, [], All, None, Some, ◌<◌, ◌≤◌, IsTrue};
+ghost use Rattle.std.specs.Prelude.{length, slice_get, Contains, IfSome, IfNone};
 ghost use Rattle.pw_kinds.specs.Limits.{most_members};
-ghost use Rattle.pw_kinds.specs.Places.{IsSize};
-ghost use Rattle.pw_info.specs.declared.kind.Kind.{Kind as KindOfCell};
-ghost use Rattle.pw_info.specs.SetNames.{AreNames, IsNamed};
+ghost use Rattle.pw_info.specs.SetNames.{IsNamed};
 ghost use Rattle.pw_procs.specs.Arguments.{cells_of};
 ghost use Rattle.pw_procs.specs.Place.{place_of_name};
 ghost use Rattle.pw_procs.specs.Registry.{procedures_in};
 ghost use Rattle.pw_decl.specs.declared.step.Callable.TheVariants as callables;
-ghost use Rattle.pw_decl.specs.Compound.{kinds_at, size_of_callable, sizes_of};
-ghost use Rattle.pw_decl.specs.Declaration.{nothing_declared, owner_of, kind_at, kind_names, members_of, NamesKind, callable_named, IsCallable, Takes};
-ghost use Rattle.pw_decl.specs.Declaration.{with_user, with_premise, with_cell, with_set, with_compound};
+ghost use Rattle.pw_decl.specs.Compound.{kinds_at, sizes_of};
+ghost use Rattle.pw_decl.specs.Declaration.{nothing_declared, owner_of, kind_at, members_of, callable_named, IsCallable, Takes};
 ghost use Rattle.pw_decl.specs.Limits.{most_users, most_premises, most_cells, most_sets, most_compounds, most_inner_cells};
 ghost use Rattle.pw_decl.specs.Prelude.{prelude_compounds};
 ghost use Rattle.pw_decl.specs.Expansion.{inner_kinds_of};
-ghost use Rattle.pw_decl.specs.Fields.{declared_by, StepsAre};
-ghost use Rattle.pw_decl.specs.Flat.{AreCallsOf, IsFlattened};
-ghost use Rattle.pw_decl.specs.Kept.{compound_of, size_of, steps_of};
-ghost use Rattle.pw_decl.specs.Steps.Opened.{IsOpen, open_of};
-ghost use Rattle.pw_decl.specs.WellDeclared.{IsSmall, IsWellDeclared};
+ghost use Rattle.pw_decl.specs.Flat.{AreCallsOf};
+ghost use Rattle.pw_decl.specs.Kept.{steps_of};
+ghost use Rattle.pw_decl.specs.WellDeclared.{IsWellDeclared};
+ghost use Rattle.std.proofs.Props.{props};
+ghost use Rattle.pw_decl.specs.Props.{named_prop};
+ghost use Rattle.pw_decl.specs.Expansion.{inner_after};
+ghost use Rattle.pw_decl.specs.Flat.{calls_kept, calls_of, inner_kept};
+ghost use Rattle.pw_decl.specs.Kept.{compounds_of, declared_from, sizes_kept};
 
-use crate::built_in_sets::{BUILT_IN_SETS, built_in_kind, built_in_member, built_in_place};
-use crate::compound::{Compound, OpenCompound, Size};
+use crate::built_in_sets::{BUILT_IN_SETS, built_in_member, built_in_place};
+use crate::compound::Compound;
 use crate::flat_call::{FlatCall, MOST_CELLS};
 use crate::flattened::Flattened;
 use crate::prelude::PRELUDE_COMPOUNDS;
 use crate::step::{Callable, Step};
-use pw_info::{Kind, KindNames, SetKind};
+use pw_info::{Kind, KindNames};
 use pw_procs::{Arguments, NameTable, Registry, are_equal_kinds};
-use std::alloc::{AllocError, Allocator, Global};
+use std::alloc::{Allocator, Global};
 
-mod holding;
+mod additions;
 
-pub use holding::Declaration;
-
-const MOST_COMPOUNDS: usize = 64;
+/// Users, premises and cells, each numbered from 0 in the order of their lines, for each premise the user that it belongs to,
+/// if any, and for each cell its kind; and set kinds with the names of their members, numbered from 2 in the order of their
+/// lines, after `bool` and `sign`. There are at most 64 users, 64 premises, 1,024 cells and 32 declared set kinds, each of
+/// 2 to 64 members; and at most 64 compounds, numbered from 3 in the order of their lines, after `sum`, `product` and
+/// `conditional`. It is read over a registry, whose procedures compounds call.
+#[derive(Drop)]
+pub struct Declaration<'r, A: Allocator = Global> {
+    registry: &'r Registry,
+    users: NameTable<A>,
+    premises: NameTable<A>,
+    owners: Vec<Option<u8>, A>,
+    cells: NameTable<A>,
+    kinds: Vec<Kind, A>,
+    // Of the declared set kinds.
+    set_names: NameTable<A>,
+    // The names of the members of each declared set kind.
+    sets: Vec<NameTable<A>, A>,
+    compound_names: NameTable<A>,
+    compounds: Vec<Compound<A>, A>,
+    // What each compound becomes.
+    flattened: Vec<Flattened<A>, A>,
+    ghost well: { IsWellDeclared (declared_from registry.now users premises owners.items cells kinds.items
+        set_names sets.items compound_names compounds.items) } by { Prim.hlevel (props, named_prop) },
+    ghost sized: { sizes_kept compounds.items ≡ sizes_of (compounds_of compounds.items) },
+    ghost calls: { calls_kept flattened.items ≡ calls_of (compounds_of compounds.items) },
+    ghost inner: { inner_kept flattened.items ≡ inner_after [] (compounds_of compounds.items) },
+}
 
 impl<'r, A: Allocator + Copy> Declaration<'r, A> {
+    ghost use Rattle.pw_decl.specs.Fields.{declared_by, StepsAre};
+
     /// Nothing is declared. It takes no memory.
     pub(crate) fn new(alloc: A, registry: &'r Registry) -> Declaration<'r, A>
         ensures { declared_by result ≡ nothing_declared (procedures_in registry.entry.now) }
@@ -182,54 +208,6 @@ impl<'r, A: Allocator + Copy> Declaration<'r, A> {
         &self.flattened[usize::from(compound)].inner
     }
 
-    /// What the callable, which is there, expands to.
-    pub(crate) fn size(&self, callable: Callable) -> Size
-        requires { IsCallable (declared_by self.now) callable }
-        ensures size { size_of result ≡ size_of_callable (sizes_of
-            (declared_by self.now).compounds) callable }
-        ensures small { IsSmall (size_of result) }
-    {
-        match callable {
-            Callable::Stored(_) => Size {
-                instances: 1,
-                inner_cells: 0,
-            },
-            Callable::Compound(number) => self.compounds[usize::from(number)].size,
-        }
-    }
-
-    /// Whether there may be no compound more.
-    pub(crate) fn is_full(&self) -> bool
-        ensures { IsTrue result
-            ↔ (prelude_compounds + most_compounds ≤ length (declared_by self.now).compounds) }
-    {
-        self.compounds.len() >= PRELUDE_COMPOUNDS + MOST_COMPOUNDS
-    }
-
-    /// The kind of this name, if there is one: `interval`, `exact`, `bool`, `sign` or a declared set kind.
-    pub(crate) fn kind(&self, name: &[u8]) -> Option<Kind>
-        ensures some { IfSome result (λ kind. NamesKind (declared_by self.now) name.now kind) }
-        ensures known { IfSome result (λ kind. IsNamed (members_of (declared_by self.now)) kind) }
-        ensures none { IfNone result ((kind : KindOfCell)
-            → NamesKind (declared_by self.now) name.now kind → ⊥) }
-    {
-        if let Some(kind) = built_in_kind(name) {
-            return Some(kind);
-        }
-        let place = self.set_names.find(name)?;
-        Some(Kind::Members(SetKind {
-            number: BUILT_IN_SETS + place as u8,
-            size: self.sets[place].len() as u8,
-        }))
-    }
-
-    /// Whether there is a kind of this name.
-    pub(crate) fn has_kind(&self, name: &[u8]) -> bool
-        ensures { result ≡ is_some (place_of_name (kind_names (declared_by self.now)) name.now) }
-    {
-        built_in_kind(name).is_some() || self.set_names.find(name).is_some()
-    }
-
     /// The number of the user of this name, if there is one.
     pub fn user(&self, name: &[u8]) -> Option<u8>
         ensures number { result ≡ place_of_name (declared_by self.now).users name.now }
@@ -313,92 +291,10 @@ impl<'r, A: Allocator + Copy> Declaration<'r, A> {
     {
         self.kinds[cell as usize]
     }
-
-    /// Adds a user. It fails only for want of memory, and then nothing changes.
-    pub(crate) fn add_user(&mut self, name: &str) -> Result<(), AllocError>
-        requires fresh { place_of_name (declared_by self.old).users name.now ≡ None }
-        requires room { length (declared_by self.old).users < most_users }
-        ensures ok { OnOk result ((declared_by self.new) ≡ with_user
-            (declared_by self.old) name.now) }
-        ensures err { OnErr result ((declared_by self.new) ≡ (declared_by self.old)) }
-    {
-        self.users.add(name)?;
-        Ok(())
-    }
-
-    /// Adds a premise, which belongs to this user, if any. It fails only for want of memory, and then nothing changes.
-    pub(crate) fn add_premise(&mut self, name: &str, owner: Option<u8>) -> Result<(), AllocError>
-        requires fresh { place_of_name (declared_by self.old).premises name.now ≡ None }
-        requires room { length (declared_by self.old).premises < most_premises }
-        requires user { IfSome owner (λ user. user < length (declared_by self.old).users) }
-        ensures ok { OnOk result ((declared_by self.new) ≡ with_premise
-            (declared_by self.old) name.now owner) }
-        ensures err { OnErr result ((declared_by self.new) ≡ (declared_by self.old)) }
-    {
-        self.owners.reserve(1)?;
-        self.premises.add(name)?;
-        self.owners.push(owner).unwrap();
-        Ok(())
-    }
-
-    /// Adds a cell of this kind. It fails only for want of memory, and then nothing changes.
-    pub(crate) fn add_cell(&mut self, name: &str, kind: Kind) -> Result<(), AllocError>
-        requires fresh { place_of_name (declared_by self.old).cells name.now ≡ None }
-        requires room { length (declared_by self.old).cells < most_cells }
-        requires known { IsNamed (members_of (declared_by self.old)) kind }
-        ensures ok { OnOk result ((declared_by self.new) ≡ with_cell
-            (declared_by self.old) name.now kind) }
-        ensures err { OnErr result ((declared_by self.new) ≡ (declared_by self.old)) }
-    {
-        self.kinds.reserve(1)?;
-        self.cells.add(name)?;
-        self.kinds.push(kind).unwrap();
-        Ok(())
-    }
-
-    /// Adds a set kind with these members, 2 to 64. It fails only for want of memory, and then nothing changes.
-    pub(crate) fn add_set(&mut self, name: &str, members: NameTable<A>) -> Result<(), AllocError>
-        requires fresh { place_of_name (kind_names (declared_by self.old)) name.now ≡ None }
-        requires room { length (declared_by self.old).sets < most_sets }
-        requires size { IsSize (length members) }
-        requires names { AreNames members }
-        ensures ok { OnOk result ((declared_by self.new) ≡ with_set
-            (declared_by self.old) name.now members) }
-        ensures err { OnErr result ((declared_by self.new) ≡ (declared_by self.old)) }
-    {
-        self.sets.reserve(1)?;
-        self.set_names.add(name)?;
-        self.sets.push(members).unwrap();
-        Ok(())
-    }
-
-    /// Adds an open compound, which ends, with what it becomes. It fails only for want of memory, and then nothing changes.
-    pub(crate) fn add_compound(
-        &mut self,
-        opened: OpenCompound<A>,
-        flattened: Flattened<A>,
-    ) -> Result<(), AllocError>
-        requires kept { IsOpen (declared_by self.old) opened }
-        requires flat { IsFlattened (declared_by self.old).compounds
-            (compound_of opened.compound) flattened }
-        ensures ok { OnOk result ((declared_by self.new) ≡ with_compound (declared_by self.old)
-            (open_of opened).name (open_of opened).compound) }
-        ensures err { OnErr result ((declared_by self.new) ≡ (declared_by self.old)) }
-    {
-        let name = opened.name.as_str();
-        add_compound_name(
-            &mut self.compound_names,
-            name,
-            &mut self.compounds,
-            &mut self.flattened,
-        )?;
-        self.compounds.push(opened.compound).unwrap();
-        self.flattened.push(flattened).unwrap();
-        Ok(())
-    }
 }
 
 impl<A: Allocator + Copy> KindNames for Declaration<'_, A> {
+
     ghost members = { λ d. members_of (declared_by d) };
 
     fn member(&self, set: u8, place: u8) -> &str {
@@ -419,27 +315,6 @@ impl<A: Allocator + Copy> KindNames for Declaration<'_, A> {
         }
         place_in(&sets[declared], name)
     }
-}
-
-// Adds the name of a compound, and makes room for the compound and for what it becomes. Where it fails, no name is added.
-fn add_compound_name<A: Allocator + Copy>(
-    names: &mut NameTable<A>,
-    name: &str,
-    compounds: &mut Vec<Compound<A>, A>,
-    flattened: &mut Vec<Flattened<A>, A>,
-) -> Result<(), AllocError>
-    requires { place_of_name names.old name.now ≡ None }
-    ensures ok { OnOk result (names.new ≡ names.old ++ name.now ∷ []) }
-    ensures err { OnErr result (names.new ≡ names.old) }
-    ensures compounds { compounds.new.items ≡ compounds.old.items }
-    ensures flattened { flattened.new.items ≡ flattened.old.items }
-    ensures room { OnOk result (vec_len compounds.new < vec_capacity compounds.new) }
-    ensures room_flattened { OnOk result (vec_len flattened.new < vec_capacity flattened.new) }
-{
-    compounds.reserve(1)?;
-    flattened.reserve(1)?;
-    names.add(name)?;
-    Ok(())
 }
 
 // The place of the name in a list of at most 64 names.

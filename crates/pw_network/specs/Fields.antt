@@ -1,6 +1,6 @@
 -- What a network in the code is.
 use Rattle.pw_decl.specs.Fields.{declared_by}
-use Rattle.pw_network.specs.declared.network.holding.Network.{Network as NetworkKept}
+use Rattle.pw_network.specs.declared.network.Network.{Network as NetworkKept}
 use Rattle.pw_network.specs.Kept.{network_from}
 use Rattle.pw_network.specs.Network.{Network}
 

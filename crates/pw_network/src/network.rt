@@ -8,15 +8,22 @@ ghost use Rattle.pw_decl.specs.Flat.{AreCallsOf};
 ghost use Rattle.pw_decl.specs.Limits.{most_inner_cells};
 ghost use Rattle.pw_decl.specs.Declaration.{IsCallable};
 ghost use Rattle.pw_network.specs.declared.network_fault.NetworkFault.TheVariants as faults;
-ghost use Rattle.pw_network.specs.Fields.{network_by};
 ghost use Rattle.pw_network.specs.Kept.{attached_of};
 ghost use Rattle.pw_network.specs.Limits.{most_cells_in, most_lines};
 ghost use Rattle.pw_network.specs.Network.{bare, cells_in, kind_in, origin_in, with_attached};
 ghost use Rattle.pw_network.specs.Network.{AreDeclared, InstancesFit, InstancesStay, LinesInOrder};
 ghost use Rattle.pw_network.specs.Network.{MayAttach, TakesCells};
 ghost use Rattle.pw_network.specs.Readers.{readers_of};
+ghost use Rattle.std.proofs.Props.{props};
+ghost use Rattle.std.specs.Prelude.{vec_len};
+ghost use Rattle.pw_decl.specs.Props.{named_prop};
+ghost use Rattle.pw_network.specs.Kept.{network_from};
+ghost use Rattle.pw_network.specs.Network.{IsWellNetwork};
+ghost use Rattle.pw_network.specs.ReaderLists.{reading_of};
+ghost use Rattle.pw_network.specs.Readers.{AreReaders};
 
 use crate::attaching::{append_inner, append_instance, append_instances};
+use crate::inner_cell::InnerCell;
 use crate::instance::{Instance, MOST_INPUTS};
 use crate::network_fault::NetworkFault;
 use crate::reader_lists::ReaderLists;
@@ -27,11 +34,27 @@ use pw_premises::PremiseSet;
 use pw_procs::Arguments;
 use std::alloc::{AllocError, Allocator, Global};
 
-mod holding;
-
-pub use holding::Network;
+/// The cells of a declaration, after them inner cells, which attachments made for themselves, and the instances between
+/// them, in the order of the attachments.
+#[derive(Drop)]
+pub struct Network<'d, 'r, A: Allocator = Global> {
+    declaration: &'d Declaration<'r, A>,
+    inner: Vec<InnerCell, A>,
+    instances: Vec<Instance, A>,
+    // The numbers of those that read each cell.
+    lists: ReaderLists<A>,
+    // The line of the last attachment, 0 before the first.
+    last_line: u32,
+    ghost well: { IsWellNetwork (network_from (declared_by declaration.now) inner.items instances.items
+        last_line) } by { Prim.hlevel (props, named_prop) },
+    ghost cells: { vec_len lists.ends
+        ≡ cells_in (network_from (declared_by declaration.now) inner.items instances.items last_line) },
+    ghost readers: { AreReaders (map reading_of lists.links.items) (map attached_of instances.items) } by { Prim.hlevel props },
+}
 
 impl<'d, 'r, A: Allocator + Copy> Network<'d, 'r, A> {
+    ghost use Rattle.pw_network.specs.Fields.{network_by};
+
     /// The cells of the declaration, and nothing attached. It may fail for want of memory.
     pub fn new(
         alloc: A,

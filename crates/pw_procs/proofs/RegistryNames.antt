@@ -13,8 +13,8 @@ use Rattle.pw_kinds.proofs.Order.{true_both, not_both}
 use Rattle.pw_info.specs.Name.{is_name}
 use Rattle.pw_procs.specs.Place.{place_of_name}
 use Rattle.pw_procs.specs.Registering.{taken_names, IsFaultAfter, AreFreeBelow, AreRegistered, IsRegistryFault}
-use Rattle.pw_procs.specs.declared.registry.fault.RegistryFault.{RegistryFault}
-use Rattle.pw_procs.specs.declared.registry.fault.RegistryFault.TheVariants.{DuplicateName, BadName, TooMany, Memory}
+use Rattle.pw_procs.specs.declared.registry.RegistryFault.{RegistryFault}
+use Rattle.pw_procs.specs.declared.registry.RegistryFault.TheVariants.{DuplicateName, BadName, TooMany, Memory}
 
 -- the name of the item at a place
 name_at : {K : Type 0} (f : K → List ℕ) (xs : List K) (i : ℕ) (x : K) → i < length xs → x ≡ get_or xs i x → slice_get (map f xs) i ≡ Some (f x)

@@ -1,8 +1,8 @@
 -- Which lists of procedures make a registry, and what is wrong with the others.
 use Rattle.std.specs.Prelude.{◌≡◌, ◌<◌, ◌≤◌, ◌⊎◌, ℕ, List, [], ◌∷◌, codes, length, take, slice_get, Some, false, Contains}
 use Rattle.pw_info.specs.Name.{is_name}
-use Rattle.pw_procs.specs.declared.registry.fault.RegistryFault.{RegistryFault}
-use Rattle.pw_procs.specs.declared.registry.fault.RegistryFault.TheVariants.{DuplicateName, BadName, TooMany, Memory}
+use Rattle.pw_procs.specs.declared.registry.RegistryFault.{RegistryFault}
+use Rattle.pw_procs.specs.declared.registry.RegistryFault.TheVariants.{DuplicateName, BadName, TooMany, Memory}
 
 -- the most procedures that a registry may have
 abbrev pub most_procedures : ℕ

@@ -1,6 +1,6 @@
 -- The procedures of a registry.
 use Rattle.std.specs.Prelude.{ℕ, List}
-use Rattle.pw_procs.specs.declared.registry.holding.Registry.{Registry}
+use Rattle.pw_procs.specs.declared.registry.Registry.{Registry}
 use Rattle.pw_procs.specs.Procedure.{Procedure, procedures_of, names_of}
 
 -- the procedures, in the order of their numbers

@@ -7,8 +7,8 @@ ghost use Rattle.pw_info.specs.Information.{nothing, contradiction, IsContradict
 ghost use Rattle.pw_procs.specs.declared.rule.Rule.{Rule};
 ghost use Rattle.pw_procs.specs.declared.slot.Slot.{Slot};
 ghost use Rattle.pw_procs.specs.declared.signature.Signature.{Signature};
-ghost use Rattle.pw_procs.specs.declared.registry.fault.RegistryFault.{RegistryFault};
-ghost use Rattle.pw_procs.specs.declared.registry.fault.RegistryFault.TheVariants.{Memory};
+ghost use Rattle.pw_procs.specs.declared.registry.RegistryFault.{RegistryFault};
+ghost use Rattle.pw_procs.specs.declared.registry.RegistryFault.TheVariants.{Memory};
 ghost use Rattle.pw_procs.specs.declared.meaning.Meaning.{Meaning};
 ghost use Rattle.pw_procs.specs.declared.meaning.Meaning.TheVariants.{Adder, Subtractor, Multiplier, Squarer, Divider, Switch};
 ghost use Rattle.pw_procs.specs.Signature.{Accepts, AcceptsApart, IsOfOutputKind};

@@ -2,7 +2,6 @@
 ghost use Rattle.std.specs.Prelude.{◌≡◌, ◌↔◌, ◌<◌, length, slice_get, Some, IsTrue, IfOk, IfErr, IfSome, IfNone, Contains};
 ghost use Rattle.pw_procs.specs.Place.{place_of_name};
 ghost use Rattle.pw_procs.specs.Procedure.{procedure_of, procedures_of, stored_names};
-ghost use Rattle.pw_procs.specs.Registry.{procedures_in, names_in};
 ghost use Rattle.pw_procs.specs.Registering.{IsBadName, IsFaultAfter, IsFaultlessAfter, AreRegistered, IsRegistryFault};
 
 use crate::name_table::NameTable;
@@ -10,13 +9,29 @@ use crate::stored::Stored;
 use pw_info::is_name;
 use std::alloc::{AllocError, Allocator, Global};
 
-mod fault;
-mod holding;
-
-pub use fault::RegistryFault;
-pub use holding::Registry;
-
 const MOST_PROCEDURES: usize = 64;
+
+/// Why a list of procedures makes no registry, with the number of each fault.
+#[derive(Clone, Copy, Debug, PartialEq, Eq)]
+pub enum RegistryFault {
+    /// 1: an earlier procedure has the name.
+    DuplicateName,
+    /// 2: no procedure may have the name: it is no name, or one of `sum`, `product` and `conditional`.
+    BadName,
+    /// 3: there are more than 64.
+    TooMany,
+    /// 4: a growth was refused.
+    Memory,
+}
+
+/// Procedures under names of their own, each with a number, from 0 in the order of the list.
+#[derive(Drop)]
+pub struct Registry<A: Allocator = Global> {
+    entries: Vec<Stored>,
+    names: NameTable<A>,
+    ghost named: { names ≡ stored_names entries.items },
+    ghost registered: { AreRegistered (stored_names entries.items) },
+}
 
 // Whether no procedure may have this name.
 fn is_bad_name(name: &[u8]) -> bool
@@ -83,6 +98,8 @@ fn names_of<A: Allocator + Copy>(alloc: A, entries: &[Stored]) -> Result<NameTab
 }
 
 impl<A: Allocator + Copy> Registry<A> {
+    ghost use Rattle.pw_procs.specs.Registry.{procedures_in, names_in};
+
     /// The registry of these procedures: at most 64, each under a name that is free for a procedure, no two under one.
     /// Otherwise the list is handed back with the first thing that is wrong: too many, then, from the first on, a bad
     /// name or one that an earlier procedure has, and want of memory last.

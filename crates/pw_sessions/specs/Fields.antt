@@ -1,6 +1,6 @@
 -- What a workbench in the code is.
 use Rattle.pw_network.specs.Fields.{network_by}
-use Rattle.pw_sessions.specs.declared.workbench.holding.Workbench.{Workbench as WorkbenchKept}
+use Rattle.pw_sessions.specs.declared.workbench.Workbench.{Workbench as WorkbenchKept}
 use Rattle.pw_sessions.specs.Workbench.{Workbench}
 
 -- its network, its store, what was noted, the beliefs and the last sessions of its users, and the calls of the last command

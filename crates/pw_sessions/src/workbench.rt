@@ -35,17 +35,32 @@ use pw_network::Network;
 use pw_premises::PremiseSet;
 use pw_procs::Arguments;
 use pw_reasons::Nogoods;
-use std::alloc::{AllocError, Allocator};
+use std::alloc::{AllocError, Allocator, Global};
 
 // The most inner cells that an attachment makes.
 const MOST_INNER_CELLS: u32 = 256;
 
-mod holding;
 mod questions;
 mod session;
 
-pub use holding::Workbench;
 use session::Session;
+
+/// What earlier lines left: the network, the facts that were told of its cells with those that were derived from them, and what
+/// each user believes now. Users and cells go by their numbers, from 0.
+#[derive(Drop)]
+pub struct Workbench<'d, 'r, A: Allocator = Global> {
+    network: Network<'d, 'r, A>,
+    // It has the cells of the network, and keeps nothing that does not follow.
+    store: CellStore<A>,
+    // Sets of premises that were found to contradict themselves, by whomsoever.
+    nogoods: Nogoods<A>,
+    // Of each user, by number.
+    beliefs: Vec<PremiseSet, A>,
+    // Of each user, by number, what the last question found; none before the first, and after a refusal. Its values still fit.
+    sessions: Vec<Option<Session<A>>, A>,
+    // How often the last command's own settling called procedures.
+    calls: u128,
+}
 
 // The kinds of the inner cells that the callable makes.
 fn inner_kinds<'a, A: Allocator + Copy>(

@@ -1,6 +1,6 @@
 -- What was declared so far, as the code keeps it.
 use Rattle.pw_decl.specs.declared.compound.OpenCompound.{OpenCompound as OpenCompoundKept}
-use Rattle.pw_decl.specs.declared.declaration.holding.Declaration.{Declaration}
+use Rattle.pw_decl.specs.declared.declaration.Declaration.{Declaration}
 use Rattle.pw_decl.specs.declared.place.Place.{Place}
 use Rattle.pw_decl.specs.declared.place.Place.TheVariants as places
 use Rattle.pw_decl.specs.Declaration.{Declared, SoFar, BeforeHeader, Outside, Inside}

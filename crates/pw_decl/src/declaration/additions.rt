@@ -1,0 +1,184 @@
+//! What the reader of a text asks of a declaration so far, and what it adds to it.
+ghost use Rattle.std.specs.Prelude.{◌≡◌, ◌↔◌, ◌+◌, ◌++◌, ◌∷◌, [], None, Some, ◌<◌, ◌≤◌, IsTrue};
+ghost use Rattle.std.specs.Prelude.{length, vec_len, vec_capacity, is_some, IfSome, IfNone, OnOk, OnErr};
+ghost use Rattle.pw_kinds.specs.Places.{IsSize};
+ghost use Rattle.pw_info.specs.declared.kind.Kind.{Kind as KindOfCell};
+ghost use Rattle.pw_info.specs.SetNames.{AreNames, IsNamed};
+ghost use Rattle.pw_procs.specs.Place.{place_of_name};
+ghost use Rattle.pw_decl.specs.Compound.{size_of_callable, sizes_of};
+ghost use Rattle.pw_decl.specs.Declaration.{kind_names, members_of, NamesKind, IsCallable};
+ghost use Rattle.pw_decl.specs.Declaration.{with_user, with_premise, with_cell, with_set, with_compound};
+ghost use Rattle.pw_decl.specs.Limits.{most_users, most_premises, most_cells, most_sets, most_compounds};
+ghost use Rattle.pw_decl.specs.Prelude.{prelude_compounds};
+ghost use Rattle.pw_decl.specs.Flat.{IsFlattened};
+ghost use Rattle.pw_decl.specs.Kept.{compound_of, size_of};
+ghost use Rattle.pw_decl.specs.Steps.Opened.{IsOpen, open_of};
+ghost use Rattle.pw_decl.specs.WellDeclared.{IsSmall};
+
+use super::Declaration;
+use crate::built_in_sets::{BUILT_IN_SETS, built_in_kind};
+use crate::compound::{Compound, OpenCompound, Size};
+use crate::flattened::Flattened;
+use crate::prelude::PRELUDE_COMPOUNDS;
+use crate::step::Callable;
+use pw_info::{Kind, SetKind};
+use pw_procs::NameTable;
+use std::alloc::{AllocError, Allocator};
+
+const MOST_COMPOUNDS: usize = 64;
+
+// Adds the name of a compound, and makes room for the compound and for what it becomes. Where it fails, no name is added.
+fn add_compound_name<A: Allocator + Copy>(
+    names: &mut NameTable<A>,
+    name: &str,
+    compounds: &mut Vec<Compound<A>, A>,
+    flattened: &mut Vec<Flattened<A>, A>,
+) -> Result<(), AllocError>
+    requires { place_of_name names.old name.now ≡ None }
+    ensures ok { OnOk result (names.new ≡ names.old ++ name.now ∷ []) }
+    ensures err { OnErr result (names.new ≡ names.old) }
+    ensures compounds { compounds.new.items ≡ compounds.old.items }
+    ensures flattened { flattened.new.items ≡ flattened.old.items }
+    ensures room { OnOk result (vec_len compounds.new < vec_capacity compounds.new) }
+    ensures room_flattened { OnOk result (vec_len flattened.new < vec_capacity flattened.new) }
+{
+    compounds.reserve(1)?;
+    flattened.reserve(1)?;
+    names.add(name)?;
+    Ok(())
+}
+
+impl<A: Allocator + Copy> Declaration<'_, A> {
+    ghost use Rattle.pw_decl.specs.Fields.{declared_by};
+
+    /// What the callable, which is there, expands to.
+    pub(crate) fn size(&self, callable: Callable) -> Size
+        requires { IsCallable (declared_by self.now) callable }
+        ensures size { size_of result ≡ size_of_callable (sizes_of
+            (declared_by self.now).compounds) callable }
+        ensures small { IsSmall (size_of result) }
+    {
+        match callable {
+            Callable::Stored(_) => Size {
+                instances: 1,
+                inner_cells: 0,
+            },
+            Callable::Compound(number) => self.compounds[usize::from(number)].size,
+        }
+    }
+
+    /// Whether there may be no compound more.
+    pub(crate) fn is_full(&self) -> bool
+        ensures { IsTrue result
+            ↔ (prelude_compounds + most_compounds ≤ length (declared_by self.now).compounds) }
+    {
+        self.compounds.len() >= PRELUDE_COMPOUNDS + MOST_COMPOUNDS
+    }
+
+    /// The kind of this name, if there is one: `interval`, `exact`, `bool`, `sign` or a declared set kind.
+    pub(crate) fn kind(&self, name: &[u8]) -> Option<Kind>
+        ensures some { IfSome result (λ kind. NamesKind (declared_by self.now) name.now kind) }
+        ensures known { IfSome result (λ kind. IsNamed (members_of (declared_by self.now)) kind) }
+        ensures none { IfNone result ((kind : KindOfCell)
+            → NamesKind (declared_by self.now) name.now kind → ⊥) }
+    {
+        if let Some(kind) = built_in_kind(name) {
+            return Some(kind);
+        }
+        let place = self.set_names.find(name)?;
+        Some(Kind::Members(SetKind {
+            number: BUILT_IN_SETS + place as u8,
+            size: self.sets[place].len() as u8,
+        }))
+    }
+
+    /// Whether there is a kind of this name.
+    pub(crate) fn has_kind(&self, name: &[u8]) -> bool
+        ensures { result ≡ is_some (place_of_name (kind_names (declared_by self.now)) name.now) }
+    {
+        built_in_kind(name).is_some() || self.set_names.find(name).is_some()
+    }
+
+    /// Adds a user. It fails only for want of memory, and then nothing changes.
+    pub(crate) fn add_user(&mut self, name: &str) -> Result<(), AllocError>
+        requires fresh { place_of_name (declared_by self.old).users name.now ≡ None }
+        requires room { length (declared_by self.old).users < most_users }
+        ensures ok { OnOk result ((declared_by self.new) ≡ with_user
+            (declared_by self.old) name.now) }
+        ensures err { OnErr result ((declared_by self.new) ≡ (declared_by self.old)) }
+    {
+        self.users.add(name)?;
+        Ok(())
+    }
+
+    /// Adds a premise, which belongs to this user, if any. It fails only for want of memory, and then nothing changes.
+    pub(crate) fn add_premise(&mut self, name: &str, owner: Option<u8>) -> Result<(), AllocError>
+        requires fresh { place_of_name (declared_by self.old).premises name.now ≡ None }
+        requires room { length (declared_by self.old).premises < most_premises }
+        requires user { IfSome owner (λ user. user < length (declared_by self.old).users) }
+        ensures ok { OnOk result ((declared_by self.new) ≡ with_premise
+            (declared_by self.old) name.now owner) }
+        ensures err { OnErr result ((declared_by self.new) ≡ (declared_by self.old)) }
+    {
+        self.owners.reserve(1)?;
+        self.premises.add(name)?;
+        self.owners.push(owner).unwrap();
+        Ok(())
+    }
+
+    /// Adds a cell of this kind. It fails only for want of memory, and then nothing changes.
+    pub(crate) fn add_cell(&mut self, name: &str, kind: Kind) -> Result<(), AllocError>
+        requires fresh { place_of_name (declared_by self.old).cells name.now ≡ None }
+        requires room { length (declared_by self.old).cells < most_cells }
+        requires known { IsNamed (members_of (declared_by self.old)) kind }
+        ensures ok { OnOk result ((declared_by self.new) ≡ with_cell
+            (declared_by self.old) name.now kind) }
+        ensures err { OnErr result ((declared_by self.new) ≡ (declared_by self.old)) }
+    {
+        self.kinds.reserve(1)?;
+        self.cells.add(name)?;
+        self.kinds.push(kind).unwrap();
+        Ok(())
+    }
+
+    /// Adds a set kind with these members, 2 to 64. It fails only for want of memory, and then nothing changes.
+    pub(crate) fn add_set(&mut self, name: &str, members: NameTable<A>) -> Result<(), AllocError>
+        requires fresh { place_of_name (kind_names (declared_by self.old)) name.now ≡ None }
+        requires room { length (declared_by self.old).sets < most_sets }
+        requires size { IsSize (length members) }
+        requires names { AreNames members }
+        ensures ok { OnOk result ((declared_by self.new) ≡ with_set
+            (declared_by self.old) name.now members) }
+        ensures err { OnErr result ((declared_by self.new) ≡ (declared_by self.old)) }
+    {
+        self.sets.reserve(1)?;
+        self.set_names.add(name)?;
+        self.sets.push(members).unwrap();
+        Ok(())
+    }
+
+    /// Adds an open compound, which ends, with what it becomes. It fails only for want of memory, and then nothing changes.
+    pub(crate) fn add_compound(
+        &mut self,
+        opened: OpenCompound<A>,
+        flattened: Flattened<A>,
+    ) -> Result<(), AllocError>
+        requires kept { IsOpen (declared_by self.old) opened }
+        requires flat { IsFlattened (declared_by self.old).compounds
+            (compound_of opened.compound) flattened }
+        ensures ok { OnOk result ((declared_by self.new) ≡ with_compound (declared_by self.old)
+            (open_of opened).name (open_of opened).compound) }
+        ensures err { OnErr result ((declared_by self.new) ≡ (declared_by self.old)) }
+    {
+        let name = opened.name.as_str();
+        add_compound_name(
+            &mut self.compound_names,
+            name,
+            &mut self.compounds,
+            &mut self.flattened,
+        )?;
+        self.compounds.push(opened.compound).unwrap();
+        self.flattened.push(flattened).unwrap();
+        Ok(())
+    }
+}
