@@ -208,6 +208,18 @@ impl<'r, A: Allocator + Copy> Declaration<'r, A> {
         &self.flattened[usize::from(compound)].inner
     }
 
+    /// The kinds of the inner cells that the callable, which is there, makes, at most 256: a procedure makes none.
+    pub fn inner_kinds_of(&self, callable: Callable) -> &[Kind]
+        requires { IsCallable (declared_by self.now) callable }
+        ensures kinds { result.now ≡ inner_kinds_of (declared_by self.now).compounds callable }
+        ensures most { length result.now ≤ most_inner_cells }
+    {
+        match callable {
+            Callable::Stored(_) => &[],
+            Callable::Compound(compound) => self.inner_kinds(compound),
+        }
+    }
+
     /// The number of the user of this name, if there is one.
     pub fn user(&self, name: &[u8]) -> Option<u8>
         ensures number { result ≡ place_of_name (declared_by self.now).users name.now }

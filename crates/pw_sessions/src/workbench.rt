@@ -1,14 +1,12 @@
 //! What the lines so far left: the network, what they told of each of its cells, what was derived from it so far, which premises
 //! were found to contradict themselves, what each user believes, and what each user's last question found.
 
-ghost use Rattle.std.specs.Prelude.{◌≡◌, ◌<◌, ◌≤◌, [], List, length, map, replicate, slice_set, IfOk, None, OnOk, OnErr, Some};
+ghost use Rattle.std.specs.Prelude.{◌≡◌, ◌<◌, [], List, length, map, replicate, slice_set, IfOk, None, OnOk, OnErr, Some};
 ghost use Rattle.std.specs.Option.{option_map};
 ghost use Rattle.pw_info.specs.Information.{kind_of};
 ghost use Rattle.pw_cells.specs.Cells.{kind_in_store};
-ghost use Rattle.pw_decl.specs.Declaration.{Declared, IsCallable};
-ghost use Rattle.pw_decl.specs.Expansion.{inner_kinds_of};
+ghost use Rattle.pw_decl.specs.Declaration.{Declared};
 ghost use Rattle.pw_decl.specs.Fields.{declared_by};
-ghost use Rattle.pw_decl.specs.Limits.{most_inner_cells};
 ghost use Rattle.pw_network.specs.Fields.{network_by};
 ghost use Rattle.pw_network.specs.Network.{MayAttach, bare};
 ghost use Rattle.pw_procs.specs.Arguments.{cells_of};
@@ -30,7 +28,6 @@ use crate::reply::{Refusal, Reply};
 use pw_cells::CellStore;
 use pw_decl::{Callable, Declaration};
 use pw_facts::Fact;
-use pw_info::Kind;
 use pw_network::Network;
 use pw_premises::PremiseSet;
 use pw_procs::Arguments;
@@ -60,21 +57,6 @@ pub struct Workbench<'d, 'r, A: Allocator = Global> {
     sessions: Vec<Option<Session<A>>, A>,
     // How often the last command's own settling called procedures.
     calls: u128,
-}
-
-// The kinds of the inner cells that the callable makes.
-fn inner_kinds<'a, A: Allocator + Copy>(
-    declaration: &'a Declaration<'_, A>,
-    callable: Callable,
-) -> &'a [Kind]
-    requires { IsCallable (declared_by declaration.now) callable }
-    ensures kinds { result.now ≡ inner_kinds_of (declared_by declaration.now).compounds callable }
-    ensures most { length result.now ≤ most_inner_cells }
-{
-    match callable {
-        Callable::Stored(_) => &[],
-        Callable::Compound(compound) => declaration.inner_kinds(compound),
-    }
 }
 
 // That no user has a session. It fails only for want of memory.
@@ -206,7 +188,7 @@ impl<'d, 'r, A: Allocator + Copy> Workbench<'d, 'r, A> {
         let Ok(()) = self.network.attach(line, callable, cells, support) else {
             return Err(AllocError);
         };
-        let kinds = inner_kinds(self.network.declaration(), callable);
+        let kinds = self.network.declaration().inner_kinds_of(callable);
         let Ok(_) = self.store.add_cells(kinds) else {
             unreachable!("there is room for the inner cells of an attachment");
         };

@@ -7,4 +7,4 @@ pub add_cells-requires : goal.add_cells-requires
 add_cells-requires g c =
     let room = room_for_inner (network_by c.args.self.now.network) c.args.self.now.store c.args.self.now.network.well c.requires.fits.kinds in
     let same = ap length c.reserve.ensures.cells in
-    omega (arith, c.inner_kinds-kinds.ensures.most)
+    omega (arith, c.inner_kinds_of-kinds.ensures.most)
