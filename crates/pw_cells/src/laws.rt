@@ -1,4 +1,4 @@
-//! Laws of stores, each the contract of a function that does nothing: they hold of every store.
+//! Laws of stores. Each is the contract of a function that does nothing, and holds of every store.
 
 ghost use Rattle.std.specs.Prelude.{◌≡◌, ℕ, slice_index_or};
 ghost use Rattle.pw_info.specs.declared.kind.Kind.TheVariants as kinds;
@@ -7,7 +7,8 @@ ghost use Rattle.pw_premises.specs.Premises.{Premises};
 ghost use Rattle.pw_facts.specs.Worldviews.{IsMonotone};
 ghost use Rattle.pw_cells.specs.Cells.{Store, kind_in_store, kinds_of, told_in, kept_in};
 
-/// What is told and what is kept of a cell is of its kind; past the last cell everything is of the kind of intervals.
+/// The told and the kept information about a cell are of the cell's kind. Past the last cell
+/// everything is of the interval kind.
 pub fn cells_show_their_kinds()
     ensures told { (s : Store) (c : ℕ) (w : Premises)
         → kind_of (told_in s c w) ≡ kind_in_store s c }
