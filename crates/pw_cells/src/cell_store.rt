@@ -144,7 +144,7 @@ impl<A: Allocator + Copy> CellStore<A> {
         requires { cell < length self.now.cells }
         ensures value { result ≡ told_in self.now cell worldview.now }
         ensures kind { kind_of result ≡ kind_in_store self.now cell }
-        // A larger worldview is told at least as much.
+        // In a larger worldview at least as much is told.
         ensures larger { IsLeastAbove worldview.now (told_in self.now cell) result }
     {
         self.cells[cell as usize].told(worldview)
@@ -207,7 +207,8 @@ impl<A: Allocator + Copy> CellStore<A> {
         ensures rests { ArePremisesOf (kept_at self.old cell) result.support }
         // The kept information says at least what was told.
         ensures told { Implies result.info (told_in self.old cell worldview.now) }
-        // A worldview that has these premises keeps at least as much, and one inside the worldview at most as much.
+        // A worldview that has these premises keeps at least as much, and one inside the worldview
+        // at most as much.
         ensures larger { IsLeastAbove result.support (kept_in self.old cell) result.info }
         ensures smaller { IsMostBelow worldview.now (kept_in self.old cell) result.info }
     {

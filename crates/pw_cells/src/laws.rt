@@ -18,7 +18,7 @@ pub fn cells_show_their_kinds()
         → kind_in_store s c ≡ slice_index_or (kinds_of s) c kinds.Interval }
 {}
 
-/// A larger worldview is told at least as much, and keeps at least as much.
+/// In a larger worldview at least as much is told, and at least as much is kept.
 pub fn larger_worldviews_show_more()
     ensures told { (s : Store) (c : ℕ) → IsMonotone (told_in s c) }
     ensures kept { (s : Store) (c : ℕ) → IsMonotone (kept_in s c) }

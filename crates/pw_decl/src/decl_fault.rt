@@ -15,11 +15,13 @@ pub enum DeclFaultKind {
     /// No user, kind or callable has this name, or no cell of the compound has it.
     #[error("unknown name")]
     UnknownName,
-    /// A set has fewer than 2 members, a compound has no parameter, or a callable does not accept the cells of a call.
+    /// A set has fewer than 2 members, a compound has no parameter, or a callable does not accept
+    /// the cells of a call.
     #[error("wrong arguments")]
     WrongArguments,
-    /// The text or the line is too long, there is one user, premise, set, cell or compound too many, a set has more than 64
-    /// members, a compound more than 8 parameters, or it expands to more than 256 instances or 256 inner cells.
+    /// The text or the line is too long, there is one user, premise, set, cell or compound too
+    /// many, a set has more than 64 members, a compound more than 8 parameters, or it expands to
+    /// more than 256 instances or 256 inner cells.
     #[error("limit")]
     Limit,
     /// A compound is not ended.

@@ -1,4 +1,5 @@
-//! What a declaration declares: users, premises, cells, set kinds and compounds, by name and by number.
+//! What a declaration declares: users, premises, cells, set kinds and compounds, by name and by
+//! number.
 ghost use Rattle.std.specs.Prelude.{◌≡◌, ◌↔◌, ◌+◌, ◌-◌, [], All, None, Some, ◌<◌, ◌≤◌, IsTrue};
 ghost use Rattle.std.specs.Prelude.{length, slice_get, Contains, IfSome, IfNone};
 ghost use Rattle.pw_kinds.specs.Limits.{most_members};

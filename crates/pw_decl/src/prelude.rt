@@ -1,4 +1,5 @@
-//! The compounds that every declaration has: a two-way sum, a two-way product, and a choice between two cells.
+//! The compounds that every declaration has: a two-way sum, a two-way product, and a choice between
+//! two cells.
 ghost use Rattle.std.specs.Prelude.{◌≡◌, ◌≤◌, length};
 ghost use Rattle.pw_decl.specs.Limits.{most_text_bytes};
 ghost use Rattle.pw_decl.specs.Prelude.{prelude_text};

@@ -21,7 +21,8 @@ pub enum Callable {
 pub enum Step {
     /// A private cell of this kind.
     Local(Kind),
-    /// A callable over cells of the compound, by their places: the parameters from 0, then the private cells so far, each
-    /// in the order of their lines. The last is the output of a procedure.
+    /// A callable over cells of the compound, by their places: the parameters from 0, then the
+    /// private cells so far, each in the order of their lines. The last is the output of a
+    /// procedure.
     Call(Callable, Arguments),
 }

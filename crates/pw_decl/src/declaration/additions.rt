@@ -76,7 +76,8 @@ impl<A: Allocator + Copy> Declaration<'_, A> {
         self.compounds.len() >= PRELUDE_COMPOUNDS + MOST_COMPOUNDS
     }
 
-    /// The kind of this name, if there is one: `interval`, `exact`, `bool`, `sign` or a declared set kind.
+    /// The kind of this name, if there is one: `interval`, `exact`, `bool`, `sign` or a declared
+    /// set kind.
     pub(crate) fn kind(&self, name: &[u8]) -> Option<Kind>
         ensures some { IfSome result (λ kind. NamesKind (declared_by self.now) name.now kind) }
         ensures known { IfSome result (λ kind. IsNamed (members_of (declared_by self.now)) kind) }
