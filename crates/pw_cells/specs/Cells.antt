@@ -9,7 +9,7 @@ use Rattle.pw_premises.specs.Premises.{Premises}
 use Rattle.pw_facts.specs.declared.fact.Fact.{Fact}
 use Rattle.pw_facts.specs.Facts.{shows, Subsumes}
 
--- a cell: its kind, the facts that stand for the facts told about it, and the facts kept of it
+-- a cell: its kind, facts that say what was told about it, and the facts kept of it
 pub record Cell : Type 0 where
   pub kind : Kind
   pub told : List Fact

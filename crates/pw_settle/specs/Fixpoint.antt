@@ -24,9 +24,9 @@ module _ {C : Type 0} (cells : Cells C) where
   abbrev pub nothing_known : C → Info
   nothing_known cell = nothing (cells.kind cell)
 
-  -- what follows from sources over these cells: what is known, starting from nothing, after so many
-  -- rounds that a further one changes nothing. It is never computed: the laws of this crate say
-  -- what it is
+  -- what follows from sources over these cells: what is known, starting from nothing, after enough
+  -- rounds; a further round changes nothing. It is never computed: the laws of this crate say what it
+  -- is
   unfoldable pub fixpoint : List C → List (Source C) → C → Info
   fixpoint over sources = iterate (round sources) (length over * rounds_of_a_cell) nothing_known
 
