@@ -53,7 +53,7 @@ merges_on : (a b m : Fact) (xs ys : List Fact) → MergesTo a xs b → MergesTo 
 merges_on a b m [] ys first rest = subst (λ (x : Fact). MergesTo x ys m) first rest
 merges_on a b m (x ∷ xs) ys first rest = (first.0, first.1, merges_on first.0 b m xs ys first.2 rest)
 
--- what says more than each of some facts stays as it is when they are merged into it
+-- what says more than each of some facts is unchanged when they are merged into it
 merges_nothing : (w : Premises) (i : Info) (m : Fact) (fs : List Fact) → AreOfKind (kind_of m.info) fs → All (λ f. Implies i f.info) fs
     → Implies m.info i → (Implies i m.info → ⊥) → MergesTo m (visible_facts w fs) m
 merges_nothing w i m [] kinds says more less = refl
@@ -164,7 +164,7 @@ filter_front P p (x ∷ xs) (suc n) all =
           (subst (λ m. All P (take m ys)) as_many rest)
     ]
 
--- some facts are dropped, wherever they stand
+-- some facts are dropped, from any places
 pub bounds_dropped : (k : Kind) (p : Fact → Bool) (xs ys : List Fact) (b b' : Bound) → ys ≡ filter p xs → b'.count ≡ b.count - (length xs - length ys)
     → b'.info ≡ b.info → Bounds k xs b → Bounds k ys b'
 bounds_dropped k p xs ys b b' is count info bounds =

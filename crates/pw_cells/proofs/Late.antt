@@ -92,7 +92,7 @@ rest_unsubsumed k f (x ∷ xs) is kinds =
           (rest_of_more f x xs (unsubsumed f xs) rest (λ s. not_both _ (subsume_test f x one s) e))
     ]
 
--- ---- one fact more
+-- ---- one more fact
 
 -- whether one of the facts subsumes it
 pub subsumed_where : (k : Kind) (f : Fact) (xs : List Fact) → kind_of f.info ≡ k → AreOfKind k xs → list_any (λ x. does_subsume x f) xs ≡ true → IsSubsumedBy xs f

@@ -1,4 +1,4 @@
--- The merge of the visible facts, one fact more at a time.
+-- The merge of the visible facts, one more fact at a time.
 use Rattle.std.proofs.Common.{◌≡◌, ℕ, Bool, true, false, cond, List, [], ◌∷◌, ◌++◌, inl, inr, refl, sym, ◌∙◌, ap, subst}
 use Rattle.std.specs.Prelude.{Contains}
 use Rattle.std.specs.Cmp.{nat_cmp_total}

@@ -1,4 +1,5 @@
--- What is true of the facts of a cell stays true when one more is told or kept, and when what is late is assimilated.
+-- What is true of the facts of a cell stays true when one more is told or kept, and when the late
+-- facts are assimilated.
 use Rattle.std.proofs.Common.{◌≡◌, true, false, List, [], ◌∷◌, ◌++◌, if◌then◌else◌, Bool, refl, sym, ◌∙◌, ap, subst}
 use Rattle.std.specs.Prelude.{map}
 use Rattle.std.proofs.lemmas.List.Elements.{All-nil, All-push}

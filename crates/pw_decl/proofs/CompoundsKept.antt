@@ -12,7 +12,7 @@ pub record OnlyAdds (old new : Declared) : Type 0 where
   pub later : List Compound
   pub compounds : new.compounds ≡ old.compounds ++ later
 
--- what is declared, wherever the next line stands
+-- the declaration so far, at any place of the next line
 abbrev pub declared_in : SoFar → Declared
 declared_in (BeforeHeader d) = d
 declared_in (Outside d) = d

@@ -95,7 +95,7 @@ well_with_premise d name owner well room own =
       few = well.few;
     }
 
--- with one more cell, of a kind that is there
+-- with one more cell, of a kind that exists
 pub well_with_cell : (d : Declared) (name : List ℕ) (kind : Kind) → IsWellDeclared d → length d.cells < most_cells → IsNamed (members_of d) kind
     → IsWellDeclared (with_cell d name kind)
 well_with_cell d name kind well room known =

@@ -12,7 +12,7 @@ use Rattle.pw_premises.specs.Premises.{Premises}
 use Rattle.pw_facts.specs.declared.fact.Fact.{Fact}
 use Rattle.pw_facts.specs.Facts.{shows, Subsumes}
 
--- where its support is believed a fact shows what it says
+-- if its support is believed a fact shows what it says
 pub shows-supported : (w : Premises) (f : Fact) → is_subset f.support w ≡ true → shows w f ≡ f.info
 shows-supported w f e = ap (λ b. if b then f.info else nothing (kind_of f.info)) e
 

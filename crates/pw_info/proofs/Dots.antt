@@ -29,7 +29,7 @@ pub uncut : (word : List ℕ) (lo hi : ℤ) → HasNoDot word → SpellsRange wo
 uncut word lo hi clear (inl spelled) = spelled
 uncut word lo hi clear (inr (front, back, is, low, high, order)) = absurd (no_cut 46 word front (46 ∷ back) clear is)
 
--- a word with a dot spells a range by what stands before the first one and what stands behind it
+-- a word with a dot spells a range by what comes before the first one and what comes after it
 pub cut : (word front rest : List ℕ) (lo hi : ℤ) → word ≡ front ++ (46 ∷ rest) → HasNoDot front → SpellsRange word lo hi
     → SpellsCut front rest lo hi
 cut word front rest lo hi is clear (inl (spelled, same)) = absurd (no_cut 46 word front rest (number_no_dot word lo spelled) is)

@@ -13,7 +13,7 @@ use Rattle.pw_info.specs.Lanes.{lowest_set, short_of}
 
 -- ---- a mask
 
--- Where a bit is set, a lane passes the test.
+-- If a bit is set, a lane passes the test.
 some_short : (p : ℕ → Bool) (v : List ℕ) → 0 < mask_l (map p v) → prefix_len (λ x. not (p x)) v < length v
 some_short p [] some = absurd (omega (arith, some))
 some_short p (x ∷ v) some = elim (cases_Bool (p x)) [
@@ -22,7 +22,7 @@ some_short p (x ∷ v) some = elim (cases_Bool (p x)) [
       rw fails (let shorter = some_short p v (omega (arith, rest)) in omega (arith, shorter))
 ]
 
--- The lowest bit of a mask stands for the first lane that passes the test.
+-- The lowest bit of a mask is that of the first lane that passes the test.
 lowest_is : (p : ℕ → Bool) (v : List ℕ) (n : ℕ) → length v ≡ n → n ≤ 64 → lowest_set (mask_l (map p v)) ≡ short_of n (prefix_len (λ x. not (p x)) v)
 lowest_is p v n long few =
     elim (cases_eq (mask_l (map p v)) 0) [

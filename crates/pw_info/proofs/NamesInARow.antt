@@ -147,7 +147,7 @@ IsDistinct-nil : (e : ℕ → ℕ → Bool) → IsDistinct e []
 unfolding IsDistinct
 IsDistinct-nil e = tt
 
--- two places are told apart as numbers are
+-- places are distinguished like numbers
 same_as_number : (a b : ℕ) → int_eq (pos a) (pos b) ≡ nat_eq a b
 same_as_number a b = same_from_decides (int_eq (pos a) (pos b)) (nat_eq a b) (Decides-like _ (λ e. cc) (λ e. ap pos e) (Decides-int_eq (pos a) (pos b))) (Decides-eqb a b)
 
@@ -218,7 +218,7 @@ name_and_row_add names text word rest place seen more part read is adds =
       values = λ v. adds.values v ∙ ap (λ (b : Bool). b || is_one_of others v) (read.values v) ∙ or_assoc (allows seen v) (int_eq (pos place) v) (is_one_of others v);
     }
 
--- what stands behind the first place of a row is a row of others
+-- what comes after the first place of a row is a row of others
 row_behind : (names : List (List ℕ)) (text word rest : List ℕ) (place : ℕ) (seen more : Members) (places : List ℕ) → IsRead names word place seen more
     → NamesApart names text seen (place ∷ places) → 0 < length places → rest ≡ row_of names places → NamesApart names rest more places
 row_behind names text word rest place seen more places read row some is = record {
@@ -249,7 +249,7 @@ rest_is_row names text word rest place seen more (p ∷ q ∷ places) read clear
           (subst (λ (n : ℕ). NamesApart names text seen (n ∷ q ∷ places)) same row) (omega arith) left,
     )
 
--- where no row of others stands behind a name, there is no row
+-- if no row of others comes after a name, there is no row
 pub no_row_behind : (names : List (List ℕ)) (text word rest : List ℕ) (place : ℕ) (seen more : Members) → IsRead names word place seen more
     → HasNoComma word → text ≡ word ++ (44 ∷ rest) → ((others : List ℕ) → NamesApart names rest more others → ⊥)
     → (places : List ℕ) → NamesApart names text seen places → ⊥

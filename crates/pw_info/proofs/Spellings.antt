@@ -72,7 +72,7 @@ set_spelled sets word list set start part info size empty is adds same = (
 pub set_kind_is : (set : SetKind) (part : Members) → size_of part ≡ set.size → set_kind set.number part ≡ kinds.Members set
 set_kind_is set part size = same_set _ set refl size
 
--- where what stands in the braces is no row, the word spells no members
+-- if what is in the braces is no row, the word spells no members
 pub no_set : (sets : SetNames) (word list : List ℕ) (set : SetKind) (start : Members) → size_of start ≡ set.size → IsEmpty start
     → word ≡ 123 ∷ (list ++ (125 ∷ [])) → ((places : List ℕ) → NamesApart (sets set.number) list start places → ⊥)
     → (info : Info) → SpellsValues sets word (kinds.Members set) info → ⊥

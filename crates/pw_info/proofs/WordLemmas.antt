@@ -10,7 +10,7 @@ use Rattle.std.proofs.lemmas.List.{take-append-drop}
 use Rattle.std.proofs.lemmas.Slice.Eq.{bytes_eq-Decides}
 use Rattle.pw_info.specs.Words.{is_blank, is_plain, ends_word, words_of, is_nil, AreBlanks, AreWords}
 
--- ---- one byte more at the front
+-- ---- one more byte at the front
 
 words_of-blank : (byte : ℕ) (line : List ℕ) → is_blank byte ≡ true → words_of (byte ∷ line) ≡ words_of line
 words_of-blank byte line blank = rw blank
@@ -53,7 +53,7 @@ no_word_past (byte ∷ line) none = elim (cases_Bool (is_blank byte)) [
 BeginsWith : ℕ → List ℕ → Type 0
 BeginsWith n text = words_of text ≡ take n text ∷ words_of (drop n text)
 
--- A line that begins with a byte of a word: its first word is the longest run of such bytes.
+-- A line that begins with a byte of a word: its first word is the longest run of bytes of words.
 word_first : (byte : ℕ) (line : List ℕ) → is_blank byte ≡ false → BeginsWith (suc (prefix_len is_plain line)) (byte ∷ line)
 unfolding BeginsWith
 word_first byte [] plain = words_of-last byte [] plain refl
@@ -174,7 +174,7 @@ before_blanks (byte ∷ line) gap blanks = elim (cases_Bool (is_blank byte)) [
   ]
 ]
 
--- A line that ends in eight spaces has the words of what stands before them.
+-- A line that ends in eight spaces has the words of what comes before them.
 pub without_spaces : (line front : List ℕ) (n : ℕ) → bytes_eq (drop n line) (codes "        ") ≡ true → front ≡ take n line → words_of front ≡ words_of line
 without_spaces line front n spaces is =
     let last : drop n line ≡ codes "        " = (bytes_eq-Decides (drop n line) (codes "        ")).0 spaces in

@@ -49,7 +49,7 @@ calls_placed network line number calls cells support well are may few first is =
     (are.calls_are ∙ ap (on_places (expansion_of network.declared.compounds (callables.Compound number))) (as_many network line number calls cells support well are may few))
     ∙ sym (expansion_placed network.declared.compounds (callables.Compound number) cells (λ j. cells_in network + j))
 
--- what stands at a place is a cell that is there
+-- what is at a place is a cell that exists
 placed_here : (cells : List ℕ) (first place inner many : ℕ) → place < length cells + inner → All (λ cell. cell < many) cells → first + inner ≤ many →
     at_place cells (λ j. first + j) place < many
 placed_here [] first place inner many below here room = omega arith

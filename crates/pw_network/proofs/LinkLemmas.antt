@@ -54,7 +54,7 @@ none_left cell from at readings d upto there reads none =
     let long = ap length none in
     omega arith
 
--- ---- places that are told in other ways
+-- ---- places given in other ways
 
 pub leads_as : (readings : List Reading) (cell other from after at place : ℕ) → cell ≡ other → from ≡ after → at ≡ place →
     LeadsTo readings cell from at → LeadsTo readings other after place
@@ -192,7 +192,7 @@ module _ (readings : List Reading) (x : Reading) (few : length readings + 1 ≤ 
     still_led : (at : ℕ) → at < length readings → get_or led at 0 ≡ get_or (set nexts e.last (length readings)) at 0
     still_led at there = get_or_append_left (set nexts e.last (length readings)) (no_place ∷ []) 0 at (let l = length-set nexts e.last (length readings) in omega arith)
 
-    -- one that was there leads to the next
+    -- one that existed leads to the next
     last_led : (at : ℕ) (d : Reading) → at < length readings → at ≡ e.last → LeadsTo more (get_or readings at d).cell (at + 1) (get_or led at 0)
     last_led at d there is =
         let cell = (get_or readings at d).cell in

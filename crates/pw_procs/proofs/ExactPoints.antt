@@ -23,7 +23,8 @@ use Rattle.pw_procs.proofs.Possible.{some_true, true_some, contradiction_none}
 is_in_hull : Exact → ℤ → Bool
 is_in_hull e v = some (info.Exact e) (λ z. le_z z v) && some (info.Exact e) (λ z. le_z v z)
 
--- an interval that leaves possible just what lies in the hull is the interval of the exact number
+-- an interval that leaves possible exactly what lies in the hull is the interval of the exact
+-- number
 point_is : (e : Exact) (i : Interval) → ((v : ℤ) → interval_lowest ≤ℤ v → v ≤ℤ interval_highest → interval.allows i v ≡ is_in_hull e v) → info.Interval i ≡ point_of (info.Exact e)
 unfolding is_in_hull
 point_is e i same = ap info.Interval (intervals.closest_is (λ v. some (info.Exact e) (λ z. le_z z v) && some (info.Exact e) (λ z. le_z v z)) i same)

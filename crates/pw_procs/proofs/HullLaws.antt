@@ -81,7 +81,7 @@ abbrev reaches : NumberSet → ℤ → Bool
 reaches set v = set (λ z. le_z z v) && set (λ z. le_z v z)
 
 module _ (numbers : ℤ → Type 0) (set : NumberSet) (are : IsSetOf numbers set) where
-  -- just what lies between two numbers of the set passes it
+  -- exactly what lies between two numbers of the set passes it
   reaches_within : (v : ℤ) → reaches set v ≡ true → LiesWithin numbers v
   reaches_within v e =
       let both : (set (λ z. le_z z v) ≡ true) × (set (λ z. le_z v z) ≡ true) = true_both _ _ e in
@@ -93,7 +93,7 @@ module _ (numbers : ℤ → Type 0) (set : NumberSet) (are : IsSetOf numbers set
   within_reaches v (lo, hi, lo_in, hi_in, from, to) =
       both_true _ _ (are.found (λ z. le_z z v) lo lo_in (true_le lo v from)) (are.found (λ z. le_z v z) hi hi_in (true_le v hi to))
 
-  -- where no number of the set is at or below a number, the hull is above it; and the other way round
+  -- if no number of the set is at or below a number, the hull is above it; and conversely
   none_below : (v : ℤ) → set (λ z. le_z z v) ≡ false → allows (hull_of set) v ≡ true → ⊥
   none_below v none e =
       let at : ((v +ℤ pos 1) ≤ℤ v) × (v ≤ℤ interval_highest) = closest_between (reaches set) (v +ℤ pos 1) interval_highest (λ w r h.
@@ -149,7 +149,7 @@ closest_mono (kinds.Members set) p q more = members_mono set.size set.sized p q 
 closest_mono kinds.Exact p q more =
     (exacts.closest_closest p).smallest (exact.closest q) (λ v r e. (exacts.closest_closest q).holds v r (more v r e))
 
--- where nothing passes the closest is the contradiction
+-- if nothing passes the closest is the contradiction
 pub closest_none : (k : Kind) (p : ℤ → Bool) → ((v : ℤ) → p v ≡ false) → IsContradiction (closest k p)
 closest_none k p none v = is_false _ (λ e.
     not_both _ (closest_mono k p (λ w. false) (λ w r h. sym (none w) ∙ h) v e) (allows-contradiction k v))

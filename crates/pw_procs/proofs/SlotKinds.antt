@@ -18,7 +18,7 @@ after xs = take (length xs - 1) (drop 1 xs)
 after_first : {A : Type 0} (x : A) (xs : List A) → after (x ∷ xs) ≡ xs
 after_first x xs = take_all (length (x ∷ xs) - 1) xs (omega arith)
 
--- kinds are those in slots where the first is, and those after it are
+-- kinds are those in slots if the first is, and those after it are
 pub kinds_from_first : (same : Kind) (slots : List Slot) (kinds : List Kind) (slot : Slot) (kind : Kind) (rest : Bool) →
     0 < length slots → 0 < length kinds → slot ≡ get_or slots 0 slot → kind ≡ get_or kinds 0 kind → kind ≡ kind_in same slot →
     IsTrue rest ↔ (after kinds ≡ map (kind_in same) (after slots)) → IsTrue rest ↔ (kinds ≡ map (kind_in same) slots)

@@ -82,7 +82,7 @@ zero_is_value kinds.Interval = refl
 zero_is_value (kinds.Members set) = let sized = set.sized in grind (arith, nat_tests)
 zero_is_value kinds.Exact = refl
 
--- so where nothing is known of a value, that is no contradiction
+-- so if nothing is known about a value, that is no contradiction
 pub nothing_is_possible : (k : Kind) → is_contradiction (nothing k) ≡ true → ⊥
 nothing_is_possible k e =
     false≢true (sym ((contradiction_is (nothing k)).0 e (pos 0)) ∙ allows-nothing k (pos 0) ∙ zero_is_value k)
@@ -96,7 +96,7 @@ record IsInner (network : Network) (cell line : ℕ) : Type 0 where
   here : place < length network.inner
   line_is : (e : InnerCell) → (get_or network.inner place e).line ≡ line
 
--- where an inner cell comes from
+-- the origin of an inner cell
 abbrev origin_of : InnerCell → Option (ℕ × ℕ)
 origin_of inner = Some (inner.line, inner.number)
 
@@ -138,14 +138,14 @@ inner_at network cell line number is =
           ]
     ]
 
--- where a cell comes from the line that stands last, any line that it comes from is among the lines
+-- if a cell comes from the last line of the list, any line that it comes from is among the lines
 pub among_lines : (network : Network) (cell : ℕ) (lines : List ℕ) (last line number other place : ℕ) →
     slice_get lines last ≡ Some line → Some (line, number) ≡ origin_in network cell → origin_in network cell ≡ Some (other, place) → Contains lines other
 among_lines network cell lines last line number other place at first second =
     subst (Contains lines) (same_line line number other place (first ∙ second))
     (last, slice_get_within lines last line at, get_or_from_slice_get lines last line line at)
 
--- where the lines of inner cells do not fall, a later one has no lower line
+-- if the lines of inner cells do not fall, a later one has no lower line
 pub line_not_lower : (network : Network) → LinesInOrder network → (b c line number later other : ℕ) → b ≤ c →
     origin_in network b ≡ Some (line, number) → origin_in network c ≡ Some (later, other) → line ≤ later
 line_not_lower network order b c line number later other upto first second =
@@ -221,7 +221,7 @@ module _ (network : Network) (value : ℕ → Info) where
             )
       ]
 
-  -- the lines stay with one cell more which is no contradiction, or of which the line is among them
+  -- the lines stay with one more cell which is no contradiction, or of which the line is among them
   pub same_lines : (limit : ℕ) (lines : List ℕ) → AreLinesBelow network value limit lines →
       ((line number : ℕ) → origin_in network limit ≡ Some (line, number) → is_contradiction (value limit) ≡ true →
       Contains lines line) → AreLinesBelow network value (limit + 1) lines
@@ -288,7 +288,7 @@ module _ (network : Network) (value : ℕ → Info) where
 
 -- ---- the values of the cells are all that counts
 
--- where two say the same of the cells below a number, the same of them pass
+-- if two say the same of the cells below a number, the same of them pass
 pub same_passing : (f g : ℕ → Info) (from n limit : ℕ) → from + n ≤ limit → ((cell : ℕ) → cell < limit → f cell ≡ g cell) →
     filter (λ cell. is_contradiction (f cell)) (range_with_len from n)
     ≡ filter (λ cell. is_contradiction (g cell)) (range_with_len from n)
@@ -308,7 +308,7 @@ same_conflict network f g line same has =
       contradictory = ap is_contradiction (sym (same has.cell has.here)) ∙ has.contradictory;
     }
 
--- where two say the same of each cell of the network, the conflicts by the one are those by the other
+-- if two say the same of each cell of the network, the conflicts by the one are those by the other
 pub conflicts_same : (network : Network) (f g : ℕ → Info) (conflicts : Conflicts) →
     ((cell : ℕ) → cell < cells_in network → f cell ≡ g cell) → AreConflicts network f conflicts → AreConflicts network g conflicts
 conflicts_same network f g conflicts same are =

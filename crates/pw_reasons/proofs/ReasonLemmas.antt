@@ -1,4 +1,5 @@
--- What is left of a worldview once premises of it were tried: a part that gives the same value, and that keeps just what is needed.
+-- What is left of a worldview once premises of it were tried: a part that gives the same value, and
+-- that keeps exactly what is needed.
 use Rattle.std.proofs.Common.{◌≡◌, ◌≢◌, ℕ, zero, suc, ◌+◌, ◌<◌, ◌≤◌, ◌↔◌, Bool, true, false, not, cond, ◌&&◌, ◌||◌, if◌then◌else◌, List, [], ◌∷◌, ◌++◌, filter, length, reverse, refl, sym, ap, subst, ◌∙◌, arith, inl, inr, Decides}
 use Rattle.std.specs.Prelude.{nat_eq, nat_lt}
 use Rattle.std.specs.Iterator.{YieldsLast}
@@ -115,7 +116,7 @@ module _ (value : Premises → Info) (worldview : Premises) where
       stays true = without_others left n q other
       stays false = refl
 
-    -- the premise stays just where the value without it is another
+    -- the premise stays exactly if the value without it is another
     tried_itself : contains left n ≡ true → (contains (tried value worldview left n) n ≡ true) ↔ (value (remove left n) ≢ value worldview)
     tried_itself here =
         decided (same_info (value (remove left n)) (value worldview)) (same_info_is (value (remove left n)) (value worldview))
@@ -141,11 +142,12 @@ module _ (value : Premises → Info) (worldview : Premises) where
   left_same [] = refl
   left_same (premise ∷ later) = tried_same (left_of value worldview later) premise (left_same later)
 
-  -- the premises of the worldview from this one on, so many numbers of them
+  -- the premises of the worldview among `many` numbers from this one on
   abbrev row : ℕ → ℕ → List ℕ
   row from many = filter (contains worldview) (range_with_len from many)
 
-  -- what is left of such a row: the first of it is tried last, if the worldview has it
+  -- the remaining premises after a row like this: its first premise is tried last, if the worldview
+  -- has it
   first_tried : (P : Premises → Type 0) (many from : ℕ) →
       (contains worldview from ≡ true → P (tried value worldview (left_of value worldview (row (from + 1) many)) from)) →
       (contains worldview from ≡ false → P (left_of value worldview (row (from + 1) many))) →
@@ -157,7 +159,7 @@ module _ (value : Premises → Info) (worldview : Premises) where
     choose true there passed = there refl
     choose false there passed = passed refl
 
-  -- the premises before those that were tried are left as they were
+  -- the premises before those that were tried are unchanged
   untried : (many from q : ℕ) → q < from → contains (left_of value worldview (row from many)) q ≡ contains worldview q
   untried zero from q below = refl
   untried (suc many) from q below =
@@ -165,12 +167,12 @@ module _ (value : Premises → Info) (worldview : Premises) where
       first_tried (λ s. contains s q ≡ contains worldview q) many from
       (λ has. tried_others (left_of value worldview (row (from + 1) many)) from q (λ e. omega arith) ∙ later) (λ lacks. later)
 
-  -- a premise is in this set just where it is needed: where the premises before it, with those of the set after it, give
-  -- another value than the worldview
+  -- a premise is in this set exactly if it is needed: if the premises before it, with those of the
+  -- set after it, give another value than the worldview
   abbrev IsKeptIfNeeded : ℕ → Premises → Type 0
   IsKeptIfNeeded n left = (contains left n ≡ true) ↔ (value (before_and_after worldview left n) ≢ value worldview)
 
-  -- of a premise that is tried this becomes so, where those before it are left as they were
+  -- this becomes true of a premise that is tried, if the premises before it are unchanged
   kept_here : (left : Premises) (n : ℕ) → ((q : ℕ) → q ≤ n → contains left q ≡ contains worldview q) → contains worldview n ≡ true →
       IsKeptIfNeeded n (tried value worldview left n)
   kept_here left n earlier here =
@@ -195,7 +197,7 @@ module _ (value : Premises → Info) (worldview : Premises) where
           (contains-before worldview left n) (contains-there worldview left n)
           (λ q above. contains-after worldview left n q above ∙ sym (tried_others left m q (λ e. omega arith)))
 
-  -- so what is left has just those of the premises tried that are needed
+  -- so what is left has exactly those of the premises tried that are needed
   kept : (many from n : ℕ) → from ≤ n → n < from + many → contains worldview n ≡ true →
       IsKeptIfNeeded n (left_of value worldview (row from many))
   kept zero from n low high here = absurd (omega arith)
@@ -213,7 +215,8 @@ module _ (value : Premises → Info) (worldview : Premises) where
       another : contains worldview from ≡ false → from ≢ n
       another lacks same = let wrong : false ≡ true = sym lacks ∙ ap (contains worldview) same ∙ here in absurd (cc)
 
-  -- where the value grows, a part of the worldview whose value implies the worldview's has the same value
+  -- if the value grows, a part of the worldview whose value implies the worldview's has the same
+  -- value
   pub implied_same : Grows value → (part : Premises) → is_subset part worldview ≡ true → Implies (value part) (value worldview) →
       value part ≡ value worldview
   implied_same grows part within implied =
@@ -250,14 +253,15 @@ module _ (value : Premises → Info) (worldview : Premises) where
   unfolding reason_of
   reason_same = left_same (numbers_of worldview)
 
-  -- it has just those premises of the worldview that are needed
+  -- it has exactly those premises of the worldview that are needed
   pub reason_keeps : (premise : ℕ) → premise < most_premises → contains worldview premise ≡ true →
       IsKeptIfNeeded premise (reason_of value worldview)
   unfolding reason_of numbers_of
   reason_keeps premise below here = kept most_premises 0 premise (omega arith) (omega arith) here
 
-  -- where the value grows, it is another without any one of its premises: the rest of the reason is a part of the premises
-  -- before this one with those of the reason after it, and these are a part of the worldview
+  -- if the value grows, it is another without any one of its premises: the rest of the reason is a
+  -- part of the premises before this one with those of the reason after it, and these are a part of
+  -- the worldview
   pub reason_needed : Grows value → (premise : ℕ) → premise < most_premises → contains (reason_of value worldview) premise ≡ true →
       value (remove (reason_of value worldview) premise) ≢ value worldview
   reason_needed grows premise below needed same =

@@ -17,7 +17,7 @@ use Rattle.pw_sessions.proofs.WrittenCells.{unwritten_is}
 pub well_left : (d : Declared) (readings : List LineReading) (bench : Workbench) → IsWellNetwork bench.network → IsLeftBy d readings bench → IsWellDeclared d
 well_left d readings bench well left = subst IsWellDeclared left.set_up.declared well.declared
 
--- where no visible instance writes the cell, what the store is told is what settles
+-- if no visible instance writes the cell, what the store is told is what settles
 pub told_answers : (d : Declared) (readings : List LineReading) (bench : Workbench) (user cell : ℕ) (info : Info) → IsWellNetwork bench.network →
     IsLeftBy d readings bench → cell < length bench.network.declared.cells → is_written bench.network.attached cell (beliefs_in bench user) ≡ false →
     info ≡ told_in bench.store cell (beliefs_in bench user) → AnswersAsk bench user cell (reply.Value info)

@@ -15,7 +15,7 @@ unrefused Blank = Blank
 unrefused (Refused refusal) = Blank
 unrefused (Says command) = Says command
 
--- such a line leaves the same entries
+-- a line like this leaves the same entries
 entries_of-unrefused : (number : ℕ) (reading : LineReading) → entries_of number (unrefused reading) ≡ entries_of number reading
 entries_of-unrefused number Blank = refl
 entries_of-unrefused number (Refused refusal) = refl
@@ -28,7 +28,7 @@ entries_from-unrefused number (reading ∷ readings) =
     ap (λ (es : List Entry). es ++ entries_from (number + 1) (map unrefused readings)) (entries_of-unrefused number reading)
     ∙ ap (λ es. entries_of number reading ++ es) (entries_from-unrefused (number + 1) readings)
 
--- such a line leaves the same beliefs
+-- a line like this leaves the same beliefs
 believed_after-unrefused : (user : ℕ) (beliefs : Premises) (reading : LineReading) → believed_after user beliefs (unrefused reading) ≡ believed_after user beliefs reading
 believed_after-unrefused user beliefs Blank = refl
 believed_after-unrefused user beliefs (Refused refusal) = refl
@@ -43,7 +43,7 @@ beliefs-unrefused user beliefs (reading ∷ readings) =
     ∙ beliefs-unrefused user (believed_after user beliefs reading) readings
 
 module _ (d : Declared) where
-  -- such lines before leave a line its reply
+  -- with earlier lines like this, a line keeps its reply
   reply_to-unrefused : (before : List LineReading) (reading : LineReading) → reply_to d (map unrefused before) reading ≡ reply_to d before reading
   reply_to-unrefused before Blank = refl
   reply_to-unrefused before (Refused refusal) = refl

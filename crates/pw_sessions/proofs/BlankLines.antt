@@ -46,7 +46,7 @@ can_carry_out bench line command can =
 pub user_is_there : (bench : Workbench) (user : ℕ) → IsUserOf bench user → user < length bench.beliefs
 user_is_there bench user is = omega (arith, is.there, is.left.set_up.users)
 
--- and is one whatever lines left it
+-- and is declared, for all lines that left it
 pub user_is_declared : (d : Declared) (before : List LineReading) (bench : Workbench) (user : ℕ) → IsUserOf bench user → IsLeftBy d before bench →
     user < length d.users
 user_is_declared d before bench user is left = omega (arith, user_is_there bench user is, left.set_up.users)

@@ -41,7 +41,7 @@ store_fits bench can = record {
   sessions = can.set_up.fit;
 }
 
--- a fact that is told is of the kind of its cell
+-- a told fact is of the kind of its cell
 pub kind_of_told : (bench : Workbench) → IsWellNetwork bench.network → IsSetUpFor bench.network.declared bench → (user cell : ℕ) (fact : Fact) →
     IsDeclared bench.network.declared (Says (commands.Tell user cell fact)) → kind_of fact.info ≡ kind_in_store bench.store cell
 kind_of_told bench well set_up user cell fact named =

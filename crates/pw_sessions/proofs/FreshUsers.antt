@@ -106,7 +106,7 @@ its_session bench user session has fits =
     subst (λ (o : Option Session). IfSome o (IsSessionOf bench.network bench.store)) has
     (fits.sessions user None (session_there bench user session has))
 
--- where a fact is told, who is fresh stays so, or it says what does not follow there
+-- if a fact is told, a fresh user stays fresh, or it says something that does not follow there
 pub fresh_told : (old new : Workbench) (cell : ℕ) (fact : Fact) → IsWellNetwork old.network → StoreFits old → cell < length old.network.declared.cells →
     kind_of fact.info ≡ kind_in_store old.store cell → IsTold old cell fact new → (user : ℕ) → IsFresh old user →
     (Implies (value_in old.network old.store (beliefs_in old user) cell) (shows (beliefs_in old user) fact) → ⊥) ⊎ IsFresh new user
@@ -154,7 +154,7 @@ calls_none old user calls none = record {
   once = λ other is same. omega (arith, none);
 }
 
--- where nobody's freshness ends
+-- if nobody's freshness ends
 module _ (old new : Workbench) (command : Command) (answer : Reply)
     (quiet : (d : Declared) (before : List LineReading) → Settles d before command → ⊥) where
   pub counts_none : new.calls ≡ 0 → CountsCalls old command new answer
@@ -278,7 +278,7 @@ due_fresh old user is uncounted = record {
   worldview : (session : Session) → session_in old user ≡ Some session → session.values.worldview ≡ w
   worldview session has = ap (λ (s : Session). s.values.worldview) (own session has) ∙ is.worldview
 
-  -- no flag of so many is set
+  -- no flag of `count` flags is set
   get_or-replicate_same : (count n : ℕ) → get_or (replicate count false) n false ≡ false
   get_or-replicate_same zero n = refl
   get_or-replicate_same (suc count) zero = refl
@@ -312,7 +312,7 @@ asked_refused old found user Settling settling few due = record {
   none = λ not. absurd (not settling);
 }
 
--- with what is told, where nothing is to settle
+-- with what is told, if nothing is to be settled
 pub asked_quiet : (old : Workbench) (user : ℕ) (Settling : Type 0) (answer : Reply) → (Settling → ⊥) → old.calls ≡ 0 →
     IsAsked old user Settling old answer
 asked_quiet old user Settling answer quiet none = record {

@@ -1,4 +1,4 @@
--- Entries, beliefs and replies of one line more.
+-- Entries, beliefs and replies of one more line.
 use Rattle.std.proofs.Common.{◌≡◌, ℕ, suc, ◌+◌, List, [], ◌∷◌, ◌++◌, length, Option, refl, sym, ap, ◌∙◌, append-nil, append_assoc, arith}
 use Rattle.std.proofs.lemmas.List.Sums.{fold-append}
 use Rattle.pw_decl.specs.Declaration.{Declared}

@@ -82,7 +82,7 @@ fit_from d number (reading ∷ readings) named =
 
 -- ---- values
 
--- no less is known of a declared cell where more is believed
+-- no less is known about a declared cell where more is believed
 pub values_grow : (d : Declared) (readings : List LineReading) (cell : ℕ) → IsWellDeclared d → All (IsDeclared d) readings → cell < length d.cells →
     Grows (value_under d (entries_before readings) cell)
 values_grow d readings cell well named here =

@@ -52,7 +52,7 @@ module _ {C : Type 0} (cells : Cells C) (c : C) where
       ap (λ (b : Bool). fold (with_source cells known c) (if b then meet info (said_by known source) else info) sources) differs
       ∙ others_leave known info sources (All-tail (λ s. cell_of s ≡ c → ⊥) source sources others)
 
-  -- so where no source informs the cell, nothing follows of it
+  -- so if no source informs the cell, nothing follows of it
   nothing_follows : (over : List C) (sources : List (Source C)) → AreOver cells over sources →
       All (λ s. cell_of s ≡ c → ⊥) sources → fixpoint cells over sources c ≡ nothing (cells.kind c)
   nothing_follows over sources are others =
@@ -91,7 +91,7 @@ same_line d entry line number has =
     let same : line ≡ line_of entry = cc in
     sym same
 
--- where entries name an inner cell, one of them made it
+-- if entries name an inner cell, one of them made it
 made_by : (d : Declared) (entries : List Entry) (line number : ℕ) → Contains (names_after d entries) (InnerCellOf line number) →
     (entry : Entry) × Contains entries entry × Contains (inner_names_of d entry) (InnerCellOf line number)
 made_by d entries line number has =
@@ -154,7 +154,7 @@ module _ (d : Declared) (entries : List Entry) (network : Network) (store : Stor
       ∙ told_merged (named_cells d entries) (names_after d entries) said (seen_over d well entries fit rise w)
       (told_of (named_cells d entries) said) (λ c among. refl) (name_in network cell)
 
-  -- where the visible entries name it, this is their value by name
+  -- if the visible entries name it, this is their value by name
   value_shown : (cell : ℕ) → cell < cells_in network → Contains (names_after d shown) (name_in network cell) →
       value cell ≡ value_by_name d shown (name_in network cell)
   value_shown cell here among =
@@ -163,7 +163,7 @@ module _ (d : Declared) (entries : List Entry) (network : Network) (store : Stor
       (All-filter (is_visible w) (FindsKinds d entries) entries (finds_kinds d 0 entries rise)) shown_find
       (All-filter (is_visible w) (AreNamed d entries) entries (inner_named d entries)) (name_in network cell) among
 
-  -- and where they do not, nothing is known of it
+  -- and if they do not, nothing is known about it
   value_hidden : (cell : ℕ) → cell < cells_in network → (Contains (names_after d shown) (name_in network cell) → ⊥) →
       value cell ≡ nothing (kind_by_name d entries (name_in network cell))
   value_hidden cell here hidden =

@@ -47,7 +47,7 @@ propagators_after d (entry ∷ entries) =
 
 -- ---- what entries say
 
--- where there is something of each
+-- if there is something of each
 filter_map_each : {A B : Type 0} (f : A → Option B) (g : A → B) (xs : List A) → All (λ x. f x ≡ Some (g x)) xs →
     filter_map f xs ≡ map g xs
 filter_map_each f g [] each = refl
@@ -89,7 +89,7 @@ module _ (d : Declared) (all : List Entry) where
       let entry : Entry = Attached line callable cells support in
       propagators_fit (named_cells d all) d.procedures (instances_of d entry) (instances_fit many steps entry fits finds)
 
-  -- and where its inner cells are named, it says something of names alone
+  -- and if its inner cells are named, it says something of names alone
   sources_name : (entry : Entry) → FitsDeclared d entry → AreNamed d all entry →
       All (Names (Contains (names_after d all))) (sources_of d entry)
   sources_name (Told line cell fact) fits named =

@@ -28,7 +28,7 @@ renamed_same : {C D : Type 0} (f g : C → D) (instance : Instance C) → Speaks
 renamed_same f g instance same =
     λ i. record { procedure = instance.procedure; inputs = same_on f g instance.inputs same.0 i; output = same.1 i }
 
--- an instance that speaks of some cells speaks of more
+-- an instance that mentions some cells mentions more
 speaks_more : {C : Type 0} (IsHere IsThere : C → Type 0) → ((c : C) → IsHere c → IsThere c) → (instance : Instance C) →
     SpeaksOf IsHere instance → SpeaksOf IsThere instance
 speaks_more IsHere IsThere more instance speaks =
@@ -72,7 +72,7 @@ module _ (network : Network) (line : ℕ) (callable : Callable) (cells : List �
   abbrev made : List (Instance ℕ)
   made = expansion_of network.declared.compounds callable cells (λ j. cells_in network + j)
 
-  -- what is attached stays on the cells that are there
+  -- what is attached stays on the cells that exist
   made_here : All (SpeaksOf (λ cell. cell < cells_in after)) made
   made_here =
       let more = cells_with_attached network line callable cells support in
@@ -81,7 +81,7 @@ module _ (network : Network) (line : ℕ) (callable : Callable) (cells : List �
       (λ cell there. omega (arith, more, there)) cells here)
       (λ j within. omega (arith, more, within))
 
-  -- so where the instances stay on the cells, they still do
+  -- so if the instances stay on the cells, they still do
   stay_attached : InstancesStay network → InstancesStay after
   stay_attached stay =
       let more = cells_with_attached network line callable cells support in
@@ -94,7 +94,7 @@ module _ (network : Network) (line : ℕ) (callable : Callable) (cells : List �
       network.attached stay)
       (All-map (λ (a : AttachedInstance). SpeaksOf (λ cell. cell < cells_in after) a.instance) (attached_at line support) made made_here)
 
-  -- by the names that they have at last, they are what the callable becomes on names
+  -- by the names that they have at last, they are the expansion of the callable on names
   made_by_name : (entries : List Entry) →
       map (renamed (name_in (fold with_entry after entries))) made ≡ instances_of network.declared (Attached line callable cells support)
   made_by_name entries =
@@ -106,7 +106,7 @@ module _ (network : Network) (line : ℕ) (callable : Callable) (cells : List �
       (names_stay after entries) instance speaks)) made made_here)
       ∙ attached_by_name network line callable cells support here
 
--- where the instances stay on the cells, they still do with further entries
+-- if the instances stay on the cells, they still do with further entries
 stay_from : (network : Network) (entries : List Entry) → All (FitsDeclared network.declared) entries → InstancesStay network →
     InstancesStay (fold with_entry network entries)
 stay_from network [] fit stay = stay

@@ -79,7 +79,7 @@ module _ (network : Network) (line : ℕ) (callable : Callable) (cells : List �
       (range_split 0 (cells_in network) (length own) (cells_in after) (cells_in network) cells_with_attached (omega arith))
       ∙ map-append (name_in after) old new ∙ (λ i. kept i ++ made i)
 
-  -- a number is that of a cell that was there, or of one of these
+  -- a number is that of a cell that existed, or of one of these
   pub which_cell : (c : ℕ) → c < cells_in after → (c < cells_in network) ⊎ ((j : ℕ) × (j < length own) × (cells_in network + j ≡ c))
   which_cell c within =
       let more = cells_with_attached in
@@ -94,7 +94,7 @@ module _ (network : Network) (line : ℕ) (callable : Callable) (cells : List �
 
 -- ---- all entries
 
--- one entry more is one step more
+-- one more entry is one more step
 pub network_after-snoc : (d : Declared) (entries : List Entry) (entry : Entry) →
     network_after d (entries ++ entry ∷ []) ≡ with_entry (network_after d entries) entry
 network_after-snoc d entries entry = fold_push with_entry (bare d) entries entry
@@ -145,7 +145,7 @@ pub names_of_network : (d : Declared) (entries : List Entry) →
 names_of_network d entries =
     names_from (bare d) entries ∙ ap (λ (l : List Name). l ++ flat_map (inner_names_of d) entries) (names_of_bare d)
 
--- a declared cell is called so whatever is attached
+-- a declared cell has this name, no matter what is attached
 pub declared_name_after : (d : Declared) (entries : List Entry) (cell : ℕ) → cell < length d.cells →
     name_in (network_after d entries) cell ≡ DeclaredCell cell
 declared_name_after d entries cell here =
@@ -184,7 +184,7 @@ module _ (old line : ℕ) (network : Network) (callable : Callable) (cells : Lis
   abbrev count : ℕ
   count = length (inner_kinds_of network.declared.compounds callable)
 
-  -- a cell that was there and a new one have two names
+  -- a cell that existed and a new one have two names
   old_and_new : (b c j : ℕ) → b < cells_in network → j < count → cells_in network + j ≡ c → name_in new b ≡ name_in new c → ⊥
   old_and_new b c j here within is same =
       not_later old line j (name_in network b) above (are.lines b here)
@@ -249,7 +249,7 @@ apart_bare d =
       lines = λ c within. subst (IsUpTo 0) (sym (declared_name (bare d) c (omega (arith, within)))) tt;
     }
 
--- where the lines of entries rise, no two cells of the network that they make have one name
+-- if the lines of entries rise, no two cells of the network that they make have one name
 pub names_apart : (d : Declared) (entries : List Entry) → RiseFrom 0 entries →
     (b c : ℕ) → b < cells_in (network_after d entries) → c < cells_in (network_after d entries) →
     name_in (network_after d entries) b ≡ name_in (network_after d entries) c → b ≡ c

@@ -1,4 +1,5 @@
--- The store of a workbench: it has the cells of the network, and was told of each what the entries tell.
+-- The store of a workbench: it has the cells of the network, and was told what the entries tell
+-- about each cell.
 use Rattle.std.proofs.Common.{◌≡◌, ◌≢◌, ℕ, ◌+◌, ◌<◌, List, [], ◌∷◌, ◌++◌, true, false, length, get_or, map, sym, ap, ◌∙◌, subst, inl, inr, arith}
 use Rattle.std.specs.Prelude.{nat_eq}
 use Rattle.std.proofs.lemmas.Bool.{cases_Bool}
@@ -114,7 +115,7 @@ module _ (d : Declared) (many : length d.kinds ≡ length d.cells) (entries : Li
       let declared : at < length network.declared.cells = subst (λ (e : Declared). at < length e.cells) (sym over) there in
       (same_name_decides (DeclaredCell at) (name_in network cell)).1 (sym (declared_name network at declared) ∙ ap (name_in network) same)
 
-  -- with one fact more
+  -- with one more fact
   pub tells_more : (new : Store) (line at : ℕ) (fact : Fact) → network.declared ≡ d → at < length d.cells →
       kind_of fact.info ≡ kind_in_store store at →
       ((w : Premises) → told_in new at w ≡ meet (told_in store at w) (shows w fact)) → ((c : ℕ) → c ≢ at → cell_at new c ≡ cell_at store c) →

@@ -84,7 +84,7 @@ module _ (d : Declared) (many : length d.kinds ≡ length d.cells) where
       kinds : kinds_of bench.store ≡ kinds_in bench.network
       kinds = ap (λ (cs : List Cell). map (λ (c : Cell). c.kind) cs) new ∙ kinds_added [] d.kinds ∙ sym (append-nil d.kinds) ∙ ap kinds_in (sym is)
 
-  -- where nothing was attached, nothing told, and each user believes every premise
+  -- if nothing was attached, nothing told, and each user believes every premise
   pub IsLeftBy-new : (bench : Workbench) (users premises : ℕ) → bench.network ≡ bare d → bench.store.cells ≡ map new_cell d.kinds →
       bench.nogoods ≡ [] → bench.beliefs ≡ replicate users (premises_below premises) → bench.sessions ≡ replicate users None → users ≡ length d.users →
       premises ≡ length d.premises → IsLeftBy d [] bench
@@ -227,7 +227,7 @@ module _ (d : Declared) (many : length d.kinds ≡ length d.cells) where
       ∙ ap (λ (ks : List Kind). get_or ks cell kinds.Interval) (fits.kinds ∙ ap (λ (e : Declared). e.kinds ++ inner) fits.declared)
       ∙ get_or_append_left d.kinds inner kinds.Interval cell (omega (arith, below, many))
 
-  -- the line leaves the store with one fact more
+  -- the line leaves the store with one more fact
   pub left_told : (readings : List LineReading) (old new : Workbench) (user cell : ℕ) (fact : Fact) → IsWellNetwork old.network →
       IsLeftBy d readings old → (cell < length d.cells) × (kind_of fact.info ≡ kind_at d cell) → IsTold old cell fact new →
       IsLeftBy d (readings ++ Says (commands.Tell user cell fact) ∷ []) new

@@ -17,7 +17,7 @@ tally_more flags one below free =
     let was : one_free ≡ none = ap (λ b. cond b 1 0) free in
     omega (arith, sums, was)
 
--- where a flag is not set there are fewer that are than flags
+-- if a flag is not set there are fewer that are than flags
 pub tally_room : (flags : List Bool) (one : ℕ) → one < length flags → is_set flags one ≡ false → tally flags < length flags
 tally_room flags one below free =
     omega (arith, tally_more flags one below free, count_by-le-length (λ (b : Bool). b) (set flags one true), length-set flags one true)

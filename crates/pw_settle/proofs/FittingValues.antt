@@ -34,7 +34,7 @@ use Rattle.pw_settle.proofs.KeptProgress.{reader_listed, visible_no}
 use Rattle.pw_settle.proofs.PlacedInstances.{accepted, all_sources, the_source}
 use Rattle.pw_settle.proofs.SettledValues.{all_placed, kinds_many}
 
--- what is known of all cells is said of each
+-- what is known about all cells is said of each
 said_known : (network : Network) (store : Store) (w : Premises) (settled : Settled) → kinds_of store ≡ kinds_in network →
     length settled.infos ≡ length store.cells → ((cell : ℕ) → info_at settled.infos cell ≡ kept_in store cell w) →
     (cell : ℕ) → said_of network settled cell ≡ kept_in store cell w
@@ -139,7 +139,7 @@ module _ (network : Network) (well : IsWellNetwork network) (store : Store) (w :
             (implies_nothing (now cell) ((numbered (kinds_in network)).kind cell) (kind-now cell))
       ]
 
-  -- where what was said implies what is kept, they are one
+  -- if what was said implies what is kept, they are one
   said_now : (cell : ℕ) → Implies (said_of network settled cell) (now cell) → now cell ≡ said_of network settled cell
   said_now cell implies =
       Implies-antisym (now cell) (said_of network settled cell) (kind-now cell ∙ sym (kind-said cell)) (says_more cell) implies

@@ -12,7 +12,7 @@ use Rattle.pw_settle.specs.Settled.{IsSettled, Settled, support_at}
 use Rattle.pw_settle.specs.Sources.{Told}
 use Rattle.pw_settle.specs.Values.{kinds_in, numbered, numbers_of, propagators_of, value_in, visible_instances}
 
--- the value of a cell is read off what is told
+-- the value of a cell depends only on what is told
 pub same_value : (network : Network) (old new : Store) → ((cell : ℕ) (w : Premises) → told_in new cell w ≡ told_in old cell w) →
     (w : Premises) (cell : ℕ) → value_in network new w cell ≡ value_in network old w cell
 same_value network old new told w cell =
@@ -38,7 +38,7 @@ keeps_more_then network a b c first then = record {
   sound = λ sound. then.sound (first.sound sound);
 }
 
--- what is settled is settled still where what is told stays
+-- settled values stay settled if the told facts stay
 pub settled_still : (network : Network) (old new : Store) (w : Premises) (settled : Settled) → KeepsMore network old new →
     IsSettled network old w settled → IsSettled network new settled.worldview settled
 settled_still network old new w settled grows is =

@@ -69,7 +69,7 @@ module _ (store : Store) (w : Premises) (infos : List Info) (supports : List Pre
   past_support : (cell : ℕ) → length store.cells ≤ cell → support_at supports cell ≡ empty
   past_support cell past = get_or_past supports cell empty (omega (arith, past, read.as_many))
 
-  -- what holds of a cell that is there and of one past the last holds of all
+  -- what holds of a cell that exists and of one past the last holds of all
   each : (P : ℕ → Type 0) → ((cell : ℕ) → cell < length store.cells → P cell) → ((cell : ℕ) → length store.cells ≤ cell → P cell) → (cell : ℕ) → P cell
   each P here past cell =
       elim (cases_Bool (nat_lt cell (length store.cells))) [

@@ -27,7 +27,7 @@ use Rattle.pw_settle.proofs.SettledValues.{all_placed, says}
 use Rattle.pw_settle.proofs.SourceLists.{all_after}
 use Rattle.pw_settle.proofs.ValueGrows.{seen_source}
 
--- where of some cells one is more informed than the other, so are their informations one by one
+-- if of some cells one is more informed than the other, so are their informations one by one
 map_more : (better known : ℕ → Info) (cells : List ℕ) → All (λ c. Implies (better c) (known c)) cells → AllZip Implies (map better cells) (map known cells)
 map_more better known [] more = tt
 map_more better known (c ∷ cells) more =

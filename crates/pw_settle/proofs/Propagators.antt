@@ -50,13 +50,13 @@ propagators_only procedures (instance ∷ instances) =
     propagator_only instance (propagators_of procedures instances) (slice_get procedures instance.procedure)
     (propagators_only procedures instances)
 
--- ---- sources fit where instances do, and name what these speak of
+-- ---- sources fit where instances do, and name what these mention
 
 -- the kinds of the cells of an instance, the output last
 abbrev kinds_of_cells : {C : Type 0} → (C → Kind) → Instance C → List Kind
 kinds_of_cells kind instance = map kind instance.inputs ++ kind instance.output ∷ []
 
--- where an instance fits the kinds of its cells, so does what it is as a source
+-- if an instance fits the kinds of its cells, so does what it is as a source
 propagator_fits : {C : Type 0} (cells : Cells C) (procedures : List Procedure) (instance : Instance C) (rest : List (Source C))
     (found : Option Procedure) → slice_get procedures instance.procedure ≡ found → ∥ FitsCells procedures cells.kind instance ∥₁ →
     All (Fits cells) rest →
@@ -76,7 +76,7 @@ propagators_fit cells procedures (instance ∷ instances) fit =
     (All-head (λ i. ∥ FitsCells procedures cells.kind i ∥₁) instance instances fit)
     (propagators_fit cells procedures instances (All-tail (λ i. ∥ FitsCells procedures cells.kind i ∥₁) instance instances fit))
 
--- what an instance is as a source names what it speaks of
+-- what an instance is as a source names what it mentions
 propagator_names : {C : Type 0} (IsHere : C → Type 0) (instance : Instance C) (rest : List (Source C)) (found : Option Procedure) →
     SpeaksOf IsHere instance → All (Names IsHere) rest →
     All (Names IsHere) (with_instance instance found rest)

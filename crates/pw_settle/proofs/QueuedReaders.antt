@@ -131,7 +131,7 @@ none_left visible old now readers left count so_far none n reader seen =
       | inr (k, within, is) ↦ let empty = ap length none in absurd (omega (arith, within, empty))
     ]
 
--- so then just these are queued that were, and the visible readers
+-- so then exactly these are queued that were, and the visible readers
 pub queues_readers : (network : Network) (cell : ℕ) (visible old now : List Bool) (left : List ℕ) (count : ℕ) →
     AreQueuedBut visible old now (readers_of network cell) left count → left ≡ [] → QueuesReaders network visible (λ c. c ≡ cell) old now
 queues_readers network cell visible old now left count so_far none = record {

@@ -36,7 +36,7 @@ use Rattle.pw_settle.proofs.ValueGrows.{all_seen, value_grows}
 
 -- ---- the values
 
--- what is told stays said as more is kept
+-- the told facts are still said after more is kept
 told_still : (network : Network) (old new : Store) (w : Premises) → KeepsMore network old new → SaysTold old w → (cell : ℕ) → cell < length old.cells →
     Implies (kept_in new cell w) (told_in new cell w)
 told_still network old new w grows told cell below v possible =

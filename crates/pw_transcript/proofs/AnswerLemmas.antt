@@ -58,7 +58,7 @@ listed_below keeps most =
     let below : k < most = omega (arith, within, length-range_with_len 0 most) in
     omega (arith, below, get_or-range_with_len 0 most k d below))
 
--- with one line more the next number is the next line's
+-- with one more line the next number is the next line's
 one_more : (before : List LineReading) (reading : LineReading) (number : ℕ) → length before + 1 ≡ number → length (before ++ reading ∷ []) + 1 ≡ number + 1
 one_more before reading number next = omega (arith, length-append before (reading ∷ []), next)
 

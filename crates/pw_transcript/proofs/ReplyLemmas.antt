@@ -1,4 +1,4 @@
--- Texts and readings of one line more, and the names that a line says.
+-- Texts and readings of one more line, and the names that a line says.
 use Rattle.std.proofs.Common.{◌≡◌, ℕ, suc, ◌+◌, ◌<◌, ◌≤◌, List, [], ◌∷◌, ◌++◌, length, Option, Some, None, Contains, refl, sym, ap, ◌∙◌, subst, inl, inr, append-nil, append_assoc, arith}
 use Rattle.std.specs.Prelude.{All, if◌then◌else◌, is_some}
 use Rattle.pw_sessions.specs.declared.command.Command.{Command}
@@ -96,13 +96,13 @@ length-FurtherLinesComeTo d before (line ∷ lines) [] all = absurd all
 pub length-LinesComeTo : (d : Declared) (lines : List (List ℕ)) (readings : List LineReading) → LinesComeTo d lines readings → length lines ≡ length readings
 length-LinesComeTo d lines readings all = length-FurtherLinesComeTo d [] lines readings all
 
--- a line comes to what it reads as, unless it is refused for want of memory
+-- a line comes to what it reads as, unless it is refused because memory ran out
 Reads-from_ComesTo : (d : Declared) (before : List LineReading) (line : List ℕ) (reading : LineReading) → ComesTo d before line reading →
     (reading ≡ Refused refusal.Memory → ⊥) → Reads d line reading
 Reads-from_ComesTo d before line reading (inl reads) plain = reads
 Reads-from_ComesTo d before line reading (inr refused) plain = absurd (plain refused.0)
 
--- lines of which none is refused for want of memory read as what they come to
+-- lines of which none is refused because memory ran out read as what they come to
 ReadAs-from_FurtherLinesComeTo : (d : Declared) (before : List LineReading) (lines : List (List ℕ)) (readings : List LineReading) →
     FurtherLinesComeTo d before lines readings → (Contains readings (Refused refusal.Memory) → ⊥) → ReadAs d lines readings
 ReadAs-from_FurtherLinesComeTo d before [] [] all plain = tt
