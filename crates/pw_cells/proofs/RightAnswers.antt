@@ -111,7 +111,7 @@ answer_is cells a c w right same_cell same_worldview = right.1 ∙ (λ i. told_a
 pub answer_read : (cells : List Cell) (answers : List Recalled) (place : ℕ) (a : Recalled) → AreRight cells answers → place < length answers → a ≡ get_or answers place a → IsRight cells a
 answer_read cells answers place a right within read = subst (IsRight cells) (sym read) (right place a within)
 
--- what holds of the answers, where there are any, holds of those that were made of them
+-- what holds of the answers, if there are any, holds of those that were made of them
 pub slots_then : (P Q : List Recalled → Type 0) (slots : Option (List Recalled)) (f : List Recalled → List Recalled) → ((l : List Recalled) → P l → Q (f l))
     → IfSome slots P → IfSome (option_map f slots) Q
 slots_then P Q None f then holds = tt

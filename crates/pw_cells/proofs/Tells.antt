@@ -15,7 +15,7 @@ use Rattle.pw_cells.specs.OneCell.{AreOfKind, IsWhole, ShowsMore}
 use Rattle.pw_cells.proofs.Together.{kind_together, meet_first, meet_keeps}
 use Rattle.pw_cells.proofs.Late.{IsAssimilation, assimilation, any_subsumes, assimilated_known, late_kinds_apart, late_push, subsumed_late}
 
--- what is kept of a whole cell once one more fact of its kind is assimilated
+-- what is kept of a whole cell after one more fact of its kind is assimilated
 pub kept_more : (k : Kind) (f : Fact) (told : List Fact) (supports : List Premises) (kept late : List Fact) → kind_of f.info ≡ k → IsWhole k told supports kept late
     → IsAssimilation k f (all_assimilated kept late) (assimilated (all_assimilated kept late) f)
 kept_more k f told supports kept late is whole =
@@ -56,7 +56,7 @@ whole_told k f told supports kept late told' supports' known is whole by told_ki
   apart = whole.apart;
 }
 
--- once what is late is assimilated
+-- after what is late is assimilated
 pub whole_caught_up : (k : Kind) (told : List Fact) (supports : List Premises) (kept late : List Fact) → IsWhole k told supports kept late
     → IsWhole k told supports (all_assimilated kept late) []
 whole_caught_up k told supports kept late whole =

@@ -102,7 +102,7 @@ places_below names (word ∷ words) =
 at_most_unless : {m n : ℕ} → (n < m → ⊥) → m ≤ n
 at_most_unless {m} {n} few = omega arith
 
--- a compound that has begun with a free name, where there is room
+-- a compound that has begun with a free name, if there is room
 pub well_begun : (d : Declared) (name : List ℕ) (names : List (List ℕ)) (kinds : List Kind) → length d.compounds < prelude_compounds + most_compounds →
     callable_named d name ≡ None → length names ≡ length kinds → length kinds ≤ most_parameters → IsWellOpen d (begun name names kinds)
 well_begun d name names kinds room fresh named few =

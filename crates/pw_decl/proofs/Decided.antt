@@ -109,7 +109,7 @@ abbrev size_of_kind : Kind → ℕ
 size_of_kind (kinds.Members set) = set.size
 size_of_kind kind = 0
 
--- whether two kinds are one
+-- whether two kinds are equal
 pub decided_kind : (a b : Kind) → Decided (a ≡ b)
 decided_kind kinds.Interval kinds.Interval = inl refl
 decided_kind kinds.Interval (kinds.Members t) = inr (λ e. cc)
@@ -135,7 +135,7 @@ first_is x y xs ys e = cc
 rest_is : {A : Type 0} (x y : A) (xs ys : List A) → x ∷ xs ≡ y ∷ ys → xs ≡ ys
 rest_is x y xs ys e = cc
 
--- whether two lists of kinds are one
+-- whether two lists of kinds are equal
 pub decided_kinds : (xs ys : List Kind) → Decided (xs ≡ ys)
 decided_kinds [] [] = inl refl
 decided_kinds [] (y ∷ ys) = inr (λ e. cc)

@@ -180,7 +180,7 @@ module _ (ps : List Procedure) (text : List ℕ) (short : length text ≤ most_t
   pub text_spells : (known d : Declared) → PreludeDeclares ps known → Leads (BeforeHeader known) (lines_of text) (Outside d) → SpellsDeclaration ps text d
   text_spells known d prelude leads = record { short = short; known = known; prelude = prelude; leads = leads }
 
--- over these procedures, as where nothing is declared over them
+-- what holds of the procedures of an empty declaration holds of these procedures
 pub over : (P : List Procedure → Type 0) (d : Declared) (ps : List Procedure) → d ≡ nothing_declared ps → P d.procedures → P ps
 over P d ps nothing h = subst P (ap (λ (x : Declared). x.procedures) nothing) h
 

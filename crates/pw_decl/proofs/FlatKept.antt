@@ -116,7 +116,7 @@ pub inner_kept_at : (compounds : List Compound) (kept : List (List Kind)) (n : �
 inner_kept_at compounds kept n here same got =
     sym (get_or_from_slice_get (inner_after [] compounds) n here [] (ap (λ (l : List (List Kind)). slice_get l n) (sym same) ∙ got))
 
--- a compound has no more inner cells than it may have, where all are small
+-- a compound has no more inner cells than it may have, if all are small
 pub few_inner : (compounds : List Compound) (n : ℕ) → n < length compounds → All IsSmall (sizes_of compounds) →
     length (inner_kinds_of compounds (callables.Compound n)) ≤ most_inner_cells
 few_inner compounds n there small =

@@ -43,7 +43,7 @@ range_suc : (a n j : ℕ) → a + n ≡ j → range_with_len a (suc n) ≡ range
 range_suc a zero j is = ap (λ (x : ℕ). x ∷ []) (omega (arith, is))
 range_suc a (suc n) j is = ap (λ (l : List ℕ). a ∷ l) (range_suc (a + 1) n j (omega (arith, is)))
 
--- one number more
+-- one more number
 pub range_more : (a n j : ℕ) → a + n ≡ j → range_with_len a (n + 1) ≡ range_with_len a n ++ j ∷ []
 range_more a n j is =
     let next : suc n ≡ n + 1 = omega arith in

@@ -39,7 +39,7 @@ of_middle : (P : List ℕ → Type 0) (front : List (List ℕ)) (word : List ℕ
 of_middle P [] word rest all = all.0
 of_middle P (first ∷ front) word rest all = of_middle P front word rest all.1
 
--- words that differ also do so turned round
+-- words that differ also differ in the reverse order
 turned : (a b : List ℕ) → bytes_eq a b ≡ false → bytes_eq b a ≡ false
 turned a b apart =
     elim (cases_Bool (bytes_eq b a)) [

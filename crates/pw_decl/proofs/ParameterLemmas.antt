@@ -52,7 +52,7 @@ and_right false b both = absurd (false≢true both)
 pub parameters_rest : (name kind : List ℕ) (words : List (List ℕ)) → are_parameters (name ∷ kind ∷ words) ≡ true → are_parameters words ≡ true
 parameters_rest name kind words all = and_right (is_name name) (are_parameters words) all
 
--- ---- what a clause says of a value that exists, and of none
+-- ---- what a clause says about a value that exists, and of none
 
 pub at_some : {X : Type 0} (o : Option X) {P : X → Type 0} → is_some o ≡ true → IfSome o P → (x : X) × P x
 at_some None there p = absurd (cc)

@@ -160,7 +160,7 @@ pub is_some-option_map : {X Y : Type 0} (f : X → Y) (o : Option X) → is_some
 is_some-option_map f None = refl
 is_some-option_map f (Some x) = refl
 
--- what a clause says of a value that exists, and of none
+-- what a clause says about a value that exists, and of none
 pub at_some : {X : Type 0} (o : Option X) {P : X → Type 0} {Q : Type 0} → is_some o ≡ true → IfSome o P → ((x : X) → P x → Q) → Q
 at_some None there p then = absurd (cc)
 at_some (Some x) there p then = then x p

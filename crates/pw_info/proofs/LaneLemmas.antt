@@ -54,7 +54,7 @@ lowest_of q bytes at n z f room few fits lanes agree =
 
 -- ---- from run to run
 
--- A run goes on after the bytes that were tested together where all of them are of it.
+-- A run goes on after the bytes that were tested together if all of them are of it.
 run_on : (p : ℕ → Bool) (bytes : List ℕ) (at n : ℕ) → at + n ≤ length bytes →
     prefix_len p (drop at bytes) ≡ cond (eqb (prefix_len p (chunk at n bytes)) n) (n + prefix_len p (drop (at + n) bytes)) (prefix_len p (chunk at n bytes))
 run_on p bytes at n room =

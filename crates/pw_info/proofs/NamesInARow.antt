@@ -22,7 +22,7 @@ use Rattle.pw_info.proofs.Cuts.{no_cut, one_cut}
 
 -- ---- names
 
--- bytes of names are no commas
+-- bytes of names are not commas
 bytes_no_comma : (word : List ℕ) → list_all is_name_byte word ≡ true → HasNoComma word
 bytes_no_comma [] all k inside is = absurd (omega arith)
 bytes_no_comma (b ∷ word) all zero inside is =
@@ -104,14 +104,14 @@ begins_with_one names text word seen (p ∷ places) known size begins row =
     let inside : p < length names = first_inside names text seen p places size row in
     (p, inside, first_name names text word p places known inside begins row.text_is, row.apart 0 0 (omega arith))
 
--- what begins with no name of a member is no row
+-- what begins with no name of a member is not a row
 pub no_member : (names : List (List ℕ)) (text word : List ℕ) (seen : Members) → AreNames names → length names ≡ size_of seen → Begins text word
     → (Contains names word → ⊥) → (places : List ℕ) → NamesApart names text seen places → ⊥
 no_member names text word seen known size begins none places row =
     let (place, inside, is, new) = begins_with_one names text word seen places known size begins row in
     none (subst (Contains names) (sym is) (Contains-get_or names place [] inside))
 
--- what begins with the name of a member that was seen is no row of others
+-- what begins with the name of a member that was seen is not a row of others
 pub seen_member : (names : List (List ℕ)) (text word : List ℕ) (seen : Members) (place : ℕ) → AreNames names → length names ≡ size_of seen → Begins text word
     → slice_get names place ≡ Some word → allows seen (pos place) ≡ true → (places : List ℕ) → NamesApart names text seen places → ⊥
 seen_member names text word seen place known size begins found old places row =

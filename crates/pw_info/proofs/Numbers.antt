@@ -63,7 +63,7 @@ positive_is_decimal word n fits spelled =
     let is = decimal-digits_value own word spelled.digits (positive_nonempty word n spelled) (λ zero_first. absurd (omega arith)) (omega arith) in
     cc
 
--- the decimal digits of a number, behind a minus where it is below 0, spell it
+-- the decimal digits of a number, behind a minus if it is below 0, spell it
 pub signed_decimal_spells : (n : ℤ) → IsUpTo 1000000000 n → SpellsNumber (signed_decimal n) n
 signed_decimal_spells (pos zero) within = decimal_digit 0 (omega arith)
 signed_decimal_spells (pos (suc n)) within = decimal_spells (suc n) (omega arith) (omega (arith, ints))

@@ -207,7 +207,7 @@ no_words_past (byte ∷ line) = elim (cases_Bool (is_blank byte)) [
   | inr plain ↦ rw (past_blanks-plain byte line plain) (some_bytes byte line ∙ sym (is_nil-plain byte line plain))
 ]
 
--- A line has a word where a byte comes after its first blanks.
+-- A line has a word if a byte comes after its first blanks.
 pub no_words : (line text : List ℕ) → text ≡ drop (prefix_len is_blank line) line → (length text == 0) ≡ is_nil (words_of line)
 unfolding past_blanks
 no_words line text is = ap (λ (l : List ℕ). length l == 0) is ∙ no_words_past line

@@ -34,7 +34,7 @@ true_eq a b e = (Decides-int_eq a b).1 e
 pub self_eq : (a : ℤ) → int_eq a a ≡ true
 self_eq a = true_eq a a refl
 
--- a number in range is possible where any is
+-- a number in range is possible if any is
 pub true_number : (v : ℤ) → exact_lowest ≤ℤ v → v ≤ℤ exact_highest → is_in_exact_range v ≡ true
 true_number v p q = true_between exact_lowest v exact_highest p q
 
@@ -260,7 +260,7 @@ one_within m n e v h = true_eq v n.value (eq_true v m.value h ∙ e)
 pub within_one : (m n : Number) → IsWithin (One m) (One n) → m.value ≡ n.value
 within_one m n w = eq_true m.value n.value (w m.value (self_eq m.value))
 
--- ---- the same of values that the code has taken apart
+-- ---- the same for values that the code has taken apart
 
 -- a fact of two values, from the fact of what they are
 at_both : (P : Exact → Exact → Type 0) (e f e' f' : Exact) → e ≡ e' → f ≡ f' → P e' f' → P e f

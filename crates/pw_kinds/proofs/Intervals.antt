@@ -243,7 +243,7 @@ meet_between i j lo hi s p q = meet_is i j (record { lo = lo; hi = hi; span = s 
 pub meet_values : (i j r : Interval) → r ≡ meet_of i j → (v : ℤ) → allows r v ≡ (allows i v && allows j v)
 meet_values i j r e v = ap (λ (k : Interval). allows k v) e ∙ allows-meet i j v
 
--- one interval is within another where it is empty or its ends lie between the other's
+-- one interval is within another if it is empty or its ends lie between the other's
 pub within_ends : (i j : Interval) → i.lo ≤ℤ i.hi → IsWithin i j → (j.lo ≤ℤ i.lo) × (i.hi ≤ℤ j.hi)
 within_ends i j ordered w =
     let low : (j.lo ≤ℤ i.lo) × (i.lo ≤ℤ j.hi) = allows_true j i.lo (w i.lo (true_allows i i.lo (omega (arith, ints)) ordered)) in

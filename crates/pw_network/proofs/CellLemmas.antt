@@ -24,7 +24,7 @@ all_alike [] cell x = refl
 all_alike (y ∷ declared) zero x = refl
 all_alike (y ∷ declared) (suc cell) x = all_alike declared cell x
 
--- what is said of each declared cell is said of one
+-- what is said about each declared cell is said about one
 pub among_declared : {B C : Type 0} (declared : List B) (more : List C) (cell : ℕ) (x : C) → cell < length declared →
     x ≡ get_or (map (λ (name : B). x) declared ++ more) cell x
 among_declared declared more cell x there =

@@ -82,7 +82,7 @@ no_rest : (a b : Bool) → (a ≡ true → b ≡ true) → (a && not b) ≡ fals
 no_rest true b h = ap not (h refl)
 no_rest false b h = refl
 
--- no bit of a is left once those of b are taken away where the set of a is a subset of that of b
+-- no bit of a is left after those of b are taken away where the set of a is a subset of that of b
 is_subset_of_words : (w : Width) (a b : ℕ) → a < 2 ^ bits w → b < 2 ^ bits w
     → nat_eq (bit_and a (bit_not w b)) 0 ≡ is_subset (set_where (bits w) (has_bit a)) (set_where (bits w) (has_bit b))
 is_subset_of_words w a b h k = is_subset-set_where (bits w) (has_bit a) (has_bit b) _

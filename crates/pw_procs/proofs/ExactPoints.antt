@@ -71,7 +71,7 @@ outside_point e i n one outside none = point_is e i (λ v low high.
     let at : (n ≤ℤ v) × (v ≤ℤ n) = between_true n v n h in
     outside (omega (arith, ints), omega (arith, ints)))))
 
--- one number gives the interval of it alone where there is one, else the empty one
+-- one number gives the interval of it alone if there is one, otherwise the empty one
 pub point_one : (e : Exact) (n : ℤ) (made : Option Interval) (otherwise : Interval) → exact.IsOne e n → (IsInIntervalRange n → IsSome made) → IfSome made (λ i. interval.IsFromTo i n n) → interval.IsEmpty otherwise
     → info.Interval (unwrap_or made otherwise) ≡ point_of (info.Exact e)
 point_one e n (Some i) otherwise one in_range from_to none = one_point e i n one from_to

@@ -171,7 +171,7 @@ truths_mono set others part = closest_mono bool _ _ (λ v r e. part (int_eq v) e
 pub one_mono : (op : ℤ → ℤ) (y x : Info) → Implies y x → ArePartOf (image_of_one op y) (image_of_one op x)
 one_mono op y x implied passes = some_mono y x (λ a. passes (op a)) (λ a. passes (op a)) implied (λ a e. e)
 
--- more of two values pass a test where more are possible
+-- more of two values pass a test if more are possible
 pub pair_mono : (y z x w : Info) (test : ℤ → ℤ → Bool) → Implies y x → Implies z w
     → some y (λ a. some z (λ b. test a b)) ≡ true → some x (λ a. some w (λ b. test a b)) ≡ true
 pair_mono y z x w test first_implied second_implied = some_mono y x (λ a. some z (λ b. test a b)) (λ a. some w (λ b. test a b)) first_implied
@@ -197,7 +197,7 @@ truths_none set none = closest_none bool _ (λ v. none (int_eq v))
 pub one_none : (op : ℤ → ℤ) (x : Info) → IsContradiction x → IsNone (image_of_one op x)
 one_none op x none passes = contradiction_none x none (λ a. passes (op a))
 
--- no two values pass a test where either is of a contradiction
+-- no two values pass a test if either is of a contradiction
 pub pair_none : (x y : Info) (test : ℤ → ℤ → Bool) → IsContradiction x ⊎ IsContradiction y → some x (λ a. some y (λ b. test a b)) ≡ false
 pair_none x y test (inl none) = contradiction_none x none (λ a. some y (λ b. test a b))
 pair_none x y test (inr none) = none_some x (λ a. some y (λ b. test a b)) (λ a here e. not_both _ e (contradiction_none y none (λ b. test a b)))
@@ -211,7 +211,7 @@ two_none op x y either passes = pair_none x y (λ a b. passes (op a b)) either
 itself_within : (numbers : ℤ → Type 0) (z : ℤ) → numbers z → LiesWithin numbers z
 itself_within numbers z here = (z, z, here, here, omega (arith, ints), omega (arith, ints))
 
--- what an operation gives on possible values is possible where it is in range
+-- what an operation gives on possible values is possible if it is in range
 pub one_holds : (op : ℤ → ℤ) (x : Info) (a z : ℤ) → z ≡ op a → is_in_interval_range z ≡ true → allows x a ≡ true → allows (hull_of (image_of_one op x)) z ≡ true
 one_holds op x a z is range possible = (hull_is _ _ (image_one op x)).holds z range (itself_within _ z (a, possible, is))
 

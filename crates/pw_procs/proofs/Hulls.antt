@@ -59,7 +59,7 @@ no_hull numbers set r are none empty = ap info.Interval (intervals.closest_is _ 
     let (below, below_in, below_v) = are.known (λ z. le_z z v) both.0 in
     none below below_in))))
 
--- an operation gives nothing where an input leaves nothing possible
+-- an operation gives nothing if an input leaves nothing possible
 pub hull_of_none : (operation : ℤ → ℤ) (x r : Interval) → IsEmpty x → IsEmpty r
     → info.Interval r ≡ hull_of (image_of_one operation (info.Interval x))
 hull_of_none operation x r none = no_hull _ _ r (image_one operation (info.Interval x))

@@ -1,4 +1,4 @@
--- The one possible value, where there is just one.
+-- The one possible value, if there is exactly one.
 use Rattle.std.proofs.Common.{◌≡◌, ◌↔◌, ℕ, ℤ, pos, negsuc, ◌<◌, ◌≤◌, ◌≤ℤ◌, Bool, true, false, IsTrue, Some, arith, refl, sym, ◌∙◌, ap, subst}
 use Rattle.std.proofs.lemmas.Int.{ints}
 use Rattle.pw_kinds.specs.declared.interval.Interval.{Interval}

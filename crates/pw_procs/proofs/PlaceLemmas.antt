@@ -47,7 +47,7 @@ texts_added f key ks text texts =
       | inr new ↦ rw new (All-push (λ k. IsUtf8 (f k)) ks key texts text)
     ]
 
--- ---- the name at a place, where no two names are equal
+-- ---- the name at a place, if no two names are equal
 
 differs : {K : Type 0} (f : K → List ℕ) (x k : K) → bytes_eq (f x) (f k) ≡ false → bytes_eq (f k) (f x) ≡ false
 differs f x k apart =

@@ -51,7 +51,7 @@ true_some a p v here passes =
     let range : (exact_lowest ≤ℤ v) × (v ≤ℤ exact_highest) = allows_in_range a v here in
     some_found (λ v. allows a v && p v) _ (least_is (λ v. allows a v && p v) exact_numbers exact_lowest) v range.0 range.1 (both_true _ _ here passes)
 
--- some value of the more informed passes only where some of the less informed does
+-- some value of the more informed passes only if some of the less informed does
 pub some_mono : (a b : Info) (p q : ℤ → Bool) → Implies a b → ((v : ℤ) → p v ≡ true → q v ≡ true) → some a p ≡ true → some b q ≡ true
 some_mono a b p q implied more e = let (v, here, passes) = some_true a p e in true_some b q v (implied v here) (more v passes)
 

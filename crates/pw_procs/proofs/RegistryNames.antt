@@ -161,7 +161,7 @@ any_there [] name (k, within, e) = absurd (omega arith)
 any_there (first ∷ names) name (zero, within, e) = ap (λ b. b || list_any (bytes_eq name) names) ((bytes_eq-Decides name first).1 (sym e))
 any_there (first ∷ names) name (suc k, within, e) = or_second (bytes_eq name first) _ (any_there names name (k, omega arith, e))
 
--- a name that passes is no bad one, and none of those before it
+-- a name that passes is not a bad one, and none of those before it
 no_fault : (before : List (List ℕ)) (name : List ℕ) (fault : RegistryFault) → is_name name ≡ true → not (list_any (bytes_eq name) taken_names) ≡ true
     → not (list_any (bytes_eq name) before) ≡ true → IsFaultAfter before name fault → ⊥
 no_fault before name BadName named free new (inl bad) = not_both _ named bad

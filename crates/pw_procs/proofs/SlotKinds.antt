@@ -72,7 +72,7 @@ equal_sets a b s t p q numbers = (
   λ e. let sizes : s.size ≡ t.size = ap size_of_kind (sym p ∙ e ∙ q) in grind (arith, nat_tests),
 )
 
--- the slots of the inputs, written over the first of nine copies of the output, and one copy more
+-- the slots of the inputs, written over the first of nine copies of the output, and one more copy
 pub with_output : (written inputs : List Slot) (count : ℕ) (output : Slot) → written ≡ inputs → length written ≡ length (take count (replicate 9 output)) → count ≤ 8 →
     take (count + 1) (written ++ drop count (replicate 9 output)) ≡ inputs ++ output ∷ []
 with_output written inputs count output same room most =

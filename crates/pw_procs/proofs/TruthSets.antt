@@ -23,7 +23,7 @@ use Rattle.pw_procs.proofs.OnlyValues.{IsOnly}
 
 -- ---- tests and their opposites
 
--- a test fails where its opposite passes, and its opposite passes where it fails
+-- a test fails if its opposite passes, and its opposite passes if it fails
 from_not : (b : Bool) → not b ≡ true → b ≡ false
 from_not true e = sym e
 from_not false e = refl
@@ -54,7 +54,7 @@ true_either : (a b : Bool) → (a || b) ≡ true → (a ≡ true) ⊎ (b ≡ tru
 true_either true b e = inl refl
 true_either false b e = inr e
 
--- what `or` and `and` say of two tests if the first is known
+-- what `or` and `and` say about two tests if the first is known
 pub either_first : (a b : Bool) → a ≡ true → (a || b) ≡ true
 either_first true b e = refl
 either_first false b e = absurd (cc)
@@ -99,7 +99,7 @@ only_second true false = refl
 only_second false true = refl
 only_second false false = refl
 
--- none, then `false` where it may be, then `true` where it may be
+-- none, then `false` if it may be, then `true` if it may be
 pub truths_from : (f t : Bool) (none one part : Members) → members.IsEmpty none
     → ((v : ℤ) → members.allows one v ≡ (members.allows none v || (f && int_eq (pos 0) v)))
     → ((v : ℤ) → members.allows part v ≡ (members.allows one v || (t && int_eq (pos 1) v)))
@@ -127,7 +127,7 @@ true_some_pair x y passes a b at_a at_b passed = true_some x (λ a. some y (pass
 
 -- ---- what an operation gives that tells a truth
 
--- a truth is the place of `false` where its test fails, and that of `true` where it passes
+-- a truth is the place of `false` if its test fails, and that of `true` if it passes
 false_is : (b : Bool) → int_eq (pos 0) (truth b) ≡ not b
 false_is true = refl
 false_is false = refl
@@ -136,7 +136,7 @@ true_is : (b : Bool) → int_eq (pos 1) (truth b) ≡ b
 true_is true = refl
 true_is false = refl
 
--- `false` is given where some pair fails, `true` where some pair passes
+-- `false` is given if some pair fails, `true` if some pair passes
 pub image_false : (test : ℤ → ℤ → Bool) (x y : Info) → image_of_two (λ a b. truth (test a b)) x y (int_eq (pos 0)) ≡ some_pair x y (λ a b. not (test a b))
 image_false test x y = some_same x _ _ (λ a at_a. some_same y _ _ (λ b at_b. false_is (test a b)))
 
@@ -149,7 +149,7 @@ no_image operation x y (inl none) passes = contradiction_none x none (λ a. some
 no_image operation x y (inr none) passes =
     none_some x (λ a. some y (λ b. passes (operation a b))) (λ a at_a e. not_both _ e (contradiction_none y none (λ b. passes (operation a b))))
 
--- what is no contradiction leaves some value possible
+-- what is not a contradiction leaves some value possible
 pub possible : (x : Info) → (IsContradiction x → ⊥) → is_possible x ≡ true
 possible x known = elim (cases_Bool (is_possible x)) [
   | inl e ↦ e
@@ -212,7 +212,7 @@ same_words x y a b at_a at_b =
     (λ e. let same = eqb-true (of_z w64 a) (of_z w64 b) e in true_eq a b (omega (arith, ints, same)))
     (λ e. eq-eqb (of_z w64 a) (of_z w64 b) (ap (of_z w64) (eq_true a b e)))
 
--- of two with one value each, `false` is given where these differ, and `true` where they are equal
+-- of two with one value each, `false` is given if these differ, and `true` if they are equal
 pub only_differ : (x y : Info) (a b : ℤ) → IsOnly (allows x) a → IsOnly (allows y) b → image_of_two (λ a b. truth (int_eq a b)) x y (int_eq (pos 0)) ≡ not (eqb (of_z w64 a) (of_z w64 b))
 only_differ x y a b only_a only_b =
     image_false int_eq x y ∙ pair_of_only x y (λ a b. not (int_eq a b)) a b only_a only_b ∙ ap not (sym (same_words x y a b only_a.0 only_b.0))
@@ -221,7 +221,7 @@ pub only_equal : (x y : Info) (a b : ℤ) → IsOnly (allows x) a → IsOnly (al
 only_equal x y a b only_a only_b =
     image_true int_eq x y ∙ pair_of_only x y int_eq a b only_a only_b ∙ sym (same_words x y a b only_a.0 only_b.0)
 
--- if not both have just one value some pair differs
+-- if not both have exactly one value some pair differs
 pub some_differ : (x y : Info) (r s : Option ℤ) → is_possible x ≡ true → is_possible y ≡ true
     → ((v : ℤ) → (r ≡ Some v) ↔ IsOnly (allows x) v) → ((v : ℤ) → (s ≡ Some v) ↔ IsOnly (allows y) v)
     → ((a b : ℤ) → r ≡ Some a → s ≡ Some b → ⊥) → some_pair x y (λ a b. not (int_eq a b)) ≡ true
@@ -240,7 +240,7 @@ some_differ x y r s possible_x possible_y only_x only_y others = elim (cases_Boo
       )
 ]
 
--- some pair is equal exactly if the merge of the two is no contradiction
+-- some pair is equal exactly if the merge of the two is not a contradiction
 pub some_equal : (x y both : Info) (r : Bool) → ((v : ℤ) → allows both v ≡ (allows x v && allows y v)) → (IsTrue r ↔ IsContradiction both) → some_pair x y int_eq ≡ not r
 some_equal x y both r values tells = same_test _ _
     (λ e.
@@ -320,7 +320,7 @@ some_either x y p q possible_x possible_y = same_test _ _
 pair_same : (x y : Info) (p q : ℤ → ℤ → Bool) → ((a b : ℤ) → p a b ≡ q a b) → some_pair x y p ≡ some_pair x y q
 pair_same x y p q same = some_same x _ _ (λ a at_a. some_same y _ _ (λ b at_b. same a b))
 
--- what `and` gives, of which `false` wants two that are no contradictions
+-- what `and` gives, of which `false` wants two that are not contradictions
 pub conjunction_false : (x y : Info) → is_possible x ≡ true → is_possible y ≡ true
     → image_of_two (λ a b. truth (is_true a && is_true b)) x y (int_eq (pos 0)) ≡ (some x (λ a. not (is_true a)) || some y (λ b. not (is_true b)))
 conjunction_false x y possible_x possible_y =
@@ -331,7 +331,7 @@ conjunction_false x y possible_x possible_y =
 pub conjunction_true : (x y : Info) → image_of_two (λ a b. truth (is_true a && is_true b)) x y (int_eq (pos 1)) ≡ (some x is_true && some y is_true)
 conjunction_true x y = image_true (λ a b. is_true a && is_true b) x y ∙ some_both x y is_true is_true
 
--- what `or` gives, of which `true` wants two that are no contradictions
+-- what `or` gives, of which `true` wants two that are not contradictions
 pub disjunction_false : (x y : Info) → image_of_two (λ a b. truth (is_true a || is_true b)) x y (int_eq (pos 0)) ≡ (some x (λ a. not (is_true a)) && some y (λ b. not (is_true b)))
 disjunction_false x y =
     image_false (λ a b. is_true a || is_true b) x y

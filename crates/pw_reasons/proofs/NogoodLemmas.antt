@@ -1,5 +1,5 @@
--- Premises that contradict themselves: they do so where more is believed, told and attached; and which sets are covered once one
--- more is noted.
+-- Premises that contradict themselves: they do so if more is believed, told and attached; and which
+-- sets are covered after one more is noted.
 use Rattle.std.proofs.Common.{◌≡◌, ℕ, ◌<◌, Bool, true, false, not, cond, ◌||◌, ◌⊎◌, List, [], ◌∷◌, ◌++◌, Contains, filter, length, refl, sym, ap, ◌∙◌, subst, arith, inl, inr, length-append}
 use Rattle.std.specs.FinSet.{is_subset}
 use Rattle.std.proofs.lemmas.Bool.{cases_Bool, false≢true}
@@ -104,7 +104,7 @@ module _ (premises : Premises) where
   noted_after nogoods reserved dropped new same less more =
       more ∙ ap (λ (l : List Premises). l ++ premises ∷ []) (less ∙ ap others same)
 
-  -- if this is not a part, what the others cover is what all do: one that includes it is no part
+  -- if this is not a part, what the others cover is what all do: one that includes it is not a part
   -- either
   module _ (w : Premises) (apart : is_subset premises w ≡ false) where
     or_false : (a b : Bool) → a ≡ false → (a || b) ≡ b

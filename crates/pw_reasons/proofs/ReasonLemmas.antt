@@ -1,5 +1,5 @@
--- What is left of a worldview once premises of it were tried: a part that gives the same value, and
--- that keeps exactly what is needed.
+-- What is left of a worldview after premises of it were tried: a part that gives the same value,
+-- and that keeps exactly what is needed.
 use Rattle.std.proofs.Common.{◌≡◌, ◌≢◌, ℕ, zero, suc, ◌+◌, ◌<◌, ◌≤◌, ◌↔◌, Bool, true, false, not, cond, ◌&&◌, ◌||◌, if◌then◌else◌, List, [], ◌∷◌, ◌++◌, filter, length, reverse, refl, sym, ap, subst, ◌∙◌, arith, inl, inr, Decides}
 use Rattle.std.specs.Prelude.{nat_eq, nat_lt}
 use Rattle.std.specs.Iterator.{YieldsLast}
@@ -79,7 +79,7 @@ module _ (earlier later : Premises) (n : ℕ) where
   contains-after : (q : ℕ) → n < q → contains (before_and_after earlier later n) q ≡ contains later q
   contains-after q above = contains-before_and_after earlier later n q ∙ second_of_two (contains earlier q) (contains later q) n q above
 
-  -- and a set that contains just this is that
+  -- and a set that contains exactly this is that
   is_before_and_after : (s : Premises) → ((q : ℕ) → q < n → contains s q ≡ contains earlier q) → contains s n ≡ false →
       ((q : ℕ) → n < q → contains s q ≡ contains later q) → s ≡ before_and_after earlier later n
   is_before_and_after s before there after =
@@ -185,7 +185,7 @@ module _ (value : Premises → Info) (worldview : Premises) where
           (without_itself left n)
           (λ q above. without_others left n q (λ e. omega arith) ∙ sym (tried_others left n q (λ e. omega arith)))
 
-  -- and it stays so where a premise before it is tried
+  -- and it stays so if a premise before it is tried
   kept_still : (left : Premises) (m n : ℕ) → m < n → IsKeptIfNeeded n left → IsKeptIfNeeded n (tried value worldview left m)
   kept_still left m n before so_far =
       subst (λ (b : Bool). (b ≡ true) ↔ (value (before_and_after worldview (tried value worldview left m) n) ≢ value worldview))
@@ -299,7 +299,7 @@ module _ (value : Premises → Info) (worldview : Premises) where
 
 -- ---- the trials, from the last premise to the first
 
--- premises that come from the last to the first are a list turned round
+-- premises that come from the last to the first are a list reversed
 pub premises_fall : {s : Rev (List ℕ)} (premises : List ℕ) → rev_source s ≡ premises →
     YieldsList (rev_steps (YieldsLast (λ left. left))) (λ n. n) s (reverse premises)
 premises_fall {s} premises is =
@@ -309,7 +309,7 @@ premises_fall {s} premises is =
     (λ t n u last. ap reverse last ∙ reverse-append (rev_source u) (n ∷ [])) s)
 
 module _ (value : Premises → Info) (worldview : Premises) where
-  -- what is left once the premises that came so far, from the last on, were tried
+  -- what is left after the premises that came so far, from the last on, were tried
   abbrev pub left_after : List ℕ → Premises
   left_after came = left_of value worldview (reverse came)
 
@@ -321,7 +321,7 @@ module _ (value : Premises → Info) (worldview : Premises) where
   pub after_part : (came : List ℕ) → is_subset (left_after came) worldview ≡ true
   after_part came = left_part value worldview (reverse came)
 
-  -- once all came, what is left is the reason
+  -- after all came, what is left is the reason
   pub all_tried : (left : Premises) (came : List ℕ) → left ≡ left_after came → came ≡ reverse (numbers_of worldview) →
       left ≡ reason_of value worldview
   unfolding reason_of

@@ -25,7 +25,7 @@ use Rattle.pw_sessions.proofs.FewCalls.{due_most, due_none, no_gains}
 
 module _ (network : Network) (well : IsWellNetwork network) (old new : Store) (w : Premises) (same : kinds_of old ≡ kinds_in network)
     (sound : IsSound network old) where
-  -- what is kept once it is done
+  -- what is kept after it is done
   abbrev Kept : Type 0
   Kept = IsSound network old → (cell : ℕ) → kept_in new cell w ≡ value_in network old w cell
 
@@ -64,7 +64,7 @@ module _ (network : Network) (well : IsWellNetwork network) (old new : Store) (w
   -- ---- how often it calls from earlier values
 
   module _ (before : Session) (last : Option Session) (had : last ≡ Some before) where
-    -- at least once for each instance that is due, and at most so often with what is gained
+    -- at least once for each instance that is due, and at most as many times more as is gained
     abbrev Due : Settled → Type 0
     Due settled = is_subset before.values.worldview w ≡ true → (due : List Bool)
         × AreDue network old w before.values due × (tally due ≤ settled.calls) × (settled.calls ≤ tally due + gains network old new w)
@@ -116,7 +116,7 @@ module _ (network : Network) (well : IsWellNetwork network) (old new : Store) (w
     }
     due_again (Err e) due least most = least
 
--- so it is where still more is kept afterwards
+-- so it is if still more is kept afterwards
 pub due_still : (network : Network) (old found new : Store) (w : Premises) (last : Option Session) (calls : ℕ) → KeepsMore network found new →
     CallsDue network old found w last calls → CallsDue network old new w last calls
 due_still network old found new w last calls more due = record {

@@ -31,7 +31,7 @@ use Rattle.pw_sessions.proofs.WorkbenchLemmas.{left_as_before, left_attached, le
 use Rattle.pw_sessions.proofs.WrittenCells.{written_is}
 
 module _ (d : Declared) (well : IsWellDeclared d) (readings : List LineReading) (old : Workbench) (left : IsLeftBy d readings old) where
-  -- what was answered stays so where only more is kept
+  -- what was answered stays so if only more is kept
   pub carried_keeping : (user : ℕ) (new : Workbench) (command : Command) (answer : Reply) → OnlyKeepsMore old user new →
       IsCarriedOut d readings command old answer → IsCarriedOut d readings command new answer
   carried_keeping user new command answer keeps carried =

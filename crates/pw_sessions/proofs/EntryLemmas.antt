@@ -1,4 +1,4 @@
--- What entries tell of a cell by its name, with one more entry.
+-- What entries tell about a cell by its name, with one more entry.
 use Rattle.std.proofs.Common.{◌≡◌, Bool, true, false, List, [], ◌∷◌, ◌++◌, cond, fold, refl, sym, ap, ◌∙◌, append-nil, inl, inr}
 use Rattle.std.specs.Prelude.{ℕ, Option, Some, None, if◌then◌else◌, filter, not, slice_get}
 use Rattle.std.specs.List.{cons_option, flat_map}
@@ -35,12 +35,12 @@ use Rattle.pw_sessions.specs.Entries.{Entry, Told, Attached, support_of}
 
 -- ---- tells
 
--- an information of the cell of this name, merged with what a source tells of it
+-- an information of the cell of this name, merged with what a source tells about it
 abbrev pub with_tell : Name → Info → Source Name → Info
 with_tell name info (sources.Told at told) = if same_name at name then meet info told else info
 with_tell name info (Propagator procedure inputs output) = info
 
--- an information of a cell by its name, merged with what visible entries tell of it
+-- an information of a cell by its name, merged with what visible entries tell about it
 abbrev pub told_by : Declared → List Entry → Premises → Name → Info → Info
 told_by d entries w name info = fold (with_tell name) info (sources_after d (visible_in entries w))
 
@@ -53,7 +53,7 @@ tells_alone d entries known name info (sources.Told at told ∷ given) =
     tells_alone d entries known name (if same_name at name then meet info told else info) given
 tells_alone d entries known name info (Propagator procedure inputs output ∷ given) = tells_alone d entries known name info given
 
--- what is left where a propagator may come before it
+-- what is left if a propagator may come before it
 propagator_or_none : (procedures : List Procedure) (instance : Instance Name) (name : Name) (info : Info) (found : Option Procedure) (rest : List (Source Name)) →
     fold (with_tell name) info
     (cons_option (option_map (λ (procedure : Procedure). Propagator procedure instance.inputs instance.output) found) rest)
@@ -135,7 +135,7 @@ attachment_tells_nothing d entries w name info line callable cells support =
     told_more d entries (Attached line callable cells support) w name info
     ∙ if_same (is_subset support w) _ (told_by d entries w name info) (propagators_tell_nothing d.procedures _ name (told_by d entries w name info))
 
--- what is merged where a fact is visible is what it shows
+-- what is merged if a fact is visible is what it shows
 met : (v : Info) (fact : Fact) (b : Bool) → kind_of v ≡ kind_of fact.info →
     (if b then meet v fact.info else v) ≡ meet v (if b then fact.info else nothing (kind_of fact.info))
 met v fact true same = refl
@@ -181,7 +181,7 @@ filter_narrower p q within (x ∷ xs) = elim (cases_Bool (p x)) [
   ]
 ]
 
--- what is visible under some of what is believed is visible
+-- what is visible under some of the beliefs is visible
 visible_narrower : (entries : List Entry) (some beliefs : Premises) → is_subset some beliefs ≡ true →
     visible_in (visible_in entries beliefs) some ≡ visible_in entries some
 visible_narrower entries some beliefs within =

@@ -51,7 +51,7 @@ kind_of_told bench well set_up user cell fact named =
 
 module _ (bench : Workbench) (network : IsWellNetwork bench.network) (user cell : ℕ)
     (named : IsDeclared bench.network.declared (Says (commands.Ask user cell))) where
-  -- it settles where an instance writes the cell
+  -- it settles if an instance writes the cell
   pub asks_written : (d : Declared) (before : List LineReading) → IsLeftBy d before bench → Settles d before (commands.Ask user cell) →
       is_written bench.network.attached cell (beliefs_in bench user) ≡ true
   asks_written d before left settles =

@@ -58,7 +58,7 @@ fresh_beside old user new fits keeps other differs =
     (λ settled is. subst (λ (n : Network). IsCurrent n new.store settled) (sym keeps.network)
     (current_keeping old.network old.store new.store settled fits.kinds fits.sound keeps.grows is))
 
--- all, where nothing changes but the room for cells
+-- all, if nothing changes but the room for cells
 fresh_as_before : (old new : Workbench) → StoreFits old → IsAsBefore old new → (user : ℕ) → IsFresh old user → IsFresh new user
 fresh_as_before old new fits still user =
     stays_fresh old new user (ap (λ (ss : List (Option Session)). get_or ss user None) still.sessions)
@@ -69,7 +69,8 @@ fresh_as_before old new fits still user =
 
 -- ---- what is attached under premises
 
--- a user to whom it is not visible has the session still, and stays fresh where its values stay current
+-- a user to whom it is not visible has the session still, and stays fresh if its values stay
+-- current
 after_hidden : (old new : Workbench) (support : Premises) → new.beliefs ≡ old.beliefs → new.sessions ≡ map (option_map (after_entry support)) old.sessions →
     ((settled : Settled) → is_subset support settled.worldview ≡ false → IsCurrent old.network old.store settled → IsCurrent new.network new.store settled) →
     (user : ℕ) → is_subset support (beliefs_in old user) ≡ false → IsFresh old user → IsFresh new user
@@ -234,7 +235,8 @@ fresh_remembered old user settled there worldview current = record {
 
 -- ---- a settling of the user
 
--- how few calls it made, where it calls none from values that are current, and few where what is kept is the value
+-- how few calls it made, if it calls none from values that are current, and few where what is kept
+-- is the value
 pub calls_few : (old : Workbench) (user calls : ℕ) → ((session : Session) → session_in old user ≡ Some session →
     session.values.worldview ≡ beliefs_in old user → IsCurrent old.network old.store session.values → calls ≡ 0) →
     (KeepsValues old.network old.store (beliefs_in old user) → calls ≤ visible_count old.network (beliefs_in old user)) → CallsFew old user calls
@@ -336,7 +338,8 @@ asked_known old user Settling answer fresh none = record {
 
 -- ---- what a user knows
 
--- a user whose session is known to be current is fresh, where its values were found under what the user believes
+-- a user whose session is known to be current is fresh, if its values were found under what the
+-- user believes
 pub known_fresh : (bench : Workbench) (user : ℕ) (session : Session) → session_in bench user ≡ Some session → StoreFits bench →
     session.is_current ≡ true → session.values.worldview ≡ beliefs_in bench user → IsFresh bench user
 known_fresh bench user session has fits known worldview = record {

@@ -71,7 +71,7 @@ sessions_same network old new sessions same sound alike =
 
 -- ---- as something comes under premises
 
--- once each fits that was told what was attached, they do
+-- if each session still fits after something was attached, all of them do
 all_after : (support : Premises) (network after : Network) (old new : Store) →
     ((session : Session) → IsSessionOf network old session → IsSessionOf after new (after_entry support session)) → (sessions : List (Option Session)) →
     SessionsFit network old sessions → SessionsFit after new (map (option_map (after_entry support)) sessions)
@@ -242,7 +242,8 @@ session_of old user new settled well keeps is current = record {
   current = λ same. current;
 }
 
--- a store that keeps more, once the last session of the user is given up, and another count of calls
+-- a store that keeps more, after the last session of the user is given up, and another count of
+-- calls
 pub only_settles : (old : Workbench) (user : ℕ) (store : Store) (calls : ℕ) → KeepsMore old.network old.store store →
     StaysUpstream old.network old.store store →
     OnlyKeepsMore old user (record old { store = store; sessions = set old.sessions user None; calls = calls })

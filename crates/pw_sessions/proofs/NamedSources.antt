@@ -1,4 +1,5 @@
--- What entries say of cells by name: the propagators are those of their instances, they fit the kinds, and all stays on the names.
+-- What entries say about cells by name: the propagators are those of their instances, they fit the
+-- kinds, and all stays on the names.
 use Rattle.std.proofs.Common.{◌≡◌, ℕ, ◌<◌, List, [], ◌∷◌, ◌++◌, Option, Some, filter, length, map, get_or, refl, sym, ap, subst, ◌∙◌, arith, All, Contains}
 use Rattle.std.proofs.Math.Logic.{∥∥₁_map}
 use Rattle.std.specs.Prelude.{slice_get}

@@ -44,13 +44,13 @@ visible_append attached more w =
     ∙ map-append (λ (a : AttachedInstance). a.instance) (filter (λ (a : AttachedInstance). is_subset a.support w) attached)
     (filter (λ (a : AttachedInstance). is_subset a.support w) more)
 
--- those of one attachment are visible where its premises are believed
+-- those of one attachment are visible if its premises are believed
 visible_all : (line : ℕ) (support w : Premises) (made : List (Instance ℕ)) → is_subset support w ≡ true →
     visible_instances (map (attached_at line support) made) w ≡ made
 visible_all line support w [] visible = refl
 visible_all line support w (instance ∷ made) visible = rw visible (ap (λ l. instance ∷ l) (visible_all line support w made visible))
 
--- and hidden where they are not
+-- and hidden if they are not
 visible_none : (line : ℕ) (support w : Premises) (made : List (Instance ℕ)) → is_subset support w ≡ false →
     visible_instances (map (attached_at line support) made) w ≡ []
 visible_none line support w [] hidden = refl
@@ -128,7 +128,7 @@ told_attaches_none : (d : Declared) (line cell : ℕ) (fact : Fact) (seen : Bool
 told_attaches_none d line cell fact true rest = refl
 told_attaches_none d line cell fact false rest = refl
 
--- an attachment has its instances where it is seen
+-- an attachment has its instances if it is seen
 attached_seen : (d : Declared) (entry : Entry) (seen : Bool) (shown : List (Instance Name)) (rest : List Entry) →
     (seen ≡ true → shown ≡ instances_of d entry) → (seen ≡ false → shown ≡ []) →
     shown ++ flat_map (instances_of d) rest ≡ flat_map (instances_of d) (cond seen (entry ∷ rest) rest)

@@ -53,7 +53,7 @@ noted_none From now next one d there none set_to told = record {
       (subst (From None) (sym (ap (λ l. get_or l one None) set_to ∙ get_or-set_same now one (get_or now one d) None there ∙ none)) told);
 }
 
--- ---- once all were told
+-- ---- after all were told
 
 -- what a function makes of each
 abbrev pub IsMadeBy : {X : Type 0} → (X → X) → Option X → Option X → Type 0

@@ -34,7 +34,7 @@ use Rattle.pw_settle.proofs.KeptProgress.{reader_listed, visible_no}
 use Rattle.pw_settle.proofs.PlacedInstances.{accepted, all_sources, the_source}
 use Rattle.pw_settle.proofs.SettledValues.{all_placed, kinds_many}
 
--- what is known about all cells is said of each
+-- what is known about all cells is said about each
 said_known : (network : Network) (store : Store) (w : Premises) (settled : Settled) → kinds_of store ≡ kinds_in network →
     length settled.infos ≡ length store.cells → ((cell : ℕ) → info_at settled.infos cell ≡ kept_in store cell w) →
     (cell : ℕ) → said_of network settled cell ≡ kept_in store cell w
@@ -87,7 +87,8 @@ same_read before now (c ∷ inputs) same = λ i.
     itself : (n : ℕ) → nat_eq n n ≡ true
     itself n = grind (arith, nat_tests)
 
--- an instance that was satisfied by what was known is satisfied by what is known now, where of its inputs the same is known
+-- an instance that was satisfied by what was known is satisfied by what is known now, if of its
+-- inputs the same is known
 pub satisfied_still : (network : Network) (well : IsWellNetwork network) (a : Attached) → Contains network.attached a → (before now : ℕ → Info) →
     map now a.instance.inputs ≡ map before a.instance.inputs → Implies (now a.instance.output) (before a.instance.output) →
     IsSatisfied network before a → IsSatisfied network now a
@@ -110,7 +111,7 @@ module _ (network : Network) (well : IsWellNetwork network) (store : Store) (w :
   kind-now : (cell : ℕ) → kind_of (now cell) ≡ (numbered (kinds_in network)).kind cell
   kind-now cell = kind-kept store cell w ∙ kind_there network store same cell
 
-  -- what is said of a cell below the last is what was found, past it nothing
+  -- what is said about a cell below the last is what was found, past it nothing
   said_here : (cell : ℕ) → cell < length settled.infos → said_of network settled cell ≡ info_at settled.infos cell
   said_here cell below = get_or_default settled.infos cell (nothing ((numbered (kinds_in network)).kind cell)) (nothing kinds.Interval) below
 
@@ -152,7 +153,7 @@ module _ (network : Network) (well : IsWellNetwork network) (store : Store) (w :
       ∙ ap nothing (sym (get_or_past (kinds_in network) cell kinds.Interval past))
       ∙ sym (said_past cell (omega (arith, past, fits.cells, kinds_many network well)))
 
-  -- what was found is what was said, where all is at hand that is kept
+  -- what was found is what was said, if all is at hand that is kept
   found_said : (infos : List Info) (supports : List Premises) → AreKept store w infos supports → (cell : ℕ) →
       found_of settled.infos infos cell ≡ said_of network settled cell
   found_said infos supports kept cell =

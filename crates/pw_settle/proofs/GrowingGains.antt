@@ -1,4 +1,4 @@
--- What is gained is no less where still more is kept afterwards.
+-- What is gained is no less if still more is kept afterwards.
 use Rattle.std.proofs.Common.{◌≡◌, ℕ, zero, suc, ◌+◌, ◌-◌, ◌*◌, ◌<◌, ◌≤◌, length, List, sym, ap, ◌∙◌, mul-le-mul_right, inl, inr, arith}
 use Rattle.std.specs.Prelude.{slice_index_or}
 use Rattle.pw_info.specs.declared.info.Info.{Info}

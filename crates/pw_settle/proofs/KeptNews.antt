@@ -39,7 +39,7 @@ kinds_mapped : (known : ℕ → Info) (store : Store) → ((c : ℕ) → kind_of
 kinds_mapped known store are [] = refl
 kinds_mapped known store are (c ∷ cells) = λ i. are c i ∷ kinds_mapped known store are cells i
 
--- a procedure says at least as much where of each input at least as much is known
+-- a procedure says at least as much if of each input at least as much is known
 value_more : (procedure : Procedure) (better known : ℕ → Info) (cells : List ℕ) → map kind_of (map better cells) ≡ map kind_of (map known cells) →
     All (λ c. Implies (better c) (known c)) cells → Implies (value_by procedure (map better cells)) (value_by procedure (map known cells))
 value_more procedure better known cells one_kind more =

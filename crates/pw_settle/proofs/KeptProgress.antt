@@ -100,7 +100,7 @@ pub satisfied_kept : (network : Network) (store : Store) (w : Premises) (infos :
     (a : Attached) → IsSatisfied network (info_at infos) a → IsSatisfied network (λ c. kept_in store c w) a
 satisfied_kept network store w infos supports kept a = subst (λ (known : ℕ → Info). IsSatisfied network known a) (fun_ext kept.infos_are)
 
--- all are satisfied, where all others were and the one is
+-- all are satisfied, if all others were and the one is
 pub satisfied_all : (network : Network) (w : Premises) (known : ℕ → Info) (queued : List Bool) (number : ℕ) →
     AreOthersSatisfied network w known queued number → ((d : Attached) → IsSatisfied network known (attached_no network number d)) →
     AreSatisfied network w known queued
@@ -254,7 +254,7 @@ module _ (network : Network) (well : IsWellNetwork network) (old new : Store) (s
     info_elsewhere : (c : ℕ) → c ≢ cell → info_at new_infos c ≡ info_at infos c
     info_elsewhere c other = ap (λ (l : List Info). info_at l c) takes.infos_are ∙ get_or-set_other infos cell c after (nothing kinds.Interval) other
 
-  -- all rests on premises upstream, where it did
+  -- all rests on premises upstream, if it did
   upstream_news : (given : ℕ → ℕ → Bool) → AreUpstream network given old supports → AreUpstream network given new new_supports
   upstream_news given are = record {
     kept = by_cell (λ c. All (λ f. LiesUpstream network given c f.support) (kept_at new c)) cell

@@ -15,7 +15,7 @@ use Rattle.pw_settle.specs.Values.{propagator_of, propagators_of}
 
 -- ---- as sources
 
--- sources with an instance before them, where a procedure is found for it
+-- sources with an instance before them, if a procedure is found for it
 abbrev with_instance : {C : Type 0} → Instance C → Option Procedure → List (Source C) → List (Source C)
 with_instance instance found rest =
     cons_option (option_map (λ procedure. Propagator procedure instance.inputs instance.output) found) rest

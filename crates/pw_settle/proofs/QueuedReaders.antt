@@ -22,7 +22,7 @@ first_or_other : (x y : ℕ) (xs : List ℕ) → Contains (x ∷ xs) y → (x �
 first_or_other x y xs (zero, within, is) = inl is
 first_or_other x y xs (suc k, within, is) = inr (k, omega (arith, within), is)
 
--- so far those of the readers that are not left were queued, where they are visible
+-- so far those of the readers that are not left were queued, if they are visible
 pub record AreQueuedBut (visible old now : List Bool) (readers left : List ℕ) (count : ℕ) : Type 0 where
   pub queued : (n : ℕ) → Contains readers n → is_set visible n ≡ true → (is_set now n ≡ true) ⊎ Contains left n
   pub stay : (n : ℕ) → is_set old n ≡ true → is_set now n ≡ true

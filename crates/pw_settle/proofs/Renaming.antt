@@ -1,4 +1,4 @@
--- Other names of cells: rounds, and so the fixpoint, know the same of a cell under either name.
+-- Other names of cells: rounds, and so the fixpoint, know the same for a cell under either name.
 use Rattle.std.proofs.Common.{◌≡◌, ℕ, zero, suc, ◌*◌, List, [], ◌∷◌, if◌then◌else◌, map, length, fold, All, refl, ◌∙◌, ap}
 use Rattle.std.proofs.lemmas.Bool.Decides.{same_from_decides}
 use Rattle.std.proofs.lemmas.List.{length-map}
@@ -38,7 +38,7 @@ module _ {C D : Type 0} (cells : Cells C) (others : Cells D) (IsHere : C → Typ
     map_agrees [] here = refl
     map_agrees (c ∷ cs) here = λ k. agree c (All-head IsHere c cs here) k ∷ map_agrees cs (All-tail IsHere c cs here) k
 
-    -- a source says the same of its cell under either name
+    -- a source says the same about its cell under either name
     said_renamed : (source : Source C) → Names IsHere source → said_by other (source_renamed name source) ≡ said_by known source
     said_renamed (Told cell info) here = refl
     said_renamed (Propagator procedure inputs output) here = ap (value_by procedure) (map_agrees inputs here.0)

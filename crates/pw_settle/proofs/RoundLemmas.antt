@@ -81,7 +81,7 @@ module _ {C : Type 0} (cells : Cells C) where
 
   -- ---- what a round leaves possible
 
-  -- an information of a cell merged with what sources say of the cell is of its kind
+  -- an information of a cell merged with what sources say about the cell is of its kind
   kind-merged : (known : C → Info) (cell : C) (info : Info) (sources : List (Source C)) →
       kind_of (fold (with_source cells known cell) info sources) ≡ kind_of info
   kind-merged known cell info [] = refl
@@ -98,11 +98,12 @@ module _ {C : Type 0} (cells : Cells C) where
       cell_of source ≡ cell → kind_of info ≡ kind_of (said_by known source)
   merged_kind known cell info source kind says is = kind ∙ sym (says ∙ ap cells.kind is)
 
-  -- what the source says leaves the value possible, where it informs the cell
+  -- what the source says leaves the value possible, if it informs the cell
   abbrev pub Leaves : (C → Info) → C → ℤ → Source C → Type 0
   Leaves known cell v source = cell_of source ≡ cell → allows (said_by known source) v ≡ true
 
-  -- an information merged with what sources say of a cell leaves possible only what it did and what each of them does
+  -- an information merged with what sources say about a cell leaves possible only what it did and
+  -- what each of them does
   merged_allows : (known : C → Info) (cell : C) (sources : List (Source C)) (info : Info) → kind_of info ≡ cells.kind cell →
       All (IsOfItsKind known) sources → (v : ℤ) → allows (fold (with_source cells known cell) info sources) v ≡ true →
       (allows info v ≡ true) × All (Leaves known cell v) sources

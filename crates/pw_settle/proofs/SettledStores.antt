@@ -1,4 +1,5 @@
--- What a store keeps in a worldview once every visible instance is satisfied, and how many calls that took.
+-- What a store keeps in a worldview after every visible instance is satisfied, and how many calls
+-- that took.
 use Rattle.std.proofs.Common.{◌≡◌, ℕ, ◌+◌, ◌-◌, ◌*◌, ◌<◌, ◌≤◌, ◌^◌, Bool, true, false, List, [], ◌∷◌, All, length, map, cond, refl, sym, ap, ◌∙◌, subst, arith, mul-le-mul_right}
 use Rattle.std.specs.Prelude.{slice_index_or}
 use Rattle.std.specs.List.{count_by, range_with_len}

@@ -1,4 +1,4 @@
--- What a network and a store say of cells, and that what follows says it.
+-- What a network and a store say about cells, and that what follows says it.
 use Rattle.std.proofs.Common.{◌≡◌, ℕ, ◌+◌, ◌<◌, Bool, true, false, List, [], ◌∷◌, ◌++◌, length, map, refl, sym, ap, ◌∙◌, subst, arith, length-append, append-nil}
 use Rattle.std.specs.Prelude.{All, Contains, slice_index_or, filter}
 use Rattle.std.specs.FinSet.{is_subset}
@@ -60,7 +60,7 @@ propagators_more procedures instances instance = filter_map-append _ instances (
 abbrev seen_sources : List Procedure → Premises → List Attached → List (Source ℕ)
 seen_sources procedures w attached = propagators_of procedures (visible_instances attached w)
 
--- ---- what a network and a store say of cells
+-- ---- what a network and a store say about cells
 
 -- each number below is in the row from 0
 pub contains_number : (n cell : ℕ) → cell < n → Contains (range_with_len 0 n) cell

@@ -76,7 +76,7 @@ pub cell_stays : (old new : Store) (own : List Kind) → new.cells ≡ old.cells
 cell_stays old new own are c there =
     ap (λ (l : List Cell). get_or l c (new_cell kinds.Interval)) are ∙ get_or_append_left old.cells (map new_cell own) (new_cell kinds.Interval) c there
 
--- a store stays sound where more is attached, and new cells are added
+-- a store stays sound if more is attached, and new cells are added
 pub sound_attached : (network wider : Network) → IsWider network wider → IsWellNetwork network → IsWellNetwork wider → (old new : Store) (own : List Kind) →
     kinds_of old ≡ kinds_in network → kinds_of new ≡ kinds_in wider → new.cells ≡ old.cells ++ map new_cell own → IsSound network old → IsSound wider new
 sound_attached network wider wide well also old new own same fits are sound w c =
@@ -154,7 +154,7 @@ sound_told network well old new cell fact same kind gained gains others still so
 
 -- ---- what is kept rests on premises upstream
 
--- premises that lie upstream do so where more is attached and more was given
+-- premises that lie upstream do so if more is attached and more was given
 lie_still : (network wider : Network) → IsWider network wider → (given more : ℕ → ℕ → Bool) → ((c p : ℕ) → given c p ≡ true → more c p ≡ true) →
     (cell : ℕ) (premises : Premises) → LiesUpstream network given cell premises → LiesUpstream wider more cell premises
 lie_still network wider wide given more all cell premises lies cells upstream has p one =

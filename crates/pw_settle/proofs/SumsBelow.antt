@@ -26,7 +26,7 @@ sum_falls (suc n) f g one amount below falls same =
           omega (arith, rest, last)
     ]
 
--- a sum is at most the sum of two others where it is so at each number
+-- a sum is at most the sum of two others if it is so at each number
 pub sum_most : (n : ℕ) (f g h : ℕ → ℕ) → ((i : ℕ) → i < n → f i ≤ g i + h i) → sum_below n f ≤ sum_below n g + sum_below n h
 sum_most zero f g h most = omega arith
 sum_most (suc n) f g h most = let rest = sum_most n f g h (λ i below. most i (omega (arith, below))) in let last = most n (omega arith) in omega (arith, rest, last)

@@ -38,7 +38,7 @@ module _ {S : Type 0} (passes : S → List ℕ → S → Type 0) where
 
 module _ {O : Type 0} (passes : O → List ℕ → O → Type 0) where
   -- if nothing was held at first and nothing is at last, what was passed to a gathering output was
-  -- passed to its output, which is `last` once the borrow is over
+  -- passed to its output, which is `last` after the borrow is over
   pub gathered_whole : (name : GName) (first last : O) (s t : Gathered O) (text : List ℕ)
       → (output_of s).ghost_name ≡ name → (output_of s).now ≡ first → held_of s ≡ [] → held_of t ≡ []
       → GatheredPasses passes s text t → (name ≡ (output_of t).ghost_name → last ≡ (output_of t).now) → passes first text last

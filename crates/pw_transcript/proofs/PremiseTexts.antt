@@ -59,7 +59,7 @@ text_of_none [] none = (refl, refl)
 text_of_none (first ∷ names) none = absurd (cc)
 
 module _ (d : Declared) (premises : Premises) (number : ℕ) where
-  -- one number more
+  -- one more number
   below_more : names_below d premises (number + 1) ≡ names_below d premises number ++ map (name_at d.premises) (cond (contains premises number) (number ∷ []) [])
   below_more =
       ap (λ row. map (name_at d.premises) (filter (contains premises) row)) (first_parts number 1)

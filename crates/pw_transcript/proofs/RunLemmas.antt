@@ -45,7 +45,8 @@ held_nothing line same = elim (cases_Bool (nat_le (length line) 1024)) [
   | inr long ↦ let e = rw long at same in cc
 ]
 
--- a piece that is no longer than a line that is read is held as it is, where nothing was held before it
+-- a piece that is no longer than a line that is read is held as it is, if nothing was held before
+-- it
 pub held_whole : (line piece : List ℕ) (held : Option (List ℕ)) → held ≡ held_line [] → length piece ≤ 1024 → held ≡ held_line line → Some piece ≡ held_line (line ++ piece)
 held_whole line piece held none short is =
     let empty : line ≡ [] = held_nothing line (sym is ∙ none) in
@@ -211,7 +212,8 @@ module _ {O : Type 0} (passes : O → List ℕ → O → Type 0) (d : Declared) 
         front = p.front;
       }
 
-  -- all lines of a text are answered, also with a last line that is not ended, where they are with a line feed after it
+  -- all lines of a text are answered, also with a last line that is not ended, if they are with a
+  -- line feed after it
   PassesAll-unended : (first now : O) (counts : Lines) (bytes : List ℕ) → lines_of (bytes ++ 10 ∷ []) ≡ lines_of bytes →
       PassesAll passes d first now counts (bytes ++ 10 ∷ []) → PassesAll passes d first now counts bytes
   PassesAll-unended first now counts bytes same a =
@@ -691,7 +693,7 @@ module _ {O : Type 0} (passes : O → List ℕ → O → Type 0) (d : Declared) 
         front = gathered_part passes name first last s t _ named at none p.front ends;
       }
 
-  -- the same of a whole run
+  -- the same for a whole run
   module _ {I : Type 0} (takes : I → List ℕ → I → Type 0) (i i' : I) where
     pub gathered_to_all : (counts : Lines) → (output_of s).ghost_name ≡ name → (output_of s).now ≡ first → held_of s ≡ [] → held_of t ≡ [] →
         RepliesToAll takes (GatheredPasses passes) d i i' s t counts → (name ≡ (output_of t).ghost_name → last ≡ (output_of t).now) →

@@ -19,7 +19,7 @@ differ a b apart = elim (cases_Bool (bytes_eq a b)) [
 apart : (a b : List ℕ) → bytes_eq a b ≡ false → a ≢ b
 apart a b other same = false≢true (sym other ∙ (bytes_eq-Decides a b).1 same)
 
--- a word that is found to differ from all of these is none of them
+-- a word that is found to differ from all of these is not one of them
 none_of : (word : List ℕ) (names : List (List ℕ)) → AllByRecursion (λ name. bytes_eq word name ≡ false) names → AllByRecursion (λ name. word ≢ name) names
 none_of word [] none = tt
 none_of word (name ∷ names) none = (apart word name none.0, none_of word names none.1)
