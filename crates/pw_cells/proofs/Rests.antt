@@ -25,8 +25,8 @@ same_ahead xs ys n d e = let at : get_or (drop n xs) 0 d ≡ get_or (drop n ys) 
 pub less_ahead : {X : Type 0} (xs ys : List X) (n : ℕ) → drop n xs ≡ drop n ys → drop (n + 1) xs ≡ drop (n + 1) ys
 less_ahead xs ys n e = sym (drop-drop 1 n xs) ∙ ap (drop 1) e ∙ drop-drop 1 n ys
 
--- what is left of facts where those that one subsumes are dropped from the first of them, and the others are still ahead: before the
--- place are those that stay
+-- what is left of facts where those that one subsumes are dropped from the first of them, and the
+-- others are still ahead: before the place are those that stay
 pub record AreSifted (f : Fact) (all left : List Fact) (place : ℕ) : Type 0 where
   pub seen : ℕ
   pub stay : take place left ≡ unsubsumed f (take seen all)

@@ -22,7 +22,8 @@ kept_more k f told supports kept late is whole =
     let both = late_kinds_apart k kept late whole.kept_kinds whole.late_kinds whole.apart in
     assimilation k f (all_assimilated kept late) is both.0 both.1
 
--- a fact that is added to those that are late is assimilated in the end, and so is one that something late subsumes
+-- a fact that is added to those that are late is assimilated in the end, and so is one that
+-- something late subsumes
 pub late_more : (k : Kind) (f : Fact) (told : List Fact) (supports : List Premises) (kept late : List Fact) (known : Bool) → kind_of f.info ≡ k → IsWhole k told supports kept late
     → (known ≡ true → IsSubsumedBy late f)
     → all_assimilated kept (if known then late else late ++ f ∷ []) ≡ assimilated (all_assimilated kept late) f

@@ -90,7 +90,7 @@ all_reversed P xs all j d below =
     let there : j < length xs = subst (λ n. j < n) (length-reverse xs) below in
     subst P (sym (get_or-reverse xs j d there)) (all (length xs - 1 - j) d (omega (arith, there)))
 
--- the last first they say the same together
+-- in reverse order they say the same together
 pub shown-reversed : (k : Kind) (w : Premises) (fs : List Fact) → AreOfKind k fs → shown_by k w (reverse fs) ≡ shown_by k w fs
 shown-reversed k w fs all =
     same_shown k w (reverse fs) fs (all_reversed (λ f. kind_of f.info ≡ k) fs all) all

@@ -133,7 +133,8 @@ push_cases (a ∷ xs) x y (suc n) at =
     elim (push_cases xs x y n at) [ inl before ↦ inl (omega (arith, before.0), before.1) | inr last ↦ inr (omega (arith, last.0), last.1) ]
 
 module _ {C : Type 0} (R : Compound → List Kind → Size → Expands C → Type 0) where
-  -- there are as many kinds, sizes and ways to expand as compounds, and those of each compound are so
+  -- there are as many kinds, sizes and ways to expand as compounds, and those of each compound are
+  -- so
   pub record AreAll (compounds : List Compound) (kinds : List (List Kind)) (sizes : List Size) (known : List (Expands C)) : Type 0 where
     pub kinds_count : length kinds ≡ length compounds
     pub sizes_count : length sizes ≡ length compounds

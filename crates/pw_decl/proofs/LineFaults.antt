@@ -1,4 +1,5 @@
--- What a line declares and its first fault are at most one, and never both; so with texts.
+-- A line declares at most one thing and has at most one first fault, and never both; the same holds
+-- of texts.
 use Rattle.std.proofs.Common.{◌≡◌, ℕ, ◌+◌, true, false, List, [], ◌∷◌, ◌++◌, length, Some, None, ◌⊎◌, inl, inr, sym, refl, ap, subst, suc, ◌∙◌, codes, rules, arith, ◌↔◌}
 use Rattle.std.specs.List.{list_all}
 use Rattle.std.specs.Str.{bytes_eq}

@@ -132,7 +132,8 @@ pub declared_kind : (d : Declared) (word : List ℕ) → place_of_name built_in_
     place_of_name (kind_names d) word ≡ option_map (λ n. n + 4) (place_of_name d.set_names word)
 declared_kind d word none = place_after built_in_kind_names d.set_names word none
 
--- the number of a declared set is two more than its place, and its place among all kinds two more than its number
+-- the number of a declared set is two more than its place, and its place among all kinds two more
+-- than its number
 pub declared_place : (d : Declared) (word : List ℕ) (place : ℕ) → place_of_name built_in_kind_names word ≡ None → Some place ≡ place_of_name d.set_names word →
     place_of_name (kind_names d) word ≡ Some (2 + place + 2)
 declared_place d word place none found =

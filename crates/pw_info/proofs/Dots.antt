@@ -59,7 +59,8 @@ text_spells lo hi order low high =
       | inr apart ↦ rw apart (inr (signed_decimal lo, signed_decimal hi, refl, one, other, order))
     ]
 
--- what a word that is cut at its first dot does not spell within most, as LO..HI, it spells in no way
+-- what a word that is cut at its first dot does not spell within most, as LO..HI, it spells in no
+-- way
 pub none_from_cut : (word front rest : List ℕ) (most : ℕ) → word ≡ front ++ (46 ∷ rest) → HasNoDot front
     → ((lo hi : ℤ) → SpellsCut front rest lo hi → IsUpTo most lo → IsUpTo most hi → ⊥)
     → (lo hi : ℤ) → SpellsRange word lo hi → IsUpTo most lo → IsUpTo most hi → ⊥

@@ -1,4 +1,5 @@
--- From the mask of bytes that are tested together to the bytes before the first that ends a run, and on from run to run.
+-- From the mask of bytes that are tested together to the bytes before the first that ends a run,
+-- and on from run to run.
 use Rattle.std.proofs.Common.{◌≡◌, ℕ, suc, ◌+◌, ◌%◌, ◌^◌, ◌<◌, ◌≤◌, cond, eqb, Bool, true, not, List, [], ◌∷◌, map, length, get_or, drop, Fits, w8, refl, sym, ap, ◌∙◌, subst, arith, inl, inr}
 use Rattle.std.proofs.lemmas.Bool.{agree_below, agree_below_at, cases_Bool, cases_eq, eq-eqb, ne_eqb, cond-true, cond-false}
 use Rattle.std.proofs.lemmas.Simd.{map-map, mask_l-mod, length-chunk, get_or-chunk, chunk-drop, leading_from_mask_l, trailing_mask_l}
@@ -40,7 +41,8 @@ same_run p q [] agree bytes = refl
 same_run p q (x ∷ v) agree bytes =
     rw (agree_below_at p q 256 x agree (bytes 0 (omega arith)), same_run p q v agree (λ k within. bytes (suc k) (omega arith))) refl
 
--- The lowest bit of what is computed lane by lane from a run of bytes: how many come before the first at which a lane's top bit is set.
+-- The lowest bit of what is computed lane by lane from a run of bytes: how many come before the
+-- first at which a lane's top bit is set.
 pub lowest_of : (q : ℕ → Bool) (bytes : List ℕ) (at n : ℕ) (z : List ℕ) (f : ℕ → ℕ) → at + n ≤ length bytes → n ≤ 64 → ((k : ℕ) → Fits w8 (get_or bytes k 0))
     → z ≡ map f (chunk at n bytes) → agree_below (λ x. not (top 7 (f x))) q 256 ≡ true
     → lowest_set (mask_l (map (top 7) z) % 2 ^ 64) ≡ short_of n (prefix_len q (chunk at n bytes))

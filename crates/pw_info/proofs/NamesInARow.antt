@@ -1,4 +1,5 @@
--- Names of members in a row, with ',' between each two: one place is read of each name, and no other row reads so.
+-- Names of members in a row, with ',' between each two: one place is read of each name, and no
+-- other row reads so.
 use Rattle.std.proofs.Common.{◌≡◌, ℕ, zero, suc, ℤ, pos, ◌<◌, Bool, true, false, ◌||◌, ◌⊎◌, List, [], ◌∷◌, ◌++◌, length, All, Contains, Option, Some, None, IfSome, IfNone, Bor, slice_get, get_or, nat_eq, inl, inr, refl, sym, ◌∙◌, ap, subst, arith}
 use Rattle.std.proofs.lemmas.Bool.{cases_order, or_parts}
 use Rattle.std.proofs.lemmas.Bool.Decides.{Decides-int_eq, Decides-eqb, Decides-like, same_from_decides}

@@ -1,4 +1,5 @@
--- Texts passed one after another: what of both was passed, and written, when the first or the second broke off.
+-- Texts passed one after another: what of both was passed, and written, when the first or the
+-- second broke off.
 use Rattle.std.proofs.Common.{◌≡◌, ℕ, ◌+◌, ◌-◌, Bool, true, List, [], ◌∷◌, ◌++◌, ◌==◌, length, take, drop, Result, Ok, Err, IsErr, sym, ap, ◌∙◌, subst, arith, length-append, length-drop, append_assoc, take_all}
 use Rattle.std.proofs.lemmas.Bool.{eqb-true}
 use Rattle.std.proofs.lemmas.List.{append-nil, take-append-le, take-append-drop}

@@ -1,4 +1,5 @@
--- Lists of readers through one table of links: they stay linked when one more is appended, and when cells are added.
+-- Lists of readers through one table of links: they stay linked when one more is appended, and when
+-- cells are added.
 use Rattle.std.proofs.Common.{◌≡◌, ℕ, zero, suc, ◌+◌, ◌-◌, ◌<◌, ◌≤◌, inl, inr, cond, min, List, [], ◌∷◌, ◌++◌, length, map, drop, take, get_or, set, replicate, refl, sym, ap, subst, ◌∙◌, arith, append-nil, append_assoc, length-append, eq-eqb}
 use Rattle.std.specs.Prelude.{All}
 use Rattle.std.proofs.Math.Nat.{min-eq_left, min-eq_right}

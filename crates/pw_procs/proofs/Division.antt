@@ -122,8 +122,8 @@ max_above a b v = same_test _ _
       | inr l ↦ let h : v ≤ℤ b = le_true v b l in true_le v (int_max a b) (omega (arith, ints, clamps))
     ])
 
--- a number times one of two divisors is at or above a dividend: with positive divisors, the number is at or above a
--- true quotient
+-- a number times one of two divisors is at or above a dividend: with positive divisors, the number
+-- is at or above a true quotient
 abbrev is_above_corner : ℤ → ℤ → ℤ → ℤ → Bool
 is_above_corner t x y q = le_z t (q *ℤ x) || le_z t (q *ℤ y)
 

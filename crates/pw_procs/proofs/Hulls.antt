@@ -32,7 +32,8 @@ image_two operation x y = record {
       (operation a b, (a, b, here, there, refl), passed);
 }
 
--- an interval of the numbers in range from the least to the greatest of a set is the hull of the set
+-- an interval of the numbers in range from the least to the greatest of a set is the hull of the
+-- set
 pub is_hull_of : (numbers : ℤ → Type 0) (set : NumberSet) (lo hi : ℤ) (r : Interval) → IsSetOf numbers set
     → numbers lo → numbers hi → ((z : ℤ) → numbers z → (lo ≤ℤ z) × (z ≤ℤ hi))
     → ((v : ℤ) → interval.allows r v ≡ (is_in_interval_range v && le_z lo v && le_z v hi)) → info.Interval r ≡ hull_of set

@@ -115,7 +115,8 @@ all_include_mono (guard ∷ guards) (y ∷ ys) (x ∷ xs) h e =
     let both : (includes guard x ≡ true) × (all_include guards xs ≡ true) = true_both _ _ e in
     both_true _ _ (includes_mono guard y x h.0 both.0) (all_include_mono guards ys xs h.1 both.1)
 
--- a rule that applies to less informed inputs applies to more informed ones, and so leaves no more possible
+-- a rule that applies to less informed inputs applies to more informed ones, and so leaves no more
+-- possible
 rule_mono : (applies applied result : Bool) → (applied ≡ true → applies ≡ true) → (not applies || result) ≡ true → (not applied || result) ≡ true
 rule_mono applies false result more e = refl
 rule_mono true true result more e = e

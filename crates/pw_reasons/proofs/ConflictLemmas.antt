@@ -1,4 +1,5 @@
--- Which cells are contradictory, and in which attachments: what a list of them is so far, and how it grows.
+-- Which cells are contradictory, and in which attachments: what a list of them is so far, and how
+-- it grows.
 use Rattle.std.proofs.Common.{◌≡◌, ◌≢◌, ◌↔◌, ℕ, zero, suc, ◌+◌, ◌-◌, ◌<◌, ◌≤◌, ◌⊎◌, Bool, true, false, cond, inl, inr, List, [], ◌∷◌, ◌++◌, IsTrue, Option, Some, None, length, map, filter, get_or, refl, sym, ap, subst, ◌∙◌, arith, All, Contains, append-nil, length-append, map-id}
 use Rattle.std.specs.Prelude.{pos, slice_get}
 use Rattle.std.specs.List.{range_with_len}

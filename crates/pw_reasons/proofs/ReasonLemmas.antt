@@ -69,7 +69,8 @@ second_of_two : (a b : Bool) (n q : ℕ) → n < q → ((a && nat_lt q n) || (b 
 second_of_two a b n q above = grind (arith, nat_tests)
 
 module _ (earlier later : Premises) (n : ℕ) where
-  -- the premises of the one set before this one and of the other after it: what these contain before it, there, and after it
+  -- the premises of the one set before this one and of the other after it: what these contain
+  -- before it, there, and after it
   contains-before : (q : ℕ) → q < n → contains (before_and_after earlier later n) q ≡ contains earlier q
   contains-before q below = contains-before_and_after earlier later n q ∙ first_of_two (contains earlier q) (contains later q) n q below
 

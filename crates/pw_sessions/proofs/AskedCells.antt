@@ -1,4 +1,5 @@
--- What an ask is answered with: what settles in the network, which is what follows from the visible entries.
+-- The answer to an ask: what settles in the network, which is what follows from the visible
+-- entries.
 use Rattle.std.proofs.Common.{◌≡◌, ℕ, ◌<◌, List, false, length, ap, subst, ◌∙◌, inl}
 use Rattle.pw_info.specs.declared.info.Info.{Info}
 use Rattle.pw_cells.specs.Cells.{told_in}

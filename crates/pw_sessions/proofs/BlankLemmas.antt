@@ -51,7 +51,8 @@ module _ (d : Declared) where
       ap (λ es. Some (answer_to d es (beliefs_at d (user_of command) (map unrefused before)) command)) (entries_from-unrefused 1 before)
       ∙ ap (λ beliefs. Some (answer_to d (entries_before before) beliefs command)) (beliefs-unrefused (user_of command) _ before)
 
-  -- readings before that differ in what was refused and what was blank make no difference to the replies after them
+  -- readings before that differ in what was refused and what was blank make no difference to the
+  -- replies after them
   replies_after-alike : (before other after : List LineReading) → map unrefused before ≡ map unrefused other → replies_after d before after ≡ replies_after d other after
   replies_after-alike before other [] e = refl
   replies_after-alike before other (reading ∷ after) e =

@@ -1,4 +1,5 @@
--- Blank lines leave what is there, so a command may come any number of them later; and what its line leaves then.
+-- Blank lines leave a workbench unchanged, so a command may come after any number of them; and what
+-- its line leaves then.
 use Rattle.std.proofs.Common.{◌≡◌, ℕ, zero, suc, ◌+◌, ◌<◌, List, [], ◌∷◌, ◌++◌, length, replicate, Some, inl, inr, refl, sym, ap, ◌∙◌, subst, append-nil, append_assoc, length-append, arith}
 use Rattle.std.proofs.lemmas.List.{length-replicate}
 use Rattle.pw_decl.specs.Declaration.{Declared}

@@ -1,5 +1,5 @@
--- Settled values are current after a settling, and stay so as others settle, and as what comes that
--- is not news to them.
+-- Settled values are current after a settling, and stay current when others settle, and when
+-- something comes that is not news to them.
 use Rattle.std.proofs.Common.{◌≡◌, ℕ, ◌+◌, ◌<◌, ◌≤◌, Bool, true, false, List, [], ◌∷◌, ◌++◌, All, zero, suc, length, map, get_or, refl, sym, ap, ◌∙◌, subst, inl, inr, arith}
 use Rattle.std.proofs.Math.Path.{fun_ext}
 use Rattle.std.specs.Prelude.{◌-◌, nat_lt, slice_index_or}

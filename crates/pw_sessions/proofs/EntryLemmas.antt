@@ -187,14 +187,14 @@ visible_narrower : (entries : List Entry) (some beliefs : Premises) → is_subse
 visible_narrower entries some beliefs within =
     filter_narrower (is_visible some) (is_visible beliefs) (λ entry seen. is_subset_trans (support_of entry) some beliefs seen within) entries
 
--- the reason from the visible entries alone is the reason
+-- the reason from only the visible entries is the reason
 reason-visible : (d : Declared) (entries : List Entry) (beliefs : Premises) (cell : ℕ) →
     reason_in d (visible_in entries beliefs) beliefs cell ≡ reason_in d entries beliefs cell
 reason-visible d entries beliefs cell =
     reason_of_subsets (λ w. value_in d (visible_in (visible_in entries beliefs) w) cell) (λ w. value_in d (visible_in entries w) cell) beliefs
     (λ some within. ap (λ (l : List Entry). value_in d l cell) (visible_narrower entries some beliefs within))
 
--- the answer from the visible entries alone is the answer
+-- the answer from only the visible entries is the answer
 pub answer-visible : (d : Declared) (entries : List Entry) (beliefs : Premises) (command : Command) →
     answer_to d (visible_in entries beliefs) beliefs command ≡ answer_to d entries beliefs command
 answer-visible d entries beliefs (commands.Ask user cell) =

@@ -1,4 +1,4 @@
--- What the steps of a line come to for who is fresh.
+-- The effect of the steps of a line on fresh users.
 use Rattle.std.proofs.Common.{◌≡◌, ℕ, true, List, ◌++◌, All, map, refl, sym, ap, ◌∙◌, subst, inl, inr}
 use Rattle.std.specs.Prelude.{◌⊎◌}
 use Rattle.pw_info.specs.declared.kind.Kind.{Kind}
@@ -69,7 +69,7 @@ module _ (bench : Workbench) (network : IsWellNetwork bench.network) (user cell 
 
 -- ---- an attachment
 
--- who was fresh is so still, or sees it
+-- a user who was fresh still is, or sees it
 pub attached_seen : (old new : Workbench) (line user : ℕ) (callable : Callable) (on : Arguments) (support : Premises) → IsWellNetwork old.network →
     IsWellNetwork new.network → StoreFits old → IsAttached old line callable (cells_of on) support new → (other : ℕ) → IsFresh old other →
     MayEndFreshness old other (commands.Attach user callable on support) new reply.Done ⊎ IsFresh new other

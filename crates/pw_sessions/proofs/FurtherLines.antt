@@ -29,7 +29,8 @@ entries_before-snoc readings reading = entries_from-snoc 1 readings reading ∙ 
 
 -- ---- beliefs
 
--- what a user believes after one more line: what the user believed before it, and what the line changes of that
+-- what a user believes after one more line: what the user believed before it, and what the line
+-- changes of that
 pub beliefs_at-snoc : (d : Declared) (user : ℕ) (readings : List LineReading) (reading : LineReading) →
     beliefs_at d user (readings ++ reading ∷ []) ≡ believed_after user (beliefs_at d user readings) reading
 beliefs_at-snoc d user readings reading = fold-append (believed_after user) (all_premises d) readings (reading ∷ [])

@@ -54,7 +54,7 @@ pub sessions_keeping : (network : Network) (old new : Store) (sessions : List (O
 sessions_keeping network old new sessions same sound grows =
     all_fit network network old new (session_keeping network old new same sound grows) sessions
 
--- a store of the same cells keeps more, in a manner of speaking
+-- a store of the same cells keeps at least as much
 pub keeps_more_alike : (network : Network) (old new : Store) → new.cells ≡ old.cells → KeepsMore network old new
 keeps_more_alike network old new alike = record {
   kinds = ap (λ (cs : List Cell). map (λ (c : Cell). c.kind) cs) alike;

@@ -1,4 +1,5 @@
--- Members of lists: of what a map, a filter and a list of lists give, and of numbers that rise, which their members determine.
+-- Members of lists: of what a map, a filter and a list of lists give, and of numbers that rise,
+-- which their members determine.
 use Rattle.std.proofs.Common.{◌≡◌, ℕ, zero, suc, ◌<◌, ◌≤◌, ◌⊎◌, inl, inr, Bool, true, List, [], ◌∷◌, filter, map, refl, sym, ap, ◌∙◌, arith, All, Contains}
 use Rattle.std.specs.List.{AllPairs, flat_map, list_any}
 use Rattle.std.specs.List.Sorted.{IsStrictlyIncreasing}

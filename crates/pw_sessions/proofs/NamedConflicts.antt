@@ -1,4 +1,5 @@
--- What settles in the network that entries make lists the conflicts that the visible entries have by name.
+-- What settles in the network that entries make lists the conflicts that the visible entries have
+-- by name.
 use Rattle.std.proofs.Common.{◌≡◌, ℕ, ◌<◌, Bool, true, false, inl, inr, List, [], ◌∷◌, Option, Some, None, filter, fold, length, map, not, refl, sym, ap, subst, ◌∙◌, arith, All, Contains}
 use Rattle.std.specs.Prelude.{if◌then◌else◌}
 use Rattle.std.specs.List.{AllPairs, flat_map, range_with_len}
@@ -41,7 +42,7 @@ use Rattle.pw_sessions.proofs.NamedValues.{seen_over, value_by_number, value_is,
 -- ---- a cell of which nothing is said
 
 module _ {C : Type 0} (cells : Cells C) (c : C) where
-  -- sources of other cells leave an information of this one as it is
+  -- sources of other cells leave an information about this cell unchanged
   others_leave : (known : C → Info) (info : Info) (sources : List (Source C)) → All (λ s. cell_of s ≡ c → ⊥) sources →
       fold (with_source cells known c) info sources ≡ info
   others_leave known info [] others = refl
@@ -243,8 +244,8 @@ module _ (d : Declared) (entries : List Entry) (network : Network) (store : Stor
             ∙ ap clashes found.2 ∙ any.4;
       }
 
--- what settles in the network that entries make, from a store that was told what they tell, has the conflicts of the visible
--- entries
+-- what settles in the network that entries make, from a store that was told what they tell, has the
+-- conflicts of the visible entries
 pub conflicts_named : (d : Declared) (entries : List Entry) (network : Network) (store : Store) (w : Premises)
     (conflicts : Conflicts) → IsWellDeclared d → All (FitsDeclared d) entries → RiseFrom 0 entries → network ≡ network_after d entries →
     WasTold d entries network store → AreConflicts network (values.value_in network store w) conflicts →

@@ -66,7 +66,8 @@ module _ (d : Declared) (all : List Entry) where
       (All-weaker (λ cell. cell < length d.cells) (λ cell. slice_get d.kinds cell ≡ Some (kind_at d cell))
       (λ cell there. slice_get-get_or d.kinds cell kinds.Interval (omega (arith, many, there))) cells here))
 
-  -- the instances of an entry that fits the declaration, and of which the kinds are found, fit the kinds of their names
+  -- the instances of an entry that fits the declaration, and of which the kinds are found, fit the
+  -- kinds of their names
   pub instances_fit : length d.kinds ≡ length d.cells → ∥ AreCompoundsAfter d.procedures [] d.compounds ∥₁ → (entry : Entry) →
       FitsDeclared d entry → FindsKinds d all entry →
       All (λ instance. ∥ FitsCells d.procedures (kind_by_name d all) instance ∥₁) (instances_of d entry)
@@ -90,7 +91,7 @@ module _ (d : Declared) (all : List Entry) where
       let entry : Entry = Attached line callable cells support in
       propagators_fit (named_cells d all) d.procedures (instances_of d entry) (instances_fit many steps entry fits finds)
 
-  -- and if its inner cells are named, it says something of names alone
+  -- and if its inner cells are named, it mentions only these names
   sources_name : (entry : Entry) → FitsDeclared d entry → AreNamed d all entry →
       All (Names (Contains (names_after d all))) (sources_of d entry)
   sources_name (Told line cell fact) fits named =

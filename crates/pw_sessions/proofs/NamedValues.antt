@@ -1,4 +1,4 @@
--- What settles in the network that entries make is what follows from them by name, from the visible ones alone.
+-- What settles in the network that entries make is what follows from the visible entries by name.
 use Rattle.std.proofs.Common.{◌≡◌, ℕ, ◌<◌, List, [], ◌++◌, length, map, map-id, refl, sym, ap, ◌∙◌, arith, All, Contains}
 use Rattle.std.specs.List.{range_with_len}
 use Rattle.std.proofs.lemmas.List.{map-append}
@@ -35,7 +35,7 @@ use Rattle.pw_sessions.proofs.NamedNetworks.{IsNamedAfter, declared_here, named_
 
 -- ---- from the names of all entries to those of some
 
--- under the same names a source is as it is
+-- under the same names a source is unchanged
 source_same : {C : Type 0} (source : Source C) → source_renamed (λ c. c) source ≡ source
 source_same (sources.Told cell info) = refl
 source_same (Propagator procedure inputs output) = ap (λ l. Propagator procedure l output) (map-id inputs)
@@ -154,8 +154,8 @@ module _ (d : Declared) (entries : List Entry) (network : Network) (named : IsNa
       (sources_in network store w) sources_here (numbers_of (kinds_in network)) cell here)
       ∙ (λ i. fixpoint (named_cells d entries) (names_by_number i) (sources_by_name i) (name_in network cell))
 
--- what settles at a declared cell of the network that entries make, from a store that was told what they tell, is what follows
--- from the visible entries
+-- what settles at a declared cell of the network that entries make, from a store that was told what
+-- they tell, is what follows from the visible entries
 pub value_is : (d : Declared) (entries : List Entry) (network : Network) (store : Store) (w : Premises) (cell : ℕ) → IsWellDeclared d →
     All (FitsDeclared d) entries → RiseFrom 0 entries → network ≡ network_after d entries → WasTold d entries network store →
     cell < length d.cells → values.value_in network store w cell ≡ value_in d (visible_in entries w) cell

@@ -1,4 +1,5 @@
--- The instances of the network that entries make: by the names of their cells they are what the entries attach.
+-- The instances of the network that entries make: by the names of their cells they are what the
+-- entries attach.
 use Rattle.std.proofs.Common.{◌≡◌, ℕ, ◌+◌, ◌<◌, Bool, true, false, cond, List, [], ◌∷◌, ◌++◌, fold, filter, length, map, refl, sym, ap, ◌∙◌, arith, append-nil, append_assoc, All}
 use Rattle.std.specs.List.{flat_map}
 use Rattle.std.specs.FinSet.{is_subset}
@@ -164,7 +165,8 @@ visible_from network (Attached line callable cells support ∷ entries) w fit =
     (λ seen. ap (map (renamed name)) (visible_all line support w made seen) ∙ made_by_name network line callable cells support here entries)
     (λ hidden. ap (map (renamed name)) (visible_none line support w made hidden)))
 
--- by the names of their cells, the visible instances of the network that entries make are what the visible entries attach
+-- by the names of their cells, the visible instances of the network that entries make are what the
+-- visible entries attach
 pub visible_by_name : (d : Declared) (entries : List Entry) (w : Premises) → All (FitsDeclared d) entries →
     map (renamed (name_in (network_after d entries))) (visible_instances (network_after d entries).attached w) ≡
     flat_map (instances_of d) (visible_in entries w)

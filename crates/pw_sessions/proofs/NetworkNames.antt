@@ -1,4 +1,5 @@
--- The cells of the network that entries make have, in the order of their numbers, the names that the entries make, all different.
+-- The cells of the network that entries make have, in the order of their numbers, the names that
+-- the entries make, all different.
 use Rattle.std.proofs.Common.{◌≡◌, ℕ, zero, suc, ◌+◌, ◌-◌, ◌<◌, ◌≤◌, ◌⊎◌, inl, inr, List, [], ◌∷◌, ◌++◌, fold, length, map, refl, sym, ap, subst, ◌∙◌, arith, append-nil, append_assoc, length-append}
 use Rattle.std.specs.List.{flat_map, range_with_len}
 use Rattle.std.proofs.lemmas.Bool.{cases_lt}
@@ -55,7 +56,7 @@ module _ (network : Network) (line : ℕ) (callable : Callable) (cells : List �
   abbrev after : Network
   after = with_attached network line callable cells support
 
-  -- there are its inner cells more
+  -- the network has the inner cells of the attachment in addition
   pub cells_with_attached : cells_in after ≡ cells_in network + length own
   cells_with_attached =
       let a = length-append network.inner (inner_cells_from line 0 own) in
@@ -130,7 +131,7 @@ names_from network (Attached line callable cells support ∷ entries) =
     ∙ ap (λ (l : List Name). l ++ rest) (names_with_attached network line callable cells support)
     ∙ append_assoc before own rest
 
--- the cells of the declaration are called so
+-- the cells of the declaration have their declared names
 names_of_bare : (d : Declared) →
     map (name_in (bare d)) (range_with_len 0 (cells_in (bare d))) ≡ map DeclaredCell (range_with_len 0 (length d.cells))
 names_of_bare d =
@@ -139,7 +140,8 @@ names_of_bare d =
     ∙ range_maps (name_in (bare d)) DeclaredCell 0 0 (length d.cells)
     (λ j within. declared_name (bare d) (0 + j) (omega (arith, within)))
 
--- the cells of the network that entries make have, in the order of their numbers, the names that the entries make
+-- the cells of the network that entries make have, in the order of their numbers, the names that
+-- the entries make
 pub names_of_network : (d : Declared) (entries : List Entry) →
     map (name_in (network_after d entries)) (range_with_len 0 (cells_in (network_after d entries))) ≡ names_after d entries
 names_of_network d entries =
@@ -191,7 +193,7 @@ module _ (old line : ℕ) (network : Network) (callable : Callable) (cells : Lis
       (sym (kept_name network line callable cells support b here) ∙ same
       ∙ name_of_new network line callable cells support j c within is)
 
-  -- new ones that have one name are one
+  -- new cells with equal names are equal
   two_new : (b c i j : ℕ) → i < count → cells_in network + i ≡ b → j < count → cells_in network + j ≡ c →
       name_in new b ≡ name_in new c → b ≡ c
   two_new b c i j first at second is same =

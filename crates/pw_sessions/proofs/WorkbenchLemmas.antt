@@ -110,7 +110,8 @@ module _ (d : Declared) (many : length d.kinds ≡ length d.cells) where
   left_tells readings bench left =
       tells_from_WasTold d many (entries_before readings) (rise_before readings) bench.network bench.store left.network left.set_up.kinds left.told
 
-  -- with the entries of one more line, and what the users believe then, a workbench is what the lines leave
+  -- with the entries of one more line, and what the users believe then, a workbench is what the
+  -- lines leave
   left_after : (readings : List LineReading) (reading : LineReading) (new : Workbench) (added : List Entry) →
       entries_of (length readings + 1) reading ≡ added → IsSetUpFor d new → All (FitsDeclared d) (entries_before readings ++ added) →
       new.network ≡ network_after d (entries_before readings ++ added) → TellsEntries d (entries_before readings ++ added) new.network new.store →
@@ -132,7 +133,8 @@ module _ (d : Declared) (many : length d.kinds ≡ length d.cells) where
         beliefs = λ user below. believed user below ∙ sym (beliefs_at-snoc d user readings reading);
       }
 
-  -- a line that adds no entry leaves the same network and the same store; what users believe may change
+  -- a line that adds no entry leaves the same network and the same store; what users believe may
+  -- change
   left_quiet : (readings : List LineReading) (reading : LineReading) (old : Workbench) (beliefs : List Premises) → IsLeftBy d readings old →
       entries_of (length readings + 1) reading ≡ [] → length beliefs ≡ length d.users →
       ((user : ℕ) → user < length d.users → get_or beliefs user empty ≡ believed_after user (beliefs_at d user readings) reading) →
@@ -312,7 +314,7 @@ module _ (d : Declared) (many : length d.kinds ≡ length d.cells) where
 
   -- ---- a line that changes what its user believes
 
-  -- what is set for one user is that user's alone
+  -- setting the beliefs of one user changes only these
   get_or-set_by : (f : Premises → Premises) (beliefs : List Premises) (at user : ℕ) → at < length beliefs →
       get_or (set beliefs at (f (get_or beliefs at empty))) user empty
       ≡ (if eqb at user then f (get_or beliefs user empty) else get_or beliefs user empty)

@@ -140,12 +140,12 @@ module _ (network : Network) (well : IsWellNetwork network) (store : Store) (w :
             (implies_nothing (now cell) ((numbered (kinds_in network)).kind cell) (kind-now cell))
       ]
 
-  -- if what was said implies what is kept, they are one
+  -- if what was said implies what is kept, they are equal
   said_now : (cell : ℕ) → Implies (said_of network settled cell) (now cell) → now cell ≡ said_of network settled cell
   said_now cell implies =
       Implies-antisym (now cell) (said_of network settled cell) (kind-now cell ∙ sym (kind-said cell)) (says_more cell) implies
 
-  -- past the last cell they are
+  -- past the last cell they are equal
   same_past : (cell : ℕ) → length (kinds_in network) ≤ cell → now cell ≡ said_of network settled cell
   same_past cell past =
       let cells_past : length store.cells ≤ cell = omega (arith, past, length-map store.cells (λ (x : Cell). x.kind), ap length same) in
@@ -164,7 +164,8 @@ module _ (network : Network) (well : IsWellNetwork network) (store : Store) (w :
   kinds_found infos supports kept cell =
       ap kind_of (found_said infos supports kept cell) ∙ kind-said cell ∙ sym (ap kind_of (kept.infos_are cell) ∙ kind-now cell)
 
-  -- the flags of the new instances, with those of the readers of what has changed, are those of the due ones
+  -- the flags of the new instances, with those of the readers of what has changed, are those of the
+  -- due ones
   pub due_flags : (infos : List Info) (supports : List Premises) → AreKept store w infos supports → (visible flags queued : List Bool) →
       visible ≡ map (is_visible w) network.attached → length flags ≡ length visible →
       ((n : ℕ) → is_set flags n ≡ (is_set visible n && is_new network settled n)) →
@@ -176,7 +177,7 @@ module _ (network : Network) (well : IsWellNetwork network) (store : Store) (w :
     visible_is : (n : ℕ) → is_set visible n ≡ visible_at network w n
     visible_is n = ap (λ (l : List Bool). is_set l n) seen
 
-    -- what is not changed is one
+    -- what has not changed is equal
     changed : (cell : ℕ) → HasChanged settled.infos infos cell → now cell ≡ said_of network settled cell → ⊥
     changed cell has one =
         has (subst (λ (i : Info). Implies i (info_at infos cell)) (sym (found_said infos supports kept cell))

@@ -51,7 +51,7 @@ module _ {C : Type 0} (cells : Cells C) where
       Implies-antisym (known c) (fixpoint cells over sources c) (kinds c ∙ sym (kind-fixpoint over sources c))
       (fixpoint_below over sources fit known kinds implied c) (above c)
 
-  -- a round leaves the fixpoint as it is
+  -- a round leaves the fixpoint unchanged
   pub fixpoint_stays : (over : List C) (sources : List (Source C)) → AreOver cells over sources → (c : C) →
       round cells sources (fixpoint cells over sources) c ≡ fixpoint cells over sources c
   fixpoint_stays over sources are =
@@ -90,7 +90,7 @@ module _ {C : Type 0} (cells : Cells C) where
       fixpoint_above over wider sources more fit are (λ known kinds implied.
       All-weaker (Contains more) (IsImplied known) (λ source is. All-contains (IsImplied known) more source implied is) sources among)
 
-  -- over how many cells the fixpoint is does not matter
+  -- the number of cells that the fixpoint is over does not matter
   pub fixpoint_wider : (over wider : List C) (sources : List (Source C)) → AreOver cells over sources → AreOver cells wider sources →
       (c : C) → fixpoint cells over sources c ≡ fixpoint cells wider sources c
   fixpoint_wider over wider sources are also =

@@ -20,7 +20,7 @@ same_value network old new told w cell =
     (map (λ c. Told c (tells c)) (range_with_len 0 (length (kinds_in network)))
     ++ propagators_of network.declared.procedures (visible_instances network.attached w)) cell) (fun_ext (λ c. told c w))
 
--- a store keeps more than itself
+-- a store keeps at least as much as itself
 pub keeps_more_same : (network : Network) (store : Store) → KeepsMore network store store
 keeps_more_same network store = record {
   kinds = refl;
@@ -29,7 +29,7 @@ keeps_more_same network store = record {
   sound = λ sound. sound;
 }
 
--- and more than what a store keeps that keeps more
+-- and keeping more is transitive
 pub keeps_more_then : (network : Network) (a b c : Store) → KeepsMore network a b → KeepsMore network b c → KeepsMore network a c
 keeps_more_then network a b c first then = record {
   kinds = then.kinds ∙ first.kinds;

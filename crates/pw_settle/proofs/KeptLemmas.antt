@@ -21,7 +21,8 @@ use Rattle.pw_settle.specs.Settled.{info_at, support_at}
 use Rattle.pw_settle.specs.Sound.{LiesUpstream, RestsUpstream}
 use Rattle.pw_settle.proofs.KeptFacts.{kind-kept}
 
--- what is read of one cell: the information that is kept, and premises that are enough for it, each of them of a kept fact
+-- what is read of one cell: the information that is kept, and premises that are enough for it, each
+-- of them of a kept fact
 pub record IsRead (store : Store) (w : Premises) (cell : ℕ) (info : Info) (support : Premises) : Type 0 where
   pub info_is : info ≡ kept_in store cell w
   pub within : is_subset support w ≡ true

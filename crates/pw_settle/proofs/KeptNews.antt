@@ -62,7 +62,8 @@ module _ (network : Network) (well : IsWellNetwork network) (old : Store) (same 
   said : value_by procedure (map (info_at infos) a.instance.inputs) ≡ fact.info
   said = the_source procedures (kinds_in network) a.instance placed (λ source. said_by (info_at infos) source ≡ fact.info) is.says
 
-  -- in a worldview that has the fact's premises the instance is visible, and what is at hand of the inputs is kept there
+  -- in a worldview that has the fact's premises the instance is visible, and what is at hand of the
+  -- inputs is kept there
   parts : (s : Premises) → is_subset fact.support s ≡ true →
       (is_subset a.support s ≡ true) × All (λ c. is_subset (support_at supports c) s ≡ true) a.instance.inputs
   parts s within = joined_parts supports s a.support a.instance.inputs (subst (λ (p : Premises). is_subset p s ≡ true) is.rests within)

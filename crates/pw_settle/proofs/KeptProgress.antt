@@ -145,8 +145,8 @@ still_satisfied network well a there before now cell same more not_read satisfie
 
 -- ---- one call that made news
 
--- what there is after it: more is kept, what is at hand is what is kept, all rests upstream, what is not queued is satisfied, and less
--- may still be gained
+-- what there is after it: more is kept, what is at hand is what is kept, all rests upstream, what
+-- is not queued is satisfied, and less may still be gained
 pub record IsAfterNews (network : Network) (old new : Store) (w : Premises) (new_infos : List Info) (supports new_supports : List Premises)
     (number cell : ℕ) : Type 0 where
   pub grows : KeepsMore network old new

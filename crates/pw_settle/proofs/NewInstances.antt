@@ -1,4 +1,5 @@
--- Instances that are new to settled values, and the agenda while readers of changed cells are queued.
+-- Instances that are new to settled values, and the agenda while readers of changed cells are
+-- queued.
 use Rattle.std.proofs.Common.{◌≡◌, ℕ, ◌+◌, ◌<◌, ◌≤◌, Bool, true, false, List, length, map, get_or, eqb, inl, inr, refl, sym, ap, ◌∙◌, subst, arith}
 use Rattle.std.specs.Prelude.{◌&&◌, nat_lt, not, IfOk, Result, Ok, Err}
 use Rattle.std.specs.FinSet.{is_subset}

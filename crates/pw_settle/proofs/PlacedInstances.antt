@@ -1,4 +1,5 @@
--- Instances whose cells are there, of kinds that their procedures accept: what they say, and what merging it makes of what is known.
+-- Instances whose cells are there, of kinds that their procedures accept: what they say, and what
+-- merging it makes of what is known.
 use Rattle.std.proofs.Common.{◌≡◌, ℕ, ◌+◌, ◌<◌, ◌≤◌, List, [], ◌∷◌, ◌++◌, Option, Some, length, map, get_or, set, refl, sym, ap, ◌∙◌, subst, arith, inl, inr}
 use Rattle.std.specs.Prelude.{All, slice_get, take}
 use Rattle.std.specs.List.{cons_option}

@@ -1,4 +1,4 @@
--- Instances as sources: under other names, that they are propagators alone, that they fit, and what they name.
+-- Instances as sources: under other names; they are only propagators; they fit; and what they name.
 use Rattle.std.proofs.Common.{◌≡◌, List, [], ◌∷◌, ◌++◌, Option, Some, None, filter, map, refl, sym, ap, subst, ◌∙◌, All}
 use Rattle.std.proofs.Math.Logic.{∥∥₁_map}
 use Rattle.std.specs.Prelude.{slice_get}
@@ -42,7 +42,7 @@ propagator_only : {C : Type 0} (instance : Instance C) (rest : List (Source C)) 
 propagator_only instance rest None only = only
 propagator_only instance rest (Some procedure) only = ap (λ l. Propagator procedure instance.inputs instance.output ∷ l) only
 
--- so what instances are is propagators alone
+-- so instances are only propagators
 pub propagators_only : {C : Type 0} (procedures : List Procedure) (instances : List (Instance C)) →
     filter is_propagator (propagators_of procedures instances) ≡ propagators_of procedures instances
 propagators_only procedures [] = refl

@@ -21,7 +21,8 @@ use Rattle.pw_settle.proofs.Membership.{each_member}
 
 -- ---- one merge
 
--- what a merge that is made where P holds leaves possible: what was, and, where P holds, what is merged
+-- what a merge that is made where P holds leaves possible: what was, and, where P holds, what is
+-- merged
 merge_allows : (b : Bool) (P : Type 0) → Decides b P → (info said : Info) → (P → kind_of info ≡ kind_of said) → (v : ℤ) →
     allows (if b then meet info said else info) v ≡ true → (allows info v ≡ true) × (P → allows said v ≡ true)
 merge_allows true P decides info said kinds v e =
@@ -93,7 +94,8 @@ module _ {C : Type 0} (cells : Cells C) where
   pub kind-round : (sources : List (Source C)) (known : C → Info) (c : C) → kind_of (round cells sources known c) ≡ kind_of (known c)
   kind-round sources known c = kind-merged known c (known c) sources
 
-  -- an information of the kind of a cell is of the kind of what a source says that informs this cell
+  -- an information of the kind of a cell is of the kind of what a source says that informs this
+  -- cell
   merged_kind : (known : C → Info) (cell : C) (info : Info) (source : Source C) → kind_of info ≡ cells.kind cell → IsOfItsKind known source →
       cell_of source ≡ cell → kind_of info ≡ kind_of (said_by known source)
   merged_kind known cell info source kind says is = kind ∙ sym (says ∙ ap cells.kind is)
@@ -130,7 +132,8 @@ module _ {C : Type 0} (cells : Cells C) where
       (All-tail (Leaves known cell v) source sources leave)
 
   module _ (sources : List (Source C)) (fit : All (Fits cells) sources) (known : C → Info) (kinds : AreOfTheirKinds cells known) where
-    -- what is possible of a cell after a round was possible before it, and is possible by what each source says that informs the cell
+    -- what is possible of a cell after a round was possible before it, and is possible by what each
+    -- source says that informs the cell
     pub round_allows : (c : C) (v : ℤ) → allows (round cells sources known c) v ≡ true →
         (allows (known c) v ≡ true) × All (Leaves known c v) sources
     round_allows c v e = merged_allows known c sources (known c) (kinds c) (kinds-said known kinds sources fit) v e
@@ -159,7 +162,7 @@ module _ {C : Type 0} (cells : Cells C) where
     pub stays_implied : ((c : C) → round cells sources known c ≡ known c) → All (IsImplied known) sources
     stays_implied stays = each_member (IsImplied known) sources (λ source is. left_implied source is (stays (cell_of source)))
 
-    -- if the sources are implied a round leaves all as it is
+    -- if the sources are implied, a round leaves everything unchanged
     pub round_stays : All (IsImplied known) sources → (c : C) → round cells sources known c ≡ known c
     round_stays implied c =
         Implies-antisym (round cells sources known c) (known c) (kind-round sources known c) (round_gains c)

@@ -56,7 +56,7 @@ all_new store ks new c = ap (λ (l : List Cell). get_or l c (new_cell kinds.Inte
 pub sound_new : (network : Network) (store : Store) (ks : List Kind) → kinds_of store ≡ kinds_in network → store.cells ≡ map new_cell ks → IsSound network store
 sound_new network store ks same new w c = keeps_nothing network store same w c (get_or ks c kinds.Interval) (all_new store ks new c)
 
--- soundness is of the cells alone
+-- soundness depends only on the cells
 pub sound_same : (network : Network) (old new : Store) → new.cells ≡ old.cells → IsSound network old → IsSound network new
 sound_same network old new same sound =
     subst (λ (cs : List Cell). IsSound network (record { cells = cs; room = 0 })) (sym same) sound
@@ -173,7 +173,7 @@ rests_new network given store ks new cell =
     subst (All (λ (f : Fact). LiesUpstream network given cell f.support)) (sym (ap (λ (x : Cell). x.kept) (all_new store ks new cell)))
     (All-nil (λ (f : Fact). LiesUpstream network given cell f.support))
 
--- it is a matter of the cells alone, and of what was given
+-- it depends only on the cells and on what was given
 pub rests_same : (network : Network) (given more : ℕ → ℕ → Bool) (old new : Store) → new.cells ≡ old.cells → ((c p : ℕ) → given c p ≡ true → more c p ≡ true) →
     RestsUpstream network given old → RestsUpstream network more new
 rests_same network given more old new same all rests cell =

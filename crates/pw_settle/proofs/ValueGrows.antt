@@ -31,8 +31,8 @@ one_more : (procedures : List Procedure) (instance : Instance ℕ) (others : Lis
 one_more procedures instance others = filter_map-append (propagator_of procedures) (instance ∷ []) others
 
 module _ (procedures : List Procedure) (P : Source ℕ → Type 0) (a : Attached) where
-  -- what holds of the sources of instances, of which the first is there if a test passes, holds of the first's if it passes,
-  -- and of those of the others
+  -- what holds of the sources of instances, of which the first is there if a test passes, holds of
+  -- the first's if it passes, and of those of the others
   parted : (b : Bool) (others : List Attached) → All P (propagators_of procedures (map instance_in (cond b (a ∷ others) others))) →
       (b ≡ true → All P (propagators_of procedures (a.instance ∷ []))) × All P (propagators_of procedures (map instance_in others))
   parted true others all =
@@ -51,7 +51,8 @@ module _ (procedures : List Procedure) (P : Source ℕ → Type 0) (a : Attached
       (All-append P (propagators_of procedures (a.instance ∷ [])) (propagators_of procedures (map instance_in others)) (first refl) rest)
   joined false others first rest = rest
 
--- what holds of the sources of all instances that are visible in a worldview holds of those that are in a part of it
+-- what holds of the sources of all instances that are visible in a worldview holds of those that
+-- are in a part of it
 fewer_seen : (procedures : List Procedure) (P : Source ℕ → Type 0) (part w : Premises) → is_subset part w ≡ true →
     (attached : List Attached) → All P (propagators_of procedures (visible_instances attached w)) →
     All P (propagators_of procedures (visible_instances attached part))

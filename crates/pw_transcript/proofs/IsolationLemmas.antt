@@ -1,4 +1,5 @@
--- The reply to a line is that to the same line of a text in which all is empty that it does not rest on.
+-- The reply to a line is the reply to the same line of a text in which every line is empty that it
+-- does not rest on.
 use Rattle.std.proofs.Common.{◌≡◌, ℕ, zero, suc, ◌+◌, Bool, true, false, List, [], ◌∷◌, ◌++◌, length, take, drop, map, Option, Some, slice_get, Contains, refl, sym, ap, ◌∙◌, subst, append-nil, append_assoc, arith}
 use Rattle.std.specs.Prelude.{if◌then◌else◌}
 use Rattle.std.proofs.Math.Seq.{drop-append_seam, take-append_seam}

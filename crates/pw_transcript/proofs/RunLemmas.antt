@@ -32,7 +32,7 @@ use Rattle.pw_transcript.proofs.ReplyLemmas.{text_of_replies_of-snoc, count_of_r
 
 -- ---- readings
 
--- lines get the replies that follow from what they come to
+-- lines get the replies that follow from the readings that they get
 pub get_replies : (d : Declared) (lines : List (List ℕ)) (readings : List LineReading) → LinesComeTo d lines readings → GetReplies d lines (replies_of d readings)
 get_replies d lines readings come = record { readings = readings; come = come; plain = ReadAs-from_ComeTo d lines readings come; replies_are = refl }
 
@@ -155,7 +155,8 @@ few_ended text ended last whole no_end unended few =
 cut_at_last : (bytes : List ℕ) (lines : List (List ℕ)) → AreLines bytes lines → (ended : List (List ℕ)) × (rest : List ℕ) × EndIn bytes ended rest
 cut_at_last bytes lines (ended, rest, whole, no_end, unended, all) = (ended, rest, record { whole = whole; no_end = no_end; unended = unended })
 
--- some lines end in any bytes, perhaps none, and a piece comes after the last of them, perhaps an empty one
+-- some lines end in any bytes, perhaps none, and a piece comes after the last of them, perhaps an
+-- empty one
 some_end : (bytes : List ℕ) → (ended : List (List ℕ)) × (rest : List ℕ) × EndIn bytes ended rest
 some_end bytes = cut_at_last bytes (lines_of bytes) (found_at bytes (lines_of bytes) refl)
 

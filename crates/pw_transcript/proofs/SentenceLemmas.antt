@@ -205,6 +205,6 @@ found (user ∷ name ∷ rest) sentence is =
     let step = made user (said_form name rest) sentence is in
     subst (IsSentence (user ∷ name ∷ rest)) (sym step.2) (name ∷ rest, refl, found_said name rest step.0 step.1)
 
--- so the words form one sentence at most
+-- so the words form at most one sentence
 pub one_sentence : (words : List (List ℕ)) (s t : Sentence) → IsSentence words s → IsSentence words t → s ≡ t
 one_sentence words s t is other = let same = sym (given words s is) ∙ given words t other in cc
