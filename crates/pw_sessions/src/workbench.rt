@@ -93,7 +93,8 @@ fn no_sessions<A: Allocator + Copy>(
     Ok(sessions)
 }
 
-// Something was attached under these premises: each session that sees it notes so.
+// Something was attached under these premises: the sessions that see it are no longer known to be
+// current.
 fn note_in_each<A: Allocator>(sessions: &mut [Option<Session<A>>], support: &PremiseSet)
     ensures { sessions.new ≡ map (option_map (after_entry support.now)) sessions.old }
 {
@@ -104,8 +105,8 @@ fn note_in_each<A: Allocator>(sessions: &mut [Option<Session<A>>], support: &Pre
     }
 }
 
-// A fact was told about the cell, and each session has a value of the fact's kind for the cell:
-// each session to which the fact is news notes so.
+// A fact was told about the cell, and each session has a value of the fact's kind for the cell: the
+// sessions to which the fact is news are no longer known to be current.
 fn note_tell_in_each<A: Allocator>(sessions: &mut [Option<Session<A>>], cell: u32, fact: &Fact)
     requires { HaveValues cell (kind_of fact.now.info) sessions.old }
     ensures { EachBecomes (IsAfterTell cell fact.now) sessions.old sessions.new }
@@ -164,7 +165,8 @@ impl<'d, 'r, A: Allocator + Copy> Workbench<'d, 'r, A> {
         self.beliefs[usize::from(user)] = premises;
     }
 
-    // Something was attached under these premises: each session that sees it notes so.
+    // Something was attached under these premises: the sessions that see it are no longer known to
+    // be current.
     fn note_entry(&mut self, support: &PremiseSet)
         ensures { workbench_by self.new ≡ record (workbench_by self.old) {
           sessions = map (option_map (after_entry support.now)) (workbench_by self.old).sessions;
@@ -286,7 +288,7 @@ impl<'d, 'r, A: Allocator + Copy> Workbench<'d, 'r, A> {
     /// something that does not follow already under this user's beliefs. `last_calls` says what
     /// that saves.
     ///
-    /// After a why that is answered with a contradiction the reason is noted, and a noted reason is
+    /// After a why that is answered with a contradiction the reason is noted, and what was noted is
     /// never forgotten.
     pub fn command(&mut self, line: u32, command: &Command) -> Reply<A>
         requires { CanBeCarriedOut (workbench_by self.old) line command.now }
