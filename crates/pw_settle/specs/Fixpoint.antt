@@ -25,8 +25,8 @@ module _ {C : Type 0} (cells : Cells C) where
   nothing_known cell = nothing (cells.kind cell)
 
   -- what follows from sources over these cells: what is known, starting from nothing, after enough
-  -- rounds; a further round changes nothing. It is never computed: the laws of this crate say what it
-  -- is
+  -- rounds; a further round changes nothing. It is never computed: the laws of this crate describe
+  -- it
   unfoldable pub fixpoint : List C → List (Source C) → C → Info
   fixpoint over sources = iterate (round sources) (length over * rounds_of_a_cell) nothing_known
 
