@@ -19,8 +19,8 @@ use std::marker::Model;
 
 /// Cells, numbered from 0, each with its kind, the facts told about it and the facts kept of it.
 ///
-/// `told` and `kept` give what it shows in each worldview. A cell keeps no fact that another kept
-/// fact subsumes.
+/// `told` and `kept` give what the store shows in each worldview. A cell keeps no fact that another
+/// kept fact subsumes.
 #[derive(Drop)]
 pub struct CellStore<A: Allocator = Global> {
     cells: Vec<CellFacts<A>, A>,
@@ -86,7 +86,7 @@ impl<A: Allocator + Copy> CellStore<A> {
     }
 
     /// Adds cells of these kinds, about which nothing was told, and answers the number of the
-    /// first. Never fails where there is room. Fails only when out of memory; then nothing changes.
+    /// first. Succeeds if there is room. Fails only when out of memory; then nothing changes.
     pub fn add_cells(&mut self, kinds: &[Kind]) -> Result<u32, AllocError>
         requires { length self.old.cells + length kinds.now ≤ most_cells }
         ensures first { IfOk result (λ first. first ≡ length self.old.cells) }
@@ -151,9 +151,9 @@ impl<A: Allocator + Copy> CellStore<A> {
     }
 
     /// Answers what `told` answers. If much was told about the cell, the last answers are cached by
-    /// asker, and each new told fact is merged into them. So the same question again costs one
-    /// step. The cache never changes an answer. Takes no memory. The cell must exist; the asker may
-    /// be any number.
+    /// asker, and facts told later are merged into them. So the same question again costs one step.
+    /// The cache never changes an answer. Takes no memory. The cell must exist; the asker may be
+    /// any number.
     pub fn recall(&mut self, asker: u8, cell: u32, worldview: &PremiseSet) -> Info
         requires { cell < length self.old.cells }
         ensures value { result ≡ told_in self.old cell worldview.now }
