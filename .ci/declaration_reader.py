@@ -4,7 +4,7 @@ from texts import KINDS, Members, Refused, has_wrong_byte, is_name, is_silent, l
 SYNTAX, DUPLICATE, UNKNOWN, ARGUMENTS, LIMIT, END = (
     "syntax", "duplicate name", "unknown name", "wrong arguments", "limit", "missing end",
 )
-# The kinds of the inputs of each procedure, then that of its output; each `*` of one procedure stands for the same kind.
+# The kinds of the inputs of each procedure, then the kind of its output. All `*` of one procedure mean the same kind.
 PROCEDURES = {
     "adder": "interval interval interval", "subtractor": "interval interval interval",
     "multiplier": "interval interval interval", "squarer": "interval interval", "divider": "interval interval interval",

@@ -13,7 +13,7 @@ REFUSALS = {
 }
 MOST_IN_LINE = 1024
 WORDS = ("tell", "attach", "believe", "doubt", "beliefs", "ask", "why", "conflicts")
-# `rest` is the information of a tell, and the callable of an attachment.
+# `rest` is the information of a tell, or the callable of an attachment.
 Command = namedtuple("Command", "user word cells premises rest")
 
 

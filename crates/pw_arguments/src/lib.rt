@@ -1,5 +1,5 @@
-//! The command line of the program: its arguments, the job that they ask for, and the help. It stands apart from the program
-//! since what `clap` holds takes long to prove.
+//! The command line of the program: its arguments, the job that they ask for, and the help. It is a
+//! crate of its own because the values of `clap` take long to prove.
 #![tactic(auto)]
 
 use clap::error::ErrorKind;
@@ -50,23 +50,24 @@ Example, with the declaration above:
 
 The manual is docs/FORMATS.md.";
 
-/// What the program is asked to do. Files go by their names.
+/// The job that the program is asked to do. Files are given by name.
 #[derive(Clone, Copy, Debug, PartialEq, Eq)]
 pub enum Job<'a> {
-    /// To answer a transcript over a declaration. Without a file it is read from standard input.
+    /// Answer a transcript over a declaration. Without a file, the transcript comes from standard
+    /// input.
     Run {
         declaration: &'a str,
         transcript: Option<&'a str>,
     },
-    /// To say how much a declaration declares.
+    /// Report how much a declaration declares.
     Check {
         declaration: &'a str,
     },
 }
 
-/// The arguments that the program was given. The first is the program's name.
+/// The arguments given to the program. The first is the program's name.
 ///
-/// An error is want of memory, or an argument that is not UTF-8, which is a bad command line.
+/// An error means out of memory, or an argument that is not UTF-8, which is a bad command line.
 pub fn given_arguments<R: Env + AllocGlobal>(rt: &R) -> Result<Vec<String>, Error> {
     match env::args(rt) {
         Ok(arguments) => Ok(arguments.collect(rt.alloc())?),
@@ -104,10 +105,10 @@ fn command<'a>(alloc: Global) -> Result<Command<'a>, Error> {
     Ok(workbench)
 }
 
-/// What the arguments ask for. The first is the program's name.
+/// The job that the arguments ask for. The first argument is the program's name.
 ///
-/// An error is a bad command line, a call for help or for the version, or want of memory. Its text
-/// is what the user is to be told.
+/// An error is a bad command line, a call for help or for the version, or out of memory. Its text
+/// is the message for the user.
 pub fn read_arguments<'a>(alloc: Global, arguments: &'a [String]) -> Result<Job<'a>, Error> {
     let matches = command(alloc)?.try_get_matches_from(arguments)?;
     if let Some(run) = matches.subcommand_matches("run") {
@@ -123,11 +124,11 @@ pub fn read_arguments<'a>(alloc: Global, arguments: &'a [String]) -> Result<Job<
             return Ok(Job::Check { declaration });
         }
     }
-    // The command lets no arguments through that lack either.
+    // The command accepts no arguments that lack either.
     Err(bad_command_line(alloc, "no declaration was named"))
 }
 
-// A bad command line, told by this message. It is want of memory where there is none for the text.
+// A bad command line with this message, or out of memory if there is no memory for the text.
 fn bad_command_line(alloc: Global, message: &str) -> Error {
     match command(alloc) {
         Ok(mut command) => match command.error(ErrorKind::UnknownArgument, message) {

@@ -1,4 +1,4 @@
--- What becomes of kept facts when one more is assimilated.
+-- How kept facts change when one more fact is assimilated.
 use Rattle.std.proofs.Common.{◌≡◌, ◌⊎◌, List, [], ◌∷◌, ◌++◌, inl, inr, sym, subst}
 use Rattle.std.specs.Prelude.{Contains}
 use Rattle.std.proofs.lemmas.List.Elements.{All-contains, Contains-push, Contains-push_cases, Contains-append_left}
@@ -28,7 +28,8 @@ assimilates_news fact old rest is = record {
   ];
 }
 
--- a fact that one of them subsumes changes nothing: what it subsumes that one subsumes, and they are apart
+-- a fact that one of them subsumes changes nothing: what it subsumes that one subsumes, and they
+-- are apart
 pub assimilates_known : (fact : Fact) (kept : List Fact) → AreOfKind (kind_of fact.info) kept → AreApart kept → IsSubsumedBy kept fact → Assimilates fact kept kept
 assimilates_known fact kept kinds apart known = record {
   held = known;

@@ -1,4 +1,4 @@
--- How much the older facts say at most: what that spares a search and a merge, and how it is kept up.
+-- The bound on the older facts: what it saves in a search and in a merge, and how it is kept.
 use Rattle.std.proofs.Common.{◌≡◌, ◌⊎◌, ℕ, zero, suc, ◌+◌, ◌-◌, ◌<◌, ◌≤◌, Bool, cond, List, [], ◌∷◌, ◌++◌, length, get_or, take, drop, reverse, inl, inr, refl, sym, ◌∙◌, ap, subst, arith, append_assoc, length-append}
 use Rattle.std.specs.Prelude.{All, Contains, filter}
 use Rattle.std.specs.FinSet.{is_subset}
@@ -53,7 +53,7 @@ merges_on : (a b m : Fact) (xs ys : List Fact) → MergesTo a xs b → MergesTo 
 merges_on a b m [] ys first rest = subst (λ (x : Fact). MergesTo x ys m) first rest
 merges_on a b m (x ∷ xs) ys first rest = (first.0, first.1, merges_on first.0 b m xs ys first.2 rest)
 
--- what says more than each of some facts stays as it is when they are merged into it
+-- what says more than each of some facts is unchanged when they are merged into it
 merges_nothing : (w : Premises) (i : Info) (m : Fact) (fs : List Fact) → AreOfKind (kind_of m.info) fs → All (λ f. Implies i f.info) fs
     → Implies m.info i → (Implies i m.info → ⊥) → MergesTo m (visible_facts w fs) m
 merges_nothing w i m [] kinds says more less = refl
@@ -76,7 +76,7 @@ merges_older k w xs b m is kinds bounds more less =
     (all_reversed (λ x. kind_of x.info ≡ kind_of m.info) (take b.count xs) (subst (λ (x : Kind). AreOfKind x (take b.count xs)) (sym is) kinds))
     (all_reversed (λ x. Implies b.info x.info) (take b.count xs) bounds.says) more less
 
--- what facts are merged to, after what stands for some, stands for all
+-- a merge of further facts into what stands for some facts stands for all of them
 merges_stand : (k : Kind) (w : Premises) (before fs : List Fact) (a m : Fact) → AreOfKind k fs → StandsFor k w before a → MergesTo a (visible_facts w fs) m
     → StandsFor k w (before ++ fs) m
 merges_stand k w before [] a m kinds stands merges =
@@ -121,7 +121,7 @@ merged_all k w n fs a m kinds first rest =
       subst (λ (x : Kind). MergesTo (nothing_known x) (visible_facts w (reverse fs)) m) (sym is) (merges_whole k w n fs a m first rest),
     )
 
--- ---- how it is kept up
+-- ---- how the bound is kept
 
 filter_le : {X : Type 0} (p : X → Bool) (xs : List X) → length (filter p xs) ≤ length xs
 filter_le p [] = omega arith
@@ -141,7 +141,8 @@ front_more P x ys n r head rest = elim (cases_lt n r) [
       subst (λ m. All P (take m (x ∷ ys))) (sym one) (All-cons P x (take (n - r) ys) head rest)
 ]
 
--- what holds of each of the first n elements holds of each of the first that pass a test, but for as many as do not
+-- what holds of each of the first n elements holds of each of the first that pass a test, but for
+-- as many as do not
 filter_front : {X : Type 0} (P : X → Type 0) (p : X → Bool) (xs : List X) (n : ℕ) → All P (take n xs)
     → All P (take (n - (length xs - length (filter p xs))) (filter p xs))
 filter_front P p [] n all = subst (All P) (sym (take_all _ [] (omega arith))) (All-nil P)
@@ -164,7 +165,7 @@ filter_front P p (x ∷ xs) (suc n) all =
           (subst (λ m. All P (take m ys)) as_many rest)
     ]
 
--- some facts are dropped, wherever they stand
+-- some facts are dropped, from any places
 pub bounds_dropped : (k : Kind) (p : Fact → Bool) (xs ys : List Fact) (b b' : Bound) → ys ≡ filter p xs → b'.count ≡ b.count - (length xs - length ys)
     → b'.info ≡ b.info → Bounds k xs b → Bounds k ys b'
 bounds_dropped k p xs ys b b' is count info bounds =

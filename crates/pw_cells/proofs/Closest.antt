@@ -1,4 +1,4 @@
--- What is closest grows with what passes, and so a merge with what is merged.
+-- The closest information grows with the test, and so a merge grows with its parts.
 use Rattle.std.proofs.Common.{◌≡◌, ℕ, ℤ, pos, negsuc, ◌<◌, Bool, true, ◌&&◌, sym, ◌∙◌, subst, refl}
 use Rattle.pw_kinds.specs.Places.{IsSize, is_place}
 use Rattle.pw_kinds.specs.Interval as interval

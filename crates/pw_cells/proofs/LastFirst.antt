@@ -1,4 +1,4 @@
--- Facts that are merged the last first come to a merge of them all.
+-- Merging facts from the last to the first gives a merge of all of them.
 use Rattle.std.proofs.Common.{◌≡◌, ◌<◌, ◌-◌, Bool, true, false, cond, List, [], ◌∷◌, ◌++◌, length, reverse, refl, sym, ◌∙◌, ap, subst, arith}
 use Rattle.std.specs.Prelude.{Contains, filter, IsPermutation}
 use Rattle.std.specs.FinSet.{is_subset}
@@ -12,12 +12,12 @@ use Rattle.pw_facts.specs.Facts.{visible_facts}
 use Rattle.pw_cells.specs.OneCell.{AreOfKind, StandsFor}
 use Rattle.pw_cells.proofs.Together.{shown-reversed}
 
--- one element or none is the same, the last first
+-- reversing one element or none changes nothing
 reverse-one : {X : Type 0} (x : X) (b : Bool) → reverse (cond b (x ∷ []) []) ≡ cond b (x ∷ []) []
 reverse-one x true = refl
 reverse-one x false = refl
 
--- those that pass, the last first
+-- the elements that pass, in reverse order
 filter-reverse : {X : Type 0} (p : X → Bool) (xs : List X) → filter p (reverse xs) ≡ reverse (filter p xs)
 filter-reverse p [] = refl
 filter-reverse p (x ∷ xs) =
@@ -31,7 +31,7 @@ pub visible_reversed : (w : Premises) (fs : List Fact) → IsPermutation (visibl
 visible_reversed w fs =
     subst (IsPermutation (visible_facts w fs)) (sym (filter-reverse (λ f. is_subset f.support w) fs)) (IsPermutation-reverse (visible_facts w fs))
 
--- what stands for them, the last first, stands for them
+-- a merge that stands for the facts in reverse order stands for them
 pub stands_reversed : (k : Kind) (w : Premises) (fs : List Fact) (m : Fact) → AreOfKind k fs → StandsFor k w (reverse fs) m → StandsFor k w fs m
 stands_reversed k w fs m kinds stands = record {
   info = stands.info ∙ shown-reversed k w fs kinds;

@@ -1,4 +1,4 @@
--- What facts come to that are assimilated one after another.
+-- The result of assimilating facts one after another.
 use Rattle.std.proofs.Common.{◌≡◌, ◌⊎◌, ℕ, ◌<◌, true, false, not, cond, List, [], ◌∷◌, ◌++◌, inl, inr, sym, ◌∙◌, ap, subst, arith}
 use Rattle.std.specs.Prelude.{Contains}
 use Rattle.std.specs.List.{list_any}
@@ -92,7 +92,7 @@ rest_unsubsumed k f (x ∷ xs) is kinds =
           (rest_of_more f x xs (unsubsumed f xs) rest (λ s. not_both _ (subsume_test f x one s) e))
     ]
 
--- ---- one fact more
+-- ---- one more fact
 
 -- whether one of the facts subsumes it
 pub subsumed_where : (k : Kind) (f : Fact) (xs : List Fact) → kind_of f.info ≡ k → AreOfKind k xs → list_any (λ x. does_subsume x f) xs ≡ true → IsSubsumedBy xs f

@@ -1,4 +1,4 @@
--- The merge of the visible facts, one fact more at a time.
+-- The merge of the visible facts, one more fact at a time.
 use Rattle.std.proofs.Common.{◌≡◌, ℕ, Bool, true, false, cond, List, [], ◌∷◌, ◌++◌, inl, inr, refl, sym, ◌∙◌, ap, subst}
 use Rattle.std.specs.Prelude.{Contains}
 use Rattle.std.specs.Cmp.{nat_cmp_total}
@@ -110,7 +110,7 @@ pub merges_visible : (first : Fact) (w : Premises) (fs : List Fact) (f a m : Fac
 merges_visible first w fs f a m visible merges merge =
     subst (λ (xs : List Fact). MergesTo first xs m) (sym (visible-push w fs f true visible)) (merges_push first (visible_facts w fs) f a m merges merge)
 
--- a fact that is not visible is none of them
+-- a fact that is not visible is not one of them
 pub merges_hidden : (first : Fact) (w : Premises) (fs : List Fact) (f a : Fact) → is_subset f.support w ≡ false
     → MergesTo first (visible_facts w fs) a → MergesTo first (visible_facts w (fs ++ f ∷ [])) a
 merges_hidden first w fs f a hidden merges =

@@ -1,4 +1,4 @@
--- What is left of facts where those that one subsumes are dropped, one fact more at a time.
+-- What is left of facts where those that one subsumes are dropped, one more fact at a time.
 use Rattle.std.proofs.Common.{◌≡◌, ℕ, ◌+◌, ◌-◌, ◌<◌, ◌≤◌, List, [], ◌∷◌, ◌++◌, true, false, not, cond, length, get_or, take, drop, length-drop, refl, sym, ◌∙◌, ap, subst, arith}
 use Rattle.std.proofs.Math.Seq.{take-append_seam, drop-append_seam}
 use Rattle.std.proofs.lemmas.List.{append-nil, get_or-drop, drop-drop, length-take-le, take_more, take_all}
@@ -25,8 +25,8 @@ same_ahead xs ys n d e = let at : get_or (drop n xs) 0 d ≡ get_or (drop n ys) 
 pub less_ahead : {X : Type 0} (xs ys : List X) (n : ℕ) → drop n xs ≡ drop n ys → drop (n + 1) xs ≡ drop (n + 1) ys
 less_ahead xs ys n e = sym (drop-drop 1 n xs) ∙ ap (drop 1) e ∙ drop-drop 1 n ys
 
--- what is left of facts where those that one subsumes are dropped from the first of them, and the others are still ahead: before the
--- place are those that stay
+-- what is left of facts where those that one subsumes are dropped from the first of them, and the
+-- others are still ahead: before the place are those that stay
 pub record AreSifted (f : Fact) (all left : List Fact) (place : ℕ) : Type 0 where
   pub seen : ℕ
   pub stay : take place left ≡ unsubsumed f (take seen all)
@@ -53,7 +53,7 @@ next_of_all f all left place d sifted below =
 one_less : (all left : List Fact) (seen place : ℕ) → drop place left ≡ drop seen all → drop (place + 1) left ≡ drop (seen + 1) all
 one_less all left seen place ahead = sym (drop-drop 1 place left) ∙ ap (drop 1) ahead ∙ drop-drop 1 seen all
 
--- where the fact subsumes the next one, that is dropped
+-- if the fact subsumes the next one, that is dropped
 pub one_dropped : (f x : Fact) (all left : List Fact) (place : ℕ) → AreSifted f all left place → place < length left → x ≡ get_or left place x
     → does_subsume f x ≡ true → AreSifted f all (take place left ++ drop (place + 1) left) place
 one_dropped f x all left place sifted below is subsumed =
@@ -88,7 +88,7 @@ one_stays f x all left place sifted below is other =
       ahead = one_less all left sifted.seen place sifted.ahead;
     }
 
--- where none is ahead, just those are left that the fact does not subsume
+-- if none is ahead, exactly those are left that the fact does not subsume
 pub all_sifted : (f : Fact) (all left : List Fact) (place : ℕ) → AreSifted f all left place → length left ≤ place → left ≡ unsubsumed f all
 all_sifted f all left place sifted end =
     let many = as_many_ahead all left sifted.seen place sifted.ahead in

@@ -1,4 +1,4 @@
--- Answers that are remembered stay right.
+-- Cached answers stay right.
 use Rattle.std.proofs.Common.{◌≡◌, ℕ, ◌+◌, ◌<◌, ◌≤◌, true, false, ◌&&◌, cond, List, [], ◌∷◌, ◌++◌, length, get_or, set, take, drop, map, inl, inr, sym, ◌∙◌, ap, subst, arith, nat_eq}
 use Rattle.std.specs.Prelude.{Option, None, Some, IfSome}
 use Rattle.std.specs.Option.{option_map}
@@ -23,7 +23,7 @@ use Rattle.pw_cells.proofs.Together.{kind-shown_by, shown_unsupported}
 abbrev cell_of : List Cell → ℕ → Cell
 cell_of cells c = get_or cells c (new_cell kinds.Interval)
 
--- where each cell is told the same
+-- if the same is told about each cell
 pub told_the_same : (old new : List Cell) (answers : List Recalled) → length old ≤ length new
     → ((c : ℕ) (w : Premises) → c < length old → told_at new c w ≡ told_at old c w) → AreRight old answers → AreRight new answers
 told_the_same old new answers longer same right =
@@ -36,7 +36,7 @@ more_cells old more answers longer right =
     told_the_same old (old ++ more) answers longer
     (λ c w below. ap (λ (x : Cell). told_of x w) (get_or_append_left old more (new_cell kinds.Interval) c below)) right
 
--- one cell is written that is told the same
+-- one cell is written, about which the same is told
 pub cell_told_the_same : (old : List Cell) (c : ℕ) (x y : Cell) (answers : List Recalled) → x ≡ get_or old c x → c < length old
     → ((w : Premises) → told_of y w ≡ told_of x w) → AreRight old answers → AreRight (set old c y) answers
 cell_told_the_same old c x y answers read within same right =
@@ -99,11 +99,11 @@ answers_after old c x y f answers read within is gains right =
     All-map (IsRight (set old c y)) (after_tell c f) answers
     (All-weaker (IsRight old) (λ a. IsRight (set old c y) (after_tell c f a)) (λ a. answer_after old c x y f a read within is gains) answers right)
 
--- what is told of a cell of a store is of its kind
+-- the told information about a cell of a store is of the cell's kind
 pub kind_told : (now : Store) (c : ℕ) (w : Premises) → kind_of (told_in now c w) ≡ kind_in_store now c
 kind_told now c w = kind-shown_by (cell_at now c).kind w (cell_at now c).told
 
--- a right answer on a cell is what is told of it
+-- a right answer on a cell is the told information about it
 pub answer_is : (cells : List Cell) (a : Recalled) (c : ℕ) (w : Premises) → IsRight cells a → a.cell ≡ c → a.worldview ≡ w → a.info ≡ told_at cells c w
 answer_is cells a c w right same_cell same_worldview = right.1 ∙ (λ i. told_at cells (same_cell i) (same_worldview i))
 
@@ -111,7 +111,7 @@ answer_is cells a c w right same_cell same_worldview = right.1 ∙ (λ i. told_a
 pub answer_read : (cells : List Cell) (answers : List Recalled) (place : ℕ) (a : Recalled) → AreRight cells answers → place < length answers → a ≡ get_or answers place a → IsRight cells a
 answer_read cells answers place a right within read = subst (IsRight cells) (sym read) (right place a within)
 
--- what holds of the answers, where there are any, holds of those that were made of them
+-- what holds of the answers, if there are any, holds of those that were made of them
 pub slots_then : (P Q : List Recalled → Type 0) (slots : Option (List Recalled)) (f : List Recalled → List Recalled) → ((l : List Recalled) → P l → Q (f l))
     → IfSome slots P → IfSome (option_map f slots) Q
 slots_then P Q None f then holds = tt
@@ -135,7 +135,7 @@ made_next f old now next i x y within long done ahead read made is =
       ap length is ∙ length-set now i y ∙ long,
     )
 
--- one was left as it is
+-- one was left unchanged
 pub left_next : {X : Type 0} (f : X → X) (old now next : List X) (i : ℕ) (x : X) → i < length now → length now ≡ length old → take i now ≡ map f (take i old) → drop i now ≡ drop i old
     → x ≡ get_or now i x → x ≡ f x → next ≡ now
     → (take (i + 1) next ≡ map f (take (i + 1) old)) × (drop (i + 1) next ≡ drop (i + 1) old) × (length next ≡ length old)

@@ -14,11 +14,11 @@ pub cell_read : (inside now : Store) (c : ℕ) (x : Cell) → x ≡ get_or insid
 cell_read inside now c x read is within =
     read ∙ get_or_default inside.cells c x _ (there inside now c is within) ∙ ap (λ s. cell_at s c) is
 
--- and so is what was written there, whatever is read past the end
+-- and so is the cell that was written there, for any default that is read past the end
 cell_written : (inside now : Store) (c : ℕ) (x d : Cell) → inside ≡ now → c < length now.cells → x ≡ get_or (set inside.cells c x) c d
 cell_written inside now c x d is within = sym (get_or-set_same inside.cells c x d (there inside now c is within))
 
--- what holds of a cell as it was and as it is written holds of the cell of this number before and after
+-- what holds of the old and the new cell holds of the cell of this number before and after
 pub cell_changed : (P : Cell → Cell → Type 0) (inside now : Store) (c : ℕ) (x y d : Cell) → x ≡ get_or inside.cells c x → inside ≡ now → c < length now.cells
     → P x y → P (cell_at now c) (get_or (set inside.cells c y) c d)
 cell_changed P inside now c x y d read is within p =
@@ -31,7 +31,7 @@ pub same_kinds : (inside now : Store) (c : ℕ) (x y : Cell) → x ≡ get_or in
 same_kinds inside now c x y read is kind =
     map-set_same (λ (c : Cell). c.kind) inside.cells c y x (kind ∙ ap (λ (c : Cell). c.kind) read) ∙ ap kinds_of is
 
--- a cell that is written as it was leaves the store
+-- writing a cell unchanged leaves the store unchanged
 pub same_store : (inside now : Store) (c : ℕ) (x y : Cell) → x ≡ get_or inside.cells c x → inside ≡ now → y ≡ x
     → record { cells = set inside.cells c y; room = inside.room } ≡ now
 same_store inside now c x y read is same =

@@ -1,4 +1,5 @@
--- What is true of the facts of a cell stays true when one more is told or kept, and when what is late is assimilated.
+-- What is true of the facts of a cell stays true when one more is told or kept, and when the late
+-- facts are assimilated.
 use Rattle.std.proofs.Common.{◌≡◌, true, false, List, [], ◌∷◌, ◌++◌, if◌then◌else◌, Bool, refl, sym, ◌∙◌, ap, subst}
 use Rattle.std.specs.Prelude.{map}
 use Rattle.std.proofs.lemmas.List.Elements.{All-nil, All-push}
@@ -14,14 +15,15 @@ use Rattle.pw_cells.specs.OneCell.{AreOfKind, IsWhole, ShowsMore}
 use Rattle.pw_cells.proofs.Together.{kind_together, meet_first, meet_keeps}
 use Rattle.pw_cells.proofs.Late.{IsAssimilation, assimilation, any_subsumes, assimilated_known, late_kinds_apart, late_push, subsumed_late}
 
--- what is kept of a whole cell once one more fact of its kind is assimilated
+-- what is kept of a whole cell after one more fact of its kind is assimilated
 pub kept_more : (k : Kind) (f : Fact) (told : List Fact) (supports : List Premises) (kept late : List Fact) → kind_of f.info ≡ k → IsWhole k told supports kept late
     → IsAssimilation k f (all_assimilated kept late) (assimilated (all_assimilated kept late) f)
 kept_more k f told supports kept late is whole =
     let both = late_kinds_apart k kept late whole.kept_kinds whole.late_kinds whole.apart in
     assimilation k f (all_assimilated kept late) is both.0 both.1
 
--- a fact that is added to those that are late is assimilated in the end, and so is one that something late subsumes
+-- a fact that is added to those that are late is assimilated in the end, and so is one that
+-- something late subsumes
 pub late_more : (k : Kind) (f : Fact) (told : List Fact) (supports : List Premises) (kept late : List Fact) (known : Bool) → kind_of f.info ≡ k → IsWhole k told supports kept late
     → (known ≡ true → IsSubsumedBy late f)
     → all_assimilated kept (if known then late else late ++ f ∷ []) ≡ assimilated (all_assimilated kept late) f
@@ -55,7 +57,7 @@ whole_told k f told supports kept late told' supports' known is whole by told_ki
   apart = whole.apart;
 }
 
--- once what is late is assimilated
+-- after what is late is assimilated
 pub whole_caught_up : (k : Kind) (told : List Fact) (supports : List Premises) (kept late : List Fact) → IsWhole k told supports kept late
     → IsWhole k told supports (all_assimilated kept late) []
 whole_caught_up k told supports kept late whole =

@@ -1,4 +1,5 @@
--- What facts of one kind show together: a value stays possible just where each of them leaves it possible.
+-- What facts of one kind show together: a value stays possible exactly if each of them leaves it
+-- possible.
 use Rattle.std.proofs.Common.{◌≡◌, ℕ, ℤ, ◌<◌, ◌-◌, reverse, true, false, ◌&&◌, refl, length, get_or, set, get_or-set_same, get_or-set_other, length-set, arith, List, [], ◌∷◌, ◌++◌, inl, inr, sym, ◌∙◌, ap, subst}
 use Rattle.std.specs.Prelude.{fold, All, Contains}
 use Rattle.std.specs.FinSet.{is_subset}
@@ -89,7 +90,7 @@ all_reversed P xs all j d below =
     let there : j < length xs = subst (λ n. j < n) (length-reverse xs) below in
     subst P (sym (get_or-reverse xs j d there)) (all (length xs - 1 - j) d (omega (arith, there)))
 
--- the last first they say the same together
+-- in reverse order they say the same together
 pub shown-reversed : (k : Kind) (w : Premises) (fs : List Fact) → AreOfKind k fs → shown_by k w (reverse fs) ≡ shown_by k w fs
 shown-reversed k w fs all =
     same_shown k w (reverse fs) fs (all_reversed (λ f. kind_of f.info ≡ k) fs all) all
@@ -100,7 +101,7 @@ shown-reversed k w fs all =
 pub shown-push : (k : Kind) (w : Premises) (fs : List Fact) (f : Fact) → shown_by k w (fs ++ f ∷ []) ≡ meet (shown_by k w fs) (shows w f)
 shown-push k w fs f = fold_push (with_shown w) (nothing k) fs f
 
--- in a larger worldview they say at least as much, of whatever kinds they are
+-- in a larger worldview they say at least as much, for facts of any kinds
 larger_fold : (v w : Premises) → is_subset v w ≡ true → (i j : Info) (fs : List Fact) → kind_of i ≡ kind_of j → Implies i j
     → Implies (fold (with_shown w) i fs) (fold (with_shown v) j fs)
 larger_fold v w sub i j [] k implies = implies

@@ -1,4 +1,4 @@
--- Where the fact with a support is among those that were told.
+-- The place of the fact with a given support among the told facts.
 use Rattle.std.proofs.Common.{◌≡◌, ℕ, ◌<◌, ◌≤◌, Bool, false, cond, List, Some, None, length, get_or, map, inl, inr, sym, ◌∙◌, ap, arith}
 use Rattle.std.specs.Prelude.{position, nat_lt}
 use Rattle.std.specs.List.{position_or_len, list_any}
@@ -20,7 +20,7 @@ at_place told support place d at =
     let within : place < length told = omega (arith, found.0, length-map told (λ (f : Fact). f.support)) in
     (within, sym (get_or-map (λ (f : Fact). f.support) told place d d.support within) ∙ sym ((same_numbers_equal support _).0 found.1))
 
--- where none passes, the first that does is past the end
+-- if none passes, the first that does is past the end
 past_end : {X : Type 0} (p : X → Bool) (xs : List X) → position p xs ≡ None → length xs ≤ position_or_len p xs
 past_end p xs none = elim (cases_Bool (nat_lt (position_or_len p xs) (length xs))) [
   | inl e ↦ let found : None ≡ Some (position_or_len p xs) = sym none ∙ ap (λ b. cond b (Some (position_or_len p xs)) None) e in absurd (cc)

@@ -7,7 +7,7 @@ use Rattle.pw_facts.specs.Facts.{Subsumes}
 use Rattle.pw_cells.specs.Cells.{IsSubsumedBy}
 use Rattle.pw_cells.specs.OneCell.{AreApart, IsRest}
 
--- what is left with the fact stays apart, where none that was there subsumes it
+-- the remaining facts with the new fact stay apart, if none of the old ones subsumes it
 pub apart_rest : (f : Fact) (facts rest : List Fact) → AreApart facts → (IsSubsumedBy facts f → ⊥) → IsRest f facts rest → AreApart (rest ++ f ∷ [])
 apart_rest f facts rest apart news left x y has_x has_y subsumes = elim (Contains-push_cases rest f x has_x) [
   | inl in_x ↦ elim (Contains-push_cases rest f y has_y) [

@@ -1,4 +1,4 @@
--- The codes of a cell and of a store of cells, by which a proof tells their values apart.
+-- The codes of a cell and of a store of cells. Proofs use them to tell values apart.
 use Rattle.std.specs.Prelude.{refl}
 use Rattle.std.specs.Coded.{Coded, code_by, coded×, coded_ℕ, coded_list}
 use Rattle.pw_info.specs.declared.kind.Kind.{Kind}

@@ -9,56 +9,57 @@ use Rattle.pw_premises.specs.Premises.{Premises}
 use Rattle.pw_facts.specs.declared.fact.Fact.{Fact}
 use Rattle.pw_facts.specs.Facts.{shows, Subsumes}
 
--- a cell: its kind, the facts that stand for what was told of it, and the facts that are kept of it
+-- a cell: its kind, facts that say what was told about it, and the facts kept of it
 pub record Cell : Type 0 where
   pub kind : Kind
   pub told : List Fact
   pub kept : List Fact
 
--- cells by their numbers, and how many more there is room for
+-- cells by their numbers, and the number of further cells that there is room for
 pub record Store : Type 0 where
   pub cells : List Cell
   pub room : ℕ
 
--- how many cells there may be: as many as their numbers, of 32 bits, can count
+-- the greatest number of cells: as many as 32-bit numbers can count
 abbrev pub most_cells : ℕ
 most_cells = 4294967295
 
--- a cell of which nothing was told
+-- a cell about which nothing was told
 abbrev pub new_cell : Kind → Cell
 new_cell kind = record { kind = kind; told = []; kept = [] }
 
--- the cell of this number; past the last cell one of intervals, of which nothing was told
+-- the cell of this number; past the last cell, an interval cell about which nothing was told
 abbrev pub cell_at : Store → ℕ → Cell
 cell_at store cell = slice_index_or store.cells cell (new_cell kinds.Interval)
 
--- the kind of the cell of this number, and the kinds of all in their order
+-- the kind of the cell of this number, and the kinds of all cells in their order
 abbrev pub kind_in_store : Store → ℕ → Kind
 kind_in_store store cell = (cell_at store cell).kind
 
 abbrev pub kinds_of : Store → List Kind
 kinds_of store = map (λ (c : Cell). c.kind) store.cells
 
--- the facts that are kept of a cell
+-- the facts kept of a cell
 abbrev pub kept_at : Store → ℕ → List Fact
 kept_at store cell = (cell_at store cell).kept
 
--- what facts of a kind show together in a worldview
+-- what facts of a kind together show in a worldview
 abbrev pub shown_by : Kind → Premises → List Fact → Info
 shown_by kind worldview facts = fold (λ info fact. meet info (shows worldview fact)) (nothing kind) facts
 
--- what was told of a cell, in a worldview: of the cell itself, and of the one of this number
+-- the told information about a cell in a worldview: for the cell itself, and for the cell of this
+-- number
 abbrev pub told_of : Cell → Premises → Info
 told_of cell worldview = shown_by cell.kind worldview cell.told
 
 abbrev pub told_in : Store → ℕ → Premises → Info
 told_in store cell worldview = told_of (cell_at store cell) worldview
 
--- the same of the cell of this number of a list
+-- the same for the cell of this number of a list
 abbrev pub told_at : List Cell → ℕ → Premises → Info
 told_at cells cell worldview = told_of (slice_index_or cells cell (new_cell kinds.Interval)) worldview
 
--- what is kept of a cell, in a worldview, likewise
+-- the kept information about a cell in a worldview, in the same way
 abbrev pub kept_of : Cell → Premises → Info
 kept_of cell worldview = shown_by cell.kind worldview cell.kept
 

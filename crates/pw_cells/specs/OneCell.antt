@@ -1,4 +1,4 @@
--- What is true of the facts of one cell, and of the list that a change leaves of them.
+-- Properties of the facts of one cell, and of the list that a change makes of them.
 use Rattle.std.specs.Prelude.{◌≡◌, ◌⊎◌, ℕ, true, if◌then◌else◌, List, [], ◌∷◌, ◌++◌, All, Contains, map, position, Option, is_some}
 use Rattle.std.specs.FinSet.{is_subset}
 use Rattle.pw_info.specs.declared.kind.Kind.{Kind}
@@ -22,12 +22,13 @@ AreApart facts = (f g : Fact) → Contains facts f → Contains facts g → Subs
 abbrev pub place_of_support : Premises → List Premises → Option ℕ
 place_of_support support supports = position (has_same_numbers support) supports
 
--- the supports with this one too, which is at the place, or at none
+-- the supports, and this one too: it has the place, or is added if it has none
 abbrev pub with_support : Option ℕ → Premises → List Premises → List Premises
 with_support place support supports = if is_some place then supports else supports ++ support ∷ []
 
--- the facts of a cell are of its kind, those that were told are known by their supports, and in every worldview what is kept, once
--- what is late is assimilated, says at least what was told; no kept fact subsumes another
+-- the facts of a cell are of its kind, and the told facts have these supports; in every worldview
+-- the kept facts, after the late ones are assimilated, say at least what was told; and no kept fact
+-- subsumes another
 pub record IsWhole (kind : Kind) (told : List Fact) (supports : List Premises) (kept late : List Fact) : Type 0 where
   pub told_kinds : AreOfKind kind told
   pub kept_kinds : AreOfKind kind kept
@@ -36,17 +37,19 @@ pub record IsWhole (kind : Kind) (told : List Fact) (supports : List Premises) (
   pub says : (w : Premises) → Implies (shown_by kind w (all_assimilated kept late)) (shown_by kind w told)
   pub apart : AreApart kept
 
--- facts of the fact's kind show more: in every worldview what they showed before, merged with what the fact shows there
+-- facts of the fact's kind show more: in every worldview they show what they showed before, merged
+-- with what the fact shows there
 abbrev pub ShowsMore : Fact → List Fact → List Fact → Type 0
 ShowsMore fact old new = (w : Premises) → shown_by (kind_of fact.info) w new ≡ meet (shown_by (kind_of fact.info) w old) (shows w fact)
 
--- `rest` has just those of the facts that this fact does not subsume
+-- `rest` has exactly those of the facts that this fact does not subsume
 pub record IsRest (fact : Fact) (facts rest : List Fact) : Type 0 where
   pub stays : All (λ f. Contains rest f ⊎ Subsumes fact f) facts
   pub within : All (λ f. Contains facts f) rest
   pub gone : All (λ f. Subsumes fact f → ⊥) rest
 
--- the fact says what the facts show together in the worldview, and rests on premises of theirs that give the same
+-- the fact says what the facts together show in the worldview, and rests on premises of theirs that
+-- give the same
 pub record StandsFor (kind : Kind) (worldview : Premises) (facts : List Fact) (merge : Fact) : Type 0 where
   pub info : merge.info ≡ shown_by kind worldview facts
   pub within : is_subset merge.support worldview ≡ true

@@ -1,4 +1,4 @@
-//! How much the older facts of a cell say at most.
+//! A bound on what the older facts of a cell say.
 ghost use Rattle.std.specs.Prelude.{◌≡◌, ◌-◌, []};
 ghost use Rattle.pw_info.specs.Information.{kind_of};
 ghost use Rattle.pw_cells.specs.Bound.{Bounds};
@@ -7,11 +7,12 @@ ghost use Rattle.pw_cells.specs.OneCell.{AreOfKind};
 use pw_facts::Fact;
 use pw_info::{Info, Kind};
 
-// So many facts, the last ones, are always gone over: few are enough, since what came last mostly says the most.
+// This many of the last facts are always gone over. A few are enough: the facts that came last
+// mostly say the most.
 const LATEST: usize = 4;
 
-// How many of some facts are the older ones, and an information that says at least as much as each of these. So where more is known
-// than it says, none of them need be looked at.
+// How many of a list of facts are older ones, and an information that says at least as much as each
+// of them. If more is known than this information says, no older fact need be examined.
 #[derive(Clone, Copy)]
 pub(crate) struct Bound {
     pub(crate) count: usize,
@@ -19,7 +20,7 @@ pub(crate) struct Bound {
 }
 
 impl Bound {
-    // Of no facts of the kind.
+    // The bound of no facts of the kind.
     pub(crate) fn none(kind: Kind) -> Bound
         ensures { Bounds kind [] result }
     {
@@ -29,7 +30,8 @@ impl Bound {
         }
     }
 
-    // So many of the facts were dropped, wherever they stood: so many fewer are the older ones, at worst.
+    // `dropped` of the facts were dropped, from any places. At worst all of them were older ones,
+    // so the count falls by that number.
     pub(crate) fn lower(&mut self, dropped: usize)
         ensures count { self.new.count ≡ self.old.count - dropped }
         ensures info { self.new.info ≡ self.old.info }
@@ -37,7 +39,7 @@ impl Bound {
         self.count = self.count.saturating_sub(dropped);
     }
 
-    // All facts but the last few are the older ones from now on.
+    // From now on all facts but the last few are older ones.
     pub(crate) fn raise(&mut self, facts: &[Fact])
         requires kinds { AreOfKind (kind_of self.old.info) facts.now }
         requires bounds { Bounds (kind_of self.old.info) facts.now self.old }

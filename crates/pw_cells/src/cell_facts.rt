@@ -19,24 +19,25 @@ use pw_premises::PremiseSet;
 use std::alloc::{AllocError, Allocator};
 use std::marker::Model;
 
-// So many facts are gone over quickly. So many of the late ones are looked at when one is told, lest what is told again and again is
-// held as often.
+// This many facts are gone over quickly. A tell also looks at this many of the late facts, so that
+// a fact told again and again is not held as often.
 const FEW: usize = 8;
 
-// A cell's kind, what was told of it, and what is kept of it. What was told under one support is held as one fact, with
-// its meet, so that asking for it costs no more for a cell that was told of often. What was told is assimilated late, when
-// what is kept is first asked for: so that a cell of which only tells and asks come needs no walk over its facts.
+// A cell's kind, the facts told about it, and the facts kept of it. Facts told under one support
+// are held as one fact, their meet, so asking for them costs no more for a cell that was told
+// often. Told facts are assimilated late, when the kept facts are first asked for. So a cell that
+// gets only tells and asks needs no walk over its facts.
 #[derive(Drop)]
 pub(crate) struct CellFacts<A: Allocator> {
     kind: Kind,
     told: Vec<Fact, A>,
-    // The supports of these, in their order.
+    // The supports of the told facts, in their order.
     supports: Supports<A>,
-    // What is kept, but for what is late, for which it has room.
+    // The kept facts, except for the late ones. It has room for these.
     kept: Vec<Fact, A>,
-    // How much the older of these say at most.
+    // A bound on what the older kept facts say.
     bound: Bound,
-    // What was told since, and is not assimilated yet.
+    // The facts told since, which are not assimilated yet.
     late: Vec<Fact, A>,
 }
 
@@ -65,7 +66,7 @@ impl<A: Allocator> Model for CellFacts<A> {
 }
 
 impl<A: Allocator + Copy> CellFacts<A> {
-    // A cell of which nothing was told. It takes no memory.
+    // A cell about which nothing was told. Takes no memory.
     pub(crate) fn new(alloc: A, kind: Kind) -> CellFacts<A>
         ensures { result ≡ new_cell kind }
     {
@@ -85,7 +86,7 @@ impl<A: Allocator + Copy> CellFacts<A> {
         self.kind
     }
 
-    // Records that a fact was told, and keeps it. Where memory is refused nothing changes.
+    // Records that a fact was told, and keeps it. If memory is refused, nothing changes.
     pub(crate) fn tell(&mut self, fact: &Fact) -> Result<(), AllocError>
         requires { kind_of fact.now.info ≡ self.old.kind }
         ensures told { OnOk result (GainsFact fact.now (told_of self.old) (told_of self.new)) }
@@ -96,7 +97,7 @@ impl<A: Allocator + Copy> CellFacts<A> {
     {
         let place = self.supports.place_of(&fact.support);
         let known = is_lately_subsumed(self.late.as_slice(), fact);
-        // All growths come first, so that a refused one changes nothing.
+        // All growths come first, so that a refused growth changes nothing.
         reserve_unless(&mut self.told, place.is_some())?;
         reserve_late(&mut self.kept, &mut self.late, known)?;
         self.supports.add_unless(place, &fact.support)?;
@@ -105,7 +106,7 @@ impl<A: Allocator + Copy> CellFacts<A> {
         Ok(())
     }
 
-    // Keeps a fact, and answers whether it was news. Where memory is refused nothing changes.
+    // Keeps a fact, and answers whether it was news. If memory is refused, nothing changes.
     pub(crate) fn keep(&mut self, fact: &Fact) -> Result<bool, AllocError>
         requires { kind_of fact.now.info ≡ self.old.kind }
         ensures answer { IfOk result (λ news. TellsNews self.old.kept fact.now news) }
@@ -123,13 +124,13 @@ impl<A: Allocator + Copy> CellFacts<A> {
         Ok(!known)
     }
 
-    // Whether there are few facts to go over in telling what was told.
+    // Whether there are few told facts to go over.
     #[inline(always)]
     pub(crate) fn is_told_little(&self) -> bool {
         self.told.len() <= FEW
     }
 
-    // What was told, in a worldview.
+    // The merge of the told facts, in a worldview.
     pub(crate) fn told(&self, worldview: &PremiseSet) -> Info
         ensures value { result ≡ told_of self.now worldview.now }
         ensures kind { kind_of result ≡ self.now.kind }
@@ -138,7 +139,8 @@ impl<A: Allocator + Copy> CellFacts<A> {
         shown(self.kind, self.told.as_slice(), worldview)
     }
 
-    // What is kept, in a worldview, with premises that it rests on. What is late is assimilated first.
+    // The merge of the kept facts, in a worldview, with premises that it rests on. The late facts
+    // are assimilated first.
     pub(crate) fn kept(&mut self, worldview: &PremiseSet) -> Fact
         ensures same { self.new ≡ self.old }
         ensures merge { IsMergeOfAll (visible_facts worldview.now self.old.kept) result }
@@ -153,7 +155,7 @@ impl<A: Allocator + Copy> CellFacts<A> {
     }
 }
 
-// Whether one of the last few facts subsumes this one. Inlined, as `assimilate` is.
+// Whether one of the last few facts subsumes this one. Inlined, like `assimilate`.
 #[inline(always)]
 fn is_lately_subsumed(facts: &[Fact], fact: &Fact) -> bool
     requires { AreOfKind (kind_of fact.now.info) facts.now }
@@ -181,7 +183,8 @@ fn is_subsumed_by(facts: &[Fact], fact: &Fact) -> bool
     false
 }
 
-// Whether a kept fact subsumes this one. The older ones are gone over only where one of them may say as much.
+// Whether a kept fact subsumes this one. The older facts are gone over only if one of them may say
+// as much.
 #[inline(always)]
 fn is_subsumed(kept: &[Fact], bound: &Bound, fact: &Fact) -> bool
     requires kinds { AreOfKind (kind_of fact.now.info) kept.now }
@@ -195,7 +198,7 @@ fn is_subsumed(kept: &[Fact], bound: &Bound, fact: &Fact) -> bool
     bound.info.implies(&fact.info) && is_subsumed_by(older, fact)
 }
 
-// Makes room for one more fact, unless it is known.
+// Makes room for one more fact, unless the fact is known.
 fn reserve_unless<A: Allocator>(facts: &mut Vec<Fact, A>, known: bool) -> Result<(), AllocError>
     ensures items { facts.new.items ≡ facts.old.items }
     ensures room { OnOk result (known ≡ false → vec_len facts.new < vec_capacity facts.new) }
@@ -206,7 +209,8 @@ fn reserve_unless<A: Allocator>(facts: &mut Vec<Fact, A>, known: bool) -> Result
     facts.reserve(1)
 }
 
-// Makes room for one more fact among the late ones, and for all of these among the kept ones, unless it is known.
+// Makes room for one more late fact, and for all late facts among the kept ones, unless the fact is
+// known.
 fn reserve_late<A: Allocator>(
     kept: &mut Vec<Fact, A>,
     late: &mut Vec<Fact, A>,
@@ -226,7 +230,8 @@ fn reserve_late<A: Allocator>(
     late.reserve(1)
 }
 
-// Adds a fact to those that were told: into the one with its support, which is at the place, else where there is room.
+// Adds a fact to the told ones: merges it into the fact with the same support, if `place` has one,
+// and otherwise appends it where there is room.
 fn add_told<A: Allocator>(told: &mut Vec<Fact, A>, place: Option<usize>, fact: &Fact)
     requires kinds { AreOfKind (kind_of fact.now.info) told.old.items }
     requires place { place ≡ place_of_support fact.now.support (map (λ f. f.support) told.old.items) }
@@ -242,7 +247,7 @@ fn add_told<A: Allocator>(told: &mut Vec<Fact, A>, place: Option<usize>, fact: &
     }
 }
 
-// Adds a fact to those that are late, where there is room, unless it is known.
+// Adds a fact to the late ones, where there is room, unless the fact is known.
 fn add_late<A: Allocator>(late: &mut Vec<Fact, A>, known: bool, fact: &Fact)
     requires { known ≡ false → vec_len late.old < vec_capacity late.old }
     ensures items { late.new.items ≡ (if known then late.old.items else late.old.items ++ fact.now ∷ []) }
@@ -255,7 +260,7 @@ fn add_late<A: Allocator>(late: &mut Vec<Fact, A>, known: bool, fact: &Fact)
     append(late, fact);
 }
 
-// Assimilates what is late: then nothing is. The kept facts have room for it.
+// Assimilates the late facts; then none is late. The kept facts have room for them.
 fn assimilate_late<A: Allocator>(
     kind: Kind,
     kept: &mut Vec<Fact, A>,
@@ -279,7 +284,8 @@ fn assimilate_late<A: Allocator>(
     late.clear();
 }
 
-// Keeps a fact where there is room and drops those that it subsumes, unless it is known: then a kept fact subsumes it.
+// Keeps a fact, where there is room, and drops the facts that it subsumes. If the fact is known, a
+// kept fact subsumes it, and nothing is done.
 #[inline(always)]
 fn assimilate<A: Allocator>(kept: &mut Vec<Fact, A>, bound: &mut Bound, known: bool, fact: &Fact)
     requires kinds { AreOfKind (kind_of fact.now.info) kept.old.items }
@@ -300,8 +306,9 @@ fn assimilate<A: Allocator>(kept: &mut Vec<Fact, A>, bound: &mut Bound, known: b
     }
 }
 
-// Drops the facts that this one subsumes. (`retain` takes no test that may be asked of facts of one kind alone.) Few are dropped
-// at a time, so the later ones move down together, and not one by one.
+// Drops the facts that this one subsumes. (`retain` takes no test that may be asked of facts of one
+// kind alone.) Few facts are dropped at a time, so the later ones move down together and not one by
+// one.
 fn drop_subsumed<A: Allocator>(kept: &mut Vec<Fact, A>, fact: &Fact)
     requires { AreOfKind (kind_of fact.now.info) kept.old.items }
     ensures rest { kept.new.items ≡ unsubsumed fact.now kept.old.items }
@@ -327,7 +334,7 @@ fn append<A: Allocator>(facts: &mut Vec<Fact, A>, fact: &Fact)
     let _ = facts.push(*fact);
 }
 
-// What the facts show together in a worldview.
+// What the facts together show in a worldview.
 fn shown(kind: Kind, facts: &[Fact], worldview: &PremiseSet) -> Info
     requires { AreOfKind kind facts.now }
     ensures { result ≡ shown_by kind worldview.now facts.now }
@@ -341,7 +348,7 @@ fn shown(kind: Kind, facts: &[Fact], worldview: &PremiseSet) -> Info
     info
 }
 
-// The merge of the facts that rest on premises of the worldview alone.
+// The merge of the facts that rest only on premises of the worldview.
 fn merged(kind: Kind, facts: &[Fact], bound: &Bound, worldview: &PremiseSet) -> Fact
     requires kinds { AreOfKind kind facts.now }
     requires bounds { Bounds kind facts.now bound.now }
@@ -354,7 +361,7 @@ fn merged(kind: Kind, facts: &[Fact], bound: &Bound, worldview: &PremiseSet) -> 
         support: PremiseSet::empty(),
     };
     merge_all_in(&mut merge, newer, worldview);
-    // Mostly that says more than each of the older ones: then none of them changes it.
+    // Mostly the merge says more than each of the older facts. Then none of them changes it.
     if merge.info.implies(&bound.info) && !bound.info.implies(&merge.info) {
         return merge;
     }
@@ -362,8 +369,8 @@ fn merged(kind: Kind, facts: &[Fact], bound: &Bound, worldview: &PremiseSet) -> 
     merge
 }
 
-// Merges the facts that rest on premises of the worldview alone into what is merged so far. The last come first: what came last mostly
-// says the most, and then a look at each of the others is enough.
+// Merges the facts that rest only on premises of the worldview into what is merged so far. The last
+// facts come first: they mostly say the most, and then one look at each of the others is enough.
 fn merge_all_in(merge: &mut Fact, facts: &[Fact], worldview: &PremiseSet)
     requires { AreOfKind (kind_of merge.old.info) facts.now }
     ensures merges { MergesTo merge.old (visible_facts worldview.now (reverse facts.now)) merge.new }
@@ -377,8 +384,8 @@ fn merge_all_in(merge: &mut Fact, facts: &[Fact], worldview: &PremiseSet)
     }
 }
 
-// Merges one more fact into what is merged so far, as `merge_facts` does. Mostly that says as much already: then it stays where it
-// is, and nothing is copied.
+// Merges one more fact into what is merged so far, as `merge_facts` does. Mostly the merge says as
+// much already. Then it is unchanged, and nothing is copied.
 #[inline(always)]
 fn merge_in(merge: &mut Fact, held: &Fact)
     requires { kind_of merge.old.info ≡ kind_of held.now.info }

@@ -1,4 +1,4 @@
-// The store: cells by number, each with what was told of it and what is kept of it.
+// The store: cells by number, each with the facts told about it and the facts kept of it.
 
 ghost use Rattle.std.specs.Prelude.{◌≡◌, ◌+◌, ◌≤◌, ◌<◌, ◌++◌, [], true, false, length, map, IsOk, IfOk, vec_len, vec_capacity, OnOk, OnErr};
 ghost use Rattle.std.specs.FinSet.{is_subset};
@@ -17,13 +17,14 @@ use pw_premises::PremiseSet;
 use std::alloc::{AllocError, Allocator, Global};
 use std::marker::Model;
 
-/// Cells, by number from 0, each with its kind and the facts told of it and kept of it.
+/// Cells, numbered from 0, each with its kind, the facts told about it and the facts kept of it.
 ///
-/// What it shows is told by `told` and `kept`, in every worldview. A cell keeps no fact that another kept fact subsumes.
+/// `told` and `kept` give what the store shows in each worldview. A cell keeps no fact that another
+/// kept fact subsumes.
 #[derive(Drop)]
 pub struct CellStore<A: Allocator = Global> {
     cells: Vec<CellFacts<A>, A>,
-    // The last answers of `recall` on cells of which much was told.
+    // The last answers of `recall` on cells about which much was told.
     recalled: Answers,
 }
 
@@ -48,7 +49,7 @@ impl<A: Allocator> Model for CellStore<A> {
 }
 
 impl<A: Allocator + Copy> CellStore<A> {
-    /// A store of no cell. It takes no memory.
+    /// A store with no cells. Takes no memory.
     pub fn new(alloc: A) -> CellStore<A>
         ensures { result.cells ≡ [] }
     {
@@ -58,14 +59,14 @@ impl<A: Allocator + Copy> CellStore<A> {
         }
     }
 
-    /// How many cells there are.
+    /// The number of cells.
     pub fn cells(&self) -> u32
         ensures { result ≡ length self.now.cells }
     {
         self.cells.len() as u32
     }
 
-    /// The kind of the cell, which is there.
+    /// The kind of the cell, which must exist.
     pub fn kind(&self, cell: u32) -> Kind
         requires { cell < length self.now.cells }
         ensures { result ≡ kind_in_store self.now cell }
@@ -73,8 +74,8 @@ impl<A: Allocator + Copy> CellStore<A> {
         self.cells[cell as usize].kind()
     }
 
-    /// Makes room for so many more cells: the next `add_cells` of at most so many succeeds, whatever is told or kept in
-    /// between. It fails only for want of memory, and then nothing changes.
+    /// Makes room for this many more cells: the next `add_cells` of at most this many succeeds, no
+    /// matter what is told or kept in between. Fails only when out of memory; then nothing changes.
     pub fn reserve(&mut self, cells: u32) -> Result<(), AllocError>
         requires { length self.old.cells + cells ≤ most_cells }
         ensures room { OnOk result (cells ≤ self.new.room) }
@@ -84,8 +85,8 @@ impl<A: Allocator + Copy> CellStore<A> {
         self.cells.reserve(cells as usize)
     }
 
-    /// Adds cells of these kinds, of which nothing was told, and answers the number of the first. It fails only for want of
-    /// memory, not where there is room, and then nothing changes.
+    /// Adds cells of these kinds, about which nothing was told, and answers the number of the
+    /// first. Succeeds if there is room. Fails only when out of memory; then nothing changes.
     pub fn add_cells(&mut self, kinds: &[Kind]) -> Result<u32, AllocError>
         requires { length self.old.cells + length kinds.now ≤ most_cells }
         ensures first { IfOk result (λ first. first ≡ length self.old.cells) }
@@ -99,8 +100,9 @@ impl<A: Allocator + Copy> CellStore<A> {
         Ok(first)
     }
 
-    /// Records for good that a fact was told of the cell, and assimilates it. The cell is there and the fact is of its
-    /// kind. It fails only for want of memory, and then nothing changes.
+    /// Records for good that a fact was told about the cell, and assimilates it. The cell must
+    /// exist, and the fact must be of its kind. Fails only when out of memory; then nothing
+    /// changes.
     pub fn tell(&mut self, cell: u32, fact: Fact) -> Result<(), AllocError>
         requires there { cell < length self.old.cells }
         requires kind { kind_of fact.info ≡ kind_in_store self.old cell }
@@ -117,9 +119,9 @@ impl<A: Allocator + Copy> CellStore<A> {
         Ok(())
     }
 
-    /// Assimilates a fact: keeps it, and drops the kept facts that it subsumes. `false` where a kept fact subsumed it, and
-    /// then nothing changes. The cell is there and the fact is of its kind. It fails only for want of memory, and then
-    /// nothing changes.
+    /// Assimilates a fact: keeps it, and drops the kept facts that it subsumes. Answers `false` if
+    /// a kept fact subsumed it; then nothing changes. The cell must exist, and the fact must be of
+    /// its kind. Fails only when out of memory; then nothing changes.
     pub fn keep(&mut self, cell: u32, fact: Fact) -> Result<bool, AllocError>
         requires there { cell < length self.old.cells }
         requires kind { kind_of fact.info ≡ kind_in_store self.old cell }
@@ -136,21 +138,22 @@ impl<A: Allocator + Copy> CellStore<A> {
         self.cells[cell as usize].keep(&fact)
     }
 
-    /// What was told of the cell, in a worldview: the merge of the told facts whose premises are all in it. It takes no
-    /// memory. The cell is there.
+    /// The told information about the cell in a worldview: the merge of the told facts whose
+    /// premises are all in it. Takes no memory. The cell must exist.
     pub fn told(&self, cell: u32, worldview: &PremiseSet) -> Info
         requires { cell < length self.now.cells }
         ensures value { result ≡ told_in self.now cell worldview.now }
         ensures kind { kind_of result ≡ kind_in_store self.now cell }
-        // A larger worldview is told at least as much.
+        // In a larger worldview at least as much is told.
         ensures larger { IsLeastAbove worldview.now (told_in self.now cell) result }
     {
         self.cells[cell as usize].told(worldview)
     }
 
-    /// What `told` answers. Where much was told of the cell the last answers are remembered, by who asked, and what is told since
-    /// is taken into them: so the same question again costs a step. Nothing shows it. It takes no memory. The cell is there;
-    /// the asker may be any number.
+    /// Answers what `told` answers. If much was told about the cell, the last answers are cached by
+    /// asker, and facts told later are merged into them. So the same question again costs one step.
+    /// The cache never changes an answer. Takes no memory. The cell must exist; the asker may be
+    /// any number.
     pub fn recall(&mut self, asker: u8, cell: u32, worldview: &PremiseSet) -> Info
         requires { cell < length self.old.cells }
         ensures value { result ≡ told_in self.old cell worldview.now }
@@ -163,7 +166,8 @@ impl<A: Allocator + Copy> CellStore<A> {
         self.recall_much(asker, cell, worldview)
     }
 
-    // The same, where much was told. Never inlined, so that the usual question makes no room for what is remembered.
+    // The same, for a cell about which much was told. Never inlined, so that the usual question
+    // makes no room for the cached answers.
     #[inline(never)]
     fn recall_much(&mut self, asker: u8, cell: u32, worldview: &PremiseSet) -> Info
         requires { cell < length self.old.cells }
@@ -184,25 +188,27 @@ impl<A: Allocator + Copy> CellStore<A> {
         info
     }
 
-    /// What is kept of the cell, in a worldview: the merge of the kept facts whose premises are all in it, with premises
-    /// of the worldview that it rests on. It takes no memory. The cell is there.
+    /// The kept information about the cell in a worldview: the merge of the kept facts whose
+    /// premises are all in it, with premises of the worldview that it rests on. Takes no memory.
+    /// The cell must exist.
     ///
-    /// What was told of the cell since is assimilated only now, which nothing shows.
+    /// Facts told since are assimilated only now. This never changes an answer.
     pub fn kept(&mut self, cell: u32, worldview: &PremiseSet) -> Fact
         requires { cell < length self.old.cells }
         ensures unchanged { self.new ≡ self.old }
-        // It is the merge of the kept facts that are visible, one after another in some order.
+        // The result is the merge of the visible kept facts, one after another in some order.
         ensures merge { IsMergeOfAll (visible_facts worldview.now (kept_at self.old cell)) result }
         ensures info { result.info ≡ kept_in self.old cell worldview.now }
         ensures kind { kind_of result.info ≡ kind_in_store self.old cell }
         ensures within { is_subset result.support worldview.now ≡ true }
-        // These premises give the same information.
+        // The premises of the result give the same information.
         ensures same { kept_in self.old cell result.support ≡ result.info }
-        // Each is a premise of a fact that is kept of the cell.
+        // Each of these premises is a premise of a fact that is kept of the cell.
         ensures rests { ArePremisesOf (kept_at self.old cell) result.support }
-        // What is kept says at least what was told.
+        // The kept information says at least what was told.
         ensures told { Implies result.info (told_in self.old cell worldview.now) }
-        // A worldview that has these premises keeps at least as much, and one inside the worldview at most as much.
+        // A worldview that has these premises keeps at least as much, and one inside the worldview
+        // at most as much.
         ensures larger { IsLeastAbove result.support (kept_in self.old cell) result.info }
         ensures smaller { IsMostBelow worldview.now (kept_in self.old cell) result.info }
     {

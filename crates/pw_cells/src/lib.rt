@@ -1,4 +1,4 @@
-//! Cells, by number: the facts that were told of each, and the facts that are kept of it.
+//! Cells, by number: the facts told about each, and the facts kept of it.
 #![tactic(auto)]
 
 mod bound;

@@ -1,4 +1,4 @@
-// Answers of late on what was told, which what is told since is taken into.
+// The last answers on told facts. Facts told since are merged into them.
 
 ghost use Rattle.std.specs.Prelude.{◌≡◌, None, List, All, IfSome, map};
 ghost use Rattle.std.specs.Option.{option_map};
@@ -10,10 +10,10 @@ use pw_facts::Fact;
 use pw_info::Info;
 use pw_premises::PremiseSet;
 
-// So many answers are remembered.
+// This many answers are cached.
 const ANSWERS: usize = 16;
 
-// What is told of a cell in a worldview.
+// The facts told about a cell, merged in a worldview.
 #[derive(Clone, Copy)]
 pub(crate) struct Recalled {
     pub(crate) cell: u32,
@@ -21,21 +21,22 @@ pub(crate) struct Recalled {
     pub(crate) info: Info,
 }
 
-// The last answers, each at the place of who asked, once there are any.
+// The last answers, each at a place given by its asker. `None` before the first answer.
 #[derive(Clone, Copy)]
 pub(crate) struct Answers {
     pub(crate) slots: Option<[Recalled; ANSWERS]>,
 }
 
 impl Answers {
-    // No answer.
+    // No answers.
     pub(crate) fn none() -> Answers
         ensures { result.slots ≡ None }
     {
         Answers { slots: None }
     }
 
-    // The last answer to the asker, where that was on this cell in this worldview. Where the answers are right, it is what is told.
+    // The last answer to the asker, if it was on this cell in this worldview. If the answers are
+    // right, it is the told information.
     pub(crate) fn find(&self, asker: u8, cell: u32, worldview: &PremiseSet) -> Option<Info>
         ensures { IfSome result (λ info. (cells : List Cell) → IfSome self.now.slots (AreRight cells)
             → info ≡ told_at cells cell worldview.now) }
@@ -49,7 +50,8 @@ impl Answers {
         }
     }
 
-    // Remembers an answer to the asker in place of the last. Where it is right, and the others were, all are.
+    // Replaces the last answer to the asker by this one. If it is right, and the others were, all
+    // are right.
     pub(crate) fn remember(&mut self, asker: u8, answer: Recalled)
         ensures { (cells : List Cell) → IfSome self.old.slots (AreRight cells) → IsRight cells answer
             → IfSome self.new.slots (AreRight cells) }
@@ -60,7 +62,7 @@ impl Answers {
         }
     }
 
-    // Takes a fact that was told of the cell, and is of its kind, into the answers on it.
+    // Merges a fact that was told about the cell, and is of its kind, into the answers on the cell.
     #[inline(always)]
     pub(crate) fn take_in(&mut self, cell: u32, fact: &Fact)
         requires { IfSome self.old.slots (All (λ answer. answer.cell ≡ cell → kind_of answer.info ≡ kind_of fact.now.info)) }
@@ -72,7 +74,7 @@ impl Answers {
     }
 }
 
-// Takes the fact into each of the answers that are on the cell.
+// Merges the fact into each of the answers on the cell.
 fn take_into_each(answers: &mut [Recalled], cell: u32, fact: &Fact)
     requires { All (λ answer. answer.cell ≡ cell → kind_of answer.info ≡ kind_of fact.now.info) answers.old }
     ensures { answers.new ≡ map (after_tell cell fact.now) answers.old }

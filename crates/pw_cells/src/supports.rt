@@ -1,4 +1,4 @@
-// The supports of what was told of a cell, each once, in the order in which they came.
+// The supports of the facts told about a cell, each once, in the order in which they came.
 
 ghost use Rattle.std.specs.Prelude.{◌≡◌, [], ◌<◌, length, position, IfSome, OnOk, OnErr};
 ghost use Rattle.pw_premises.specs.PremiseSubsets.{has_same_numbers};
@@ -10,10 +10,10 @@ use std::alloc::{AllocError, Allocator};
 use std::hash::{BuildHasherDefault, FoldHasher};
 use std::marker::Model;
 
-// So many supports are looked through one after another, which takes less than to hash one.
+// This many supports are searched one after another, which costs less than hashing one.
 const FEW: usize = 8;
 
-// A list of different supports, in which one is found at once, however many there are.
+// A list of different supports. Looking one up is fast, however many there are.
 #[derive(Drop)]
 pub(crate) struct Supports<A: Allocator> {
     set: IndexSet<PremiseSet, BuildHasherDefault<FoldHasher>, A>,
@@ -33,7 +33,7 @@ impl<A: Allocator> Model for Supports<A> {
 }
 
 impl<A: Allocator + Copy> Supports<A> {
-    // No support. It takes no memory.
+    // No supports. Takes no memory.
     pub(crate) fn new(alloc: A) -> Supports<A>
         ensures { result ≡ [] }
     {
@@ -42,7 +42,7 @@ impl<A: Allocator + Copy> Supports<A> {
         }
     }
 
-    // Where the support is, if it is there.
+    // The place of the support, if it is in the list.
     pub(crate) fn place_of(&self, support: &PremiseSet) -> Option<usize>
         ensures { result ≡ place_of_support support.now self.now }
     {
@@ -52,7 +52,8 @@ impl<A: Allocator + Copy> Supports<A> {
         self.place_by_hash(support)
     }
 
-    // The same, by the hash of the support. It stands alone, so that little is done for a few.
+    // The same, by the hash of the support. A function of its own, so that little is done for a few
+    // supports.
     #[inline(never)]
     fn place_by_hash(&self, support: &PremiseSet) -> Option<usize>
         ensures { result ≡ place_of_support support.now self.now }
@@ -60,7 +61,8 @@ impl<A: Allocator + Copy> Supports<A> {
         self.set.get_index_of(support)
     }
 
-    // Adds the support at the end, unless it has a place. It fails only for want of memory, and then nothing changes.
+    // Adds the support at the end, unless it has a place. Fails only when out of memory; then
+    // nothing changes.
     pub(crate) fn add_unless(
         &mut self,
         place: Option<usize>,
@@ -78,7 +80,7 @@ impl<A: Allocator + Copy> Supports<A> {
     }
 }
 
-// Where the first of these supports is that is the one sought.
+// The place of the first of these supports that is equal to the one sought.
 fn place_among(supports: &[PremiseSet], support: &PremiseSet) -> Option<usize>
     ensures { result ≡ place_of_support support.now supports.now }
 {

@@ -17,13 +17,13 @@ use Rattle.pw_decl.proofs.Places.{place_of_name-lt}
 
 -- ---- lines
 
--- the private cells of a line more
+-- the private cells of one more line
 pub new_kinds_push : (steps : List Step) (step : Step) → new_kinds (steps ++ step ∷ []) ≡ new_kinds steps ++ new_kinds (step ∷ [])
 new_kinds_push [] step = refl
 new_kinds_push (NewCell kind ∷ steps) step = ap (λ (l : List Kind). kind ∷ l) (new_kinds_push steps step)
 new_kinds_push (CallOn callable places ∷ steps) step = new_kinds_push steps step
 
--- with a line more that names only what stands before it, the lines do
+-- with one more line that names only earlier things, the lines do
 pub steps_push : (procedures : List Procedure) (compounds : List Compound) (kinds : List Kind) (steps : List Step) (step : Step) →
     AreSteps procedures compounds kinds steps → AreSteps procedures compounds (kinds ++ new_kinds steps) (step ∷ []) →
     AreSteps procedures compounds kinds (steps ++ step ∷ [])
@@ -35,7 +35,7 @@ steps_push procedures compounds kinds (NewCell kind ∷ steps) step are is =
 steps_push procedures compounds kinds (CallOn callable places ∷ steps) step (there, accepts, are) is =
     (there, accepts, steps_push procedures compounds kinds steps step are is)
 
--- with a compound more that names only what stands before it, the compounds do
+-- with one more compound that names only earlier things, the compounds do
 pub compounds_push : (procedures : List Procedure) (known compounds : List Compound) (compound : Compound) →
     AreCompoundsAfter procedures known compounds → AreSteps procedures (known ++ compounds) compound.parameters compound.steps →
     AreCompoundsAfter procedures known (compounds ++ compound ∷ [])
@@ -61,7 +61,7 @@ none_with_sum a = same_size (sum_of_sizes no_size a) a (omega arith) (omega arit
 pub sum_assoc : (a b c : Size) → sum_of_sizes (sum_of_sizes a b) c ≡ sum_of_sizes a (sum_of_sizes b c)
 sum_assoc a b c = same_size (sum_of_sizes (sum_of_sizes a b) c) (sum_of_sizes a (sum_of_sizes b c)) (omega arith) (omega arith)
 
--- lines with a line more are larger by its size
+-- lines with one more line are larger by its size
 pub size_push : (sizes : List Size) (steps : List Step) (step : Step) →
     size_of_steps sizes (steps ++ step ∷ []) ≡ sum_of_sizes (size_of_steps sizes steps) (size_of_step sizes step)
 size_push sizes [] step = sum_with_none (size_of_step sizes step) ∙ sym (none_with_sum (size_of_step sizes step))
@@ -69,7 +69,7 @@ size_push sizes (first ∷ steps) step =
     ap (sum_of_sizes (size_of_step sizes first)) (size_push sizes steps step)
     ∙ sym (sum_assoc (size_of_step sizes first) (size_of_steps sizes steps) (size_of_step sizes step))
 
--- compounds with a compound more have its size after theirs
+-- compounds with one more compound have its size after theirs
 pub sizes_push : (sizes : List Size) (compounds : List Compound) (compound : Compound) →
     sizes_after sizes (compounds ++ compound ∷ []) ≡ sizes_after sizes compounds ++ size_of_steps (sizes_after sizes compounds) compound.steps ∷ []
 sizes_push sizes [] compound = refl
@@ -102,7 +102,7 @@ places_below names (word ∷ words) =
 at_most_unless : {m n : ℕ} → (n < m → ⊥) → m ≤ n
 at_most_unless {m} {n} few = omega arith
 
--- a compound that is begun with a free name, where there is room
+-- a compound that has begun with a free name, if there is room
 pub well_begun : (d : Declared) (name : List ℕ) (names : List (List ℕ)) (kinds : List Kind) → length d.compounds < prelude_compounds + most_compounds →
     callable_named d name ≡ None → length names ≡ length kinds → length kinds ≤ most_parameters → IsWellOpen d (begun name names kinds)
 well_begun d name names kinds room fresh named few =

@@ -38,7 +38,7 @@ use Rattle.pw_decl.specs.Steps.Opened.{open_of, IsBegun, IsGrown, IsOpen}
 
 -- ---- the kinds at places
 
--- the kind at the next place is put down
+-- the kind at the next place is recorded
 pub kinds_more : (kinds given : List Kind) (places : List ℕ) (n : ℕ) (kind : Kind) → n < length places → n < length given →
     All (λ place. place < length kinds) places → kind ≡ get_or kinds (get_or places n 0) kind → take n given ≡ kinds_at kinds (take n places) →
     take (n + 1) (set given n kind) ≡ kinds_at kinds (take (n + 1) places)
@@ -72,7 +72,7 @@ cell_kinds-call compound callable places =
 
 -- ---- from one open compound to the next
 
--- where all but lines, names, kinds and size stays, it has become this
+-- if all but lines, names, kinds and size stays, it has become this
 pub grown_local : {A : Type 0} (old new : OpenCompoundKept A) (name : List ℕ) (kind : Kind) →
     new.name ≡ old.name → new.names ≡ old.names ++ name ∷ [] → new.kinds.items ≡ old.kinds.items ++ kind ∷ [] →
     new.compound.parameters ≡ old.compound.parameters →
@@ -112,7 +112,7 @@ grown_call old new callable arguments more same names kinds parameters steps siz
 
 -- ---- sizes
 
--- with one private cell more
+-- with one more private cell
 pub sum_with_local : (instances inner_cells : ℕ) →
     record { instances = instances; inner_cells = inner_cells + 1 } ≡ sum_of_sizes (record { instances = instances; inner_cells = inner_cells }) size_of_local
 sum_with_local instances inner_cells =
@@ -138,7 +138,7 @@ grown_open d old new opened more was grown well size = record {
       ∙ ap (λ (o : OpenCompound). size_of_steps (sizes_of d.compounds) o.compound.steps) (sym grown.is);
 }
 
--- and where it has not grown
+-- and if it has not grown
 pub stays_open : {A : Type 0} (d : Declared) (old new : OpenCompoundKept A) → IsOpen d old → IsGrown old (open_of old) no_size new → IsOpen d new
 stays_open d old new was grown =
     grown_open d old new (open_of old) no_size was grown was.well (sum_with_none (size_of_steps (sizes_of d.compounds) (steps_of old.compound.steps.items)))
@@ -165,7 +165,7 @@ pub few_names : (d : Declared) (opened : OpenCompound) → IsWellOpen d opened �
 few_names d opened well =
     omega (arith, well.names, well.parameters, well.small.inner_cells, new_kinds_few (sizes_of d.compounds) opened.compound.steps, length-append opened.compound.parameters (new_kinds opened.compound.steps))
 
--- ---- what is told of a private cell
+-- ---- what is reported for a private cell
 
 not_either : {P Q : Type 0} → (P → ⊥) → (Q → ⊥) → P ⊎ Q → ⊥
 not_either p q (inl holds) = p holds
@@ -199,7 +199,7 @@ pub full_local : {A : Type 0} (d : Declared) (old : OpenCompoundKept A) → IsOp
     OutgrowsWith d (open_of old) size_of_local
 full_local d old was full = inr (omega (arith, ap (λ (s : Size). s.inner_cells) was.size))
 
--- ---- what is told of a compound that begins
+-- ---- what is reported for a compound that begins
 
 pub faultless_begin : (d : Declared) (name : List ℕ) (parameters : List (List ℕ)) → callable_named d name ≡ None → IsDistinct bytes_eq (parameter_names parameters) →
     HaveKinds d (parameter_kinds parameters) → parameters ≢ [] → (prelude_compounds + most_compounds ≤ length d.compounds → ⊥) →
@@ -250,7 +250,7 @@ begin_limit d name parameters fresh differ known some large =
       refl,
     )
 
--- ---- a compound that is begun
+-- ---- a compound that has begun
 
 -- as many kinds as words that name them
 length-named : (d : Declared) (words : List (List ℕ)) (kinds : List Kind) → NameKinds d words kinds → length words ≡ length kinds
@@ -318,7 +318,7 @@ length-some : {Y : Type 0} (o : Option Y) (rest : List Y) → is_some o ≡ true
 length-some None rest there = absurd (false≢true there)
 length-some (Some y) rest there = refl
 
--- where each is there, there are as many
+-- if each is found, there are as many
 length-found : {X Y : Type 0} (f : X → Option Y) (xs : List X) → list_all (λ x. is_some (f x)) xs ≡ true → length (filter_map f xs) ≡ length xs
 length-found f [] all = refl
 length-found f (x ∷ xs) all =
@@ -363,7 +363,7 @@ large_same a b c d p q =
     let e : sum_of_sizes a c ≡ sum_of_sizes b d = λ k. sum_of_sizes (p k) (q k) in
     (subst IsTooLarge e, subst IsTooLarge (sym e))
 
--- ---- what is told of a call
+-- ---- what is reported for a call
 
 one_callable : (a b : Callable) (o : Option Callable) → o ≡ Some a → o ≡ Some b → a ≡ b
 one_callable a b o p q = let e : Some a ≡ Some b = sym p ∙ q in cc

@@ -1,4 +1,5 @@
--- Lines only add: the procedures stay, and so do the compounds that were declared, with those that are added after them.
+-- Lines only add: the procedures stay, and so do the compounds that were declared, with those that
+-- are added after them.
 use Rattle.std.proofs.Common.{◌≡◌, ℕ, List, [], ◌∷◌, ◌++◌, refl, sym, ap, ◌∙◌, subst, inl, inr, append-nil, append_assoc}
 use Rattle.pw_decl.specs.Compound.{Compound}
 use Rattle.pw_decl.specs.Declaration.{Declared, SoFar, BeforeHeader, Outside, Inside, DeclarationSentence, Header, User, Premise, PremiseOf, Set, Cell, Begin, Local, Call, End, with_compound, Makes}
@@ -12,7 +13,7 @@ pub record OnlyAdds (old new : Declared) : Type 0 where
   pub later : List Compound
   pub compounds : new.compounds ≡ old.compounds ++ later
 
--- what is declared, wherever the next line stands
+-- the declaration so far, at any place of the next line
 abbrev pub declared_in : SoFar → Declared
 declared_in (BeforeHeader d) = d
 declared_in (Outside d) = d

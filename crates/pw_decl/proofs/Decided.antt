@@ -89,7 +89,7 @@ pub decided_nil : {A : Type 0} (xs : List A) → Decided (xs ≡ [])
 decided_nil [] = inl refl
 decided_nil (x ∷ xs) = inr (λ e. cc)
 
--- what is decided of what a value that is there says, where it is
+-- a condition on the value of an option is decided, if it is decided for each value
 pub decided_there : {A : Type 0} (o : Option A) (P : A → Type 0) → ((x : A) → Decided (P x)) → Decided ((x : A) × (o ≡ Some x) × P x)
 decided_there None P decide = inr (λ (x, at, holds). none-some x at)
 decided_there (Some y) P decide =
@@ -109,7 +109,7 @@ abbrev size_of_kind : Kind → ℕ
 size_of_kind (kinds.Members set) = set.size
 size_of_kind kind = 0
 
--- whether two kinds are one
+-- whether two kinds are equal
 pub decided_kind : (a b : Kind) → Decided (a ≡ b)
 decided_kind kinds.Interval kinds.Interval = inl refl
 decided_kind kinds.Interval (kinds.Members t) = inr (λ e. cc)
@@ -135,7 +135,7 @@ first_is x y xs ys e = cc
 rest_is : {A : Type 0} (x y : A) (xs ys : List A) → x ∷ xs ≡ y ∷ ys → xs ≡ ys
 rest_is x y xs ys e = cc
 
--- whether two lists of kinds are one
+-- whether two lists of kinds are equal
 pub decided_kinds : (xs ys : List Kind) → Decided (xs ≡ ys)
 decided_kinds [] [] = inl refl
 decided_kinds [] (y ∷ ys) = inr (λ e. cc)
@@ -158,7 +158,7 @@ kind_of_same (Fixed fixed ∷ slots) (kind ∷ kinds) = kind_of_same slots kinds
 kind_of_same (Same ∷ slots) (kind ∷ kinds) = kind
 kind_of_same slots list = kinds.Interval
 
--- where kinds fit, they fit with it
+-- if kinds fit, they fit with it
 settled : (slots : List Slot) (kinds : List Kind) (same : Kind) → kinds ≡ map (kind_in same) slots → kinds ≡ map (kind_in (kind_of_same slots kinds)) slots
 settled [] kinds same e = e
 settled (slot ∷ slots) [] same e = absurd cc

@@ -15,7 +15,7 @@ use Rattle.pw_decl.specs.Steps.SentenceFaults.{FaultAppliesTo, HasGoodParts, sen
 use Rattle.pw_info.proofs.NameLemmas.{all_pass}
 use Rattle.pw_decl.proofs.LineFaults.{found, found_outer, found_inner, given, parameters_pass, one_sentence}
 
--- a line whose words fit no form where it stands
+-- a line whose words fit no form at its place
 pub unformed : (so_far : SoFar) (line : List ℕ) → length line ≤ most_line_bytes → is_idle line ≡ false → sentence_at so_far (words_of line) ≡ None → IsFirstFaultOf so_far line BadSyntax
 unformed so_far line short spoken none =
     inr (λ long. omega arith, inl (refl, (spoken, λ s says. let e : None ≡ Some s = sym none ∙ given so_far (words_of line) s says.words in cc)))
@@ -93,7 +93,7 @@ module _ (so_far : SoFar) (line : List ℕ) (s : DeclarationSentence) (short : l
   faulty why (inl (none, memory)) = inl (none_later none, memory)
   faulty why (inr (fault, first, is)) = inr (fault, first_later fault first, is)
 
--- ---- where the line stands
+-- ---- the place of the line
 
 -- before the header
 pub no_header : (so_far : SoFar) (d : Declared) (line : List ℕ) → so_far ≡ BeforeHeader d → length line ≤ most_line_bytes → is_idle line ≡ false →
@@ -123,7 +123,7 @@ sentence_faulty : (so_far at : SoFar) (line : List ℕ) (s : DeclarationSentence
 sentence_faulty so_far at line s why is short spoken allowed formed told =
     subst (λ (x : SoFar). IsToldOfLine x line why) (sym is) (faulty at line s short spoken allowed (sym formed) why told)
 
--- what is answered of a sentence holds of its line: where the next line stands, or the fault
+-- the answer for a sentence holds for its line: the place of the next line, or the fault
 module _ {P : Type 0} (so_far at : SoFar) (line : List ℕ) (s : DeclarationSentence) (is : so_far ≡ at) (short : length line ≤ most_line_bytes) (spoken : is_idle line ≡ false) where
   pub answer_declares : (next : P → SoFar) (r : Result P DeclFaultKind) → list_all is_allowed line ≡ true → Some s ≡ sentence_at at (words_of line) →
       OnOk r (IsFaultless at s) → IfOk r (λ p. Makes at s (next p)) → IfOk r (λ p. Declares so_far line (next p))

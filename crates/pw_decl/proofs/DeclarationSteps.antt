@@ -31,13 +31,13 @@ length-lines_of (byte ∷ text) =
       | inr more ↦ rw more (omega (arith, length-lines_of text, length-onto_first byte (lines_of text)))
     ]
 
--- ---- one line more
+-- ---- one more line
 
 Leads-push : (start : SoFar) (lines : List (List ℕ)) (line : List ℕ) (s t : SoFar) → Leads start lines s → Declares s line t → Leads start (lines ++ line ∷ []) t
 Leads-push start [] line s t e h = (t, subst (λ (x : SoFar). Declares x line t) e h, refl)
 Leads-push start (first ∷ lines) line s t (m, p, ps) h = (m, p, Leads-push m lines line s t ps h)
 
--- no fault of a line is told as want of memory
+-- no fault of a line is reported as out of memory
 not_memory : (fault : LineFault) → kind_of_fault fault ≡ Memory → ⊥
 not_memory TooLong e = cc
 not_memory BadSyntax e = cc
@@ -52,7 +52,7 @@ end_not_memory (BeforeHeader d) why is memory = let e = sym is ∙ memory in cc
 end_not_memory (Outside d) why is memory = is
 end_not_memory (Inside d opened) why is memory = let e = sym is ∙ memory in cc
 
--- the lines before those that are left, and what they lead to
+-- the lines before the remaining ones, and what they lead to
 pub record IsReadUpTo (start : SoFar) (lines left : List (List ℕ)) (count : ℕ) (so_far : SoFar) : Type 0 where
   pub before : List (List ℕ)
   pub parts : lines ≡ before ++ left
@@ -89,7 +89,7 @@ module _ (start : SoFar) (lines left : List (List ℕ)) (count : ℕ) (s : SoFar
     fault = unfinished;
   }
 
-  -- what is told of the line that is next
+  -- the fault reported for the next line
   pub told_next : (line : List ℕ) (left' : List (List ℕ)) (why : DeclFaultKind) → left ≡ line ∷ left' → IsToldOfLine s line why →
       (why ≡ Memory) ⊎ IsFaultAmong start lines (count + 1) why
   told_next line left' why e (inl (none, memory)) = inl memory
@@ -103,7 +103,7 @@ module _ (start : SoFar) (lines left : List (List ℕ)) (count : ℕ) (s : SoFar
     fault = (fault, first, is);
   })
 
-  -- where want of memory is told of it, it has no fault
+  -- if out of memory is reported for it, it has no fault
   pub memory_last : (line : List ℕ) (left' : List (List ℕ)) (why : DeclFaultKind) → left ≡ line ∷ left' → IsToldOfLine s line why → why ≡ Memory →
       IsClearUpTo start lines (count + 1)
   memory_last line left' why e (inl (none, is)) memory = record {
@@ -134,7 +134,7 @@ pub given_back : {D E : Type 0} (P : Result D E → Type 0) (r : Result D E) (wh
 given_back P (Ok d) why is h = absurd is
 given_back P (Err given) why is h = subst (λ e. P (Err e)) (sym is) h
 
--- what is told after the last line
+-- the fault reported after the last line
 pub told_at_end : (start : SoFar) (lines left : List (List ℕ)) (count : ℕ) (s : SoFar) (r : IsReadUpTo start lines left count s) (fault : DeclFault) →
     left ≡ [] → IsUnfinished s fault.why × (fault.line ≡ count + 1) → IsToldAmong start lines fault
 told_at_end start lines left count s r fault none (unfinished, at) =
@@ -142,7 +142,7 @@ told_at_end start lines left count s r fault none (unfinished, at) =
 
 -- ---- the prelude
 
--- what stands before the prelude is nothing
+-- what comes before the prelude is nothing
 module _ (ps : List Procedure) (d : Declared) (text : List ℕ) (nothing : d ≡ nothing_declared ps) (prelude : text ≡ prelude_text) where
   from_nothing : (P : SoFar → List (List ℕ) → Type 0) → P (Outside d) (lines_of text) → P (Outside (nothing_declared ps)) (lines_of prelude_text)
   from_nothing P h =
@@ -161,7 +161,7 @@ module _ (ps : List Procedure) (d : Declared) (text : List ℕ) (nothing : d ≡
 -- ---- the whole text
 
 module _ (ps : List Procedure) (text : List ℕ) (short : length text ≤ most_text_bytes) where
-  -- what is told of the prelude
+  -- the fault reported for the prelude
   pub told_of_prelude : (fault : DeclFault) → fault.line ≡ 0 → (fault.why ≡ Memory) ⊎ IsFaultOfPrelude ps fault.why → IsTold ps text fault
   told_of_prelude fault at (inl memory) = inl memory
   told_of_prelude fault at (inr wrong) = inr (inr (short, inl (at, wrong)))
@@ -169,7 +169,7 @@ module _ (ps : List Procedure) (text : List ℕ) (short : length text ≤ most_t
   pub clear_in_prelude : (number : ℕ) → number ≡ 0 → IsClearInPrelude ps → HasNoFaultUpTo ps text number
   clear_in_prelude number at clear = (short, inl (at, clear))
 
-  -- what is told of the lines after it
+  -- the fault reported for the lines after it
   pub told_of_text : (known : Declared) (fault : DeclFault) → PreludeDeclares ps known → IsToldAmong (BeforeHeader known) (lines_of text) fault → IsTold ps text fault
   told_of_text known fault prelude (inl memory) = inl memory
   told_of_text known fault prelude (inr among) = inr (inr (short, inr (record { known = known; prelude = prelude; among = among })))
@@ -180,18 +180,18 @@ module _ (ps : List Procedure) (text : List ℕ) (short : length text ≤ most_t
   pub text_spells : (known d : Declared) → PreludeDeclares ps known → Leads (BeforeHeader known) (lines_of text) (Outside d) → SpellsDeclaration ps text d
   text_spells known d prelude leads = record { short = short; known = known; prelude = prelude; leads = leads }
 
--- over these procedures, as where nothing is declared over them
+-- what holds of the procedures of an empty declaration holds of these procedures
 pub over : (P : List Procedure → Type 0) (d : Declared) (ps : List Procedure) → d ≡ nothing_declared ps → P d.procedures → P ps
 over P d ps nothing h = subst P (ap (λ (x : Declared). x.procedures) nothing) h
 
--- ---- the other way round
+-- ---- the converse
 
--- where a fault is told, the text spells no declaration, but for want of memory
+-- if a fault is reported, the text spells no declaration, unless memory runs out
 pub told_only : (ps : List Procedure) (text : List ℕ) (fault : DeclFault) → IsTold ps text fault → (d : Declared) → SpellsDeclaration ps text d → fault.why ≡ Memory
 told_only ps text fault (inl memory) d spells = memory
 told_only ps text fault (inr first) d spells = absurd (not_both ps text fault.line fault.why d first spells)
 
--- and the fault is the text's first, but for want of memory
+-- and the fault is the text's first, unless memory runs out
 pub told_first : (ps : List Procedure) (text : List ℕ) (fault : DeclFault) → IsTold ps text fault →
     (line : ℕ) (why : DeclFaultKind) → IsFirstFault ps text line why → (fault.why ≡ Memory) ⊎ ((fault.line ≡ line) × (fault.why ≡ why))
 told_first ps text fault (inl memory) line why first = inl memory
@@ -205,7 +205,7 @@ module _ {A : _} {X : Type 0} {F : X → Type 0} {C : _} (ps : List Procedure) (
   only_declaration (Ok x) ok err d spells = one_spelled ps text (declared_by x) d ok spells
   only_declaration (Err fault) ok err d spells = told_only ps text fault err d spells
 
-  -- what is told of a text that has a first fault
+  -- the fault reported for a text that has a first fault
   pub only_fault : (r : Result (Declaration A X F C) DeclFault) →
       IfOk r (λ x. SpellsDeclaration ps text (declared_by x)) → IfErr r (IsTold ps text) →
       (line : ℕ) (why : DeclFaultKind) → IsFirstFault ps text line why → IsFaultAt line why r

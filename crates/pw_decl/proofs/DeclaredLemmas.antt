@@ -24,7 +24,7 @@ still_user : (m n : ℕ) → m ≤ n → (owner : Option ℕ) → IfSome owner (
 still_user m n h None p = p
 still_user m n h (Some user) p = omega arith
 
--- all holds where nothing is declared
+-- all holds if nothing is declared
 pub well_at_first : (procedures : List Procedure) → IsWellDeclared (nothing_declared procedures)
 well_at_first procedures =
     record {
@@ -95,7 +95,7 @@ well_with_premise d name owner well room own =
       few = well.few;
     }
 
--- with one more cell, of a kind that is there
+-- with one more cell, of a kind that exists
 pub well_with_cell : (d : Declared) (name : List ℕ) (kind : Kind) → IsWellDeclared d → length d.cells < most_cells → IsNamed (members_of d) kind
     → IsWellDeclared (with_cell d name kind)
 well_with_cell d name kind well room known =
@@ -186,7 +186,7 @@ pub place_none_if : {X : Type 0} (o : Option X) (names : List (List ℕ)) (word 
 place_none_if None names word e = place_none names word e
 place_none_if (Some x) names word e = tt
 
--- with one more user, or as before where it was not added
+-- with one more user, or as before if it was not added
 pub well_with_user_or_not : {U E : Type 0} (d : Declared) (name : List ℕ) (users : List (List ℕ)) (r : Result U E) → IsWellDeclared d → length d.users < most_users →
     OnOk r (users ≡ d.users ++ name ∷ []) → OnErr r (users ≡ d.users) → IsWellDeclared (record d { users = users })
 well_with_user_or_not d name users (Ok u) well room ok err = rw ok (well_with_user d name well room)

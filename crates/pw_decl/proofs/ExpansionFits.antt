@@ -1,4 +1,5 @@
--- What a callable becomes on cells speaks of these cells and of its inner ones, fits their kinds, and has as many instances as its size says.
+-- The expansion of a callable on cells mentions only these cells and its inner cells, fits their
+-- kinds, and has as many instances as its size says.
 use Rattle.std.proofs.Common.{◌≡◌, ℕ, zero, suc, ◌+◌, ◌<◌, List, [], ◌∷◌, ◌++◌, Option, Some, None, ◌⊎◌, inl, inr, map, take, length, get_or, refl, sym, ap, subst, ◌∙◌, arith, length-append, append_assoc, append-nil, option_map}
 use Rattle.std.specs.Prelude.{All, slice_get, slice_index_or}
 use Rattle.std.specs.List.{cons_option}
@@ -22,7 +23,7 @@ pub instance_cells : {C : Type 0} (cell : C) (cells : List C) →
 instance_cells cell cells =
     sym (take_more (cell ∷ cells) (length cells) cell (omega arith)) ∙ take_all (length cells + 1) (cell ∷ cells) (omega arith)
 
--- a procedure on cells that are here speaks of what is here
+-- a procedure on cells that are here mentions what is here
 pub instance_speaks : {C : Type 0} (IsHere : C → Type 0) (number : ℕ) (cells : List C) → All IsHere cells →
     All (SpeaksOf IsHere) (instance_on number cells)
 instance_speaks IsHere number [] here = All-nil (SpeaksOf IsHere)
@@ -32,7 +33,7 @@ instance_speaks {C} IsHere number (cell ∷ cells) here =
     All-cons (SpeaksOf IsHere) instance [] (All-take IsHere (length cells) (cell ∷ cells) here, here (length cells) cell (omega arith))
     (All-nil (SpeaksOf IsHere))
 
--- and where it speaks of what is here alone, its cells are here
+-- and if it mentions what is here alone, its cells are here
 pub cells_speak : {C : Type 0} (IsHere : C → Type 0) (number : ℕ) (cell : C) (cells : List C) →
     All (SpeaksOf IsHere) (instance_on number (cell ∷ cells)) → All IsHere (cell ∷ cells)
 cells_speak {C} IsHere number cell cells speaks =
@@ -58,9 +59,10 @@ cells_at_here IsHere cells [] here = All-nil IsHere
 cells_at_here IsHere cells (place ∷ places) here =
     here_with IsHere (slice_get cells place) (cells_at cells places) (here_at IsHere cells place here) (cells_at_here IsHere cells places here)
 
--- ---- what is spoken of
+-- ---- what is mentioned
 
--- on cells that are here, with inner cells that are, as many as these kinds, it speaks of what is here
+-- on cells that are here, with inner cells that are, as many as these kinds, it mentions what is
+-- here
 abbrev Speaks : {C : Type 0} → (C → Type 0) → List Kind → Expands C → Type 0
 Speaks {C} IsHere kinds expands =
     (cells : List C) (inner : ℕ → C) → All IsHere cells → ((j : ℕ) → j < length kinds → IsHere (inner j)) → All (SpeaksOf IsHere) (expands cells inner)
@@ -110,7 +112,8 @@ all_speak {C} IsHere kinds known same speak (compound ∷ compounds) =
     (both_push (Speaks IsHere) kinds known more [] expands (λ cells inner. []) same (λ cells inner here inners. All-nil (SpeaksOf IsHere)) speak
     (steps_speak IsHere kinds known speak compound.steps)) compounds
 
--- what a callable becomes on cells that are here, with inner cells that are, speaks of what is here
+-- the expansion of a callable on cells that are here, with inner cells that are, mentions what is
+-- here
 pub expansion_speaks : {C : Type 0} (IsHere : C → Type 0) (compounds : List Compound) (callable : Callable) (cells : List C) (inner : ℕ → C) →
     All IsHere cells → ((j : ℕ) → j < length (inner_kinds_of compounds callable) → IsHere (inner j)) →
     All (SpeaksOf IsHere) (expansion_of compounds callable cells inner)
@@ -130,7 +133,8 @@ push_cases (a ∷ xs) x y (suc n) at =
     elim (push_cases xs x y n at) [ inl before ↦ inl (omega (arith, before.0), before.1) | inr last ↦ inr (omega (arith, last.0), last.1) ]
 
 module _ {C : Type 0} (R : Compound → List Kind → Size → Expands C → Type 0) where
-  -- there are as many kinds, sizes and ways to expand as compounds, and those of each compound are so
+  -- there are as many kinds, sizes and ways to expand as compounds, and those of each compound are
+  -- so
   pub record AreAll (compounds : List Compound) (kinds : List (List Kind)) (sizes : List Size) (known : List (Expands C)) : Type 0 where
     pub kinds_count : length kinds ≡ length compounds
     pub sizes_count : length sizes ≡ length compounds
@@ -145,7 +149,7 @@ module _ {C : Type 0} (R : Compound → List Kind → Size → Expands C → Typ
       (subst (λ (l : List Kind). R compound l t f) (sym q)
       (subst (λ (z : Size). R compound ks z f) (sym r) (subst (λ (g : Expands C). R compound ks s g) (sym u) is)))
 
-  -- with one compound more
+  -- with one more compound
   pub all_push : (compounds : List Compound) (kinds : List (List Kind)) (sizes : List Size) (known : List (Expands C))
       (compound : Compound) (more : List Kind) (size : Size) (expands : Expands C) → AreAll compounds kinds sizes known → R compound more size expands →
       AreAll (compounds ++ compound ∷ []) (kinds ++ more ∷ []) (sizes ++ size ∷ []) (known ++ expands ∷ [])
@@ -230,13 +234,13 @@ kinds_of_cells_at kind cells (place ∷ places) =
     ∙ ap (λ (o : Option Kind). cons_option o (map kind (cells_at cells places))) (sym (slice_get-map kind cells place))
     ∙ ap (λ (l : List Kind). cons_option (slice_get (map kind cells) place) l) (kinds_of_cells_at kind cells places)
 
--- what stands in the first of two lists stands there in both
+-- what is at a place of the first of two lists is at that place of both joined
 pub get_before : {A : Type 0} (xs ys : List A) (n : ℕ) (x : A) → slice_get xs n ≡ Some x → slice_get (xs ++ ys) n ≡ Some x
 get_before [] ys n x at = absurd cc
 get_before (y ∷ xs) ys zero x at = at
 get_before (y ∷ xs) ys (suc n) x at = get_before xs ys n x at
 
--- and what stands in the second, as many places further
+-- and what is in the second, as many places further
 pub get_behind : {A : Type 0} (xs ys : List A) (n : ℕ) → slice_get (xs ++ ys) (length xs + n) ≡ slice_get ys n
 get_behind [] ys n = ap (slice_get ys) (omega arith)
 get_behind (x ∷ xs) ys n = ap (slice_get (x ∷ xs ++ ys)) (let e : length (x ∷ xs) + n ≡ suc (length xs + n) = omega arith in e) ∙ get_behind xs ys n
@@ -294,7 +298,8 @@ steps_fit procedures kind compounds kinds sizes known are (CallOn callable place
     (steps_fit procedures kind compounds kinds sizes known are steps so_far cells (λ j. inner (length mine + j)) good same
     (λ j k at. inners (length mine + j) k (get_behind mine rest j ∙ at)))
 
--- what a callable becomes on cells of which it accepts the kinds, with inner cells of their kinds, fits its cells
+-- the expansion of a callable on cells of which it accepts the kinds, with inner cells of their
+-- kinds, fits its cells
 pub expansion_fits : {C : Type 0} (procedures : List Procedure) (kind : C → Kind) (compounds : List Compound) (callable : Callable) (cells : List C)
     (inner : ℕ → C) → AreCompoundsAfter procedures [] compounds → AcceptsKinds procedures compounds callable (map kind cells) →
     ((j : ℕ) (k : Kind) → slice_get (inner_kinds_of compounds callable) j ≡ Some k → kind (inner j) ≡ k) →
@@ -337,7 +342,7 @@ lengths_with (x ∷ xs) [] n as_are bs_are same rest = absurd (omega arith)
 lengths_with (x ∷ xs) (y ∷ ys) zero as_are bs_are same rest = omega arith
 lengths_with (x ∷ xs) (y ∷ ys) (suc n) as_are bs_are same rest = lengths_with xs ys n as_are bs_are (omega arith) rest
 
--- as many cells stand at places as kinds do
+-- as many cells are at places as kinds do
 pub length-cells_at : {C : Type 0} (cells : List C) (kinds : List Kind) (places : List ℕ) → length cells ≡ length kinds →
     length (cells_at cells places) ≡ length (kinds_at kinds places)
 length-cells_at cells kinds [] same = refl
@@ -371,7 +376,8 @@ steps_counted procedures compounds kinds sizes known are (CallOn callable places
     let rest = steps_counted procedures compounds kinds sizes known are steps so_far cells next good same in
     length-append (expand_callable known callable (cells_at cells places) inner) (expand_steps kinds known steps cells next) ∙ omega arith
 
--- what a callable becomes on cells of which it accepts the kinds has as many instances as its size says
+-- the expansion of a callable on cells of which it accepts the kinds has as many instances as its
+-- size says
 pub expansion_counted : {C : Type 0} (procedures : List Procedure) (kind : C → Kind) (compounds : List Compound) (callable : Callable) (cells : List C)
     (inner : ℕ → C) → AreCompoundsAfter procedures [] compounds → AcceptsKinds procedures compounds callable (map kind cells) →
     length (expansion_of compounds callable cells inner) ≡ (size_of_callable (sizes_of compounds) callable).instances

@@ -1,4 +1,5 @@
--- Expansion: what a line more and a compound more make of it, how many inner cells there are, and that the names of cells do not matter.
+-- Expansion: what one more line and one more compound make of it, how many inner cells there are,
+-- and that the names of cells do not matter.
 use Rattle.std.proofs.Common.{◌≡◌, ℕ, zero, suc, ◌+◌, ◌<◌, List, [], ◌∷◌, ◌++◌, Option, Some, None, map, take, length, get_or, refl, sym, ap, ◌∙◌, arith, append_assoc, length-append}
 use Rattle.std.proofs.Math.ListN.{get_or-map}
 use Rattle.std.proofs.lemmas.List.{length-map, map-append, map_push, take-map}
@@ -40,15 +41,15 @@ cells_at_map {C} {D} name cells (place ∷ places) =
     ∙ ap (cons_option (option_map name (slice_get cells place))) (cells_at_map name cells places)
     ∙ cons_named name (slice_get cells place) (filter_map (slice_get cells) places)
 
--- ---- a compound more
+-- ---- one more compound
 
--- compounds with a compound more have its inner cells after theirs
+-- compounds with one more compound have its inner cells after theirs
 pub inner_push : (known : List (List Kind)) (compounds : List Compound) (compound : Compound) →
     inner_after known (compounds ++ compound ∷ []) ≡ inner_after known compounds ++ inner_of_steps (inner_after known compounds) compound.steps ∷ []
 inner_push known [] compound = refl
 inner_push known (first ∷ compounds) compound = inner_push (known ++ inner_of_steps known first.steps ∷ []) compounds compound
 
--- and what it becomes, after what they become
+-- and its expansion, after their expansions
 pub expand_push : {C : Type 0} (kinds : List (List Kind)) (known : List (Expands C)) (compounds : List Compound) (compound : Compound) →
     expand_after kinds known (compounds ++ compound ∷ []) ≡
     expand_after kinds known compounds ++ expand_steps (inner_after kinds compounds) (expand_after kinds known compounds) compound.steps ∷ []
@@ -71,9 +72,9 @@ length-expand_after {C} kinds known (first ∷ compounds) =
     let one = length-append known (expand_steps kinds known first.steps ∷ []) in
     omega (arith, rest, one)
 
--- ---- a line more
+-- ---- one more line
 
--- lines with a line more have its inner cells after theirs
+-- lines with one more line have its inner cells after theirs
 pub inner_steps_push : (known : List (List Kind)) (steps : List Step) (step : Step) →
     inner_of_steps known (steps ++ step ∷ []) ≡ inner_of_steps known steps ++ inner_of_steps known (step ∷ [])
 inner_steps_push known [] step = refl
@@ -94,7 +95,8 @@ moved_twice inner a b c sum =
     let same : (j : ℕ) → a + (b + j) ≡ c + j = λ j. omega arith in
     λ k j. inner (same j k)
 
--- lines with a line more become what they become, and then what it becomes on the cells after them
+-- the expansion of lines with one more line is their expansion, and then its expansion on the cells
+-- after them
 pub expand_steps_push : {C : Type 0} (kinds : List (List Kind)) (known : List (Expands C)) (steps : List Step) (step : Step) (cells : List C)
     (inner : ℕ → C) → expand_steps kinds known (steps ++ step ∷ []) cells inner ≡
     expand_steps kinds known steps cells inner
@@ -120,7 +122,7 @@ expand_steps_push {C} kinds known (CallOn callable places ∷ steps) step cells 
     (moved_twice inner (length own) (length (inner_of_steps kinds steps)) (length (own ++ inner_of_steps kinds steps))
     (length-append own (inner_of_steps kinds steps)))
 
--- the cells after lines with a line more are those after it, from those after them
+-- the cells after lines with one more line are those after it, from those after them
 pub cells_after_push : {C : Type 0} (kinds : List (List Kind)) (steps : List Step) (step : Step) (cells : List C) (inner : ℕ → C) →
     cells_after kinds (steps ++ step ∷ []) cells inner ≡
     cells_after kinds (step ∷ []) (cells_after kinds steps cells inner) (λ j. inner (length (inner_of_steps kinds steps) + j))
@@ -201,7 +203,8 @@ inner_counted compounds callable = counted_callable (inner_after [] compounds) (
 
 -- ---- the names of cells do not matter
 
--- where there are these inner cells, what the one gives of cells and the other of named cells are the same instances, named
+-- if there are these inner cells, what the one gives of cells and the other of named cells are the
+-- same instances, named
 abbrev Renames : {C D : Type 0} → (C → D) → List Kind → Expands C → Expands D → Type 0
 Renames {C} {D} name kinds expands named =
     (cells : List C) (inner : ℕ → C) (others : ℕ → D) → ((j : ℕ) → j < length kinds → others j ≡ name (inner j)) →
@@ -276,7 +279,7 @@ renames_after name kinds known others (compound ∷ compounds) all =
     (renames_push name kinds known others (inner_of_steps kinds compound.steps) (expand_steps kinds known compound.steps)
     (expand_steps kinds others compound.steps) all one)
 
--- what a callable becomes on named cells is what it becomes on the cells, named
+-- the expansion of a callable on named cells is its expansion on the cells, named
 pub expansion_renamed : {C D : Type 0} (name : C → D) (compounds : List Compound) (callable : Callable) (cells : List C) (inner : ℕ → C)
     (others : ℕ → D) → ((j : ℕ) → j < length (inner_kinds_of compounds callable) → others j ≡ name (inner j)) →
     expansion_of compounds callable (map name cells) others ≡ map (renamed name) (expansion_of compounds callable cells inner)
@@ -286,7 +289,7 @@ expansion_renamed name compounds callable cells inner others same =
 
 -- ---- an expansion is had from that on places
 
--- past the cells stand the inner ones
+-- past the cells come the inner cells
 pub at_place_inner : {C : Type 0} (cells : List C) (inner : ℕ → C) (j place : ℕ) → place ≡ length cells + j → at_place cells inner place ≡ inner j
 at_place_inner [] inner j place is = ap inner (let same : place ≡ j = omega arith in same)
 at_place_inner (cell ∷ cells) inner j zero is = absurd (omega arith)
@@ -303,13 +306,13 @@ map_range {C} f start (cell ∷ cells) inner same =
     map_range f (start + 1) cells inner (λ n within. ap f (next n) ∙ same (suc n) (omega arith)) in
     λ k. first k ∷ rest k
 
--- the cells stand at the places from 0
+-- the cells are at the places from 0
 pub cells_at_places : {C : Type 0} (cells : List C) (inner : ℕ → C) → map (at_place cells inner) (range_with_len 0 (length cells)) ≡ cells
 cells_at_places cells inner =
     let same : (n : ℕ) → 0 + n ≡ n = λ n. omega arith in
     map_range (at_place cells inner) 0 cells inner (λ n within. ap (at_place cells inner) (same n))
 
--- what a callable becomes on cells is what it becomes on places, with the cells put there
+-- the expansion of a callable on cells is its expansion on places, with the cells put there
 pub expansion_placed : {C : Type 0} (compounds : List Compound) (callable : Callable) (cells : List C) (inner : ℕ → C) →
     expansion_of compounds callable cells inner ≡
     map (renamed (at_place cells inner)) (on_places (expansion_of compounds callable) (length cells))

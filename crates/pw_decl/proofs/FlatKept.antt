@@ -1,4 +1,5 @@
--- What is kept of compounds that are ended: with one more, at the number of one, and that it stays on its own places.
+-- What is kept of compounds that have ended: with one more compound, by number, and that each stays
+-- on its own places.
 use Rattle.std.proofs.Common.{◌≡◌, ℕ, zero, suc, ◌+◌, ◌<◌, ◌≤◌, List, [], ◌∷◌, ◌++◌, Some, length, refl, sym, ap, subst, ◌∙◌, arith}
 use Rattle.std.specs.Prelude.{All, slice_get, slice_index_or}
 use Rattle.std.specs.List.{range_with_len}
@@ -19,9 +20,9 @@ use Rattle.pw_decl.proofs.ExpansionFits.{cells_speak, expansion_speaks}
 use Rattle.pw_decl.proofs.ExpansionLemmas.{expand_push, inner_counted, inner_push, length-expand_after, length-inner_after}
 use Rattle.pw_decl.proofs.KeptLemmas.{some_is}
 
--- ---- a compound more
+-- ---- one more compound
 
--- what compounds become with one more, each on its own places
+-- the expansions of compounds with one more, each on its own places
 pub own_push : (known : List (Expands ℕ)) (compounds : List Compound) (expands : Expands ℕ) (compound : Compound) → length known ≡ length compounds →
     on_own_places (known ++ expands ∷ []) (compounds ++ compound ∷ []) ≡
     on_own_places known compounds ++ on_places expands (length compound.parameters) ∷ []
@@ -31,7 +32,7 @@ own_push (e ∷ known) [] expands compound same = absurd (omega arith)
 own_push (e ∷ known) (first ∷ compounds) expands compound same =
     ap (λ (l : List (List (Instance ℕ))). on_places e (length first.parameters) ∷ l) (own_push known compounds expands compound (omega arith))
 
--- compounds with a compound more have what it becomes after what they become
+-- compounds with one more compound have its expansion after their expansions
 pub calls_push : (compounds : List Compound) (compound : Compound) →
     calls_of (compounds ++ compound ∷ []) ≡
     calls_of compounds ++ on_places (expand_steps (inner_after [] compounds) (expand_after [] [] compounds) compound.steps) (length compound.parameters) ∷ []
@@ -42,7 +43,8 @@ calls_push compounds compound =
     ap (λ (l : List (Expands ℕ)). on_own_places l (compounds ++ compound ∷ [])) (expand_push [] [] compounds compound)
     ∙ own_push known compounds expands compound many
 
--- where this is kept of compounds, and what a compound becomes of it, so it is with this compound more
+-- if this is kept of compounds, and this is the expansion of one more compound, so it is with that
+-- compound added
 pub calls_kept_push : (compounds : List Compound) (compound : Compound) (kept : List (List (Instance ℕ))) (here : List (Instance ℕ)) →
     kept ≡ calls_of compounds →
     here ≡ on_places (expand_steps (inner_after [] compounds) (expand_after [] [] compounds) compound.steps) (length compound.parameters) →
@@ -76,13 +78,13 @@ length-inner_of compounds = omega (arith, length-inner_after [] compounds)
 
 -- ---- at the number of a compound
 
--- at each place of a list something stands
+-- each place below the length of a list has an element
 pub stands : {A : Type 0} (xs : List A) (n : ℕ) → n < length xs → (x : A) × (slice_get xs n ≡ Some x)
 stands [] n within = absurd (omega arith)
 stands (x ∷ xs) zero within = (x, refl)
 stands (x ∷ xs) (suc n) within = stands xs n (omega arith)
 
--- what the compound there becomes, on its own places
+-- the expansion of the compound there, on its own places
 pub own_at : (known : List (Expands ℕ)) (compounds : List Compound) (n : ℕ) (compound : Compound) → length known ≡ length compounds →
     slice_get compounds n ≡ Some compound →
     slice_get (on_own_places known compounds) n ≡ Some (on_places (slice_index_or known n (λ cells inner. [])) (length compound.parameters))
@@ -100,7 +102,7 @@ calls_at compounds n compound at =
     let known : List (Expands ℕ) = expand_after [] [] compounds in
     own_at known compounds n compound (omega (arith, length-expand_after {C = ℕ} [] [] compounds)) at
 
--- where this is kept of compounds, what is kept at the number of one is what it becomes
+-- if this is kept of compounds, the kept calls at a compound's number are its expansion
 pub calls_kept_at : (compounds : List Compound) (kept : List (List (Instance ℕ))) (n : ℕ) (compound : Compound) (here : List (Instance ℕ)) →
     kept ≡ calls_of compounds → slice_get compounds n ≡ Some compound → slice_get kept n ≡ Some here →
     here ≡ on_places (expansion_of compounds (callables.Compound n)) (length compound.parameters)
@@ -114,7 +116,7 @@ pub inner_kept_at : (compounds : List Compound) (kept : List (List Kind)) (n : �
 inner_kept_at compounds kept n here same got =
     sym (get_or_from_slice_get (inner_after [] compounds) n here [] (ap (λ (l : List (List Kind)). slice_get l n) (sym same) ∙ got))
 
--- a compound has no more inner cells than it may have, where all are small
+-- a compound has no more inner cells than it may have, if all are small
 pub few_inner : (compounds : List Compound) (n : ℕ) → n < length compounds → All IsSmall (sizes_of compounds) →
     length (inner_kinds_of compounds (callables.Compound n)) ≤ most_inner_cells
 few_inner compounds n there small =
@@ -139,7 +141,7 @@ places_of_instance : (bound number : ℕ) (cells : List ℕ) → All (SpeaksOf (
 places_of_instance bound number [] speaks = All-nil (λ place. place < bound)
 places_of_instance bound number (cell ∷ cells) speaks = cells_speak (λ place. place < bound) number cell cells speaks
 
--- where instances of calls speak of the first so many places alone, so do the calls
+-- if instances of calls mention only the places below a bound, so do the calls
 pub calls_below : (bound : ℕ) (calls : List FlatCall) → All (SpeaksOf (λ place. place < bound)) (instances_of calls) → All (IsBelow bound) calls
 calls_below bound [] speaks = All-nil (IsBelow bound)
 calls_below bound (call ∷ calls) speaks =

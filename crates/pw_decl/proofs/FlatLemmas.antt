@@ -1,4 +1,4 @@
--- What stands at the places of what a compound becomes.
+-- What is at the places of the expansion of a compound.
 use Rattle.std.proofs.Common.{◌≡◌, ℕ, zero, suc, ◌+◌, ◌-◌, ◌<◌, ◌≤◌, List, [], ◌∷◌, ◌++◌, length, take, map, get_or, set, Some, refl, sym, ap, subst, ◌∙◌, arith, append_assoc, append-nil}
 use Rattle.std.proofs.lemmas.List.{take_more, take_more_set, map_push, map-append}
 use Rattle.std.specs.Prelude.{All, slice_get}
@@ -16,21 +16,21 @@ use Rattle.pw_decl.specs.Steps.Flattening.{TakesSoMany, GainsCallable}
 use Rattle.pw_decl.proofs.ExpansionLemmas.{instance_on_renamed, expansion_placed}
 use Rattle.pw_decl.proofs.KeptLemmas.{some_is}
 
--- at a place of one of the cells stands this cell
+-- at a place of one of the cells is this cell
 pub at_place_within : {C : Type 0} (cells : List C) (inner : ℕ → C) (place : ℕ) (d : C) → place < length cells →
     at_place cells inner place ≡ get_or cells place d
 at_place_within [] inner place d there = absurd (omega arith)
 at_place_within (cell ∷ cells) inner zero d there = refl
 at_place_within (cell ∷ cells) inner (suc place) d there = at_place_within cells inner place d (omega arith)
 
--- past their end stand the inner cells
+-- past their end are the inner cells
 pub at_place_past : {C : Type 0} (cells : List C) (inner : ℕ → C) (place : ℕ) → length cells ≤ place →
     at_place cells inner place ≡ inner (place - length cells)
 at_place_past [] inner place past = ap inner (omega arith)
 at_place_past (cell ∷ cells) inner zero past = absurd (omega arith)
 at_place_past (cell ∷ cells) inner (suc place) past = at_place_past cells inner place (omega arith) ∙ ap inner (omega arith)
 
--- the cell at the next place is put down
+-- the cell at the next place is recorded
 pub place_more : (f : ℕ → ℕ) (places placed : List ℕ) (n cell : ℕ) → n < length places → n < length placed →
     cell ≡ f (get_or places n 0) → take n placed ≡ map f (take n places) → take (n + 1) (set placed n cell) ≡ map f (take (n + 1) places)
 place_more f places placed n cell here room is so_far =
@@ -43,7 +43,7 @@ range_suc : (a n j : ℕ) → a + n ≡ j → range_with_len a (suc n) ≡ range
 range_suc a zero j is = ap (λ (x : ℕ). x ∷ []) (omega (arith, is))
 range_suc a (suc n) j is = ap (λ (l : List ℕ). a ∷ l) (range_suc (a + 1) n j (omega (arith, is)))
 
--- one number more
+-- one more number
 pub range_more : (a n j : ℕ) → a + n ≡ j → range_with_len a (n + 1) ≡ range_with_len a n ++ j ∷ []
 range_more a n j is =
     let next : suc n ≡ n + 1 = omega arith in
@@ -59,7 +59,7 @@ instances_push (first ∷ calls) call =
     ap (λ (l : List (Instance ℕ)). instance_on first.procedure (cells_of first.places) ++ l) (instances_push calls call)
     ∙ sym (append_assoc (instance_on first.procedure (cells_of first.places)) (instances_of calls) (instance_on call.procedure (cells_of call.places)))
 
--- the next call is added, over the cells for which its places stand
+-- the next call is added, over the cells at its places
 pub calls_more : (f : ℕ → ℕ) (start added calls : List FlatCall) (n : ℕ) (call placed : FlatCall) → n < length calls →
     call ≡ get_or calls n call → placed.procedure ≡ call.procedure → cells_of placed.places ≡ map f (cells_of call.places) →
     instances_of added ≡ instances_of start ++ map (renamed f) (instances_of (take n calls)) →
@@ -81,7 +81,7 @@ calls_more f start added calls n call placed here read procedure cells so_far =
 
 -- ---- a callable on cells
 
--- a compound that takes so many cells has so many parameters
+-- a compound that takes `count` cells has `count` parameters
 pub taken : (d : Declared) (callable : Callable) (number count : ℕ) (compound : Compound) → callable ≡ callables.Compound number →
     TakesSoMany d callable count → slice_get d.compounds number ≡ Some compound → length compound.parameters ≡ count
 taken d callable number count compound is takes at =
@@ -89,12 +89,12 @@ taken d callable number count compound is takes at =
     let (found, there, same) = accepts in
     sym (ap length (same ∙ ap (λ (c : Compound). c.parameters) (some_is found compound (sym there ∙ at)))) ∙ many
 
--- so many places and a first inner cell among these stay in range
+-- the places of calls, counted from a first inner cell, stay in range
 pub places_fit : (calls : List FlatCall) (first count inner : ℕ) → first ≤ 264 → count ≤ 9 → inner ≤ 256 → All (IsBelow (count + inner)) calls →
     All (λ call. All (λ place. first + place ≤ 4294967295) (cells_of call.places)) calls
 places_fit calls first count inner few taken made below n d here place e there = omega (arith, few, taken, made, below n d here place e there)
 
--- the calls of a compound over cells are what it becomes on them
+-- the calls of a compound over cells are its expansion on them
 pub placed_calls : (compounds : List Compound) (callable : Callable) (number : ℕ) (calls : List FlatCall) (cells : List ℕ) (first : ℕ) →
     callable ≡ callables.Compound number → (are : AreCallsOf compounds number calls) → length are.compound.parameters ≡ length cells →
     map (renamed (at_place cells (λ j. first + j))) (instances_of calls)
@@ -104,7 +104,7 @@ placed_calls compounds callable number calls cells first is are many =
     ∙ sym (expansion_placed compounds (callables.Compound number) cells (λ j. first + j))
     ∙ ap (λ (x : Callable). expand_callable (expand_after [] [] compounds) x cells (λ j. first + j)) (sym is)
 
--- what is kept has gained what a procedure becomes
+-- what is kept has gained the expansion of a procedure
 pub gains_stored : {A : Type 0} (compounds : List Compound) (callable : Callable) (number : ℕ) (call : FlatCall) (first : ℕ) (old new : Flattened A) →
     callable ≡ callables.Stored number → call.procedure ≡ number → new.calls.items ≡ old.calls.items ++ call ∷ [] →
     new.inner.items ≡ old.inner.items → GainsCallable compounds callable (cells_of call.places) first old new
@@ -115,7 +115,7 @@ gains_stored compounds callable number call first old new is procedure calls inn
       inner = inner ∙ rw is (sym (append-nil old.inner.items));
     }
 
--- and what a compound becomes
+-- and the expansion of a compound
 pub gains_compound : {A : Type 0} (compounds : List Compound) (callable : Callable) (number : ℕ) (calls : List FlatCall) (cells : List ℕ) (first : ℕ)
     (old new : Flattened A) → callable ≡ callables.Compound number → (are : AreCallsOf compounds number calls) →
     length are.compound.parameters ≡ length cells →

@@ -23,7 +23,7 @@ use Rattle.pw_decl.proofs.FlatLemmas.{at_place_within}
 
 -- ---- cells at places
 
--- at places of cells that are there stand these cells
+-- at the places of existing cells are these cells
 pub places_placed : {C : Type 0} (cells : List C) (inner : ℕ → C) (places : List ℕ) → All (λ place. place < length cells) places →
     map (at_place cells inner) places ≡ cells_at cells places
 places_placed cells inner [] there = refl
@@ -89,7 +89,7 @@ flat_call compounds parameters done callable places cells first old new placed f
       places = same ∙ so_far.places ∙ sym (cells_after_push kinds done (CallOn callable places) start names);
     }
 
--- a line that may be next, and is a call: its callable takes so many cells
+-- a line that may be next, and is a call: its callable takes as many cells as the call has places
 pub next_takes : {A : Type 0} (d : Declared) (so_far : Flattening A) (callable : Callable) (places : List ℕ) →
     IsNextStep d so_far (CallOn callable places) → TakesSoMany d callable (length (cells_at so_far.places.items places))
 next_takes d so_far callable places next =
@@ -118,7 +118,7 @@ placed_there {C} read cells inner places placed same is there =
 
 -- ---- the next line of those of a compound
 
--- what stands at a place stands between what is before it and what is behind
+-- what is at a place is between what is before it and what is behind
 pub split_at : {X : Type 0} (xs : List X) (n : ℕ) (x : X) → n < length xs → x ≡ get_or xs n x → xs ≡ take n xs ++ x ∷ drop (n + 1) xs
 split_at {X} xs n x here read =
     sym (take-append-drop (n + 1) xs)
@@ -140,7 +140,7 @@ new_kinds_few known (NewCell kind ∷ steps) = omega (arith, new_kinds_few known
 new_kinds_few known (CallOn callable places ∷ steps) =
     omega (arith, new_kinds_few known steps, length-append (inner_of_callable known callable) (inner_of_steps known steps))
 
--- the lines after some, and the first of lines, name only what stands before them
+-- the lines after some, and the first of lines, name only earlier things
 steps_after : (procedures : List Procedure) (compounds : List Compound) (kinds : List Kind) (done rest : List Step) →
     AreSteps procedures compounds kinds (done ++ rest) → AreSteps procedures compounds (kinds ++ new_kinds done) rest
 steps_after procedures compounds kinds [] rest are = subst (λ (l : List Kind). AreSteps procedures compounds l rest) (sym (append-nil kinds)) are
@@ -155,7 +155,7 @@ first_step : (procedures : List Procedure) (compounds : List Compound) (kinds : 
 first_step procedures compounds kinds (NewCell kind) rest are = tt
 first_step procedures compounds kinds (CallOn callable places) rest (there, accepts, are) = (there, accepts, tt)
 
--- where the lines before it are flattened, the next line of a compound may be next
+-- if the lines before it are flattened, the next line of a compound may be next
 pub is_next : {A : Type 0} (d : Declared) (parameters : List Kind) (done rest : List Step) (step : Step) (so_far : Flattening A) →
     AreSteps d.procedures d.compounds parameters (done ++ step ∷ rest) → length parameters ≤ 8 →
     (size_of_steps (sizes_of d.compounds) (done ++ step ∷ rest)).inner_cells ≤ 256 →

@@ -1,4 +1,4 @@
--- What stands at a place of a list that is kept, as the declaration has it.
+-- What is at a place of a list that is kept, as the declaration has it.
 use Rattle.std.proofs.Common.{◌≡◌, ℕ, zero, suc, ◌<◌, Bool, IsTrue, List, [], ◌∷◌, map, length, get_or, Option, Some, None, refl, sym, ap, subst, ◌∙◌, arith, ◌↔◌}
 use Rattle.std.specs.Prelude.{All, slice_get}
 use Rattle.std.proofs.lemmas.List.{length-map}
@@ -10,7 +10,7 @@ use Rattle.pw_decl.specs.declared.step.Callable.{Callable}
 use Rattle.pw_decl.specs.declared.step.Callable.TheVariants as callables
 use Rattle.pw_decl.specs.Compound.{Compound}
 
--- what stands at a place, by the function
+-- what is at a place, by the function
 pub got : {A B : Type 0} (f : A → B) (xs : List A) (n : ℕ) (x : A) → n < length xs → x ≡ get_or xs n x → slice_get (map f xs) n ≡ Some (f x)
 got f [] n x there read = absurd (omega arith)
 got f (y ∷ ys) zero x there read = ap (λ z. Some (f z)) (sym read)
@@ -26,7 +26,7 @@ pub holds_at : {A B : Type 0} (P : B → Type 0) (f : A → B) (xs : List A) (n 
 holds_at P f xs n x all there read =
     subst P (get-map f xs n x there read) (all n (f x) (let same = length-map xs f in omega arith))
 
--- what two such hold is one
+-- two options with equal values have equal contents
 pub some_is : {A : Type 0} (x y : A) → Some x ≡ Some y → x ≡ y
 some_is x y e = cc
 
@@ -46,7 +46,7 @@ compound_accepts compounds n c kinds t at same = (
   λ other. same.1 (other.2 ∙ ap (λ (q : Compound). q.parameters) (some_is other.0 c (sym other.1 ∙ at))),
 )
 
--- where no callable has a name, no compound has it
+-- if no callable has a name, no compound has it
 pub not_compound : (stored : Option Callable) (compound : Option ℕ) → option_or stored (option_map callables.Compound compound) ≡ None → compound ≡ None
 not_compound None None none = refl
 not_compound None (Some n) none = absurd cc

@@ -1,4 +1,5 @@
--- What a line declares and its first fault are one at most, and never both; so with texts.
+-- A line declares at most one thing and has at most one first fault, and never both; the same holds
+-- of texts.
 use Rattle.std.proofs.Common.{◌≡◌, ℕ, ◌+◌, true, false, List, [], ◌∷◌, ◌++◌, length, Some, None, ◌⊎◌, inl, inr, sym, refl, ap, subst, suc, ◌∙◌, codes, rules, arith, ◌↔◌}
 use Rattle.std.specs.List.{list_all}
 use Rattle.std.specs.Str.{bytes_eq}
@@ -194,7 +195,7 @@ given_inner words (Call callable arguments) (is, not_local, not_end, some) =
 given_inner words End e = search rules
 given_inner words s e = absurd e
 
--- ---- where the line stands
+-- ---- the place of the line
 
 -- the function gives a sentence that the words form
 pub found : (so_far : SoFar) (words : List (List ℕ)) (s : DeclarationSentence) → sentence_at so_far words ≡ Some s → IsSentenceAt so_far words s

@@ -80,7 +80,7 @@ named_all_or_not d (word ∷ words) well =
       | inr none ↦ inr (first_unnamed d word words none)
     ]
 
--- where all words name kinds, there are as many kinds as words
+-- if all words name kinds, there are as many kinds as words
 length_of_kinds : (d : Declared) (words : List (List ℕ)) (kinds : List Kind) → NameKinds d words kinds → length words ≡ length kinds
 length_of_kinds d [] [] named = refl
 length_of_kinds d [] (kind ∷ kinds) named = absurd named
@@ -175,7 +175,7 @@ said_or_not so_far line =
           ]
     ]
 
--- whether what is known of each sentence holds of the one that the line says
+-- whether what is known about each sentence holds of the one that the line says
 decided_of_said : (so_far : SoFar) (line : List ℕ) (P : DeclarationSentence → Type 0) → ((s : DeclarationSentence) → Decided (P s)) →
     Decided ((s : DeclarationSentence) × SaysInPlace so_far line s × P s)
 decided_of_said so_far line P decide =
@@ -217,7 +217,7 @@ MakesWell so_far s = (after : SoFar) × Makes so_far s after × IsWellSoFar afte
 header_made : (d : Declared) (s : DeclarationSentence) → IsWellDeclared d → s ≡ Header → MakesWell (BeforeHeader d) s
 header_made d s well is = subst (MakesWell (BeforeHeader d)) (sym is) (Outside d, refl, well)
 
--- a premise of a user that is there
+-- a premise of a user that exists
 premise_made : (d : Declared) (name user : List ℕ) → IsWellDeclared d → length d.premises < most_premises → (o : Option ℕ) → place_of_name d.users user ≡ o → (o ≡ None → ⊥) →
     MakesWell (Outside d) (PremiseOf name user)
 premise_made d name user well room None none there = absurd (there refl)
@@ -244,7 +244,7 @@ begin_made d name parameters well new known few =
       | inr none ↦ absurd (known none)
     ]
 
--- a call of a callable that is there
+-- a call of a callable that exists
 call_made : (d : Declared) (opened : OpenCompound) (word : List ℕ) (arguments : List (List ℕ)) → IsWellSoFar (Inside d opened) →
     (HasWrongArguments (Inside d opened) (Call word arguments) → ⊥) → (IsOneTooMany (Inside d opened) (Call word arguments) → ⊥) →
     (o : Option Callable) → callable_named d word ≡ o → (o ≡ None → ⊥) → MakesWell (Inside d opened) (Call word arguments)
@@ -260,7 +260,7 @@ call_made d opened word arguments well right few (Some callable) at there =
       | inr refuses ↦ absurd (right (callable, at, refuses))
     ]
 
--- a sentence where it stands, with nothing wrong with it, makes something
+-- a sentence at its place, with nothing wrong with it, makes something
 made : (so_far : SoFar) (words : List (List ℕ)) (s : DeclarationSentence) → IsWellSoFar so_far → IsSentenceAt so_far words s →
     (HasDuplicate so_far s → ⊥) → (HasUnknown so_far s → ⊥) → (HasWrongArguments so_far s → ⊥) → (IsOneTooMany so_far s → ⊥) → MakesWell so_far s
 made (BeforeHeader d) words s well is new known right few = header_made d s well is.0
@@ -389,7 +389,7 @@ LeadsOut start lines = (d : Declared) × Leads start lines (Outside d)
 abbrev FaultAmong : SoFar → List (List ℕ) → Type 0
 FaultAmong start lines = (number : ℕ) × (why : DeclFaultKind) × IsFaultAmong start lines number why
 
--- where all lines lead on, they lead out, or there is no header or no end
+-- if all lines lead on, they lead out, or there is no header or no end
 at_the_end : (start : SoFar) (lines : List (List ℕ)) (after : SoFar) → Leads start lines after → LeadsOut start lines ⊎ FaultAmong start lines
 at_the_end start lines (BeforeHeader d) leads =
     inr (

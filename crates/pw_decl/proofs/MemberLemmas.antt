@@ -19,7 +19,7 @@ all_apart : (word : List ℕ) (words : List (List ℕ)) → list_any (bytes_eq w
 all_apart word [] none = tt
 all_apart word (other ∷ words) none = (grind (arith, nat_tests), all_apart word words (grind (arith, nat_tests)))
 
--- where there is no word, all words differ
+-- if there is no word, all words differ
 pub distinct_none : IsDistinct bytes_eq []
 unfolding IsDistinct
 distinct_none = tt
@@ -28,7 +28,7 @@ distinct_none = tt
 pub repeats : (word : List ℕ) (words : List (List ℕ)) → list_any (bytes_eq word) words ≡ true → IsDistinct bytes_eq (word ∷ words) → ⊥
 repeats word words among differ = false≢true (sym (not_among word words (IsDistinct-head bytes_eq word words differ)) ∙ among)
 
--- words of which the first is not among the others all differ where the others do
+-- words of which the first is not among the others all differ if the others do
 pub differ_where : (word : List ℕ) (words : List (List ℕ)) → list_any (bytes_eq word) words ≡ false → IsDistinct bytes_eq (word ∷ words) ↔ IsDistinct bytes_eq words
 differ_where word words none = (IsDistinct-tail bytes_eq word words, IsDistinct-cons bytes_eq word words (all_apart word words none))
 
@@ -39,7 +39,7 @@ of_middle : (P : List ℕ → Type 0) (front : List (List ℕ)) (word : List ℕ
 of_middle P [] word rest all = all.0
 of_middle P (first ∷ front) word rest all = of_middle P front word rest all.1
 
--- words that differ also do so turned round
+-- words that differ also differ in the reverse order
 turned : (a b : List ℕ) → bytes_eq a b ≡ false → bytes_eq b a ≡ false
 turned a b apart =
     elim (cases_Bool (bytes_eq b a)) [
@@ -47,7 +47,7 @@ turned a b apart =
       | inr other ↦ other
     ]
 
--- where words differ, none has a place among those before it
+-- if words differ, none has a place among those before it
 pub is_new : (front : List (List ℕ)) (word : List ℕ) (rest : List (List ℕ)) (i : ℕ) → IsDistinct bytes_eq (front ++ word ∷ rest) → position_from (bytes_eq word) i front ≡ None
 is_new [] word rest i differ = refl
 is_new (first ∷ front) word rest i differ =

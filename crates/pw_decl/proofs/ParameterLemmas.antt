@@ -1,4 +1,4 @@
--- The parameters of a compound: names and kinds in turn.
+-- The parameters of a compound: alternating names and kinds.
 use Rattle.std.proofs.Common.{◌≡◌, ◌↔◌, ℕ, sym, ap, ◌∙◌, true, false, List, [], ◌∷◌, ◌++◌, Option, None, Some, Bool, ◌&&◌, append_assoc}
 use Rattle.std.proofs.lemmas.Bool.{false≢true}
 use Rattle.pw_info.specs.Name.{is_name}
@@ -13,7 +13,7 @@ use Rattle.pw_decl.specs.Declaration.{Declared, NamesKind, NameKinds}
 abbrev pub HaveKinds : Declared → List (List ℕ) → Type 0
 HaveKinds d words = (kinds : List Kind) × NameKinds d words kinds
 
--- where the first names a kind, all do where the others do
+-- if the first names a kind, all do if the others do
 pub have_kinds-cons : (d : Declared) (word : List ℕ) (words : List (List ℕ)) (kind : Kind) → NamesKind d word kind →
     HaveKinds d (word ∷ words) ↔ HaveKinds d words
 have_kinds-cons d word words kind named = (rest_named, λ rest. (kind ∷ rest.0, (named, rest.1)))
@@ -22,7 +22,7 @@ have_kinds-cons d word words kind named = (rest_named, λ rest. (kind ∷ rest.0
     rest_named ([], all) = absurd all
     rest_named (first ∷ kinds, all) = (kinds, all.1)
 
--- where the first names no kind, not all do
+-- if the first names no kind, not all do
 pub have_kinds-not : (d : Declared) (word : List ℕ) (words : List (List ℕ)) → ((kind : Kind) → NamesKind d word kind → ⊥) → HaveKinds d (word ∷ words) → ⊥
 have_kinds-not d word words none ([], all) = all
 have_kinds-not d word words none (first ∷ kinds, all) = none first all.0
@@ -34,7 +34,7 @@ pub chosen_more : (d : Declared) (word : List ℕ) (words all : List (List ℕ))
 chosen_more d word words all kind kinds more named is chosen rest others =
     rw (is, append_assoc kinds (kind ∷ []) rest) (chosen (kind ∷ rest) (named, others))
 
--- the names so far and those that are left are all, also with one more
+-- the names so far and the remaining ones are all, also with one more
 pub names_more : (all names more rest : List (List ℕ)) (word name : List ℕ) → all ≡ names ++ word ∷ rest → more ≡ names ++ name ∷ [] → name ≡ word →
     all ≡ more ++ rest
 names_more all names more rest word name is added same = rw (added, append_assoc names (name ∷ []) rest, same) is
@@ -43,7 +43,7 @@ names_more all names more rest word name is added same = rw (added, append_assoc
 pub both_more : (olds twins news others : List Kind) (kind : Kind) → olds ≡ twins → news ≡ olds ++ kind ∷ [] → others ≡ twins ++ kind ∷ [] → news ≡ others
 both_more olds twins news others kind same more more' = more ∙ ap (λ (kinds : List Kind). kinds ++ kind ∷ []) same ∙ sym more'
 
--- ---- words that are names and kinds in turn
+-- ---- words that are alternating names and kinds
 
 and_right : (a b : Bool) → (a && b) ≡ true → b ≡ true
 and_right true b both = both
@@ -52,7 +52,7 @@ and_right false b both = absurd (false≢true both)
 pub parameters_rest : (name kind : List ℕ) (words : List (List ℕ)) → are_parameters (name ∷ kind ∷ words) ≡ true → are_parameters words ≡ true
 parameters_rest name kind words all = and_right (is_name name) (are_parameters words) all
 
--- ---- what a clause says of a value that is there, and of none
+-- ---- what a clause says about a value that exists, and of none
 
 pub at_some : {X : Type 0} (o : Option X) {P : X → Type 0} → is_some o ≡ true → IfSome o P → (x : X) × P x
 at_some None there p = absurd (cc)

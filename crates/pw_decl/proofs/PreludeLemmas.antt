@@ -37,7 +37,7 @@ none_there (Some x) none = absurd (none refl)
 
 -- ---- a compound among lines
 
--- a compound is begun under a new name, with parameters whose kinds are named
+-- a compound has begun under a new name, with parameters whose kinds are named
 record IsBegun (d : Declared) (name : List ℕ) (parameters lines : List (List ℕ)) (after : SoFar) : Type 0 where
   pub kinds : List Kind
   pub new : callable_named d name ≡ None
@@ -89,7 +89,7 @@ is_inner line inner =
       | inr spoken ↦ (spoken, rw spoken at inner)
     ]
 
--- the compound is ended, under its name
+-- the compound has ended, under its name
 record IsEnded (d : Declared) (opened : OpenCompound) (rest : List (List ℕ)) (after : SoFar) : Type 0 where
   pub compound : Compound
   pub parameters : compound.parameters ≡ opened.compound.parameters

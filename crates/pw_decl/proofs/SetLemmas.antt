@@ -20,7 +20,7 @@ use Rattle.pw_decl.specs.Declaration.{Declared, nothing_declared, built_in_sets,
 
 -- ---- the members of set kinds
 
--- where each word passes the test and no two are equal, they are the names of a set's members
+-- if each word passes the test and no two are equal, they are the names of a set's members
 tested : (names : List (List ℕ)) → AllByRecursion (λ word. is_name word ≡ true) names → IsDistinct bytes_eq names → AreNames names
 tested names named differ =
     record {
@@ -92,7 +92,7 @@ position_shifted t i k (name ∷ names) = elim (cases_Bool (t name)) [
       rw (apart, next) (position_shifted t (i + 1) k names)
 ]
 
--- where none of the names passes, the others are counted on from their number
+-- if none of the names passes, the others are counted on from their number
 position_after : (t : List ℕ → Bool) (i : ℕ) (names more : List (List ℕ)) → position_from t i names ≡ None →
     position_from t i (names ++ more) ≡ position_from t (i + length names) more
 position_after t i [] more none = let same : i + 0 ≡ i = omega arith in rw same refl
@@ -109,7 +109,7 @@ pub place_after : (names more : List (List ℕ)) (word : List ℕ) → place_of_
 place_after names more word none =
     position_after (bytes_eq word) 0 names more none ∙ position_shifted (bytes_eq word) 0 (length names) more
 
--- where none of the names passes, none of the last of them does
+-- if none of the names passes, none of the last of them does
 absent_after : (t : List ℕ → Bool) (i k : ℕ) (names more : List (List ℕ)) → position_from t i (names ++ more) ≡ None → position_from t k more ≡ None
 absent_after t i k [] [] none = refl
 absent_after t i k [] (name ∷ more) none = elim (cases_Bool (t name)) [
@@ -132,7 +132,8 @@ pub declared_kind : (d : Declared) (word : List ℕ) → place_of_name built_in_
     place_of_name (kind_names d) word ≡ option_map (λ n. n + 4) (place_of_name d.set_names word)
 declared_kind d word none = place_after built_in_kind_names d.set_names word none
 
--- the number of a declared set is two more than its place, and its place among all kinds two more than its number
+-- the number of a declared set is two more than its place, and its place among all kinds two more
+-- than its number
 pub declared_place : (d : Declared) (word : List ℕ) (place : ℕ) → place_of_name built_in_kind_names word ≡ None → Some place ≡ place_of_name d.set_names word →
     place_of_name (kind_names d) word ≡ Some (2 + place + 2)
 declared_place d word place none found =
@@ -160,7 +161,7 @@ pub is_some-option_map : {X Y : Type 0} (f : X → Y) (o : Option X) → is_some
 is_some-option_map f None = refl
 is_some-option_map f (Some x) = refl
 
--- what a clause says of a value that is there, and of none
+-- what a clause says about a value that exists, and of none
 pub at_some : {X : Type 0} (o : Option X) {P : X → Type 0} {Q : Type 0} → is_some o ≡ true → IfSome o P → ((x : X) → P x → Q) → Q
 at_some None there p then = absurd (cc)
 at_some (Some x) there p then = then x p
@@ -169,7 +170,7 @@ pub at_none : {X : Type 0} (o : Option X) {P : Type 0} → is_some o ≡ false �
 at_none None absent p = p
 at_none (Some x) absent p = absurd (cc)
 
--- a set that is built in has its own members, whatever is declared
+-- a built-in set has its own members, for any declaration
 pub built_in_same : (d : Declared) (set : ℕ) → set < 2 → members_of d set ≡ built_in_members set
 built_in_same d zero few = refl
 built_in_same d (suc zero) few = refl

@@ -13,15 +13,16 @@ pub record IsBuiltIn (d : Declared) (name : List ℕ) (number : ℕ) (kinds : Li
   pub called : callable_named d name ≡ Some (callables.Compound number)
   pub takes : Takes d (callables.Compound number) kinds
 
--- of what is declared, the first three compounds alone
+-- the first three declared compounds, and nothing else
 abbrev pub first_compounds : Declared → Declared
 first_compounds d = record (nothing_declared d.procedures) {
   compound_names = take prelude_compounds d.compound_names;
   compounds = take prelude_compounds d.compounds;
 }
 
--- the first three compounds are what the prelude declares over the procedures, they have the names of the prelude, and each
--- is called by its name and takes cells of the kinds that the prelude gives its parameters
+-- the first three compounds are what the prelude declares over the procedures, they have the names
+-- of the prelude, and each is called by its name and takes cells of the kinds that the prelude
+-- gives its parameters
 pub record HasPrelude (d : Declared) : Type 0 where
   pub three : prelude_compounds ≤ length d.compounds
   pub names : take prelude_compounds d.compound_names ≡ codes "sum" ∷ codes "product" ∷ codes "conditional" ∷ []

@@ -12,9 +12,10 @@ use Rattle.pw_decl.specs.declared.step.Callable.{Callable}
 use Rattle.pw_decl.specs.declared.step.Callable.TheVariants as callables
 use Rattle.pw_decl.specs.Compound.{Compound, NewCell, CallOn, AcceptsKinds, IsThere, with_step}
 
--- what is declared, over the procedures of a registry: the names of the users, premises, cells, set kinds and compounds in the
--- order of their lines, for each premise the number of the user that it belongs to, if any, for each cell its kind,
--- for each set kind the names of its members, and each compound
+-- the declared things, over the procedures of a registry: the names of the users, premises, cells,
+-- set kinds and compounds in the order of their lines, for each premise the number of the user that
+-- it belongs to, if any, for each cell its kind, for each set kind the names of its members, and
+-- each compound
 pub record Declared : Type 0 where
   pub procedures : List Procedure
   pub users : List (List ℕ)
@@ -27,7 +28,7 @@ pub record Declared : Type 0 where
   pub compound_names : List (List ℕ)
   pub compounds : List Compound
 
--- over these procedures nothing is declared
+-- nothing is declared over these procedures
 abbrev pub nothing_declared : List Procedure → Declared
 nothing_declared procedures = record {
   procedures = procedures;
@@ -42,7 +43,7 @@ nothing_declared procedures = record {
   compounds = [];
 }
 
--- the user that a premise belongs to, if it belongs to one
+-- the user that a premise belongs to, if any
 abbrev pub owner_of : Declared → ℕ → Option ℕ
 owner_of d premise = slice_index_or d.owners premise None
 
@@ -50,7 +51,8 @@ owner_of d premise = slice_index_or d.owners premise None
 abbrev pub kind_at : Declared → ℕ → Kind
 kind_at d cell = slice_index_or d.kinds cell kinds.Interval
 
--- the members of the set kinds that every declaration has: `bool`, which has the number 0, and `sign`, which has 1
+-- the members of the set kinds that every declaration has: `bool`, with the number 0, and `sign`,
+-- with the number 1
 abbrev pub built_in_sets : List (List (List ℕ))
 built_in_sets = (codes "false" ∷ codes "true" ∷ []) ∷ (codes "neg" ∷ codes "zero" ∷ codes "pos" ∷ []) ∷ []
 
@@ -58,15 +60,15 @@ built_in_sets = (codes "false" ∷ codes "true" ∷ []) ∷ (codes "neg" ∷ cod
 abbrev pub built_in_members : SetNames
 built_in_members set = slice_index_or built_in_sets set []
 
--- the names of the members of a set kind, by its number: the declared ones follow those that are built in
+-- the names of the members of a set kind, by its number: the declared sets follow the built-in ones
 abbrev pub members_of : Declared → SetNames
 members_of d set = slice_index_or (built_in_sets ++ d.sets) set []
 
--- the names of the kinds that every declaration has, of which the last two are sets
+-- the names of the kinds that every declaration has; the last two are sets
 abbrev pub built_in_kind_names : List (List ℕ)
 built_in_kind_names = codes "interval" ∷ codes "exact" ∷ codes "bool" ∷ codes "sign" ∷ []
 
--- the names of the kinds: the declared sets follow those that are built in
+-- the names of the kinds: the declared sets follow the built-in kinds
 abbrev pub kind_names : Declared → List (List ℕ)
 kind_names d = built_in_kind_names ++ d.set_names
 
@@ -83,13 +85,13 @@ NameKinds d [] [] = Unit {0}
 NameKinds d (word ∷ words) (kind ∷ kinds) = NamesKind d word kind × NameKinds d words kinds
 NameKinds d words kinds = ⊥
 
--- the callable of this name, if there is one: a procedure, or a compound that is ended
+-- the callable of this name, if there is one: a procedure, or a compound that has ended
 abbrev pub callable_named : Declared → List ℕ → Option Callable
 callable_named d word =
     option_or (option_map callables.Stored (place_of_name (names_of d.procedures) word))
     (option_map callables.Compound (place_of_name d.compound_names word))
 
--- the callable is there
+-- the callable exists
 abbrev pub IsCallable : Declared → Callable → Type 0
 IsCallable d callable = IsThere d.procedures d.compounds callable
 
@@ -99,8 +101,8 @@ Takes d callable kinds = AcceptsKinds d.procedures d.compounds callable kinds
 
 -- ---- lines
 
--- what a line of a declaration says, by its words: nothing is looked up yet. A compound begins with the name and the kind of
--- each of its parameters in turn; the last three stand in a compound
+-- what a line of a declaration says, by its words: nothing is looked up yet. A compound begins with
+-- alternating names and kinds of its parameters; the last three forms are lines of a compound
 pub data DeclarationSentence : Type 0 where
   Header : DeclarationSentence
   User : (name : List ℕ) → DeclarationSentence
@@ -113,18 +115,18 @@ pub data DeclarationSentence : Type 0 where
   Call : (callable : List ℕ) (arguments : List (List ℕ)) → DeclarationSentence
   End : DeclarationSentence
 
--- the words are names and kinds in turn, and the names are names
+-- the words alternate between names and kinds, and the names are names
 abbrev pub AreParameters : List (List ℕ) → Type 0
 AreParameters [] = Unit {0}
 AreParameters (name ∷ []) = ⊥
 AreParameters (name ∷ kind ∷ words) = IsName name × AreParameters words
 
--- of words that are names and kinds in turn, the names
+-- the names among alternating names and kinds
 abbrev pub parameter_names : List (List ℕ) → List (List ℕ)
 parameter_names (name ∷ kind ∷ words) = name ∷ parameter_names words
 parameter_names words = []
 
--- and the kinds
+-- the kinds among alternating names and kinds
 abbrev pub parameter_kinds : List (List ℕ) → List (List ℕ)
 parameter_kinds (name ∷ kind ∷ words) = kind ∷ parameter_kinds words
 parameter_kinds words = []
@@ -139,7 +141,8 @@ IsOuterSentence words (Cell name kind) = (words ≡ codes "cell" ∷ name ∷ ki
 IsOuterSentence words (Begin name parameters) = (words ≡ codes "compound" ∷ name ∷ parameters) × IsName name × AreParameters parameters
 IsOuterSentence words sentence = ⊥
 
--- inside a compound: a first word that is neither `local` nor `end` begins a call, which has an argument or more
+-- inside a compound: a first word that is neither `local` nor `end` begins a call, which has one or
+-- more arguments
 abbrev pub IsInnerSentence : List (List ℕ) → DeclarationSentence → Type 0
 IsInnerSentence words (Local name kind) = (words ≡ codes "local" ∷ name ∷ kind ∷ []) × IsName name
 IsInnerSentence words (Call callable arguments) =
@@ -149,21 +152,21 @@ IsInnerSentence words sentence = ⊥
 
 -- ---- what was declared so far
 
--- a compound that is begun and not ended: its name, the names of its parameters and then of its private cells so far, and
--- what it is so far
+-- a compound that has begun and not ended: its name, the names of its parameters and then of its
+-- private cells so far, and the compound so far
 pub record OpenCompound : Type 0 where
   pub name : List ℕ
   pub names : List (List ℕ)
   pub compound : Compound
 
--- what was declared before a line, and where the line stands: before the header, where only the prelude is declared,
--- outside a compound, or inside one
+-- what was declared before a line, and the place of the line: before the header, where only the
+-- prelude is declared, outside a compound, or inside one
 pub data SoFar : Type 0 where
   BeforeHeader : (d : Declared) → SoFar
   Outside : (d : Declared) → SoFar
   Inside : (d : Declared) (opened : OpenCompound) → SoFar
 
--- where the line stands, its words form the sentence. The header stands before every other line, and once
+-- at this place, the words form the sentence. The header comes once, before every other line
 abbrev pub IsSentenceAt : SoFar → List (List ℕ) → DeclarationSentence → Type 0
 IsSentenceAt (BeforeHeader d) words sentence = (sentence ≡ Header) × (words ≡ codes "workbench" ∷ codes "1" ∷ [])
 IsSentenceAt (Outside d) words sentence = IsOuterSentence words sentence
@@ -190,7 +193,7 @@ abbrev pub with_compound : Declared → List ℕ → Compound → Declared
 with_compound d name compound =
     record d { compound_names = d.compound_names ++ name ∷ []; compounds = d.compounds ++ compound ∷ [] }
 
--- a compound of this name is begun, with parameters of these names and kinds
+-- a compound of this name has begun, with parameters of these names and kinds
 abbrev pub begun : List ℕ → List (List ℕ) → List Kind → OpenCompound
 begun name names kinds = record { name = name; names = names; compound = record { parameters = kinds; steps = [] } }
 
@@ -207,7 +210,7 @@ with_call opened callable places = record opened { compound = with_step opened.c
 abbrev pub places_of : OpenCompound → List (List ℕ) → List ℕ
 places_of opened words = filter_map (place_of_name opened.names) words
 
--- after what was declared so far the sentence makes this
+-- after what was declared so far, the sentence makes this
 abbrev pub Makes : SoFar → DeclarationSentence → SoFar → Type 0
 Makes (BeforeHeader d) Header after = after ≡ Outside d
 Makes (Outside d) (User name) after = after ≡ Outside (with_user d name)

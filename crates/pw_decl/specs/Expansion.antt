@@ -1,4 +1,5 @@
--- What a callable becomes on cells: a procedure is one instance of itself, and a compound is what its calls become, in order.
+-- The expansion of a callable on cells: a procedure is one instance of itself, and a compound is
+-- the expansion of its calls, in order.
 use Rattle.std.specs.Prelude.{◌≡◌, ℕ, ◌+◌, List, [], ◌∷◌, ◌++◌, All, Some, zero, suc, map, take, length, slice_get, slice_index_or}
 use Rattle.std.specs.List.{filter_map, range_with_len}
 use Rattle.pw_info.specs.declared.kind.Kind.{Kind}
@@ -9,14 +10,14 @@ use Rattle.pw_decl.specs.Compound.{Compound, Step, NewCell, CallOn, AcceptsKinds
 
 -- ---- instances
 
--- an instance of the procedure of this number: it reads these cells and writes that one. A cell is whatever names one: its
--- number in a network, or what its user calls it
+-- an instance of the procedure of this number: it reads these cells and writes that one. A cell is
+-- anything that names one: its number in a network, or what its user calls it
 pub record Instance (C : Type 0) : Type 0 where
   pub procedure : ℕ
   pub inputs : List C
   pub output : C
 
--- a procedure put between cells: it writes the last and reads the others
+-- a procedure put between cells: it writes the last cell and reads the others
 abbrev pub instance_on : {C : Type 0} → ℕ → List C → List (Instance C)
 instance_on number [] = []
 instance_on number (cell ∷ cells) =
@@ -27,20 +28,24 @@ abbrev pub renamed : {C D : Type 0} → (C → D) → Instance C → Instance D
 renamed name instance =
     record { procedure = instance.procedure; inputs = map name instance.inputs; output = name instance.output }
 
--- ---- inner cells: each time a line of a compound that makes a private cell is met, it makes one more
+-- ---- inner cells: each time a line of a compound that makes a private cell is reached, it makes
+-- one more
 
--- the kinds of the inner cells of a callable, where the compounds that are known have these: a procedure has none
+-- the kinds of the inner cells of a callable, given those of the known compounds: a procedure has
+-- none
 abbrev pub inner_of_callable : List (List Kind) → Callable → List Kind
 inner_of_callable known (callables.Stored number) = []
 inner_of_callable known (callables.Compound number) = slice_index_or known number []
 
--- of lines, in the order in which they are met: a call has those of its callable
+-- the kinds of the inner cells of lines, in the order in which they are reached: a call has those
+-- of its callable
 abbrev pub inner_of_steps : List (List Kind) → List Step → List Kind
 inner_of_steps known [] = []
 inner_of_steps known (NewCell kind ∷ steps) = kind ∷ inner_of_steps known steps
 inner_of_steps known (CallOn callable places ∷ steps) = inner_of_callable known callable ++ inner_of_steps known steps
 
--- of compounds, each from those before it: first these, and then theirs
+-- the kinds of the inner cells of compounds, each from the compounds before it: first the known
+-- ones, and then these
 abbrev pub inner_after : List (List Kind) → List Compound → List (List Kind)
 inner_after known [] = known
 inner_after known (compound ∷ compounds) = inner_after (known ++ inner_of_steps known compound.steps ∷ []) compounds
@@ -51,21 +56,23 @@ inner_kinds_of compounds callable = inner_of_callable (inner_after [] compounds)
 
 -- ---- expansion
 
--- on these cells, and with these for the inner cells by the numbers in which they are made, from 0, there are these instances
+-- the instances on these cells, given the inner cells by number, from 0, in the order in which they
+-- are made
 abbrev pub Expands : Type 0 → Type 0
 Expands C = List C → (ℕ → C) → List (Instance C)
 
--- of cells, those at these places
+-- the cells at these places
 abbrev pub cells_at : {C : Type 0} → List C → List ℕ → List C
 cells_at cells places = filter_map (slice_get cells) places
 
--- what a callable becomes, where the compounds that are known become this
+-- the expansion of a callable, given the expansions of the known compounds
 abbrev pub expand_callable : {C : Type 0} → List (Expands C) → Callable → Expands C
 expand_callable known (callables.Stored number) cells inner = instance_on number cells
 expand_callable known (callables.Compound number) cells inner = slice_index_or known number (λ cells inner. []) cells inner
 
--- what lines become, where the cells of their compound so far are these: a line that makes a private cell takes the next inner
--- cell, and a call becomes what its callable becomes on the cells at its places, with the inner cells that are next
+-- the expansion of lines, given the cells of their compound so far: a line that makes a private
+-- cell takes the next inner cell, and a call becomes the expansion of its callable on the cells at
+-- its places, with the next inner cells
 abbrev pub expand_steps : {C : Type 0} → List (List Kind) → List (Expands C) → List Step → Expands C
 expand_steps kinds known [] cells inner = []
 expand_steps kinds known (NewCell kind ∷ steps) cells inner =
@@ -74,7 +81,8 @@ expand_steps kinds known (CallOn callable places ∷ steps) cells inner =
     expand_callable known callable (cells_at cells places) inner
     ++ expand_steps kinds known steps cells (λ j. inner (length (inner_of_callable kinds callable) + j))
 
--- what compounds become, each from what those before it become: first these, and then theirs
+-- the expansions of compounds, each from the expansions of the compounds before it: first the known
+-- ones, and then these
 abbrev pub expand_after : {C : Type 0} → List (List Kind) → List (Expands C) → List Compound → List (Expands C)
 expand_after kinds known [] = known
 expand_after kinds known (compound ∷ compounds) =
@@ -83,23 +91,23 @@ expand_after kinds known (compound ∷ compounds) =
     (known ++ expand_steps kinds known compound.steps ∷ [])
     compounds
 
--- what a callable becomes on cells: its instances, where these are its inner cells, by number
+-- the expansion of a callable on cells: its instances, given its inner cells by number
 abbrev pub expansion_of : {C : Type 0} → List Compound → Callable → Expands C
 expansion_of compounds callable cells inner = expand_callable (expand_after [] [] compounds) callable cells inner
 
--- ---- expansion on places, from which that on any cells is had
+-- ---- expansion on places, which determines the expansion on any cells
 
--- what stands at a place: first these cells, and then the inner ones
+-- the cell at a place: first these cells, and then the inner cells
 abbrev pub at_place : {C : Type 0} → List C → (ℕ → C) → ℕ → C
 at_place [] inner place = inner place
 at_place (cell ∷ cells) inner zero = cell
 at_place (cell ∷ cells) inner (suc place) = at_place cells inner place
 
--- a way to expand, on places: so many cells from 0, and after them the inner ones
+-- an expansion on places: `count` cells from 0, and after them the inner cells
 abbrev pub on_places : Expands ℕ → ℕ → List (Instance ℕ)
 on_places expands count = expands (range_with_len 0 count) (λ j. count + j)
 
--- ---- what instances speak of
+-- ---- the cells that instances mention
 
 -- each cell that the instance reads or writes is one of these
 abbrev pub SpeaksOf : {C : Type 0} → (C → Type 0) → Instance C → Type 0
@@ -114,7 +122,7 @@ FitsCells procedures kind instance =
 abbrev pub IsOfInnerKinds : {C : Type 0} → (C → Kind) → (ℕ → C) → List Kind → Type 0
 IsOfInnerKinds kind inner kinds = (j : ℕ) (k : Kind) → slice_get kinds j ≡ Some k → kind (inner j) ≡ k
 
--- so many instances and inner cells there are
+-- the numbers of instances and of inner cells are these
 pub record HasSize {C : Type 0} (size : Size) (instances : List (Instance C)) (inner : List Kind) : Type 0 where
   pub instances_are : length instances ≡ size.instances
   pub inner_are : length inner ≡ size.inner_cells

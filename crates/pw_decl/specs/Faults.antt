@@ -1,4 +1,4 @@
--- Which texts spell a declaration, and the first fault of those that do not.
+-- The texts that spell a declaration, and the first fault of those that do not.
 use Rattle.std.specs.Prelude.{◌≡◌, ℕ, ◌+◌, ◌<◌, ◌≤◌, Bool, true, false, List, [], ◌∷◌, ◌++◌, length, Some, None, is_some, IsSome, ◌⊎◌, Result, MatchResult, IsErrAnd}
 use Rattle.std.specs.List.{list_all, IsDistinct}
 use Rattle.std.specs.Str.{bytes_eq}
@@ -21,13 +21,13 @@ use Rattle.pw_decl.specs.Prelude.{prelude_compounds, prelude_text}
 use Rattle.pw_decl.specs.Declaration.{Declared, nothing_declared, OpenCompound, SoFar, BeforeHeader, Outside, Inside, DeclarationSentence, User, Premise, PremiseOf, Set, Cell, Begin, Local, Call, IsSentenceAt, parameter_names, parameter_kinds, kind_names, NamesKind, NameKinds, callable_named, Takes, places_of, Makes}
 use Rattle.pw_decl.specs.Limits.{most_users, most_premises, most_cells, most_sets, most_compounds, most_parameters, most_line_bytes, most_text_bytes}
 
--- the line, where it stands, says the sentence
+-- at its place, the line says the sentence
 pub record SaysInPlace (so_far : SoFar) (line : List ℕ) (sentence : DeclarationSentence) : Type 0 where
   pub spoken : is_idle line ≡ false
   pub allowed : list_all is_allowed line ≡ true
   pub words : IsSentenceAt so_far (words_of line) sentence
 
--- the new name is one that its name space has already, or a member or a parameter is named twice
+-- the new name exists in its name space already, or a member or a parameter is named twice
 abbrev pub HasDuplicate : SoFar → DeclarationSentence → Type 0
 HasDuplicate (Outside d) (User name) = IsSome (place_of_name d.users name)
 HasDuplicate (Outside d) (Premise name) = IsSome (place_of_name d.premises name)
@@ -43,7 +43,7 @@ HasDuplicate so_far sentence = ⊥
 abbrev pub is_cell_of : OpenCompound → List ℕ → Bool
 is_cell_of opened word = is_some (place_of_name opened.names word)
 
--- there is no such user, no such kind, no such callable, or no such cell of the compound
+-- the user, the kind, the callable, or the cell of the compound does not exist
 abbrev pub HasUnknown : SoFar → DeclarationSentence → Type 0
 HasUnknown (Outside d) (PremiseOf name user) = place_of_name d.users user ≡ None
 HasUnknown (Outside d) (Cell name word) = (kind : Kind) → NamesKind d word kind → ⊥
@@ -53,7 +53,8 @@ HasUnknown (Inside d opened) (Call word arguments) =
     (callable_named d word ≡ None) ⊎ (list_all (is_cell_of opened) arguments ≡ false)
 HasUnknown so_far sentence = ⊥
 
--- a set has fewer members than it may have, a compound has no parameter, or a callable does not accept the cells of a call
+-- a set has too few members, a compound has no parameter, or a callable does not accept the cells
+-- of a call
 abbrev pub HasWrongArguments : SoFar → DeclarationSentence → Type 0
 HasWrongArguments (Outside d) (Set name members) = length members < fewest_members
 HasWrongArguments (Outside d) (Begin name parameters) = parameters ≡ []
@@ -62,12 +63,13 @@ HasWrongArguments (Inside d opened) (Call word arguments) =
     × (Takes d callable (kinds_at (cell_kinds opened.compound) (places_of opened arguments)) → ⊥)
 HasWrongArguments so_far sentence = ⊥
 
--- what the open compound expands to is too large with this line more
+-- with this line, the expansion of the open compound is too large
 abbrev pub OutgrowsWith : Declared → OpenCompound → Size → Type 0
 OutgrowsWith d opened size = IsTooLarge (sum_of_sizes (size_of_steps (sizes_of d.compounds) opened.compound.steps) size)
 
--- there are as many users, premises, sets, cells or compounds as may be already, the set has more members or the compound more
--- parameters than it may have, or the compound expands to more instances or inner cells than it may
+-- there are already as many users, premises, sets, cells or compounds as allowed, the set has too
+-- many members or the compound too many parameters, or the compound expands to too many instances
+-- or inner cells
 abbrev pub IsOneTooMany : SoFar → DeclarationSentence → Type 0
 IsOneTooMany (Outside d) (User name) = most_users ≤ length d.users
 IsOneTooMany (Outside d) (Premise name) = most_premises ≤ length d.premises
@@ -82,7 +84,7 @@ IsOneTooMany (Inside d opened) (Call word arguments) =
     × OutgrowsWith d opened (size_of_callable (sizes_of d.compounds) callable)
 IsOneTooMany so_far sentence = ⊥
 
--- what can be wrong with a line
+-- the faults that a line can have
 pub data LineFault : Type 0 where
   TooLong : LineFault
   BadSyntax : LineFault
@@ -91,7 +93,7 @@ pub data LineFault : Type 0 where
   Wrong : LineFault
   TooMany : LineFault
 
--- in the order in which they are told
+-- the faults, in the order in which they are reported
 abbrev pub line_faults : List LineFault
 line_faults = TooLong ∷ BadSyntax ∷ Duplicate ∷ Unknown ∷ Wrong ∷ TooMany ∷ []
 
@@ -103,7 +105,7 @@ kind_of_fault Unknown = UnknownName
 kind_of_fault Wrong = WrongArguments
 kind_of_fault TooMany = Limit
 
--- the line, after what was declared so far, has the fault, whatever else is wrong with it
+-- the line, after what was declared so far, has the fault, no matter what else is wrong with it
 abbrev pub FaultApplies : SoFar → List ℕ → LineFault → Type 0
 FaultApplies so_far line TooLong = most_line_bytes < length line
 FaultApplies so_far line BadSyntax = (is_idle line ≡ false) × ((sentence : DeclarationSentence) → SaysInPlace so_far line sentence → ⊥)
@@ -116,11 +118,11 @@ FaultApplies so_far line TooMany = (sentence : DeclarationSentence) × SaysInPla
 abbrev pub HasNoFault : SoFar → List ℕ → Type 0
 HasNoFault so_far line = HoldsOfNone (FaultApplies so_far line) line_faults
 
--- this is the line's fault: of those that it has, the first
+-- this is the line's fault: the first of those that it has
 abbrev pub IsFirstFaultOf : SoFar → List ℕ → LineFault → Type 0
 IsFirstFaultOf so_far line fault = IsFirstIn (FaultApplies so_far line) line_faults fault
 
--- the line has no fault, and leads to this: an idle line leaves what was declared so far
+-- the line has no fault, and leads to this: an idle line leaves what was declared so far unchanged
 abbrev pub Declares : SoFar → List ℕ → SoFar → Type 0
 Declares so_far line after =
     HasNoFault so_far line
@@ -135,7 +137,7 @@ HasAFault so_far line = (fault : LineFault) × IsFirstFaultOf so_far line fault
 abbrev pub LeadsOn : SoFar → List ℕ → Type 0
 LeadsOn so_far line = (after : SoFar) × Declares so_far line after
 
--- the lines lead from what was declared so far to what is declared after them, each without fault
+-- the lines lead from what was declared so far to what is declared after them, each without a fault
 abbrev pub Leads : SoFar → List (List ℕ) → SoFar → Type 0
 Leads so_far [] after = after ≡ so_far
 Leads so_far (line ∷ lines) after = (next : SoFar) × Declares so_far line next × Leads next lines after
@@ -144,25 +146,27 @@ Leads so_far (line ∷ lines) after = (next : SoFar) × Declares so_far line nex
 abbrev pub PreludeDeclares : List Procedure → Declared → Type 0
 PreludeDeclares procedures known = Leads (Outside (nothing_declared procedures)) (lines_of prelude_text) (Outside known)
 
--- over these procedures the text spells the declaration: its lines lead to it from what the prelude declares
+-- over these procedures the text spells the declaration: its lines lead to it from what the prelude
+-- declares
 pub record SpellsDeclaration (procedures : List Procedure) (text : List ℕ) (declared : Declared) : Type 0 where
   pub short : length text ≤ most_text_bytes
   pub known : Declared
   pub prelude : PreludeDeclares procedures known
   pub leads : Leads (BeforeHeader known) (lines_of text) (Outside declared)
 
--- what is wrong after the last line: there was no header, or a compound is not ended
+-- the fault after the last line: there was no header, or a compound has not ended
 abbrev pub IsUnfinished : SoFar → DeclFaultKind → Type 0
 IsUnfinished (BeforeHeader d) why = why ≡ Syntax
 IsUnfinished (Outside d) why = ⊥
 IsUnfinished (Inside d opened) why = why ≡ MissingEnd
 
--- what is wrong with the first of the lines that are left, or after the last of them
+-- the fault of the first of the remaining lines, or after the last of them
 abbrev pub IsFaultNext : SoFar → List (List ℕ) → DeclFaultKind → Type 0
 IsFaultNext so_far [] why = IsUnfinished so_far why
 IsFaultNext so_far (line ∷ lines) why = (fault : LineFault) × IsFirstFaultOf so_far line fault × (why ≡ kind_of_fault fault)
 
--- from what was declared so far, the first fault of the lines is at this one, counted from 1, or after the last
+-- after what was declared so far, the first fault of the lines is at this one, counted from 1, or
+-- after the last
 pub record IsFaultAmong (start : SoFar) (lines : List (List ℕ)) (number : ℕ) (why : DeclFaultKind) : Type 0 where
   pub before : List (List ℕ)
   pub rest : List (List ℕ)
@@ -172,7 +176,8 @@ pub record IsFaultAmong (start : SoFar) (lines : List (List ℕ)) (number : ℕ)
   pub leads : Leads start before so_far
   pub fault : IsFaultNext so_far rest why
 
--- from what was declared so far, neither the line of this number, from 1, nor one before it has a fault
+-- after what was declared so far, neither the line of this number, from 1, nor any line before it
+-- has a fault
 pub record IsClearUpTo (start : SoFar) (lines : List (List ℕ)) (number : ℕ) : Type 0 where
   pub before : List (List ℕ)
   pub line : List ℕ
@@ -194,12 +199,14 @@ abbrev pub IsFaultOfPrelude : List Procedure → DeclFaultKind → Type 0
 IsFaultOfPrelude procedures why =
     (number : ℕ) × IsFaultAmong (Outside (nothing_declared procedures)) (lines_of prelude_text) number why
 
--- the first fault of a text that is not too long: one of the prelude is told at line 0, and one of the text at its line, from 1
+-- the first fault of a text that is not too long: a fault of the prelude is reported at line 0, and
+-- a fault of the text at its line, from 1
 abbrev pub IsFaultInside : List Procedure → List ℕ → ℕ → DeclFaultKind → Type 0
 IsFaultInside procedures text number why =
     ((number ≡ 0) × IsFaultOfPrelude procedures why) ⊎ IsFaultOnLine procedures text number why
 
--- the first fault of a text over these procedures, and the number of its line; too long a text is a fault at line 0
+-- the first fault of a text over these procedures, and the number of its line; a text that is too
+-- long is a fault at line 0
 abbrev pub IsFirstFault : List Procedure → List ℕ → ℕ → DeclFaultKind → Type 0
 IsFirstFault procedures text number why =
     ((most_text_bytes < length text) × (number ≡ 0) × (why ≡ Limit))
@@ -213,36 +220,38 @@ SpellsOne procedures text = (d : Declared) × SpellsDeclaration procedures text 
 abbrev pub HasAFirstFault : List Procedure → List ℕ → Type 0
 HasAFirstFault procedures text = (number : ℕ) × (why : DeclFaultKind) × IsFirstFault procedures text number why
 
--- ---- what is read
+-- ---- the results of reading
 
--- from what was declared so far, the fault is the first among the lines, or want of memory
+-- after what was declared so far, the fault is the first among the lines, or out of memory
 abbrev pub IsToldAmong : SoFar → List (List ℕ) → DeclFault → Type 0
 IsToldAmong start lines fault = (fault.why ≡ Memory) ⊎ IsFaultAmong start lines fault.line fault.why
 
--- a line of the prelude has no fault, and none before it has one
+-- some line of the prelude has no fault, and neither has any line before it
 abbrev pub IsClearInPrelude : List Procedure → Type 0
 IsClearInPrelude procedures =
     (line : ℕ) × IsClearUpTo (Outside (nothing_declared procedures)) (lines_of prelude_text) line
 
--- the line of this number, from 1, has no fault, and none before it has one, nor has the prelude
+-- the line of this number, from 1, has no fault, and neither has any line before it, nor the
+-- prelude
 abbrev pub IsClearInText : List Procedure → List ℕ → ℕ → Type 0
 IsClearInText procedures text number =
     (known : Declared) × PreludeDeclares procedures known × IsClearUpTo (BeforeHeader known) (lines_of text) number
 
--- the text is not too long, and up to here, where 0 stands for a line of the prelude, no line has a fault
+-- the text is not too long, and up to this line, where 0 means a line of the prelude, no line has a
+-- fault
 abbrev pub HasNoFaultUpTo : List Procedure → List ℕ → ℕ → Type 0
 HasNoFaultUpTo procedures text number =
     (length text ≤ most_text_bytes)
     × (((number ≡ 0) × IsClearInPrelude procedures) ⊎ IsClearInText procedures text number)
 
--- the fault is the first of the text, or want of memory
+-- the fault is the first of the text, or out of memory
 abbrev pub IsTold : List Procedure → List ℕ → DeclFault → Type 0
 IsTold procedures text fault = (fault.why ≡ Memory) ⊎ IsFirstFault procedures text fault.line fault.why
 
--- what is read is the declaration, but for want of memory
+-- the declaration is read, unless memory runs out
 abbrev pub IsReadAs : {A : _} {X : Type 0} {F : X → Type 0} {C : _} → Declared → Result (Declaration A X F C) DeclFault → Type 0
 IsReadAs d read = MatchResult read (λ declaration. declared_by declaration ≡ d) (λ fault. fault.why ≡ Memory)
 
--- what is read is this fault, but for want of memory
+-- this fault is reported, unless memory runs out
 abbrev pub IsFaultAt : {A : _} {X : Type 0} {F : X → Type 0} {C : _} → ℕ → DeclFaultKind → Result (Declaration A X F C) DeclFault → Type 0
 IsFaultAt number why read = IsErrAnd read (λ fault. (fault.why ≡ Memory) ⊎ ((fault.line ≡ number) × (fault.why ≡ why)))

@@ -5,7 +5,7 @@ use Rattle.pw_decl.specs.Compound.{Compound, Step}
 use Rattle.pw_decl.specs.Declaration.{Declared}
 use Rattle.pw_decl.specs.Kept.{declared_from}
 
--- what is declared
+-- the declared things
 abbrev pub declared_by : {A : _} {X : Type 0} {F : X → Type 0} {C : _} → Declaration A X F C → Declared
 declared_by d = declared_from d.registry.now d.users d.premises d.owners.items d.cells d.kinds.items d.set_names d.sets.items d.compound_names d.compounds.items
 

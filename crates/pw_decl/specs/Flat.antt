@@ -1,4 +1,4 @@
--- What is kept of compounds that are ended: what they become, on places.
+-- The stored form of ended compounds: their expansions, on places.
 use Rattle.std.specs.Prelude.{◌≡◌, ℕ, ◌+◌, ◌<◌, List, [], ◌∷◌, ◌++◌, All, Some, length, map, slice_get}
 use Rattle.pw_info.specs.declared.kind.Kind.{Kind}
 use Rattle.pw_procs.specs.Arguments.{cells_of}
@@ -13,34 +13,36 @@ abbrev pub instances_of : List FlatCall → List (Instance ℕ)
 instances_of [] = []
 instances_of (call ∷ calls) = instance_on call.procedure (cells_of call.places) ++ instances_of calls
 
--- each place of the call is one of the first so many
+-- each place of the call is below this number
 abbrev pub IsBelow : ℕ → FlatCall → Type 0
 IsBelow count call = All (λ place. place < count) (cells_of call.places)
 
--- what compounds become that expand so, each on its own places: its parameters, and then its inner cells
+-- the expansions of compounds, given how each expands, each on its own places: its parameters, and
+-- then its inner cells
 abbrev pub on_own_places : List (Expands ℕ) → List Compound → List (List (Instance ℕ))
 on_own_places (expands ∷ rest) (compound ∷ compounds) = on_places expands (length compound.parameters) ∷ on_own_places rest compounds
 on_own_places rest compounds = []
 
--- what compounds become, each on its own places
+-- the expansions of compounds, each on its own places
 abbrev pub calls_of : List Compound → List (List (Instance ℕ))
 calls_of compounds = on_own_places (expand_after [] [] compounds) compounds
 
--- the instances that are kept of compounds
+-- the stored instances of compounds
 abbrev pub calls_kept : {A : Type 0} → List (Flattened A) → List (List (Instance ℕ))
 calls_kept flattened = map (λ kept. instances_of kept.calls.items) flattened
 
--- and the kinds of their inner cells
+-- the stored kinds of their inner cells
 abbrev pub inner_kept : {A : Type 0} → List (Flattened A) → List (List Kind)
 inner_kept flattened = map (λ kept. kept.inner.items) flattened
 
--- this is what a compound after these becomes, on its places
+-- this is the expansion of a compound after these, on its places
 pub record IsFlattened {A : Type 0} (compounds : List Compound) (compound : Compound) (kept : Flattened A) : Type 0 where
   pub calls : instances_of kept.calls.items
       ≡ on_places (expand_steps (inner_after [] compounds) (expand_after [] [] compounds) compound.steps) (length compound.parameters)
   pub inner : kept.inner.items ≡ inner_of_steps (inner_after [] compounds) compound.steps
 
--- the calls are what the compound of this number becomes on its places: its parameters, and then its inner cells
+-- the calls are the expansion of the compound of this number on its places: its parameters, and
+-- then its inner cells
 pub record AreCallsOf (compounds : List Compound) (number : ℕ) (calls : List FlatCall) : Type 0 where
   pub compound : Compound
   pub is : slice_get compounds number ≡ Some compound

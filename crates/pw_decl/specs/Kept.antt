@@ -1,4 +1,4 @@
--- What fields in the code keep of compounds and of declarations.
+-- Compounds and declarations, by the fields that the code stores.
 use Rattle.std.specs.Prelude.{ℕ, List, Option, map}
 use Rattle.pw_info.specs.declared.kind.Kind.{Kind}
 use Rattle.pw_procs.specs.declared.registry.Registry.{Registry}
@@ -27,7 +27,7 @@ size_of size = record { instances = size.instances; inner_cells = size.inner_cel
 abbrev pub compound_of : {A : Type 0} → CompoundKept A → Compound
 compound_of c = record { parameters = c.parameters.items; steps = steps_of c.steps.items }
 
--- compounds, and the sizes kept with them
+-- compounds, without the sizes stored with them
 abbrev pub compounds_of : {A : Type 0} → List (CompoundKept A) → List Compound
 compounds_of compounds = map compound_of compounds
 

@@ -1,5 +1,5 @@
--- The limits of a declaration.
--- A set has `fewest_members` to `most_members` members, which stand with the masks of sets in Rattle.pw_kinds.specs.Places.
+-- The limits of a declaration. A set has `fewest_members` to `most_members` members: see the masks
+-- of sets in Rattle.pw_kinds.specs.Places.
 use Rattle.std.specs.Prelude.{ℕ}
 
 -- ---- limits that stay

@@ -1,7 +1,8 @@
--- The compounds that every declaration has: they stand in a text, which is read as a declaration is.
+-- The compounds that every declaration has. They are given in a text, which is read like a
+-- declaration.
 use Rattle.std.specs.Prelude.{ℕ, List, ◌++◌, codes}
 
--- how many they are
+-- the number of these compounds
 abbrev pub prelude_compounds : ℕ
 prelude_compounds = 3
 

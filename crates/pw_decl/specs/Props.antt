@@ -1,4 +1,4 @@
--- That a kind's set has its names is a fact.
+-- Having its names is a proposition of a kind: any two proofs of it are equal.
 use Rattle.std.proofs.Props.{props}
 use Rattle.pw_info.specs.declared.kind.Kind.{Kind}
 use Rattle.pw_info.specs.declared.kind.Kind.TheVariants as kinds

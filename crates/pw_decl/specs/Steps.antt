@@ -1,4 +1,4 @@
--- What only the steps of the code and their proofs speak of.
+-- Definitions that only the steps of the code and their proofs mention.
 pub mod Flattening
 pub mod Forms
 pub mod Opened

@@ -1,4 +1,4 @@
--- What holds of everything that is declared.
+-- Properties of every declaration.
 use Rattle.std.specs.Prelude.{◌≡◌, ℕ, ◌+◌, ◌<◌, ◌≤◌, [], None, length, All, IfSome}
 use Rattle.pw_kinds.specs.Places.{IsSize}
 use Rattle.pw_info.specs.SetNames.{AreNames, IsNamed}
@@ -7,14 +7,14 @@ use Rattle.pw_decl.specs.Declaration.{Declared, OpenCompound, SoFar, BeforeHeade
 use Rattle.pw_decl.specs.Limits.{most_users, most_premises, most_cells, most_sets, most_compounds, most_parameters, most_instances, most_inner_cells}
 use Rattle.pw_decl.specs.Prelude.{prelude_compounds}
 
--- an expansion may have so much
+-- the size is small enough for an expansion
 pub record IsSmall (size : Size) : Type 0 where
   pub instances : size.instances ≤ most_instances
   pub inner_cells : size.inner_cells ≤ most_inner_cells
 
--- the limits are kept, each premise has an owner or none, each cell a kind and each set kind its members, owners are
--- users, members have names, the kinds of cells are there, and compounds have no more parameters than they may and name only
--- what stands before them
+-- the limits are kept, each premise has an owner or none, each cell has a kind and each set kind
+-- has its members, owners are users, members have names, the kinds of cells are declared, and
+-- compounds have no more parameters than allowed and name only earlier things
 pub record IsWellDeclared (d : Declared) : Type 0 where
   pub users : length d.users ≤ most_users
   pub premises : length d.premises ≤ most_premises
@@ -33,8 +33,8 @@ pub record IsWellDeclared (d : Declared) : Type 0 where
   pub steps : ∥ AreCompoundsAfter d.procedures [] d.compounds ∥₁
   pub expansions : All IsSmall (sizes_of d.compounds)
 
--- an open compound has room among the others and a name of its own, each of its cells has a name, and its lines name only
--- what stands before them and expand to no more than they may
+-- an open compound has room among the others and a name of its own, each of its cells has a name,
+-- and its lines name only earlier things and expand to no more than allowed
 pub record IsWellOpen (d : Declared) (opened : OpenCompound) : Type 0 where
   pub room : length d.compounds < prelude_compounds + most_compounds
   pub fresh : callable_named d opened.name ≡ None
@@ -43,7 +43,7 @@ pub record IsWellOpen (d : Declared) (opened : OpenCompound) : Type 0 where
   pub steps : AreSteps d.procedures d.compounds opened.compound.parameters opened.compound.steps
   pub small : IsSmall (size_of_steps (sizes_of d.compounds) opened.compound.steps)
 
--- so it is with what was declared so far
+-- the same for what was declared so far
 abbrev pub IsWellSoFar : SoFar → Type 0
 IsWellSoFar (BeforeHeader d) = IsWellDeclared d
 IsWellSoFar (Outside d) = IsWellDeclared d

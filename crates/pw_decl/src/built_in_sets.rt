@@ -6,10 +6,10 @@ ghost use Rattle.pw_decl.specs.Declaration.{Declared, NamesKind, built_in_kind_n
 
 use pw_info::{Kind, SetKind};
 
-/// How many sets every declaration has. Declared ones have the numbers from this one on.
+/// The number of sets that every declaration has. Declared sets are numbered from here on.
 pub(crate) const BUILT_IN_SETS: u8 = 2;
 
-/// The kind of this name, None where it is none that every declaration has.
+/// The kind of this name, if it is one that every declaration has.
 pub(crate) fn built_in_kind(name: &[u8]) -> Option<Kind>
     ensures some { IfSome result (λ kind.
         (d : Declared) → NamesKind d name.now kind × IsNamed (members_of d) kind) }
@@ -43,7 +43,7 @@ pub(crate) fn built_in_member(set: u8, place: u8) -> &'static str
     }
 }
 
-// The place of the member of this name of `bool`.
+// The place of the member of `bool` that has this name.
 fn place_in_bool(name: &[u8]) -> Option<u8>
     ensures found { IfSome result (λ place. slice_get (built_in_members 0) place ≡ Some name.now) }
     ensures none { IfNone result (Contains (built_in_members 0) name.now → ⊥) }
@@ -57,7 +57,7 @@ fn place_in_bool(name: &[u8]) -> Option<u8>
     }
 }
 
-// The place of the member of this name of `sign`.
+// The place of the member of `sign` that has this name.
 fn place_in_sign(name: &[u8]) -> Option<u8>
     ensures found { IfSome result (λ place. slice_get (built_in_members 1) place ≡ Some name.now) }
     ensures none { IfNone result (Contains (built_in_members 1) name.now → ⊥) }
@@ -73,7 +73,8 @@ fn place_in_sign(name: &[u8]) -> Option<u8>
     }
 }
 
-/// The place of the member of this name of `bool`, number 0, or `sign`, number 1, None where it has none.
+/// The place of the member of this name in `bool`, number 0, or `sign`, number 1. None if the set
+/// has no such member.
 pub(crate) fn built_in_place(set: u8, name: &[u8]) -> Option<u8>
     requires { set < 2 }
     ensures found { IfSome result (λ place.

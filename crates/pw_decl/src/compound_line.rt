@@ -51,7 +51,8 @@ fn names_parameter(word: &[u8], mut parameters: Words<'_>) -> bool
     false
 }
 
-// Whether no two parameters have one name. A line has few: each is looked for among those after it, with no memory.
+// Whether no two parameters have the same name. A line has few parameters, so each is searched for
+// among those after it, without memory.
 fn parameters_differ(mut parameters: Words<'_>) -> bool
     ensures { IsTrue result ↔ IsDistinct bytes_eq (parameter_names parameters.entry) }
 {
@@ -66,7 +67,7 @@ fn parameters_differ(mut parameters: Words<'_>) -> bool
     true
 }
 
-// Whether each parameter is of a kind that is there.
+// Whether the kind of each parameter is declared.
 fn have_kinds<A: Allocator + Copy>(
     declaration: &Declaration<'_, A>,
     mut parameters: Words<'_>,
@@ -85,7 +86,7 @@ fn have_kinds<A: Allocator + Copy>(
     true
 }
 
-// How many parameters there are, counted no further than to one too many.
+// The number of parameters, counted only up to one too many.
 fn count_parameters(mut parameters: Words<'_>) -> usize
     ensures { result ≡ min (length (parameter_names parameters.entry)) (most_parameters + 1) }
 {
@@ -96,7 +97,7 @@ fn count_parameters(mut parameters: Words<'_>) -> usize
     count
 }
 
-// Begins a compound. The names of its parameters differ, and their kinds are there.
+// Begins a compound. The names of its parameters differ, and their kinds are declared.
 fn begun_with<A: Allocator + Copy>(
     alloc: A,
     declaration: &Declaration<'_, A>,
@@ -137,7 +138,7 @@ fn begun_with<A: Allocator + Copy>(
     Ok(opened)
 }
 
-/// Begins a compound of this name, with these parameters, which are names and kinds in turn.
+/// Begins a compound of this name with these parameters, given as alternating names and kinds.
 pub(crate) fn begin_compound<A: Allocator + Copy>(
     alloc: A,
     declaration: &Declaration<'_, A>,
@@ -171,7 +172,7 @@ pub(crate) fn begin_compound<A: Allocator + Copy>(
     }
 }
 
-// Whether so much and so much more is more than an expansion may have.
+// Whether the two sizes together exceed the limits of an expansion.
 fn outgrows(size: Size, more: Size) -> bool
     requires small { IsSmall (size_of size) × IsSmall (size_of more) }
     ensures { IsTrue result ↔ IsTooLarge (sum_of_sizes (size_of size) (size_of more)) }
@@ -201,7 +202,7 @@ fn add_local<A: Allocator + Copy>(
     Ok(())
 }
 
-/// Declares a private cell of this name and of the kind of that name.
+/// Declares a private cell of this name, and of the kind with that name.
 pub(crate) fn declare_local<A: Allocator + Copy>(
     declaration: &Declaration<'_, A>,
     opened: &mut OpenCompound<A>,
@@ -244,7 +245,7 @@ fn are_cells<A: Allocator + Copy>(names: &NameTable<A>, mut words: Words<'_>) ->
     true
 }
 
-// The places of the cells that the words name; None where there are more than nine.
+// The places of the cells that the words name. None if there are more than nine.
 fn place_arguments<A: Allocator + Copy>(
     names: &NameTable<A>,
     mut words: Words<'_>,
@@ -289,7 +290,7 @@ fn add_call<A: Allocator + Copy>(
     Ok(())
 }
 
-/// Declares a call of the callable of this name over the cells of those names, which are one or more.
+/// Declares a call of the callable of this name over the cells of those names, one or more.
 pub(crate) fn declare_call<A: Allocator + Copy>(
     declaration: &Declaration<'_, A>,
     opened: &mut OpenCompound<A>,
@@ -328,7 +329,7 @@ pub(crate) fn declare_call<A: Allocator + Copy>(
     }
 }
 
-/// Ends an open compound. It fails only for want of memory, and then nothing changes.
+/// Ends an open compound. Fails only when out of memory; then nothing changes.
 pub(crate) fn end_compound<A: Allocator + Copy>(
     alloc: A,
     declaration: &mut Declaration<'_, A>,

@@ -1,4 +1,5 @@
-//! What a declaration declares: users, premises, cells, set kinds and compounds, by name and by number.
+//! What a declaration declares: users, premises, cells, set kinds and compounds, by name and by
+//! number.
 ghost use Rattle.std.specs.Prelude.{◌≡◌, ◌↔◌, ◌+◌, ◌-◌, [], All, None, Some, ◌<◌, ◌≤◌, IsTrue};
 ghost use Rattle.std.specs.Prelude.{length, slice_get, Contains, IfSome, IfNone};
 ghost use Rattle.pw_kinds.specs.Limits.{most_members};
@@ -33,11 +34,13 @@ use std::alloc::{Allocator, Global};
 
 mod additions;
 
-/// Users, premises and cells, each numbered from 0 in the order of their lines, for each premise the user that it belongs to,
-/// if any, and for each cell its kind; and set kinds with the names of their members, numbered from 2 in the order of their
-/// lines, after `bool` and `sign`. There are at most 64 users, 64 premises, 1,024 cells and 32 declared set kinds, each of
-/// 2 to 64 members; and at most 64 compounds, numbered from 3 in the order of their lines, after `sum`, `product` and
-/// `conditional`. It is read over a registry, whose procedures compounds call.
+/// Users, premises and cells, each numbered from 0 in the order of their lines. Each premise has
+/// the user that it belongs to, if any, and each cell has its kind. Set kinds have the names of
+/// their members, and are numbered from 2 in the order of their lines, after `bool` and `sign`.
+/// There are at most 64 users, 64 premises, 1,024 cells and 32 declared set kinds, each of 2 to 64
+/// members; and at most 64 compounds, numbered from 3 in the order of their lines, after `sum`,
+/// `product` and `conditional`. A declaration is read over a registry, and compounds call the
+/// registry's procedures.
 #[derive(Drop)]
 pub struct Declaration<'r, A: Allocator = Global> {
     registry: &'r Registry,
@@ -46,13 +49,13 @@ pub struct Declaration<'r, A: Allocator = Global> {
     owners: Vec<Option<u8>, A>,
     cells: NameTable<A>,
     kinds: Vec<Kind, A>,
-    // Of the declared set kinds.
+    // The names of the declared set kinds.
     set_names: NameTable<A>,
     // The names of the members of each declared set kind.
     sets: Vec<NameTable<A>, A>,
     compound_names: NameTable<A>,
     compounds: Vec<Compound<A>, A>,
-    // What each compound becomes.
+    // The flattened form of each compound.
     flattened: Vec<Flattened<A>, A>,
     ghost well: { IsWellDeclared (declared_from registry.now users premises owners.items cells kinds.items
         set_names sets.items compound_names compounds.items) } by { Prim.hlevel (props, named_prop) },
@@ -64,7 +67,7 @@ pub struct Declaration<'r, A: Allocator = Global> {
 impl<'r, A: Allocator + Copy> Declaration<'r, A> {
     ghost use Rattle.pw_decl.specs.Fields.{declared_by, StepsAre};
 
-    /// Nothing is declared. It takes no memory.
+    /// An empty declaration. Takes no memory.
     pub(crate) fn new(alloc: A, registry: &'r Registry) -> Declaration<'r, A>
         ensures { declared_by result ≡ nothing_declared (procedures_in registry.entry.now) }
     {
@@ -83,18 +86,19 @@ impl<'r, A: Allocator + Copy> Declaration<'r, A> {
         }
     }
 
-    /// The registry over which it was read.
+    /// The registry over which the declaration was read.
     pub fn registry(&self) -> &'r Registry
         ensures { procedures_in result.now ≡ (declared_by self.now).procedures }
     {
         self.registry
     }
 
-    /// What holds of every declaration: its limits are kept, members of sets have names, and the kinds of cells are there.
+    /// Properties of every declaration: it keeps its limits, the members of sets have names, and
+    /// the kinds of cells are declared.
     pub fn limits(&self)
         ensures { IsWellDeclared (declared_by self.now) }
     {
-        // Looks at it, so that what holds of every declaration is known.
+        // Reads a field, so that the properties of every declaration are known.
         let _users = &self.users;
     }
 
@@ -122,7 +126,7 @@ impl<'r, A: Allocator + Copy> Declaration<'r, A> {
         self.cells.len() as u32
     }
 
-    /// The number of declared set kinds, at most 32; `bool` and `sign` are not counted.
+    /// The number of declared set kinds, at most 32. `bool` and `sign` do not count.
     pub fn sets(&self) -> u8
         ensures count { result ≡ length (declared_by self.now).sets }
         ensures most { result ≤ most_sets }
@@ -130,7 +134,8 @@ impl<'r, A: Allocator + Copy> Declaration<'r, A> {
         self.sets.len() as u8
     }
 
-    /// The number of declared compounds, at most 64; `sum`, `product` and `conditional` are not counted.
+    /// The number of declared compounds, at most 64. `sum`, `product` and `conditional` do not
+    /// count.
     pub fn compounds(&self) -> u8
         ensures count { result ≡ length (declared_by self.now).compounds - prelude_compounds }
         ensures most { result ≤ most_compounds }
@@ -138,8 +143,8 @@ impl<'r, A: Allocator + Copy> Declaration<'r, A> {
         self.compounds.len().saturating_sub(PRELUDE_COMPOUNDS) as u8
     }
 
-    /// What may be called or attached by this name, if there is such: a procedure of the registry, `sum`, `product`,
-    /// `conditional`, or a declared compound.
+    /// The callable of this name, if there is one, which a line may call or attach: a procedure of
+    /// the registry, `sum`, `product`, `conditional`, or a declared compound.
     pub fn callable(&self, name: &[u8]) -> Option<Callable>
         ensures named { result ≡ callable_named (declared_by self.now) name.now }
         ensures there { IfSome result (λ callable. IsCallable (declared_by self.now) callable) }
@@ -151,8 +156,8 @@ impl<'r, A: Allocator + Copy> Declaration<'r, A> {
         Some(Callable::Compound(number as u8))
     }
 
-    /// Whether the callable, which is there, takes cells of these kinds: a procedure its inputs and then its output, a
-    /// compound its parameters.
+    /// Whether the callable, which must exist, takes cells of these kinds: a procedure takes its
+    /// inputs and then its output, a compound its parameters.
     pub fn accepts(&self, callable: Callable, kinds: &[Kind]) -> bool
         requires { IsCallable (declared_by self.now) callable }
         ensures { IsTrue result ↔ Takes (declared_by self.now) callable kinds.now }
@@ -165,7 +170,8 @@ impl<'r, A: Allocator + Copy> Declaration<'r, A> {
         }
     }
 
-    /// Whether the callable, which is there, takes the cells at these places, which are there, of cells of these kinds.
+    /// Whether the callable, which must exist, takes the cells at these places, where `kinds` are
+    /// the kinds of all cells. The places must exist.
     pub fn accepts_at(&self, callable: Callable, kinds: &[Kind], places: Arguments) -> bool
         requires there { IsCallable (declared_by self.now) callable }
         requires places { All (λ place. place < length kinds.now) (cells_of places) }
@@ -188,8 +194,8 @@ impl<'r, A: Allocator + Copy> Declaration<'r, A> {
         &self.compounds[usize::from(compound)].steps
     }
 
-    /// What the compound of this number becomes, as calls of procedures over places: its parameters from 0, and after them
-    /// its inner cells.
+    /// The flattened compound of this number, as calls of procedures over places: its parameters
+    /// from 0, and after them its inner cells.
     pub fn flat_calls(&self, compound: u8) -> &[FlatCall]
         requires { compound < length (declared_by self.now).compounds }
         ensures { AreCallsOf (declared_by self.now).compounds compound result.now }
@@ -197,8 +203,8 @@ impl<'r, A: Allocator + Copy> Declaration<'r, A> {
         &self.flattened[usize::from(compound)].calls
     }
 
-    /// The kinds of the inner cells of what the compound of this number becomes, at most 256, in the order in which they
-    /// are made.
+    /// The kinds of the inner cells of the flattened compound of this number, at most 256, in the
+    /// order in which they are made.
     pub fn inner_kinds(&self, compound: u8) -> &[Kind]
         requires { compound < length (declared_by self.now).compounds }
         ensures kinds { result.now ≡ inner_kinds_of (declared_by self.now).compounds
@@ -277,7 +283,7 @@ impl<'r, A: Allocator + Copy> Declaration<'r, A> {
         self.cells.name(cell as usize)
     }
 
-    /// The number of the user that the premise of this number belongs to, if it belongs to one.
+    /// The number of the user that the premise of this number belongs to, if any.
     pub fn owner(&self, premise: u8) -> Option<u8>
         requires { premise < length (declared_by self.now).premises }
         ensures owner { result ≡ owner_of (declared_by self.now) premise }
@@ -286,7 +292,7 @@ impl<'r, A: Allocator + Copy> Declaration<'r, A> {
         self.owners[usize::from(premise)]
     }
 
-    /// The kinds of the cells, at most 1,024, by the numbers of the cells.
+    /// The kinds of the cells, at most 1,024, by cell number.
     pub fn kinds(&self) -> &[Kind]
         ensures kinds { result.now ≡ (declared_by self.now).kinds }
         ensures each { length (declared_by self.now).kinds ≡ length (declared_by self.now).cells }

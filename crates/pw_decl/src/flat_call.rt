@@ -1,4 +1,4 @@
-//! What compounds are kept as: calls of procedures over places.
+//! The stored form of compounds: calls of procedures over places.
 ghost use Rattle.std.specs.Prelude.{◌≡◌, ◌+◌, ◌≤◌, All, map};
 ghost use Rattle.pw_procs.specs.Arguments.{cells_of};
 ghost use Rattle.pw_decl.specs.Expansion.{at_place};
@@ -7,8 +7,9 @@ use pw_procs::Arguments;
 
 pub(crate) const MOST_CELLS: usize = 9;
 
-/// A procedure over the places of what a compound becomes: its parameters from 0, and after them its inner cells, in the
-/// order in which they are made. The procedure writes the last place and reads the others.
+/// A procedure over the places of a flattened compound: its parameters from 0, and after them its
+/// inner cells, in the order in which they are made. The procedure writes the last place and reads
+/// the others.
 #[derive(Clone, Copy, Debug, PartialEq, Eq)]
 pub struct FlatCall {
     /// The number of the procedure in the registry.
@@ -17,7 +18,8 @@ pub struct FlatCall {
     pub places: Arguments,
 }
 
-// The cell at a place: one of these cells, and past their end an inner cell, of which the first has the number `first`.
+// The cell at a place: one of these cells, or, past their end, an inner cell. The first inner cell
+// has the number `first`.
 fn cell_at(cells: &[u32], first: u32, place: u32) -> u32
     requires { first + place ≤ 4294967295 }
     ensures { result ≡ at_place cells.now (λ j. first + j) place }
@@ -29,8 +31,8 @@ fn cell_at(cells: &[u32], first: u32, place: u32) -> u32
     }
 }
 
-/// The cells at these places: a place stands for one of these cells, and past their end for an inner cell, of which the
-/// first has the number `first`.
+/// The cells at these places: a place means one of these cells, or, past their end, an inner cell.
+/// The first inner cell has the number `first`.
 pub fn place_cells(places: Arguments, cells: &[u32], first: u32) -> Arguments
     requires { All (λ place. first + place ≤ 4294967295) (cells_of places) }
     ensures { cells_of result ≡ map (at_place cells.now (λ j. first + j)) (cells_of places) }

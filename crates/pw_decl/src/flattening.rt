@@ -1,4 +1,4 @@
-//! The flattening of a compound that ends.
+//! Flattening a compound that ends.
 ghost use Rattle.std.specs.Prelude.{◌≡◌, ◌+◌, ◌≤◌, ℕ, List, [], ◌∷◌, ◌++◌, All, map, length, IfOk, OnOk};
 ghost use Rattle.std.specs.List.{range_with_len};
 ghost use Rattle.pw_info.specs.declared.kind.Kind.{Kind as KindOfCell};
@@ -21,15 +21,15 @@ use crate::step::{Callable, Step};
 use pw_procs::Arguments;
 use std::alloc::{AllocError, Allocator};
 
-// A compound of which the first lines are flattened.
+// A compound whose first lines are flattened.
 #[derive(Drop)]
 struct Flattening<A: Allocator> {
-    // For each cell of the compound so far, the place that it has.
+    // The place of each cell of the compound so far.
     places: Vec<u32, A>,
     flattened: Flattened<A>,
 }
 
-// The first so many places.
+// The first `count` places.
 fn first_places<A: Allocator + Copy>(alloc: A, count: u32) -> Result<Vec<u32, A>, AllocError>
     ensures { IfOk result (λ places. places.items ≡ range_with_len 0 count) }
 {
@@ -40,7 +40,7 @@ fn first_places<A: Allocator + Copy>(alloc: A, count: u32) -> Result<Vec<u32, A>
     Ok(places)
 }
 
-// Adds calls, whose places stand for these cells, and past their end for the inner cells from `first` on.
+// Adds calls. Their places mean these cells, and, past their end, the inner cells from `first` on.
 fn add_calls<A: Allocator + Copy>(
     added: &mut Vec<FlatCall, A>,
     calls: &[FlatCall],
@@ -61,7 +61,8 @@ fn add_calls<A: Allocator + Copy>(
     Ok(())
 }
 
-// Adds what a callable becomes on cells that it takes, where its inner cells are those from `first` on.
+// Adds the expansion of a callable on cells that it takes. Its inner cells are those from `first`
+// on.
 fn add_callable<A: Allocator + Copy>(
     declaration: &Declaration<'_, A>,
     flattened: &mut Flattened<A>,
@@ -92,7 +93,7 @@ fn add_callable<A: Allocator + Copy>(
     Ok(())
 }
 
-// Adds what the next line becomes, where the compound has so many parameters.
+// Adds the expansion of the next line, in a compound with this many parameters.
 fn add_step<A: Allocator + Copy>(
     declaration: &Declaration<'_, A>,
     parameters: u32,
@@ -126,7 +127,7 @@ fn add_step<A: Allocator + Copy>(
     Ok(())
 }
 
-/// What an open compound becomes, if it ends as it is.
+/// The flattened form of an open compound, if it ends as it is.
 pub(crate) fn flatten<A: Allocator + Copy>(
     alloc: A,
     declaration: &Declaration<'_, A>,

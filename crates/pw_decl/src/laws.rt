@@ -1,5 +1,5 @@
-//! Laws of the definitions: each text spells one declaration or has one first fault, and never both; and what callables
-//! become on cells does not depend on what the cells are.
+//! Laws of the definitions. Each text spells one declaration or has one first fault, and never
+//! both; and what callables expand to on cells does not depend on what the cells are.
 ghost use Rattle.std.specs.Prelude.{◌≡◌, ◌↔◌, ◌⊎◌, ◌<◌, ℕ, List, [], Some, Bool, IsTrue, All, map, length};
 ghost use Rattle.pw_info.specs.declared.kind.Kind.{Kind as KindOfCell};
 ghost use Rattle.pw_procs.specs.Procedure.{Procedure};
@@ -13,19 +13,19 @@ ghost use Rattle.pw_decl.specs.Steps.Forms.{sentence_at};
 ghost use Rattle.pw_decl.specs.Faults.{HasAFault, LeadsOn, Declares, SpellsDeclaration, SpellsOne, IsFirstFault, HasAFirstFault};
 ghost use Rattle.pw_decl.specs.WellDeclared.{IsWellDeclared, IsWellSoFar};
 
-/// Words form one sentence at most where they stand: the one that the function gives.
+/// At each place in a text, words form at most one sentence: the one that the function gives.
 pub fn one_declaration_sentence()
     ensures { (so_far : SoFar) (words : List (List ℕ)) (s : DeclarationSentence)
         → IsSentenceAt so_far words s ↔ (sentence_at so_far words ≡ Some s) }
 {}
 
-/// A text spells one declaration at most.
+/// A text spells at most one declaration.
 pub fn one_declaration()
     ensures { (ps : List Procedure) (text : List ℕ) (a b : Declared) → SpellsDeclaration ps text a
         → SpellsDeclaration ps text b → a ≡ b }
 {}
 
-/// A text has one first fault at most.
+/// A text has at most one first fault.
 pub fn one_first_fault()
     ensures { (ps : List Procedure) (text : List ℕ) (m n : ℕ) (why because : FaultKind)
         → IsFirstFault ps text m why → IsFirstFault ps text n because → (m ≡ n) × (why ≡ because) }
@@ -37,7 +37,7 @@ pub fn fault_or_declaration()
         → IsFirstFault ps text n why → SpellsDeclaration ps text d → ⊥ }
 {}
 
-/// Each line, after what was declared so far, has a fault or leads on.
+/// Each line, after what was declared so far, has a fault or is accepted and leads on.
 pub fn every_line()
     ensures { (so_far : SoFar) (line : List ℕ) → IsWellSoFar so_far
         → HasAFault so_far line ⊎ LeadsOn so_far line }
@@ -48,8 +48,8 @@ pub fn every_text()
     ensures { (ps : List Procedure) (text : List ℕ) → SpellsOne ps text ⊎ HasAFirstFault ps text }
 {}
 
-/// What holds of every declaration stays so from line to line, and holds of what a text spells; and the compounds of what a
-/// text spells begin with those of the prelude.
+/// The properties of every declaration are kept from line to line, and hold of what a text spells.
+/// The compounds of what a text spells begin with those of the prelude.
 pub fn well_declared()
     ensures line { (so_far after : SoFar) (line : List ℕ) → IsWellSoFar so_far
         → Declares so_far line after → IsWellSoFar after }
@@ -59,8 +59,8 @@ pub fn well_declared()
         → SpellsDeclaration ps text d → HasPrelude d }
 {}
 
-/// Other names of cells change nothing but the names: expanding on cells that are named anew gives the instances, named anew.
-/// The names of inner cells matter only for those that there are.
+/// Renaming cells changes only the names: expanding on renamed cells gives the renamed instances.
+/// Only the names of inner cells that exist matter.
 pub fn expansion_under_other_names<C, D>()
     ensures { (name : C → D) (compounds : List Compound) (callable : Callable) (cells : List C)
         (inner : ℕ → C) (others : ℕ → D)
@@ -69,14 +69,15 @@ pub fn expansion_under_other_names<C, D>()
         ≡ map (renamed name) (expansion_of compounds callable cells inner) }
 {}
 
-/// What a callable becomes on cells is what it becomes on places, with the cells in them.
+/// The expansion of a callable on cells is its expansion on places, with the cells put in.
 pub fn expansion_on_places<C>()
     ensures { (compounds : List Compound) (callable : Callable) (cells : List C) (inner : ℕ → C)
         → expansion_of compounds callable cells inner ≡ map (renamed (at_place cells inner))
         (on_places (expansion_of compounds callable) (length cells)) }
 {}
 
-/// Instances read and write only the cells on which a callable is expanded, and its inner cells.
+/// Instances read and write only the cells on which a callable is expanded, and the callable's
+/// inner cells.
 pub fn expansion_stays_on_its_cells<C>()
     ensures { (here : C → Bool) (compounds : List Compound) (callable : Callable) (cells : List C)
         (inner : ℕ → C) → All (λ cell. IsTrue (here cell)) cells
@@ -85,8 +86,8 @@ pub fn expansion_stays_on_its_cells<C>()
         (expansion_of compounds callable cells inner) }
 {}
 
-/// Where a callable takes the kinds of the cells, the procedure of each instance accepts the kinds of its cells, and there are
-/// as many instances and inner cells as the callable's size says.
+/// If a callable takes the kinds of the cells, the procedure of each instance accepts the kinds of
+/// its cells, and the numbers of instances and of inner cells are those of the callable's size.
 pub fn expansion_fits<C>()
     ensures fits { (d : Declared) (kind : C → KindOfCell) (callable : Callable) (cells : List C)
         (inner : ℕ → C) → AreCompoundsAfter d.procedures [] d.compounds

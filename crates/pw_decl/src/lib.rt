@@ -1,4 +1,4 @@
-//! Declarations: a text in, and out of it what it declares, or its first fault.
+//! Declarations: reads a text, and gives what it declares, or its first fault.
 #![tactic(auto)]
 
 mod built_in_sets;

@@ -77,7 +77,7 @@ fn declare_premise<A: Allocator + Copy>(
     }
 }
 
-// Declares a premise of this name, which belongs to the user of that name.
+// Declares a premise of this name that belongs to the user of that name.
 fn declare_premise_of<A: Allocator + Copy>(
     declaration: &mut Declaration<'_, A>,
     name: &str,
@@ -106,7 +106,7 @@ fn declare_premise_of<A: Allocator + Copy>(
     }
 }
 
-// Declares a cell of this name and of the kind of that name.
+// Declares a cell of this name, and of the kind with that name.
 fn declare_cell<A: Allocator + Copy>(
     declaration: &mut Declaration<'_, A>,
     name: &str,
@@ -134,7 +134,7 @@ fn declare_cell<A: Allocator + Copy>(
     }
 }
 
-// Declares what a sentence outside a compound says, and answers where the next line stands.
+// Declares what a sentence outside a compound says, and answers the place of the next line.
 fn declare_outside<A: Allocator + Copy>(
     alloc: A,
     declaration: &mut Declaration<'_, A>,
@@ -160,7 +160,7 @@ fn declare_outside<A: Allocator + Copy>(
     Ok(Place::Outside)
 }
 
-// Declares what a sentence inside a compound says, and answers where the next line stands.
+// Declares what a sentence inside a compound says, and answers the place of the next line.
 fn declare_inside<A: Allocator + Copy>(
     alloc: A,
     declaration: &mut Declaration<'_, A>,
@@ -193,7 +193,7 @@ fn declare_inside<A: Allocator + Copy>(
     Ok(Place::Inside(opened))
 }
 
-// Declares what a line says that is not idle, and answers where the next line stands.
+// Declares what a line says that is not idle, and answers the place of the next line.
 fn declare_line<A: Allocator + Copy>(
     alloc: A,
     declaration: &mut Declaration<'_, A>,
@@ -231,9 +231,9 @@ fn declare_line<A: Allocator + Copy>(
     }
 }
 
-/// Reads one line of a declaration: what it declares is added, and the answer is where the next line stands.
+/// Reads one line of a declaration, adds what it declares, and answers the place of the next line.
 ///
-/// An error is the first fault of the line, or want of memory.
+/// An error is the first fault of the line, or out of memory.
 pub(crate) fn read_declaration_line<A: Allocator + Copy>(
     alloc: A,
     declaration: &mut Declaration<'_, A>,

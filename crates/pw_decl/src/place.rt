@@ -1,15 +1,15 @@
-//! Where a line of a declaration stands.
+//! The place of a line in a declaration.
 
 use crate::compound::OpenCompound;
 use std::alloc::{Allocator, Global};
 
-/// Where a line stands.
+/// The place of a line.
 #[derive(Drop)]
 pub(crate) enum Place<A: Allocator = Global> {
-    /// The header was not read.
+    /// Before the header.
     BeforeHeader,
-    /// No compound is open.
+    /// Outside any compound.
     Outside,
-    /// A compound is open.
+    /// Inside a compound.
     Inside(OpenCompound<A>),
 }

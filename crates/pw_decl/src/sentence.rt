@@ -1,4 +1,4 @@
-//! What the lines of a declaration say, by their words. No name is looked up.
+//! What the lines of a declaration say, by their words. No names are looked up.
 ghost use Rattle.std.specs.Prelude.{◌≡◌, true, option_map, IfSome};
 ghost use Rattle.std.specs.List.{list_all};
 ghost use Rattle.pw_info.specs.Name.{is_name};
@@ -33,7 +33,7 @@ pub(crate) enum OuterSentence<'a> {
         name: &'a str,
         kind: &'a [u8],
     },
-    /// `compound NAME PARAM KIND ..`: names and kinds in turn.
+    /// `compound NAME PARAM KIND ..`: alternating names and kinds.
     Compound {
         name: &'a str,
         parameters: Words<'a>,
@@ -48,7 +48,7 @@ pub(crate) enum InnerSentence<'a> {
         name: &'a str,
         kind: &'a [u8],
     },
-    /// `CALLABLE ARG..`, with one argument or more.
+    /// `CALLABLE ARG..`, with one or more arguments.
     Call {
         callable: &'a [u8],
         arguments: Words<'a>,
@@ -120,7 +120,7 @@ fn read_cell<'a>(mut rest: Words<'a>) -> Option<OuterSentence<'a>>
     Some(OuterSentence::Cell { name, kind })
 }
 
-// Whether the words are names and kinds in turn, and the names are names.
+// Whether the words alternate between names and kinds, and the names are names.
 fn are_parameters(mut words: Words<'_>) -> bool
     ensures { result ≡ forms.are_parameters words.entry }
 {

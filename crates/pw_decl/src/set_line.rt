@@ -33,7 +33,8 @@ fn is_among(word: &[u8], mut words: Words<'_>) -> bool
     false
 }
 
-// Whether no two words are equal. A line has few words: each is looked for among those after it, with no memory.
+// Whether no two words are equal. A line has few words, so each is searched for among those after
+// it, without memory.
 fn are_distinct(mut words: Words<'_>) -> bool
     ensures { IsTrue result ↔ IsDistinct bytes_eq words.entry }
 {
@@ -45,7 +46,7 @@ fn are_distinct(mut words: Words<'_>) -> bool
     true
 }
 
-// How many words there are, counted no further than to one member too many.
+// The number of words, counted only up to one member too many.
 fn count(mut words: Words<'_>) -> usize
     ensures { result ≡ min (length words.entry) (most_members + 1) }
 {

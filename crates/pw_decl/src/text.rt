@@ -24,7 +24,7 @@ use std::alloc::Allocator;
 
 const MOST_TEXT_BYTES: usize = 1_048_576;
 
-// Whether a declaration may end where the line after the last stands, after so many lines.
+// Whether a declaration may end at this place, after this many lines.
 fn finish<A: Allocator + Copy>(place: Place<A>, lines: u32) -> Result<(), DeclFault>
     requires { lines < 4294967295 }
     ensures ok { (d : Declared) → OnOk result (placed d place ≡ Outside d) }
@@ -42,7 +42,7 @@ fn finish<A: Allocator + Copy>(place: Place<A>, lines: u32) -> Result<(), DeclFa
     })
 }
 
-// Reads the lines of a text that is not too long, to its end: what they declare is added.
+// Reads the lines of a text that is not too long, to its end, and adds what they declare.
 fn read_lines<A: Allocator + Copy>(
     alloc: A,
     declaration: &mut Declaration<'_, A>,
@@ -70,7 +70,7 @@ fn read_lines<A: Allocator + Copy>(
     finish(place, count)
 }
 
-// Reads the compounds that every declaration has, where nothing is declared.
+// Reads the compounds that every declaration has, into an empty declaration.
 fn read_prelude<A: Allocator + Copy>(
     alloc: A,
     declaration: &mut Declaration<'_, A>,
@@ -90,7 +90,8 @@ fn read_prelude<A: Allocator + Copy>(
     }
 }
 
-// Reads a text that is not too long, where nothing is declared: what every declaration has, and then its lines.
+// Reads a text that is not too long into an empty declaration: first what every declaration has,
+// and then the lines of the text.
 fn read_text<A: Allocator + Copy>(
     alloc: A,
     declaration: &mut Declaration<'_, A>,
@@ -114,11 +115,12 @@ fn read_text<A: Allocator + Copy>(
 
 /// Reads a declaration over a registry, whose procedures its compounds call.
 ///
-/// The result is what the text spells, or its first fault, or `DeclFaultKind::Memory` at the line at which the memory
-/// did not suffice: that line has no fault, and none of those before it has one. A text of more than 1,048,576 bytes
-/// is at fault as a whole, at line 0. The compounds `sum`, `product` and `conditional` are read before the first line, and
-/// what is wrong with them is told at line 0: unknown name or wrong arguments, where the registry lacks a procedure that
-/// they call, or has another under its name.
+/// The result is what the text spells, or its first fault, or `DeclFaultKind::Memory` at the line
+/// at which memory ran out: that line has no fault, and neither has any line before it. A text of
+/// more than 1,048,576 bytes is at fault as a whole, at line 0. The compounds `sum`, `product` and
+/// `conditional` are read before the first line, and their faults are reported at line 0: unknown
+/// name or wrong arguments, if the registry lacks a procedure that they call, or has another under
+/// its name.
 pub fn read_declaration<'r, A: Allocator + Copy>(
     alloc: A,
     text: &[u8],
@@ -126,16 +128,16 @@ pub fn read_declaration<'r, A: Allocator + Copy>(
 ) -> Result<Declaration<'r, A>, DeclFault>
     ensures ok { IfOk result (λ declaration.
         SpellsDeclaration (procedures_in registry.entry.now) text.now (declared_by declaration)) }
-    // The compounds `sum`, `product` and `conditional` stand first.
+    // The compounds `sum`, `product` and `conditional` come first.
     ensures prelude { IfOk result (λ declaration. HasPrelude (declared_by declaration)) }
     ensures err { IfErr result (λ fault. IsTold (procedures_in registry.entry.now) text.now fault) }
-    // Want of memory is told at a line that has no fault, and the lines before it have none.
+    // Out of memory is reported at a line that has no fault, and the lines before it have none.
     ensures memory { IfErr result (λ fault. fault.why ≡ Memory
         → HasNoFaultUpTo (procedures_in registry.entry.now) text.now fault.line) }
-    // A text that spells a declaration is read as that declaration, but for want of memory.
+    // A text that spells a declaration is read as that declaration, unless memory runs out.
     ensures only_ok { (d : Declared)
         → SpellsDeclaration (procedures_in registry.entry.now) text.now d → IsReadAs d result }
-    // A text that has a first fault is told that fault, but for want of memory.
+    // For a text that has a first fault, that fault is reported, unless memory runs out.
     ensures only_fault { (line : ℕ) (why : FaultKind) → IsFirstFault
         (procedures_in registry.entry.now) text.now line why → IsFaultAt line why result }
 {

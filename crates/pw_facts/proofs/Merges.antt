@@ -18,7 +18,8 @@ meet_under a b premises = record { info = meet a.info b.info; support = premises
 
 -- ---- what the code builds
 
--- where the first says what the merge says, and the second not the same on fewer premises, it rests on what the first rests on
+-- if the first says what the merge says, and the second not the same on fewer premises, it rests on
+-- what the first rests on
 pub merge_first : (a b : Fact) → kind_of a.info ≡ kind_of b.info → Implies a.info b.info → (Implies b.info a.info → is_subset b.support a.support ≡ false)
     → IsMerge a b (meet_under a b a.support)
 merge_first a b k p larger =
@@ -31,7 +32,8 @@ merge_first a b k p larger =
       both = λ ne _. absurd (ne is);
     }
 
--- where the second says what the merge says, and the first not the same unless on more premises, on what the second rests on
+-- if the second says what the merge says, and the first not the same unless on more premises, on
+-- what the second rests on
 pub merge_second : (a b : Fact) → kind_of a.info ≡ kind_of b.info → Implies b.info a.info → (Implies a.info b.info → is_subset b.support a.support ≡ true)
     → IsMerge a b (meet_under a b b.support)
 merge_second a b k p smaller =
@@ -54,7 +56,7 @@ merge_is_second a b k p smaller =
     subst (λ (i : Info). IsMerge a b (record { info = i; support = b.support })) (meet_comm a.info b.info k ∙ meet_implied b.info a.info (sym k) p)
     (merge_second a b k p smaller)
 
--- where neither says what the merge says, on what both rest on
+-- if neither says what the merge says, on what both rest on
 pub merge_both : (a b : Fact) → kind_of a.info ≡ kind_of b.info → (Implies a.info b.info → ⊥) → (Implies b.info a.info → ⊥)
     → IsMerge a b (meet_under a b (union a.support b.support))
 merge_both a b k not_first not_second = record {
@@ -100,11 +102,11 @@ one_merge a b m n one another =
 
 -- ---- what the two show where the merge's support is believed
 
--- where the merge's support is believed, the set that it is is believed
+-- if the merge's support is believed, the set that it is is believed
 believed : (m : Fact) (w s : Premises) → is_subset m.support w ≡ true → m.support ≡ s → is_subset s w ≡ true
 believed m w s within e = subst (λ (x : Premises). is_subset x w ≡ true) e within
 
--- where the second's support is not, the first's is
+-- if the second's support is not, the first's is
 first_believed : (a b m : Fact) (w : Premises) → IsMerge a b m → is_subset m.support w ≡ true → is_subset b.support w ≡ false → is_subset a.support w ≡ true
 first_believed a b m w merge within not_second =
     let at : (s : Premises) → m.support ≡ s → is_subset s w ≡ true = λ s. believed m w s within in
@@ -115,7 +117,7 @@ first_believed a b m w merge within not_second =
     (λ ne e. absurd (not_both _ (at _ (merge.second ne e)) not_second))
     (λ ne ne'. is_subset_trans a.support _ w (is_subset_union_left a.support b.support) (at _ (merge.both ne ne')))
 
--- where the second's support is not, the first alone says what the merge says
+-- if the second's support is not, the first alone says what the merge says
 first_implies : (a b m : Fact) (w : Premises) → kind_of a.info ≡ kind_of b.info → IsMerge a b m
     → is_subset m.support w ≡ true → is_subset b.support w ≡ false → Implies a.info b.info
 first_implies a b m w k merge within not_second v h =
@@ -126,7 +128,7 @@ first_implies a b m w k merge within not_second v h =
     (λ ne e. absurd (not_both _ (at _ (merge.second ne e)) not_second))
     (λ ne ne'. absurd (not_both _ (is_subset_trans b.support _ w (is_subset_union_right a.support b.support) (at _ (merge.both ne ne'))) not_second))
 
--- where the first's support is not, the second alone does
+-- if the first's support is not, the second alone does
 second_implies : (a b m : Fact) (w : Premises) → kind_of a.info ≡ kind_of b.info → IsMerge a b m
     → is_subset m.support w ≡ true → is_subset a.support w ≡ false → Implies b.info a.info
 second_implies a b m w k merge within not_first v h =

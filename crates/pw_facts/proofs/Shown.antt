@@ -1,4 +1,4 @@
--- What facts show: what they say where what they rest on is believed, else nothing.
+-- What facts show: what they say where what they rest on is believed, otherwise nothing.
 use Rattle.std.proofs.Common.{◌≡◌, true, false, inl, inr, sym, ◌∙◌, ap, subst}
 use Rattle.std.specs.Prelude.{if◌then◌else◌}
 use Rattle.std.specs.FinSet.{is_subset}
@@ -12,7 +12,7 @@ use Rattle.pw_premises.specs.Premises.{Premises}
 use Rattle.pw_facts.specs.declared.fact.Fact.{Fact}
 use Rattle.pw_facts.specs.Facts.{shows, Subsumes}
 
--- where its support is believed a fact shows what it says
+-- if its support is believed a fact shows what it says
 pub shows-supported : (w : Premises) (f : Fact) → is_subset f.support w ≡ true → shows w f ≡ f.info
 shows-supported w f e = ap (λ b. if b then f.info else nothing (kind_of f.info)) e
 
@@ -35,7 +35,7 @@ implies_nothing i k of_kind v e = allows-nothing k v ∙ subst (λ (x : Kind). i
 pub implies_same : (i j : Info) → i ≡ j → Implies i j
 implies_same i j same v e = subst (λ (x : Info). allows x v ≡ true) same e
 
--- what implies the fact where its support is believed implies what it shows
+-- what implies the fact if its support is believed implies what it shows
 implies_shown : (i : Info) (w : Premises) (f : Fact) → kind_of i ≡ kind_of f.info
     → (is_subset f.support w ≡ true → Implies i f.info) → Implies i (shows w f)
 implies_shown i w f of_kind says = elim (cases_Bool (is_subset f.support w)) [

@@ -1,4 +1,5 @@
--- What a supported value shows in a worldview, which one subsumes which, and what the merge of two rests on.
+-- What a supported value shows in a worldview, which one subsumes which, and the support of the
+-- merge of two.
 use Rattle.std.specs.Prelude.{◌≡◌, ◌≢◌, true, if◌then◌else◌, List, [], ◌∷◌, filter, IsPermutation}
 use Rattle.std.specs.FinSet.{empty, union, is_subset}
 use Rattle.pw_info.specs.declared.kind.Kind.{Kind}
@@ -7,17 +8,20 @@ use Rattle.pw_info.specs.Information.{kind_of, meet, nothing, Implies}
 use Rattle.pw_premises.specs.Premises.{Premises}
 use Rattle.pw_facts.specs.declared.fact.Fact.{Fact}
 
--- in a worldview that has every premise of its support a fact shows its information, in any other nothing
+-- in a worldview that has every premise of its support, a fact shows its information, and in any
+-- other nothing
 abbrev pub shows : Premises → Fact → Info
 shows worldview fact = if is_subset fact.support worldview then fact.info else nothing (kind_of fact.info)
 
--- the first says at least as much as the second, and rests on no premise that the second does not rest on
+-- the first says at least as much as the second, and rests on no premise that the second does not
+-- rest on
 abbrev pub Subsumes : Fact → Fact → Type 0
 Subsumes a b = Implies a.info b.info × (is_subset a.support b.support ≡ true)
 
--- the merge of two facts of one kind: it says what both say. Where they say the same it rests on what the second rests
--- on if the first rests on all of that, else on what the first rests on; where one of them says what the merge says it
--- rests on what that one rests on; else it rests on what both rest on.
+-- the merge of two facts of one kind: it says what both say. If they say the same, it rests on the
+-- support of the second if that is a subset of the support of the first, and otherwise on the
+-- support of the first. If only one of them says what the merge says, it rests on the support of
+-- that one. Otherwise it rests on both supports.
 pub record IsMerge (a b merge : Fact) : Type 0 where
   pub info : merge.info ≡ meet a.info b.info
   pub same : a.info ≡ b.info → merge.support ≡ (if is_subset b.support a.support then b.support else a.support)
@@ -25,7 +29,8 @@ pub record IsMerge (a b merge : Fact) : Type 0 where
   pub second : a.info ≢ b.info → merge.info ≡ b.info → merge.support ≡ b.support
   pub both : merge.info ≢ a.info → merge.info ≢ b.info → merge.support ≡ union a.support b.support
 
--- in every worldview that has what the third rests on, the first two together show what it says
+-- in every worldview that has the support of the third fact, the first two together show what the
+-- third says
 abbrev pub ShowTogether : Fact → Fact → Fact → Type 0
 ShowTogether a b merge = (w : Premises) → is_subset merge.support w ≡ true → meet (shows w a) (shows w b) ≡ merge.info
 
@@ -42,6 +47,6 @@ MergesTo first (f ∷ fs) last = (merge : Fact) × IsMerge first f merge × Merg
 abbrev pub IsMergeOfAll : List Fact → Fact → Type 0
 IsMergeOfAll facts merge = (order : List Fact) × IsPermutation facts order × MergesTo (nothing_known (kind_of merge.info)) order merge
 
--- those of the facts whose premises are all in the worldview
+-- the facts whose premises are all in the worldview
 abbrev pub visible_facts : Premises → List Fact → List Fact
 visible_facts worldview facts = filter (λ f. is_subset f.support worldview) facts

@@ -1,4 +1,4 @@
--- What is known in each worldview: how much a larger or a smaller one knows.
+-- The known information in each worldview: how much a larger or a smaller one knows.
 use Rattle.std.specs.Prelude.{◌≡◌, true}
 use Rattle.std.specs.FinSet.{is_subset}
 use Rattle.pw_info.specs.declared.info.Info.{Info}

@@ -1,4 +1,4 @@
-//! Laws of facts, each the contract of a function that does nothing: they hold of every fact.
+//! Laws of facts. Each is the contract of a function that does nothing, and holds of every fact.
 ghost use Rattle.std.specs.Prelude.{◌≡◌};
 ghost use Rattle.pw_info.specs.Information.{kind_of, Implies};
 ghost use Rattle.pw_premises.specs.Premises.{Premises};
@@ -6,7 +6,8 @@ ghost use Rattle.pw_facts.specs.declared.fact.Fact.{Fact};
 ghost use Rattle.pw_facts.specs.Facts.{shows, Subsumes, IsMerge};
 ghost use Rattle.pw_facts.specs.Worldviews.{IsMonotone};
 
-/// What a fact shows is of its kind; a larger worldview shows at least as much, and none shows more than the fact says.
+/// What a fact shows is of its kind. A larger worldview shows at least as much, and no worldview
+/// shows more than the fact says.
 pub fn worldviews_show_what_is_supported()
     ensures kind { (w : Premises) (f : Fact) → kind_of (shows w f) ≡ kind_of f.info }
     ensures larger { (f : Fact) → IsMonotone (λ w. shows w f) }

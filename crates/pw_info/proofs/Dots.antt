@@ -29,7 +29,7 @@ pub uncut : (word : List ℕ) (lo hi : ℤ) → HasNoDot word → SpellsRange wo
 uncut word lo hi clear (inl spelled) = spelled
 uncut word lo hi clear (inr (front, back, is, low, high, order)) = absurd (no_cut 46 word front (46 ∷ back) clear is)
 
--- a word with a dot spells a range by what stands before the first one and what stands behind it
+-- a word with a dot spells a range by what comes before the first one and what comes after it
 pub cut : (word front rest : List ℕ) (lo hi : ℤ) → word ≡ front ++ (46 ∷ rest) → HasNoDot front → SpellsRange word lo hi
     → SpellsCut front rest lo hi
 cut word front rest lo hi is clear (inl (spelled, same)) = absurd (no_cut 46 word front rest (number_no_dot word lo spelled) is)
@@ -59,7 +59,8 @@ text_spells lo hi order low high =
       | inr apart ↦ rw apart (inr (signed_decimal lo, signed_decimal hi, refl, one, other, order))
     ]
 
--- what a word that is cut at its first dot does not spell within most, as LO..HI, it spells in no way
+-- what a word that is cut at its first dot does not spell within most, as LO..HI, it spells in no
+-- way
 pub none_from_cut : (word front rest : List ℕ) (most : ℕ) → word ≡ front ++ (46 ∷ rest) → HasNoDot front
     → ((lo hi : ℤ) → SpellsCut front rest lo hi → IsUpTo most lo → IsUpTo most hi → ⊥)
     → (lo hi : ℤ) → SpellsRange word lo hi → IsUpTo most lo → IsUpTo most hi → ⊥

@@ -1,4 +1,4 @@
--- The first of a list of which something holds: there is at most one, and none where it holds of none.
+-- The first of a list of which something holds: there is at most one, and none if it holds of none.
 use Rattle.std.proofs.Common.{◌≡◌, List, [], ◌∷◌, sym, ◌∙◌, subst, inl, inr}
 use Rattle.pw_info.specs.First.{IsFirstIn, HoldsOfNone}
 

@@ -22,7 +22,7 @@ use Rattle.pw_info.specs.Information.{set_kind, kind_of, is_value, allows, meet,
 
 -- ---- kinds of sets
 
--- any two proofs that a set may have so many members are equal
+-- any two proofs that a set may have this many members are equal
 size_prop : (size : ℕ) → IsProp (IsSize size)
 size_prop size = hlevel props
 
@@ -75,7 +75,7 @@ kind-closest kinds.Exact p = refl
 pub kind-meet : (a b : Info) → kind_of (meet a b) ≡ kind_of a
 kind-meet a b = kind-closest (kind_of a) (λ v. allows a v && allows b v)
 
--- the information of a kind that leaves possible just what passes is the closest
+-- the information of a kind that leaves possible exactly what passes is the closest
 pub closest_is : (p : ℤ → Bool) (a : Info) → ((v : ℤ) → is_value (kind_of a) v ≡ true → allows a v ≡ p v) → a ≡ closest (kind_of a) p
 closest_is p (info.Interval i) same = ap info.Interval (intervals.closest_is p i (λ v l h. same v (true_between interval_lowest v interval_highest l h)))
 closest_is p (info.Members n part) same =
@@ -182,7 +182,7 @@ closest_mono (kinds.Members set) p q more = members_mono set.size set.sized p q 
 closest_mono kinds.Exact p q more =
     (exacts.closest_closest p).smallest (exact.closest q) (λ v r e. (exacts.closest_closest q).holds v r (more v r e))
 
--- the first of two implies the second just where it is their merge
+-- the first of two implies the second exactly if it is their merge
 pub meet_implied : (a b : Info) → kind_of a ≡ kind_of b → Implies a b → meet a b ≡ a
 meet_implied a b k p = same_values (meet a b) a (kind-meet a b) (λ v.
     allows-meet a b k v ∙ same_test _ _ (λ e. (true_both _ _ e).0) (λ e. both_true _ _ e (p v e)))
@@ -190,13 +190,13 @@ meet_implied a b k p = same_values (meet a b) a (kind-meet a b) (λ v.
 pub implied_from_meet : (a b : Info) → kind_of a ≡ kind_of b → meet a b ≡ a → Implies a b
 implied_from_meet a b k m v e = (true_both (allows a v) (allows b v) (sym (allows-meet a b k v) ∙ ap (λ (i : Info). allows i v) m ∙ e)).1
 
--- ---- what the code's cases and tests stand for
+-- ---- the meaning of the code's cases and tests
 
 -- members that informations of one kind are have one size
 pub sizes_agree : (a b : Info) (m n : ℕ) (one another : Members) → kind_of a ≡ kind_of b → a ≡ info.Members m one → b ≡ info.Members n another → size_of one ≡ size_of another
 sizes_agree a b m n one another k p q = same_size m n one another (sym (ap kind_of p) ∙ k ∙ ap kind_of q)
 
--- every member is possible just where every value of the kind is
+-- every member is possible exactly if every value of the kind is
 pub full_nothing : (number : ℕ) (part : Members) → IsFull part → IsNothing (info.Members number part)
 full_nothing number part full (pos k) e = full k (sets.true_place (size_of part) k e)
 full_nothing number part full (negsuc k) e = absurd (not_both _ e (sets.place_negative (size_of part) k))

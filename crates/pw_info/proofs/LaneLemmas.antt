@@ -1,4 +1,5 @@
--- From the mask of bytes that are tested together to the bytes before the first that ends a run, and on from run to run.
+-- From the mask of bytes that are tested together to the bytes before the first that ends a run,
+-- and on from run to run.
 use Rattle.std.proofs.Common.{◌≡◌, ℕ, suc, ◌+◌, ◌%◌, ◌^◌, ◌<◌, ◌≤◌, cond, eqb, Bool, true, not, List, [], ◌∷◌, map, length, get_or, drop, Fits, w8, refl, sym, ap, ◌∙◌, subst, arith, inl, inr}
 use Rattle.std.proofs.lemmas.Bool.{agree_below, agree_below_at, cases_Bool, cases_eq, eq-eqb, ne_eqb, cond-true, cond-false}
 use Rattle.std.proofs.lemmas.Simd.{map-map, mask_l-mod, length-chunk, get_or-chunk, chunk-drop, leading_from_mask_l, trailing_mask_l}
@@ -13,7 +14,7 @@ use Rattle.pw_info.specs.Lanes.{lowest_set, short_of}
 
 -- ---- a mask
 
--- Where a bit is set, a lane passes the test.
+-- If a bit is set, a lane passes the test.
 some_short : (p : ℕ → Bool) (v : List ℕ) → 0 < mask_l (map p v) → prefix_len (λ x. not (p x)) v < length v
 some_short p [] some = absurd (omega (arith, some))
 some_short p (x ∷ v) some = elim (cases_Bool (p x)) [
@@ -22,7 +23,7 @@ some_short p (x ∷ v) some = elim (cases_Bool (p x)) [
       rw fails (let shorter = some_short p v (omega (arith, rest)) in omega (arith, shorter))
 ]
 
--- The lowest bit of a mask stands for the first lane that passes the test.
+-- The lowest bit of a mask is that of the first lane that passes the test.
 lowest_is : (p : ℕ → Bool) (v : List ℕ) (n : ℕ) → length v ≡ n → n ≤ 64 → lowest_set (mask_l (map p v)) ≡ short_of n (prefix_len (λ x. not (p x)) v)
 lowest_is p v n long few =
     elim (cases_eq (mask_l (map p v)) 0) [
@@ -40,7 +41,8 @@ same_run p q [] agree bytes = refl
 same_run p q (x ∷ v) agree bytes =
     rw (agree_below_at p q 256 x agree (bytes 0 (omega arith)), same_run p q v agree (λ k within. bytes (suc k) (omega arith))) refl
 
--- The lowest bit of what is computed lane by lane from a run of bytes: how many come before the first at which a lane's top bit is set.
+-- The lowest bit of what is computed lane by lane from a run of bytes: how many come before the
+-- first at which a lane's top bit is set.
 pub lowest_of : (q : ℕ → Bool) (bytes : List ℕ) (at n : ℕ) (z : List ℕ) (f : ℕ → ℕ) → at + n ≤ length bytes → n ≤ 64 → ((k : ℕ) → Fits w8 (get_or bytes k 0))
     → z ≡ map f (chunk at n bytes) → agree_below (λ x. not (top 7 (f x))) q 256 ≡ true
     → lowest_set (mask_l (map (top 7) z) % 2 ^ 64) ≡ short_of n (prefix_len q (chunk at n bytes))
@@ -54,7 +56,7 @@ lowest_of q bytes at n z f room few fits lanes agree =
 
 -- ---- from run to run
 
--- A run goes on after the bytes that were tested together where all of them are of it.
+-- A run goes on after the bytes that were tested together if all of them are of it.
 run_on : (p : ℕ → Bool) (bytes : List ℕ) (at n : ℕ) → at + n ≤ length bytes →
     prefix_len p (drop at bytes) ≡ cond (eqb (prefix_len p (chunk at n bytes)) n) (n + prefix_len p (drop (at + n) bytes)) (prefix_len p (chunk at n bytes))
 run_on p bytes at n room =

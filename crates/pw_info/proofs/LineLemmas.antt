@@ -6,7 +6,7 @@ use Rattle.std.proofs.lemmas.List.{take_all, take_rest}
 use Rattle.std.specs.List.{prefix_len, onto_first, AllByRecursion}
 use Rattle.pw_info.specs.Lines.{is_of_line, lines_of, HasNoEnd, BeginsWithLine, text_of_lines, last_line, AreLines}
 
--- ---- one byte more at the front
+-- ---- one more byte at the front
 
 lines_of-end : (byte : ℕ) (text : List ℕ) → eqb byte 10 ≡ true → lines_of (byte ∷ text) ≡ [] ∷ lines_of text
 lines_of-end byte text ends = rw ends refl
@@ -16,7 +16,7 @@ lines_of-more byte text more = rw (ne_eqb byte 10 more) refl
 
 -- ---- up to the first line feed
 
--- No line feed stands before the first one.
+-- No line feed comes before the first one.
 none_before : (text : List ℕ) → HasNoEnd (take (prefix_len is_of_line text) text)
 none_before [] = tt
 none_before (byte ∷ text) = elim (cases_Bool (eqb byte 10)) [
@@ -28,7 +28,7 @@ none_before (byte ∷ text) = elim (cases_Bool (eqb byte 10)) [
 pub none_found : (text : List ℕ) → prefix_len is_of_line text ≡ length text → HasNoEnd text
 none_found text all = subst HasNoEnd (take_all (prefix_len is_of_line text) text (omega (arith, all))) (none_before text)
 
--- Where one is found the text goes on with it.
+-- If one is found the text goes on with it.
 found_end : (text : List ℕ) → prefix_len is_of_line text < length text → text ≡ take (prefix_len is_of_line text) text ++ 10 ∷ drop (suc (prefix_len is_of_line text)) text
 found_end [] some = absurd (omega (arith, some))
 found_end (byte ∷ text) some = elim (cases_Bool (eqb byte 10)) [
@@ -64,7 +64,7 @@ lines_of_ended (byte ∷ line) text none = lines_of-more byte (line ++ 10 ∷ te
 text_of_lines-cons : (line : List ℕ) (ended : List (List ℕ)) (rest : List ℕ) → text_of_lines (line ∷ ended) rest ≡ line ++ 10 ∷ text_of_lines ended rest
 text_of_lines-cons line ended rest = simp append_assoc
 
--- Lines that have ended stay as they are, whatever comes after them.
+-- Lines that have ended are unchanged, for any text after them.
 pub lines_of_ended_lines : (ended : List (List ℕ)) (rest : List ℕ) → AllByRecursion HasNoEnd ended → lines_of (text_of_lines ended rest) ≡ ended ++ lines_of rest
 lines_of_ended_lines [] rest none = refl
 lines_of_ended_lines (line ∷ ended) rest none =

@@ -39,7 +39,7 @@ All-range P n each k d inside =
     let below : k < n = omega (arith, length-range_with_len 0 n) in
     subst P (sym (range_at n k d below)) (each k below)
 
--- and the other way round
+-- and conversely
 All-range-at : (P : ℕ → Type 0) (n k : ℕ) → All P (range_with_len 0 n) → k < n → P k
 All-range-at P n k all below = subst P (range_at n k 0 below) (all k 0 (omega (arith, length-range_with_len 0 n)))
 
@@ -52,7 +52,7 @@ place_found part (pos k) is =
     ((Decides-int_eq (pos (get_or row k 0)) (pos k)).1 (ap pos (range_at (size_of part) k 0 below)))
 place_found part (negsuc k) is = absurd (not_both _ is refl)
 
--- a number is possible exactly where it is one of the possible places
+-- a number is possible exactly if it is one of the possible places
 places_allowed : (part : Members) (v : ℤ) → allows part v ≡ is_one_of (places_of part) v
 places_allowed part v =
     let kept = any-filter_same (λ place. int_eq (pos place) v) (λ place. allows part (pos place)) (allows part v)
@@ -73,7 +73,7 @@ places_apart part =
     IsDistinct-from_AllPairs Decides-eqb (places_of part)
     (AllPairs-filter (λ x y. x ≢ y) (λ place. allows part (pos place)) (range_with_len 0 n) apart)
 
--- where there are possible places, they are places of the set
+-- if there are possible places, they are places of the set
 places_are : (part : Members) → 0 < length (places_of part) → ArePlaces (size_of part) (places_of part)
 places_are part some = record {
   some = some;
@@ -92,7 +92,7 @@ some_or_none (place ∷ places) = inl (omega arith)
 empty_from_places : (part : Members) → places_of part ≡ [] → IsEmpty part
 empty_from_places part none v = places_allowed part v ∙ ap (λ places. is_one_of places v) none
 
--- and the other way round
+-- and conversely
 places_from_empty : (part : Members) → IsEmpty part → places_of part ≡ []
 places_from_empty part none = elim (some_or_none (places_of part)) [
   | inl some ↦
@@ -128,14 +128,14 @@ all_pass p (x ∷ xs) every =
     let here : p x ≡ true = every 0 0 (omega arith) in
     rw here (ap (λ rest. x ∷ rest) (all_pass p xs (All-tail (λ y. p y ≡ true) x xs every)))
 
--- where every member is possible, as many places are as the set has
+-- if every member is possible, as many places are as the set has
 length_from_full : (part : Members) → IsFull part → length (places_of part) ≡ size_of part
 length_from_full part every =
     ap length (all_pass (λ place. allows part (pos place)) (range_with_len 0 (size_of part))
     (All-range (λ place. allows part (pos place) ≡ true) (size_of part) every))
     ∙ length-range_with_len 0 (size_of part)
 
--- and the other way round
+-- and conversely
 full_from_length : (part : Members) → length (places_of part) ≡ size_of part → IsFull part
 full_from_length part long k below =
     let p : ℕ → Bool = λ place. allows part (pos place) in
@@ -158,18 +158,18 @@ text_of_fewer : (names : List (List ℕ)) (size : ℕ) (places : List ℕ) → 0
 text_of_fewer names size [] some fewer = absurd (omega arith)
 text_of_fewer names size (place ∷ places) some fewer = ap (λ b. if b then codes "nothing" else text_of_set names (place ∷ places)) fewer
 
--- where no member is possible
+-- if no member is possible
 pub text_of_no_members : (names : List (List ℕ)) (part : Members) → IsEmpty part → text_of_members names part ≡ codes "contradiction"
 text_of_no_members names part none = ap (text_of_places names (size_of part)) (places_from_empty part none)
 
--- where every member is possible
+-- if every member is possible
 pub text_of_all_members : (names : List (List ℕ)) (part : Members) → (IsEmpty part → false ≡ true) → IsFull part
     → text_of_members names part ≡ codes "nothing"
 text_of_all_members names part possible every =
     let some : 0 < length (places_of part) = some_places part (λ none. not_both false (possible none) refl) in
     text_of_every names (size_of part) (places_of part) some (length_from_full part every)
 
--- where some are and some are not
+-- if some are and some are not
 pub text_of_some_members : (names : List (List ℕ)) (part : Members) → (IsEmpty part → false ≡ true) → (IsFull part → false ≡ true)
     → text_of_members names part ≡ text_of_set names (places_of part)
 text_of_some_members names part possible lacks =
@@ -188,11 +188,11 @@ below_more part n =
     ∙ filter_of_map_range_with_len_more p (λ place. place) 0 n n (omega arith)
     ∙ ap (λ places. filter p places ++ cond (p n) (n ∷ []) []) (map-id (range_with_len 0 n))
 
--- where this place is possible
+-- if this place is possible
 below_with : (part : Members) (n : ℕ) → allows part (pos n) ≡ true → places_below part (n + 1) ≡ places_below part n ++ (n ∷ [])
 below_with part n is = below_more part n ∙ ap (λ b. places_below part n ++ cond b (n ∷ []) []) is
 
--- where it is not
+-- if it is not
 pub below_without : (part : Members) (n : ℕ) → allows part (pos n) ≡ false → places_below part (n + 1) ≡ places_below part n
 below_without part n fails =
     below_more part n ∙ ap (λ b. places_below part n ++ cond b (n ∷ []) []) fails ∙ append-nil (places_below part n)
@@ -225,7 +225,7 @@ opened_by names part n mark name is before named =
     ∙ ap (λ text. opened names (places_below part n) ++ (mark_after (places_below part n) ++ text)) (get_or_from_slice_get names n name [] named)
     ∙ ap (λ text. opened names (places_below part n) ++ (text ++ name)) (sym before)
 
--- behind a name stands a comma
+-- a comma comes after a name
 mark_more : (places : List ℕ) (place : ℕ) → mark_after (places ++ (place ∷ [])) ≡ codes ","
 mark_more [] place = refl
 mark_more (first ∷ places) place = refl
@@ -301,7 +301,7 @@ module _ {S : Type 0} (passes : S → List ℕ → S → Type 0) (has_failed : S
 
 -- ---- what is written spells what it was written for
 
--- where every member is possible, every value of the kind is
+-- if every member is possible, every value of the kind is
 nothing_known : (number : ℕ) (part : Members) → IsFull part → IsNothing (info.Members number part)
 nothing_known number part every (pos k) is = every k (true_place (size_of part) k is)
 nothing_known number part every (negsuc k) is = absurd (not_both _ is (place_negative (size_of part) k))

@@ -1,4 +1,5 @@
--- Names of members in a row, with ',' between each two: one place is read of each name, and no other row reads so.
+-- Names of members in a row, with ',' between each two: one place is read of each name, and no
+-- other row reads so.
 use Rattle.std.proofs.Common.{◌≡◌, ℕ, zero, suc, ℤ, pos, ◌<◌, Bool, true, false, ◌||◌, ◌⊎◌, List, [], ◌∷◌, ◌++◌, length, All, Contains, Option, Some, None, IfSome, IfNone, Bor, slice_get, get_or, nat_eq, inl, inr, refl, sym, ◌∙◌, ap, subst, arith}
 use Rattle.std.proofs.lemmas.Bool.{cases_order, or_parts}
 use Rattle.std.proofs.lemmas.Bool.Decides.{Decides-int_eq, Decides-eqb, Decides-like, same_from_decides}
@@ -22,7 +23,7 @@ use Rattle.pw_info.proofs.Cuts.{no_cut, one_cut}
 
 -- ---- names
 
--- bytes of names are no commas
+-- bytes of names are not commas
 bytes_no_comma : (word : List ℕ) → list_all is_name_byte word ≡ true → HasNoComma word
 bytes_no_comma [] all k inside is = absurd (omega arith)
 bytes_no_comma (b ∷ word) all zero inside is =
@@ -104,14 +105,14 @@ begins_with_one names text word seen (p ∷ places) known size begins row =
     let inside : p < length names = first_inside names text seen p places size row in
     (p, inside, first_name names text word p places known inside begins row.text_is, row.apart 0 0 (omega arith))
 
--- what begins with no name of a member is no row
+-- what begins with no name of a member is not a row
 pub no_member : (names : List (List ℕ)) (text word : List ℕ) (seen : Members) → AreNames names → length names ≡ size_of seen → Begins text word
     → (Contains names word → ⊥) → (places : List ℕ) → NamesApart names text seen places → ⊥
 no_member names text word seen known size begins none places row =
     let (place, inside, is, new) = begins_with_one names text word seen places known size begins row in
     none (subst (Contains names) (sym is) (Contains-get_or names place [] inside))
 
--- what begins with the name of a member that was seen is no row of others
+-- what begins with the name of a member that was seen is not a row of others
 pub seen_member : (names : List (List ℕ)) (text word : List ℕ) (seen : Members) (place : ℕ) → AreNames names → length names ≡ size_of seen → Begins text word
     → slice_get names place ≡ Some word → allows seen (pos place) ≡ true → (places : List ℕ) → NamesApart names text seen places → ⊥
 seen_member names text word seen place known size begins found old places row =
@@ -147,7 +148,7 @@ IsDistinct-nil : (e : ℕ → ℕ → Bool) → IsDistinct e []
 unfolding IsDistinct
 IsDistinct-nil e = tt
 
--- two places are told apart as numbers are
+-- places are distinguished like numbers
 same_as_number : (a b : ℕ) → int_eq (pos a) (pos b) ≡ nat_eq a b
 same_as_number a b = same_from_decides (int_eq (pos a) (pos b)) (nat_eq a b) (Decides-like _ (λ e. cc) (λ e. ap pos e) (Decides-int_eq (pos a) (pos b))) (Decides-eqb a b)
 
@@ -218,7 +219,7 @@ name_and_row_add names text word rest place seen more part read is adds =
       values = λ v. adds.values v ∙ ap (λ (b : Bool). b || is_one_of others v) (read.values v) ∙ or_assoc (allows seen v) (int_eq (pos place) v) (is_one_of others v);
     }
 
--- what stands behind the first place of a row is a row of others
+-- what comes after the first place of a row is a row of others
 row_behind : (names : List (List ℕ)) (text word rest : List ℕ) (place : ℕ) (seen more : Members) (places : List ℕ) → IsRead names word place seen more
     → NamesApart names text seen (place ∷ places) → 0 < length places → rest ≡ row_of names places → NamesApart names rest more places
 row_behind names text word rest place seen more places read row some is = record {
@@ -249,7 +250,7 @@ rest_is_row names text word rest place seen more (p ∷ q ∷ places) read clear
           (subst (λ (n : ℕ). NamesApart names text seen (n ∷ q ∷ places)) same row) (omega arith) left,
     )
 
--- where no row of others stands behind a name, there is no row
+-- if no row of others comes after a name, there is no row
 pub no_row_behind : (names : List (List ℕ)) (text word rest : List ℕ) (place : ℕ) (seen more : Members) → IsRead names word place seen more
     → HasNoComma word → text ≡ word ++ (44 ∷ rest) → ((others : List ℕ) → NamesApart names rest more others → ⊥)
     → (places : List ℕ) → NamesApart names text seen places → ⊥

@@ -15,7 +15,7 @@ pub positive_nonempty : (word : List ℕ) (n : ℕ) → SpellsPositive word n �
 positive_nonempty [] n spelled = let first = spelled.first in omega arith
 positive_nonempty (c ∷ word) n spelled = omega arith
 
--- and it stands for a number above 0
+-- and it writes a number above 0
 pub positive_above : (word : List ℕ) (n : ℕ) → SpellsPositive word n → 0 < n
 positive_above word n spelled =
     let first : IsInRange 49 57 (get_or word 0 0) = spelled.first in
@@ -24,14 +24,14 @@ positive_above word n spelled =
     let value = spelled.value in
     omega arith
 
--- such a word, as a number
+-- a word of this form, as a number
 pub above_zero : (word : List ℕ) (n most : ℕ) (z : ℤ) → z ≡ pos n → SpellsPositive word n → n ≤ most
     → SpellsNumber word z × IsUpTo most z
 above_zero word zero most z is spelled small = absurd (let above = positive_above word 0 spelled in omega arith)
 above_zero word (suc n) most z is spelled small =
     subst (λ (v : ℤ). SpellsNumber word v × IsUpTo most v) (sym is) (spelled, (omega (arith, ints), omega (arith, ints)))
 
--- such a word behind a minus, as a number
+-- a word of this form after a minus, as a number
 pub below_zero : (word : List ℕ) (n most : ℕ) (z : ℤ) → z ≡ pos 0 -ℤ pos n → 0 < length word → get_or word 0 0 ≡ 45
     → SpellsPositive (take (length word - 1) (drop 1 word)) n → n ≤ most → SpellsNumber word z × IsUpTo most z
 below_zero [] n most z is some minus spelled small = absurd (omega arith)
@@ -63,7 +63,7 @@ positive_is_decimal word n fits spelled =
     let is = decimal-digits_value own word spelled.digits (positive_nonempty word n spelled) (λ zero_first. absurd (omega arith)) (omega arith) in
     cc
 
--- the decimal digits of a number, behind a minus where it is below 0, spell it
+-- the decimal digits of a number, behind a minus if it is below 0, spell it
 pub signed_decimal_spells : (n : ℤ) → IsUpTo 1000000000 n → SpellsNumber (signed_decimal n) n
 signed_decimal_spells (pos zero) within = decimal_digit 0 (omega arith)
 signed_decimal_spells (pos (suc n)) within = decimal_spells (suc n) (omega arith) (omega (arith, ints))

@@ -1,4 +1,5 @@
--- Texts passed one after another: what of both was passed, and written, when the first or the second broke off.
+-- Texts passed one after another: what of both was passed, and written, when the first or the
+-- second broke off.
 use Rattle.std.proofs.Common.{◌≡◌, ℕ, ◌+◌, ◌-◌, Bool, true, List, [], ◌∷◌, ◌++◌, ◌==◌, length, take, drop, Result, Ok, Err, IsErr, sym, ap, ◌∙◌, subst, arith, length-append, length-drop, append_assoc, take_all}
 use Rattle.std.proofs.lemmas.Bool.{eqb-true}
 use Rattle.std.proofs.lemmas.List.{append-nil, take-append-le, take-append-drop}
@@ -14,7 +15,7 @@ pub taken_rest : (all before xs : List ℕ) (n : ℕ) → all ≡ before ++ xs �
 taken_rest all before xs n e =
     e ∙ ap (λ l. before ++ l) (sym (take-rest xs n)) ∙ sym (append_assoc before (take n xs) (take (length xs - n) (drop n xs)))
 
--- before an empty rest stands all
+-- everything comes before an empty rest
 pub taken_all : (all before rest : List ℕ) → all ≡ before ++ rest → (length rest == 0) ≡ true → before ≡ all
 taken_all all before [] e none = sym (append-nil before) ∙ sym e
 taken_all all before (x ∷ rest) e none = absurd (let empty = eqb-true (length (x ∷ rest)) 0 none in omega arith)
@@ -55,7 +56,7 @@ module _ {S : Type 0} (passes : S → List ℕ → S → Type 0) (has_failed : S
       → Writes passes has_failed s t result ys → Writes passes has_failed s t result xs
   writes_same s t result xs ys same writes = subst (Writes passes has_failed s t result) (sym same) writes
 
-  -- where the first of two texts is broken off, a call that answers the failure writes both
+  -- if the first of two texts is broken off, a call that answers the failure writes both
   pub first_fails : {T E : Type 0} (s t : S) (result : Result T E) (text xs ys : List ℕ) → IsErr result
       → IsBrokenOff passes has_failed s t xs → text ≡ xs ++ ys → Writes passes has_failed s t result text
   first_fails s t (Ok x) text xs ys fails broken is = absurd (cc)
@@ -69,7 +70,7 @@ module _ {S : Type 0} (passes : S → List ℕ → S → Type 0) (has_failed : S
     written_then s t u xs ys first second =
         record { passed = joins s t u xs ys first.passed second.passed; works = λ e. second.works (first.works e) }
 
-    -- where the first of two texts is written and the second broken off, both are broken off
+    -- if the first of two texts is written and the second broken off, both are broken off
     pub broken_off_then : (s t u : S) (xs ys : List ℕ) → IsWritten passes has_failed s t xs → IsBrokenOff passes has_failed t u ys
         → IsBrokenOff passes has_failed s u (xs ++ ys)
     broken_off_then s t u xs ys first second =

@@ -27,7 +27,7 @@ use Rattle.pw_info.proofs.Informations.{same_set, same_values, nothing_is, contr
 use Rattle.pw_info.proofs.NamesInARow.{one_row}
 use Rattle.pw_info.proofs.Numbers.{one_number_lem}
 
--- what holds, holds where there is no value
+-- what holds, holds if there is no value
 pub IfNone_holds : {X P : Type 0} (o : Option X) → P → IfNone o P
 IfNone_holds (Some x) holds = tt
 IfNone_holds None holds = holds
@@ -72,7 +72,7 @@ set_spelled sets word list set start part info size empty is adds same = (
 pub set_kind_is : (set : SetKind) (part : Members) → size_of part ≡ set.size → set_kind set.number part ≡ kinds.Members set
 set_kind_is set part size = same_set _ set refl size
 
--- where what stands in the braces is no row, the word spells no members
+-- if what is in the braces is not a row, the word spells no members
 pub no_set : (sets : SetNames) (word list : List ℕ) (set : SetKind) (start : Members) → size_of start ≡ set.size → IsEmpty start
     → word ≡ 123 ∷ (list ++ (125 ∷ [])) → ((places : List ℕ) → NamesApart (sets set.number) list start places → ⊥)
     → (info : Info) → SpellsValues sets word (kinds.Members set) info → ⊥
@@ -116,7 +116,7 @@ named_nothing lo hi spelled = nothing_no_number lo (uncut (codes "nothing") lo h
 named_contradiction : SpellsNoRange (codes "contradiction")
 named_contradiction lo hi spelled = contradiction_no_number lo (uncut (codes "contradiction") lo hi (search rules) spelled).0
 
--- a word spells no values where it spells no range and begins with no brace
+-- a word spells no values if it spells no range and begins with no brace
 no_named_values : (sets : SetNames) (word name : List ℕ) (kind : Kind) (info : Info) → word ≡ name → SpellsNoRange name → (get_or name 0 0 ≡ 123 → ⊥)
     → SpellsValues sets word kind info → ⊥
 no_named_values sets word name kinds.Interval info is none braced (lo, hi, spelled, low, high, values) =

@@ -10,7 +10,7 @@ use Rattle.std.proofs.lemmas.List.{take-append-drop}
 use Rattle.std.proofs.lemmas.Slice.Eq.{bytes_eq-Decides}
 use Rattle.pw_info.specs.Words.{is_blank, is_plain, ends_word, words_of, is_nil, AreBlanks, AreWords}
 
--- ---- one byte more at the front
+-- ---- one more byte at the front
 
 words_of-blank : (byte : ℕ) (line : List ℕ) → is_blank byte ≡ true → words_of (byte ∷ line) ≡ words_of line
 words_of-blank byte line blank = rw blank
@@ -53,7 +53,7 @@ no_word_past (byte ∷ line) none = elim (cases_Bool (is_blank byte)) [
 BeginsWith : ℕ → List ℕ → Type 0
 BeginsWith n text = words_of text ≡ take n text ∷ words_of (drop n text)
 
--- A line that begins with a byte of a word: its first word is the longest run of such bytes.
+-- A line that begins with a byte of a word: its first word is the longest run of bytes of words.
 word_first : (byte : ℕ) (line : List ℕ) → is_blank byte ≡ false → BeginsWith (suc (prefix_len is_plain line)) (byte ∷ line)
 unfolding BeginsWith
 word_first byte [] plain = words_of-last byte [] plain refl
@@ -174,7 +174,7 @@ before_blanks (byte ∷ line) gap blanks = elim (cases_Bool (is_blank byte)) [
   ]
 ]
 
--- A line that ends in eight spaces has the words of what stands before them.
+-- A line that ends in eight spaces has the words of what comes before them.
 pub without_spaces : (line front : List ℕ) (n : ℕ) → bytes_eq (drop n line) (codes "        ") ≡ true → front ≡ take n line → words_of front ≡ words_of line
 without_spaces line front n spaces is =
     let last : drop n line ≡ codes "        " = (bytes_eq-Decides (drop n line) (codes "        ")).0 spaces in
@@ -207,7 +207,7 @@ no_words_past (byte ∷ line) = elim (cases_Bool (is_blank byte)) [
   | inr plain ↦ rw (past_blanks-plain byte line plain) (some_bytes byte line ∙ sym (is_nil-plain byte line plain))
 ]
 
--- A line has a word where a byte comes after its first blanks.
+-- A line has a word if a byte comes after its first blanks.
 pub no_words : (line text : List ℕ) → text ≡ drop (prefix_len is_blank line) line → (length text == 0) ≡ is_nil (words_of line)
 unfolding past_blanks
 no_words line text is = ap (λ (l : List ℕ). length l == 0) is ∙ no_words_past line

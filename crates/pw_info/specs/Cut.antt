@@ -11,7 +11,7 @@ HasNoDot word = EachIndex word (λ k. slice_index word k ≢ dot)
 abbrev pub HasNoComma : List ℕ → Type 0
 HasNoComma text = EachIndex text (λ k. slice_index text k ≢ comma)
 
--- what stands before the first '.' of a word, and what stands behind it, spell LO..HI, with LO at most HI
+-- the parts before and after the first '.' of a word spell LO..HI, with LO at most HI
 abbrev pub SpellsCut : List ℕ → List ℕ → ℤ → ℤ → Type 0
 SpellsCut front rest lo hi = (back : List ℕ) × (rest ≡ codes "." ++ back)
     × SpellsNumber front lo × SpellsNumber back hi × (lo ≤ℤ hi)

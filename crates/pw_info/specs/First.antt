@@ -1,12 +1,12 @@
--- The first of a list of which something holds.
+-- The first element of a list with a property.
 use Rattle.std.specs.Prelude.{◌≡◌, ◌⊎◌, List, [], ◌∷◌}
 
--- x is the first of the list of which P holds
+-- x is the first element of the list for which P holds
 abbrev pub IsFirstIn : {A : Type 0} → (A → Type 0) → List A → A → Type 0
 IsFirstIn P [] x = ⊥
 IsFirstIn P (y ∷ ys) x = ((y ≡ x) × P y) ⊎ ((P y → ⊥) × IsFirstIn P ys x)
 
--- P holds of none of the list
+-- P holds for no element of the list
 abbrev pub HoldsOfNone : {A : Type 0} → (A → Type 0) → List A → Type 0
 HoldsOfNone P [] = Unit {0}
 HoldsOfNone P (y ∷ ys) = (P y → ⊥) × HoldsOfNone P ys

@@ -1,5 +1,6 @@
--- What an information says of a value: the set of the values of its kind that are still possible, given by its test.
--- A value of each kind is written as a whole number: a number as itself, a member of a set as its place.
+-- What an information says about a value: the set of the values of its kind that are still
+-- possible, given by its test. A value of each kind is written as a whole number: a number as
+-- itself, a member of a set as its place.
 use Rattle.std.specs.Prelude.{◌≡◌, ℕ, ℤ, Bool, true, false, ◌&&◌}
 use Rattle.pw_kinds.specs.Ranges.{is_in_interval_range, is_in_exact_range}
 use Rattle.pw_kinds.specs.Places.{is_place}
@@ -23,11 +24,11 @@ kind_of (info.Interval part) = kinds.Interval
 kind_of (info.Members number part) = set_kind number part
 kind_of (info.Exact part) = kinds.Exact
 
--- the information is what these members are, of the set of some number
+-- the information is given by these members, of the set of some number
 abbrev pub HasMembers : Info → Members → Type 0
 HasMembers known part = (number : ℕ) × (known ≡ info.Members number part)
 
--- whether a number stands for a value of the kind
+-- whether a number is a value of the kind
 abbrev pub is_value : Kind → ℤ → Bool
 is_value kinds.Interval v = is_in_interval_range v
 is_value (kinds.Members set) v = is_place set.size v
@@ -51,7 +52,8 @@ IsContradiction info = (v : ℤ) → allows info v ≡ false
 abbrev pub SameValues : Info → Info → Type 0
 SameValues a b = (v : ℤ) → allows a v ≡ allows b v
 
--- the first is at least as informed: each value that it leaves possible, the second does
+-- the first is at least as informed: each value that it leaves possible, the second leaves possible
+-- too
 abbrev pub Implies : Info → Info → Type 0
 Implies a b = (v : ℤ) → allows a v ≡ true → allows b v ≡ true
 
@@ -73,6 +75,6 @@ nothing kind = closest kind (λ v. true)
 abbrev pub contradiction : Kind → Info
 contradiction kind = closest kind (λ v. false)
 
--- the merge of two informations of one kind: what both leave possible
+-- the merge of two informations of one kind: it leaves possible what both leave possible
 abbrev pub meet : Info → Info → Info
 meet a b = closest (kind_of a) (λ v. allows a v && allows b v)

@@ -1,14 +1,14 @@
--- What may be the name of a user, a premise, a set kind, a member, a cell.
+-- The names that a user, a premise, a set kind, a member or a cell may have.
 use Rattle.std.specs.Prelude.{◌≡◌, ℕ, ◌≤◌, nat_le, Bool, true, false, not, ◌&&◌, ◌||◌, ◌==◌, List, [], ◌∷◌, length, codes}
 use Rattle.std.specs.List.{list_all, list_any}
 use Rattle.std.specs.Str.{bytes_eq}
 use Rattle.pw_info.specs.Bytes.{digit_0, digit_9, letter_a, letter_z, underscore}
 
--- the most bytes that a name may have
+-- the greatest number of bytes in a name
 abbrev pub most_name_bytes : ℕ
 most_name_bytes = 32
 
--- the words that are no names
+-- the words that are not names
 abbrev pub reserved_words : List (List ℕ)
 reserved_words =
     codes "under" ∷ codes "none" ∷ codes "nothing" ∷ codes "contradiction" ∷ codes "line" ∷ codes "of" ∷ codes "local" ∷ codes "end" ∷ []
@@ -26,7 +26,7 @@ abbrev pub begins_with_letter : List ℕ → Bool
 begins_with_letter [] = false
 begins_with_letter (b ∷ bytes) = is_letter b
 
--- one of the words that are no names
+-- one of the words that are not names
 unfoldable pub is_reserved : List ℕ → Bool
 is_reserved word = list_any (bytes_eq word) reserved_words
 
@@ -34,7 +34,8 @@ is_reserved word = list_any (bytes_eq word) reserved_words
 unfoldable pub is_name : List ℕ → Bool
 is_name word = nat_le (length word) most_name_bytes && begins_with_letter word && list_all is_name_byte word && not (is_reserved word)
 
--- a name has at most 32 bytes of `a` to `z`, `0` to `9` and `_`, begins with a letter, and is no reserved word
+-- a name has at most 32 bytes of `a` to `z`, `0` to `9` and `_`, begins with a letter, and is no
+-- reserved word
 pub record IsName (word : List ℕ) : Type 0 where
   pub short : length word ≤ most_name_bytes
   pub first : begins_with_letter word ≡ true

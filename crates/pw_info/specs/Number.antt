@@ -4,7 +4,7 @@ use Rattle.std.specs.Int.{IsInRange}
 use Rattle.std.specs.Str.Parse.{AllDigits, digits_value}
 use Rattle.pw_info.specs.Bytes.{digit_1, digit_9, minus}
 
--- a digit 1 to 9 and further digits, and the number that they stand for
+-- a digit 1 to 9 and further digits, and the number that they write
 pub record SpellsPositive (word : List ℕ) (n : ℕ) : Type 0 where
   -- the first byte is one of '1' to '9'
   pub first : IsInRange digit_1 digit_9 (slice_index word 0)
@@ -13,19 +13,19 @@ pub record SpellsPositive (word : List ℕ) (n : ℕ) : Type 0 where
   -- read in base ten they give the number
   pub value : n ≡ digits_value 10 word
 
--- a word spells a number: '0', or a digit 1 to 9 and further digits,
--- with '-' in front of them for a number below 0
+-- a word spells a number: '0', or a digit 1 to 9 and further digits, with '-' before them for a
+-- number below 0
 abbrev pub SpellsNumber : List ℕ → ℤ → Type 0
 SpellsNumber word (pos zero) = word ≡ codes "0"
 SpellsNumber word (pos (suc n)) = SpellsPositive word (suc n)
 SpellsNumber [] (negsuc n) = ⊥
 SpellsNumber (c ∷ word) (negsuc n) = (c ≡ minus) × SpellsPositive word (suc n)
 
--- a number stands from -most to most
+-- a number lies from -most to most
 abbrev pub IsUpTo : ℕ → ℤ → Type 0
 IsUpTo most n = (neg_ℤ (pos most) ≤ℤ n) × (n ≤ℤ pos most)
 
--- it holds of no two numbers that stand from -most to most
+-- it holds for no two numbers that lie from -most to most
 abbrev pub HoldsOfNoneUpTo : ℕ → (ℤ → ℤ → Type 0) → Type 0
 HoldsOfNoneUpTo most Holds = (lo hi : ℤ) → Holds lo hi → IsUpTo most lo → IsUpTo most hi → ⊥
 

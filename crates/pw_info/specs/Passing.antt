@@ -1,8 +1,9 @@
--- What is passed to an output between two moments: the whole of a text, or a front of it where the output fails.
+-- The bytes passed to an output between two moments: a whole text, or a front of it if the output
+-- fails.
 use Rattle.std.specs.Prelude.{◌≡◌, ℕ, ◌<◌, ◌≤◌, Bool, true, false, List, [], length, take, Result, MatchResult}
 
--- a put that takes n bytes takes no more than there are, of a non-empty slice at least one, and passes the first n; one
--- that fails passes none
+-- a put that takes n bytes takes no more than there are, at least one of a non-empty slice, and
+-- passes the first n; a put that fails passes none
 abbrev pub PutPasses : {S E : Type 0} → (S → List ℕ → S → Type 0) → S → S → Result ℕ E → List ℕ → Type 0
 PutPasses passes old new r bytes =
     MatchResult r (λ n. (n ≤ length bytes) × (0 < length bytes → 0 < n) × passes old (take n bytes) new) (λ _. passes old [] new)

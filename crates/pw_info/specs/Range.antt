@@ -17,7 +17,7 @@ SpellsRange word lo hi = (SpellsNumber word lo × (lo ≡ hi)) ⊎ SpellsEnds wo
 abbrev pub SpellsNoRange : List ℕ → Type 0
 SpellsNoRange word = (lo hi : ℤ) → ¬ SpellsRange word lo hi
 
--- what is written for the range from lo to hi: one number where both are equal, else LO..HI
+-- the text written for the range from lo to hi: one number if both are equal, and otherwise LO..HI
 abbrev pub text_of_range : ℤ → ℤ → List ℕ
 text_of_range lo hi =
     if int_eq lo hi then signed_decimal lo else signed_decimal lo ++ (codes ".." ++ signed_decimal hi)

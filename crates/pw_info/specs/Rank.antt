@@ -1,4 +1,5 @@
--- How far an information is from a contradiction: every gain of information lowers this number.
+-- The distance of an information from a contradiction: every gain of information lowers this
+-- number.
 use Rattle.std.specs.Prelude.{ℕ, pos}
 use Rattle.pw_kinds.specs.declared.exact.Exact.{Exact}
 use Rattle.pw_kinds.specs.declared.exact.Exact.TheVariants.{Any, One, Empty}
@@ -11,13 +12,13 @@ use Rattle.pw_info.specs.declared.kind.Kind.TheVariants as kinds
 use Rattle.pw_info.specs.declared.info.Info.{Info}
 use Rattle.pw_info.specs.declared.info.Info.TheVariants as info
 
--- of an exact value: 2 where any number is possible, 1 where one is, 0 where none is
+-- the rank of an exact value: 2 if any number is possible, 1 if one is, 0 if none is
 abbrev pub rank_of_exact : Exact → ℕ
 rank_of_exact Any = 2
 rank_of_exact (One number) = 1
 rank_of_exact Empty = 0
 
--- the rank: of an interval and of members, how many values are possible
+-- the rank: for an interval and for members, the number of possible values
 abbrev pub rank_of : Info → ℕ
 rank_of (info.Interval part) = count (interval.allows part) interval_numbers interval_lowest
 rank_of (info.Members number part) = count (members.allows part) (members.size_of part) (pos 0)

@@ -19,11 +19,11 @@ pub record AreNames (names : List (List ℕ)) : Type 0 where
   pub each : All IsName names
   pub differ : IsDistinct bytes_eq names
 
--- so are those of each set
+-- the names of each set are names, and no two are equal
 abbrev pub AllAreNames : SetNames → Type 0
 AllAreNames sets = (set : ℕ) → AreNames (sets set)
 
--- every member of the kind, where it is a set kind, has its name
+-- every member of the kind has its name, if it is a set kind
 abbrev pub IsNamed : SetNames → Kind → Type 0
 IsNamed sets kinds.Interval = Unit {0}
 IsNamed sets (kinds.Members set) = length (sets set.number) ≡ set.size

@@ -1,11 +1,11 @@
--- How some members of a set are named: `{`, their names joined by `,`, `}`.
+-- The text of some members of a set: `{`, their names joined by `,`, `}`.
 use Rattle.std.specs.Prelude.{ℕ, ℤ, pos, ◌<◌, ◌++◌, Bool, List, All, length, map, codes, nat_eq}
 use Rattle.std.specs.List.{IsDistinct, list_any, join_with_byte}
 use Rattle.std.specs.Ordering.{int_eq}
 use Rattle.pw_info.specs.Bytes.{comma}
 use Rattle.pw_info.specs.SetNames.{name_at}
 
--- places of members of a set of so many: at least one, each there, none twice
+-- places of members of a set of this size: at least one, each below the size, none twice
 pub record ArePlaces (size : ℕ) (places : List ℕ) : Type 0 where
   pub some : 0 < length places
   pub there : All (λ place. place < size) places

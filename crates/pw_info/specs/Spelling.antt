@@ -12,7 +12,7 @@ use Rattle.pw_info.specs.Range.{SpellsRange}
 use Rattle.pw_info.specs.SetNames.{SetNames}
 use Rattle.pw_info.specs.SetText.{ArePlaces, is_one_of, text_of_set}
 
--- it holds of one at most: any two of which it holds are equal
+-- it holds for at most one: any two for which it holds are equal
 abbrev pub AtMostOne : {X : Type 0} → (X → Type 0) → Type 0
 AtMostOne {X} Holds = (x y : X) → Holds x → Holds y → x ≡ y
 
@@ -28,8 +28,9 @@ AllowsOne info n = (v : ℤ) → allows info v ≡ int_eq v n
 abbrev pub AllowsPlaces : Info → List ℕ → Type 0
 AllowsPlaces info places = (v : ℤ) → allows info v ≡ is_one_of places v
 
--- a word in the form of the kind itself: for an interval one number, or two in order, in range; for an exact number
--- that number, in range; for a set the names of some of its members, in any order, none twice
+-- a word in the form of the kind itself: for an interval one number, or two in order, in range; for
+-- an exact number that number, in range; for a set the names of some of its members, in any order,
+-- none twice
 abbrev pub SpellsValues : SetNames → List ℕ → Kind → Info → Type 0
 SpellsValues sets word kinds.Interval info =
     (lo : ℤ) × (hi : ℤ) × SpellsRange word lo hi × IsInIntervalRange lo × IsInIntervalRange hi × AllowsFromTo info lo hi

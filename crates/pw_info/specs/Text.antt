@@ -1,4 +1,4 @@
--- How an information is written.
+-- The text of an information.
 use Rattle.std.specs.Prelude.{ℕ, ℤ, pos, ◌&&◌, ◌==◌, List, [], ◌∷◌, length, filter, Option, Some, codes, if◌then◌else◌}
 use Rattle.std.specs.List.{range_with_len}
 use Rattle.std.specs.Fmt.{signed_decimal}
@@ -16,8 +16,8 @@ use Rattle.pw_info.specs.Range.{text_of_range}
 use Rattle.pw_info.specs.SetNames.{SetNames}
 use Rattle.pw_info.specs.SetText.{text_of_set}
 
--- by the least and the greatest number that is possible: `nothing` where these are the ends of the whole range, else
--- the one number or LO..HI; `contradiction` where there are none
+-- the text by the least and the greatest possible number: `nothing` if these are the ends of the
+-- whole range, and otherwise the one number or LO..HI; `contradiction` if there are none
 abbrev pub text_of_ends : Option ℤ → Option ℤ → List ℕ
 text_of_ends (Some lo) (Some hi) = if int_eq lo interval_lowest && int_eq hi interval_highest then codes "nothing" else text_of_range lo hi
 text_of_ends _ _ = codes "contradiction"
@@ -25,12 +25,12 @@ text_of_ends _ _ = codes "contradiction"
 abbrev pub text_of_interval : Interval → List ℕ
 text_of_interval interval = text_of_ends (least_of interval) (greatest_of interval)
 
--- the places that are possible, rising
+-- the possible places, in rising order
 abbrev pub places_of : Members → List ℕ
 places_of part = filter (λ place. allows part (pos place)) (range_with_len 0 (size_of part))
 
--- by the places that are possible: `contradiction` where there are none, `nothing` where these are all places of the
--- set, else the names of their members in declared order
+-- the text by the possible places: `contradiction` if there are none, `nothing` if these are all
+-- places of the set, and otherwise the names of their members in declared order
 abbrev pub text_of_places : List (List ℕ) → ℕ → List ℕ → List ℕ
 text_of_places names size [] = codes "contradiction"
 text_of_places names size (place ∷ places) =

@@ -19,7 +19,7 @@ words_of (byte ∷ line) =
     if is_blank byte then words_of line
     else (if ends_word line then (byte ∷ []) ∷ words_of line else onto_first byte (words_of line))
 
--- a byte of a word: no blank
+-- a byte of a word: not a blank
 abbrev pub is_plain : ℕ → Bool
 is_plain byte = not (is_blank byte)
 
@@ -27,11 +27,12 @@ is_plain byte = not (is_blank byte)
 abbrev pub AreBlanks : List ℕ → Type 0
 AreBlanks bytes = AllByRecursion (λ byte. is_blank byte ≡ true) bytes
 
--- one byte or more, and no blank among them
+-- one or more bytes, and no blank among them
 abbrev pub IsWord : List ℕ → Type 0
 IsWord bytes = (0 < length bytes) × AllByRecursion (λ byte. is_blank byte ≡ false) bytes
 
--- a line is these words and blanks in turn: blanks, a word, and the same for what comes after the word; with no word it is blanks alone
+-- a line alternates between blanks and these words: blanks, a word, and the same for the bytes
+-- after the word; with no word it is only blanks
 abbrev pub AreWords : List ℕ → List (List ℕ) → Type 0
 AreWords line [] = AreBlanks line
 AreWords line (word ∷ words) =
@@ -42,7 +43,8 @@ abbrev pub is_nil : List (List ℕ) → Bool
 is_nil [] = true
 is_nil (word ∷ words) = false
 
--- a line that says nothing: no byte, blanks alone, or a comment, whose first byte that is not a blank is `#`
+-- a line that says nothing: no byte, only blanks, or a comment, whose first byte that is not a
+-- blank is `#`
 abbrev pub is_idle : List ℕ → Bool
 is_idle [] = true
 is_idle (byte ∷ line) = if is_blank byte then is_idle line else byte == hash

@@ -1,4 +1,4 @@
--- What a clause reads of an output over a writer.
+-- What contracts use of an output over a writer.
 use Rattle.std.specs.Prelude.{Bool}
 use Rattle.pw_info.specs.declared.output.Writing.{Writing}
 

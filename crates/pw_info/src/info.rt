@@ -9,25 +9,25 @@ ghost use Rattle.pw_info.specs.Information.{set_kind, kind_of, HasMembers, allow
 use crate::kind::{Kind, SetKind};
 use pw_kinds::{Exact, Interval, Members};
 
-/// What is known of a value: its kind, and which values of the kind are still possible. Two informations of one kind
-/// that leave the same values possible are equal.
+/// What is known about a value: its kind, and which values of the kind are still possible. Two
+/// informations of one kind that leave the same values possible are equal.
 #[derive(Clone, Copy, Debug, PartialEq, Eq)]
 pub enum Info {
-    /// Of a whole number, which lies in an interval.
+    /// About a whole number, which lies in an interval.
     Interval(Interval),
-    /// Of a member of a set: which ones are possible.
+    /// About a member of a set: which members are possible.
     Members {
         /// The number of the set kind.
         number: u8,
         /// The places that are possible.
         part: Members,
     },
-    /// Of a whole number that is known exactly or not at all.
+    /// About a whole number that is known exactly or not at all.
     Exact(Exact),
 }
 
 impl Info {
-    /// The information that an interval is.
+    /// The information given by an interval.
     pub fn of_interval(part: Interval) -> Info
         ensures kind { kind_of result ≡ Kind.Interval }
         ensures values { (v : ℤ) → allows result v ≡ interval.allows part v }
@@ -36,7 +36,8 @@ impl Info {
         Info::Interval(part)
     }
 
-    /// The information that some members of the set of this number are; the kind's size is theirs.
+    /// The information given by some members of the set of this number. The kind has the size of
+    /// `part`.
     pub fn of_members(number: u8, part: Members) -> Info
         ensures kind { kind_of result ≡ set_kind number part }
         ensures values { (v : ℤ) → allows result v ≡ members.allows part v }
@@ -45,7 +46,7 @@ impl Info {
         Info::Members { number, part }
     }
 
-    /// The information that what is known of an exact number is.
+    /// The information given by an exact value.
     pub fn of_exact(part: Exact) -> Info
         ensures kind { kind_of result ≡ Kind.Exact }
         ensures values { (v : ℤ) → allows result v ≡ exact.allows part v }
@@ -54,7 +55,7 @@ impl Info {
         Info::Exact(part)
     }
 
-    /// The interval that this information is, None for another kind.
+    /// The interval of this information. None for another kind.
     pub fn interval(&self) -> Option<Interval>
         ensures found { IfSome result (λ part. self.now ≡ Info.Interval part) }
         ensures none { IfNone result (kind_of self.now ≢ Kind.Interval) }
@@ -65,7 +66,7 @@ impl Info {
         }
     }
 
-    /// The members that this information is, None for another kind.
+    /// The members of this information. None for another kind.
     pub fn members(&self) -> Option<Members>
         ensures found { IfSome result (λ part. HasMembers self.now part) }
         ensures none { IfNone result ((set : SetOfMembers) → kind_of self.now ≢ Kind.Members set) }
@@ -76,7 +77,7 @@ impl Info {
         }
     }
 
-    /// What is known of the exact number that this is information of, None for another kind.
+    /// The exact value of this information. None for another kind.
     pub fn exact(&self) -> Option<Exact>
         ensures found { IfSome result (λ part. self.now ≡ Info.Exact part) }
         ensures none { IfNone result (kind_of self.now ≢ Kind.Exact) }
@@ -87,7 +88,7 @@ impl Info {
         }
     }
 
-    /// The kind of value that this is information of.
+    /// The kind of value that this information is about.
     pub fn kind(&self) -> Kind
         ensures { result ≡ kind_of self.now }
     {
@@ -127,8 +128,9 @@ impl Info {
         }
     }
 
-    /// The merge of two informations of one kind: the values that both leave possible. (Radul and Sussman, *The Art of
-    /// the Propagator*, on partial information: merging is commutative, associative and idempotent.)
+    /// The merge of two informations of one kind: the values that both leave possible. (Radul and
+    /// Sussman, *The Art of the Propagator*, on partial information: merging is commutative,
+    /// associative and idempotent.)
     pub fn meet(&self, other: &Info) -> Info
         requires { kind_of self.now ≡ kind_of other.now }
         ensures kind { kind_of result ≡ kind_of self.now }
@@ -148,13 +150,13 @@ impl Info {
         }
     }
 
-    /// Whether this information, of the same kind as the other, is at least as informed: each value that is possible
-    /// here is possible there.
+    /// Whether this information, of the same kind as the other, is at least as informed: each value
+    /// that is possible here is possible there.
     pub fn implies(&self, other: &Info) -> bool
         requires { kind_of self.now ≡ kind_of other.now }
         ensures { IsTrue result ↔ Implies self.now other.now }
     {
-        // By reference: facts in a list are compared where they stand.
+        // By reference, so that facts in a list are compared in place.
         match (self, other) {
             (Info::Interval(one), Info::Interval(another)) => one.within(*another),
             (Info::Members { part: one, .. }, Info::Members { part: another, .. }) => {

@@ -1,13 +1,13 @@
 // The kinds of values.
 ghost use Rattle.pw_kinds.specs.Places.{IsSize};
 
-/// A kind whose values are the members of a set, each told by its place, from 0 on. Two set kinds of one declaration
-/// have different numbers.
+/// A kind whose values are the members of a set, each identified by its place, from 0 on. Two set
+/// kinds of one declaration have different numbers.
 #[derive(Clone, Copy, Debug, PartialEq, Eq)]
 pub struct SetKind {
     /// Which set it is: `bool` is number 0, `sign` is number 1.
     pub number: u8,
-    /// How many members the set has, 2 to 64.
+    /// The number of members of the set, 2 to 64.
     pub size: u8,
     ghost sized: { IsSize size },
 }

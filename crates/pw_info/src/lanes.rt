@@ -1,4 +1,4 @@
-//! How many of 16 bytes, which are tested together, come before one that ends a word or a line.
+//! Tests 16 bytes together: how many of them come before one that ends a word or a line.
 ghost use Rattle.std.specs.Prelude.{◌≡◌, ◌+◌, ◌<◌, ◌≤◌, length, take, drop, IfSome};
 ghost use Rattle.std.specs.List.{prefix_len};
 ghost use Rattle.pw_info.specs.Lanes.{lowest_set, short_of};
@@ -7,7 +7,7 @@ ghost use Rattle.pw_info.specs.Words.{is_plain};
 
 use std::simd::prelude::*;
 
-/// So many bytes are tested together.
+/// This many bytes are tested together.
 pub(crate) const LANES: usize = 16;
 
 // The place of the lowest bit that is set.
@@ -20,7 +20,8 @@ fn lowest_set(mask: u64) -> Option<usize>
     Some(mask.trailing_zeros() as usize)
 }
 
-/// How many of the 16 bytes from a place on come before the first blank; `None` where none is blank.
+/// The number of the 16 bytes from a place on that come before the first blank; `None` if none is
+/// blank.
 pub(crate) fn before_blank(bytes: &[u8], at: usize) -> Option<usize>
     requires { at + 16 ≤ length bytes.now }
     ensures value { result ≡ short_of 16 (prefix_len is_plain (take 16 (drop at bytes.now))) }
@@ -33,7 +34,8 @@ pub(crate) fn before_blank(bytes: &[u8], at: usize) -> Option<usize>
     lowest_set((spaces | tabs | returns).to_bitmask())
 }
 
-/// How many of the 16 bytes from a place on come before the first line feed; `None` where none is one.
+/// The number of the 16 bytes from a place on that come before the first line feed; `None` if there
+/// is none.
 pub(crate) fn before_line_feed(bytes: &[u8], at: usize) -> Option<usize>
     requires { at + 16 ≤ length bytes.now }
     ensures value { result ≡ short_of 16 (prefix_len is_of_line (take 16 (drop at bytes.now))) }

@@ -1,4 +1,5 @@
-//! Laws of informations, of their ranks and texts, of lines and words, each the contract of a function that does nothing.
+//! Laws of informations, of their ranks and texts, and of lines and words. Each is the contract of
+//! a function that does nothing.
 
 ghost use Rattle.std.specs.Prelude.{◌≡◌, ◌≢◌, ◌↔◌, ◌&&◌, ◌<◌, ◌≤◌, ◌⊎◌, ℕ, ℤ, pos, neg_ℤ, ◌≤ℤ◌, Bool, List, true, codes};
 ghost use Rattle.std.specs.Fmt.{signed_decimal};
@@ -24,7 +25,7 @@ pub fn same_values_are_equal()
     ensures { (a b : Info) → kind_of a ≡ kind_of b → SameValues a b → a ≡ b }
 {}
 
-/// What the definitions of nothing, contradiction and merge leave possible.
+/// The values that the definitions of nothing, contradiction and merge leave possible.
 pub fn merge_is_intersection()
     ensures nothing { (k : Kind) → IsNothing (nothing k) }
     ensures contradiction { (k : Kind) → IsContradiction (contradiction k) }
@@ -32,7 +33,8 @@ pub fn merge_is_intersection()
         → (v : ℤ) → allows (meet a b) v ≡ (allows a v && allows b v) }
 {}
 
-/// Merge is commutative, associative and idempotent, with nothing as its unit and the contradiction as its zero.
+/// Merge is commutative, associative and idempotent. Nothing is its unit, and the contradiction its
+/// zero.
 pub fn merge_is_a_semilattice()
     ensures commutative { (a b : Info) → kind_of a ≡ kind_of b → meet a b ≡ meet b a }
     ensures associative { (a b c : Info) → kind_of a ≡ kind_of b → kind_of b ≡ kind_of c
@@ -42,8 +44,8 @@ pub fn merge_is_a_semilattice()
     ensures zero { (a : Info) → meet a (contradiction (kind_of a)) ≡ contradiction (kind_of a) }
 {}
 
-/// Implication is a partial order on the informations of a kind. The first of two implies the second exactly where
-/// it is their merge, and each implies nothing.
+/// Implication is a partial order on the informations of a kind. The first of two implies the
+/// second exactly if the first is their merge, and each implies nothing.
 pub fn implication_is_an_order()
     ensures reflexive { (a : Info) → Implies a a }
     ensures transitive { (a b c : Info) → Implies a b → Implies b c → Implies a c }
@@ -58,8 +60,8 @@ pub fn closest_grows()
     ensures { (k : Kind) (p q : ℤ → Bool) → PassesMore k p q → Implies (closest k p) (closest k q) }
 {}
 
-/// A real gain of information lowers the rank: of two of a kind where the first implies the second, the first is the
-/// second, or has a lower rank.
+/// A real gain of information lowers the rank: if the first of two informations of a kind implies
+/// the second, it is the second, or has a lower rank.
 pub fn gain_lowers_the_rank()
     ensures gain { (a b : Info) → kind_of a ≡ kind_of b
         → Implies a b → a ≢ b → rank_of a < rank_of b }
@@ -67,7 +69,8 @@ pub fn gain_lowers_the_rank()
         → Implies a b → (a ≡ b) ⊎ (rank_of a < rank_of b) }
 {}
 
-/// Nothing has the greatest rank of its kind, which is at most that of intervals, 2,000,001. A contradiction has rank 0.
+/// Nothing has the greatest rank of its kind, which is at most that of intervals, 2,000,001. A
+/// contradiction has rank 0.
 pub fn rank_has_a_bound()
     ensures nothing { (k : Kind) → rank_of (nothing k) ≡ most_rank k }
     ensures contradiction { (k : Kind) → rank_of (contradiction k) ≡ 0 }
@@ -85,12 +88,12 @@ pub fn one_number()
     ensures { (word : List ℕ) → AtMostOne (SpellsNumber word) }
 {}
 
-/// The decimal digits of a number, behind `-` where it is negative, spell it.
+/// The decimal digits of a number, after `-` if it is negative, spell it.
 pub fn written_is_spelled()
     ensures { (n : ℤ) → IsUpTo greatest_number n → SpellsNumber (signed_decimal n) n }
 {}
 
-/// A number has one spelling: its decimal digits, behind `-` where it is negative.
+/// A number has one spelling: its decimal digits, after `-` if it is negative.
 pub fn one_spelling()
     ensures { (word : List ℕ) (n : ℤ) → IsUpTo greatest_number n
         → SpellsNumber word n → word ≡ signed_decimal n }
@@ -101,7 +104,7 @@ pub fn one_range()
     ensures { (word : List ℕ) → AtMostOne (λ (ends : ℤ × ℤ). SpellsRange word ends.0 ends.1) }
 {}
 
-/// What is written for a range spells it.
+/// The text written for a range spells it.
 pub fn written_range_is_spelled()
     ensures { (lo hi : ℤ) → lo ≤ℤ hi → IsUpTo greatest_number lo → IsUpTo greatest_number hi
         → SpellsRange (text_of_range lo hi) lo hi }
@@ -113,7 +116,7 @@ pub fn named_words_spell_no_range()
     ensures contradiction { SpellsNoRange (codes "contradiction") }
 {}
 
-/// What some words spell.
+/// Examples: what some words spell.
 pub fn spelling_examples()
     ensures one_number { SpellsRange (codes "5") (pos 5) (pos 5) }
     ensures equal_ends { SpellsRange (codes "5..5") (pos 5) (pos 5) }
@@ -130,25 +133,26 @@ pub fn spelling_examples()
     ensures empty { SpellsNoRange (codes "") }
 {}
 
-/// A word spells at most one information of a kind, where the members of each set have names.
+/// A word spells at most one information of a kind, if the members of each set have names.
 pub fn one_information()
     ensures { (sets : SetNames) (word : List ℕ) (k : Kind)
         → AllAreNames sets → IsNamed sets k → AtMostOne (SpellsInfo sets word k) }
 {}
 
-/// What is written for an information spells it: what is written is read as the same information.
+/// The text written for an information spells it: reading it gives the same information.
 pub fn text_is_a_spelling()
     ensures { (sets : SetNames) (info : Info)
         → SpellsInfo sets (text_of_info sets info) (kind_of info) info }
 {}
 
-/// The lines of a text are the one list of lines that, with a line feed after each but perhaps the last, make up the text.
+/// The lines of a text are the only list of lines that make up the text, with a line feed after
+/// each of them except perhaps the last.
 pub fn lines_are_one_list()
     ensures { (text : List ℕ) (lines : List (List ℕ))
         → AreLines text lines ↔ (lines ≡ lines_of text) }
 {}
 
-/// The words of a line are the one list of words that, with blanks between them, make up the line.
+/// The words of a line are the only list of words that make up the line, with blanks between them.
 pub fn words_are_one_list()
     ensures { (line : List ℕ) (words : List (List ℕ))
         → AreWords line words ↔ (words ≡ words_of line) }

@@ -1,4 +1,5 @@
-//! One type of information over all kinds, its texts; lines and words, of which every text is made.
+//! One type of information over all kinds, and its texts; also lines and words, of which every text
+//! is made.
 #![tactic(auto)]
 
 mod info;

@@ -6,7 +6,7 @@ ghost use Rattle.pw_info.specs.Lines as spec;
 
 use crate::lanes::{LANES, before_line_feed};
 
-// How many bytes come before the first line feed.
+// The number of bytes before the first line feed.
 fn line_len(bytes: &[u8]) -> usize
     ensures value { result ≡ prefix_len spec.is_of_line bytes.now }
     ensures within { result ≤ length bytes.now }
@@ -24,7 +24,7 @@ fn line_len(bytes: &[u8]) -> usize
     end
 }
 
-/// What stands before the first line feed, and what after it; `None` where there is no line feed.
+/// The parts before and after the first line feed; `None` if there is no line feed.
 pub fn next_line(bytes: &[u8]) -> Option<(&[u8], &[u8])>
     ensures some { IfSome result (λ parts. spec.BeginsWithLine bytes.now parts.0.now parts.1.now) }
     ensures none { IfNone result (spec.HasNoEnd bytes.now) }

@@ -16,7 +16,7 @@ use crate::names::KindNames;
 use crate::output::{Failed, Output, put_all};
 use pw_kinds::Members;
 
-// What stands before the first ',' of a text, and what stands behind it; the whole text and None where it has no ','.
+// The parts before and after the first ',' of a text; the whole text and None if it has no ','.
 fn cut_at_comma(text: &[u8]) -> (&[u8], Option<&[u8]>)
     ensures first { HasNoComma result.0.now }
     ensures some { IfSome result.1 (λ rest. text.now ≡ result.0.now ++ (codes "," ++ rest.now)) }
@@ -28,8 +28,8 @@ fn cut_at_comma(text: &[u8]) -> (&[u8], Option<&[u8]>)
     }
 }
 
-// Reads names of members of the set of this number, joined by ',', none of them twice or among the members that were
-// seen; answers these and those together.
+// Reads names of members of the set of this number, joined by ','. No member may be named twice, or
+// be among the members seen before. Answers the members seen before together with these.
 fn read_names<N: KindNames>(text: &[u8], set: u8, names: &N, seen: Members) -> Option<Members>
     requires named { length (N.members names.now set) ≡ size_of seen }
     ensures some { IfSome result (λ part. AddsPlaces (N.members names.now set) text.now seen part) }
@@ -47,8 +47,9 @@ fn read_names<N: KindNames>(text: &[u8], set: u8, names: &N, seen: Members) -> O
     }
 }
 
-/// The information that a word spells in the form of a set of this kind: at least one name of a member, each once, in
-/// any order, joined by `,` in braces. None where it spells none. The set is named there with all its places.
+/// The information that a word spells in the form of a set of this kind: at least one name of a
+/// member, each once, in any order, joined by `,` in braces. None if it spells none. `names` has
+/// the set, with all its places.
 pub(crate) fn read_members<N: KindNames>(word: &[u8], set: SetKind, names: &N) -> Option<Info>
     requires named { length (N.members names.now set.number) ≡ set.size }
     ensures kind { IfSome result (λ info. kind_of info ≡ kinds.Members set) }
@@ -62,7 +63,8 @@ pub(crate) fn read_members<N: KindNames>(word: &[u8], set: SetKind, names: &N) -
     Some(Info::of_members(set.number, part))
 }
 
-/// Writes the text of some members of the set of this number, which is named there with all its places.
+/// Writes the text of some members of the set of this number. `names` has the set, with all its
+/// places.
 pub(crate) fn write_members<N: KindNames, O: Output>(
     part: Members,
     set: u8,
@@ -82,7 +84,7 @@ pub(crate) fn write_members<N: KindNames, O: Output>(
     write_set(part, set, names, output)
 }
 
-// Writes `{`, the names of the members joined by `,`, of which there is at least one, and `}`.
+// Writes `{`, the names of the members joined by `,`, and `}`. There is at least one member.
 fn write_set<N: KindNames, O: Output>(
     part: Members,
     set: u8,

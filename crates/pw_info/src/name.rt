@@ -46,8 +46,9 @@ fn are_name_bytes(word: &[u8]) -> bool
     word.iter().all(|byte| is_name_byte(*byte))
 }
 
-/// Whether the word is a name: 1 to 32 bytes of `a` to `z`, `0` to `9` and `_`, of which the first is a letter, and none of
-/// the words `under`, `none`, `nothing`, `contradiction`, `line`, `of`, `local` and `end`.
+/// Whether the word is a name: 1 to 32 bytes of `a` to `z`, `0` to `9` and `_`, starting with a
+/// letter, and not one of the words `under`, `none`, `nothing`, `contradiction`, `line`, `of`,
+/// `local` and `end`.
 #[tactic(auto, unfolding(crate::specs::Name::is_name))]
 pub fn is_name(word: &[u8]) -> bool
     ensures { result ≡ spec.is_name word.now }

@@ -1,8 +1,9 @@
-// Numbers as words: the reader.
+// Reading numbers.
 ghost use Rattle.std.specs.Prelude.{ℕ, ℤ, ◌≤◌, IfSome, IfNone};
 ghost use Rattle.pw_info.specs.Number.{IsUpTo, SpellsNumber, SpellsPositive, greatest_number};
 
-// Reads a digit 1 to 9 and further digits. Never inlined: among much else its loop would keep the number in memory.
+// Reads a digit 1 to 9 and further digits. Never inlined: inside much other code, its loop would
+// keep the number in memory.
 #[inline(never)]
 fn read_positive(word: &[u8], most: u32) -> Option<u32>
     requires { most ≤ greatest_number }
@@ -28,8 +29,8 @@ fn read_positive(word: &[u8], most: u32) -> Option<u32>
 
 /// Reads the number that a word spells: `0`, or an optional `-`, a digit 1 to 9 and further digits.
 ///
-/// `most` is at most 1,000,000,000. `None` means that the word spells no number from `-most` to `most`,
-/// however long it is.
+/// `most` is at most 1,000,000,000. `None` means that the word, of any length, spells no number
+/// from `-most` to `most`.
 pub(crate) fn read_number(word: &[u8], most: u32) -> Option<i64>
     requires { most ≤ greatest_number }
     ensures some { IfSome result (λ n. SpellsNumber word.now n × IsUpTo most n) }

@@ -1,4 +1,4 @@
-// The end that takes bytes: what it was passed, and when it has failed.
+// An end that takes bytes: what it was passed, and when it has failed.
 ghost use Rattle.std.specs.Prelude.{◌≡◌, ℕ, List, [], ◌++◌, Bool, true, false, is_err, IsErr, Some};
 ghost use Rattle.std.specs.Io.KnownBytes.{Appends};
 ghost use Rattle.std.proofs.KnownBytes.{Appends-nil, Appends-trans};
@@ -6,24 +6,25 @@ ghost use Rattle.pw_info.specs.Passing.{PutPasses, Writes};
 
 use std::io::Write;
 
-/// An output or an input has failed. It stays so from the first failure on.
+/// An output or an input has failed. It stays failed from the first failure on.
 #[derive(Clone, Copy, Debug, PartialEq, Eq)]
 pub struct Failed;
 
 /// An end that takes bytes.
 ///
-/// Contracts see what it was passed as a relation between two moments: `passes old bytes new` says
-/// that these bytes, in this order, were passed to it between the moment `old` and the moment `new`.
+/// Contracts describe what it was passed as a relation between two moments: `passes old bytes new`
+/// says that these bytes, in this order, were passed to it between the moment `old` and the moment
+/// `new`.
 pub trait Output {
     // The bytes were passed between the first moment and the second.
     ghost passes: { Self → List ℕ → Self → Type 0 };
     // A put has failed.
     ghost has_failed: { Self → Bool };
 
-    /// Puts a front of the bytes, and answers how many were taken: of a non-empty slice at least
-    /// one, and never more than it has.
+    /// Puts a front of the bytes, and answers how many were taken: at least one of a non-empty
+    /// slice, and never more than the slice has.
     ///
-    /// A put that fails answers `Failed` and passes nothing. Each put after it does the same.
+    /// A put that fails answers `Failed` and passes nothing. Every later put does the same.
     fn put(&mut self, bytes: &[u8]) -> Result<usize, Failed>
         ensures passed { PutPasses passes self.old self.new result bytes.now }
         ensures failed { has_failed self.new ≡ is_err result }
@@ -42,8 +43,7 @@ pub trait Output {
 
 /// An output that writes to a writer.
 ///
-/// An error of the writer of any kind is a failure, and so is a write that takes no byte of a
-/// non-empty slice.
+/// Any error of the writer is a failure, and so is a write that takes no byte of a non-empty slice.
 #[derive(Drop)]
 pub struct Writing<W> {
     inner: W,
@@ -83,7 +83,7 @@ impl<W> Writing<W> {
 impl<W: Write> Output for Writing<W> {
     ghost use Rattle.pw_info.specs.Writers.{writer_of, writer_failed};
 
-    // Where the writer's bytes are known, they grow by those that are passed.
+    // If the writer's bytes are known, they grow by the bytes that are passed.
     ghost passes = { λ s bytes t.
         Appends (W.contents (writer_of s)) (W.contents (writer_of t)) bytes };
 
@@ -115,7 +115,8 @@ impl<W: Write> Output for Writing<W> {
         (W.contents (writer_of t)) (W.contents (writer_of u)) xs ys p q };
 }
 
-/// Puts all of the bytes. A put that fails ends it with `Failed`: a front of the bytes was passed then.
+/// Puts all of the bytes. A put that fails ends it with `Failed`; then a front of the bytes was
+/// passed.
 #[inline(always)]
 pub fn put_all<O: Output>(output: &mut O, bytes: &[u8]) -> Result<(), Failed>
     ensures { Writes O.passes O.has_failed output.old output.new result bytes.now }
@@ -123,7 +124,8 @@ pub fn put_all<O: Output>(output: &mut O, bytes: &[u8]) -> Result<(), Failed>
     if bytes.is_empty() {
         return Ok(());
     }
-    // Mostly one put takes all: it stands alone, so that little is done for a few bytes.
+    // Mostly one put takes all of them. It comes first, by itself, so that little is done for a few
+    // bytes.
     match output.put(bytes) {
         Ok(count) if count == bytes.len() => Ok(()),
         Ok(count) => put_rest(output, &bytes[count..]),
@@ -131,7 +133,7 @@ pub fn put_all<O: Output>(output: &mut O, bytes: &[u8]) -> Result<(), Failed>
     }
 }
 
-// Puts all of what a first put left.
+// Puts everything that a first put left over.
 fn put_rest<O: Output>(output: &mut O, bytes: &[u8]) -> Result<(), Failed>
     ensures { Writes O.passes O.has_failed output.old output.new result bytes.now }
 {

@@ -1,4 +1,4 @@
-// Ranges as words: the reader.
+// Reading ranges.
 ghost use Rattle.std.specs.Prelude.{◌≡◌, ◌≤◌, ◌++◌, codes, IfSome, IfNone};
 ghost use Rattle.pw_info.specs.Number.{IsUpTo, HoldsOfNoneUpTo, greatest_number};
 ghost use Rattle.pw_info.specs.Cut.{HasNoDot, SpellsCut};
@@ -6,7 +6,7 @@ ghost use Rattle.pw_info.specs.Range.{SpellsRange};
 
 use crate::number::read_number;
 
-// What stands before the first '.' of a word, and what stands behind it.
+// The parts before and after the first '.' of a word.
 fn split_at_dot(word: &[u8]) -> Option<(&[u8], &[u8])>
     ensures some { IfSome result (λ parts. word.now ≡ parts.0.now ++ (codes "." ++ parts.1.now)) }
     ensures first { IfSome result (λ parts. HasNoDot parts.0.now) }
@@ -16,7 +16,7 @@ fn split_at_dot(word: &[u8]) -> Option<(&[u8], &[u8])>
     Some((&word[..at], &word[at + 1..]))
 }
 
-// Reads `LO..HI` with LO at most HI, from what stands before the first '.' and what stands behind it.
+// Reads `LO..HI` with LO at most HI, from the parts before and after the first '.'.
 fn read_ends(front: &[u8], rest: &[u8], most: u32) -> Option<(i64, i64)>
     requires { most ≤ greatest_number }
     ensures some { IfSome result (λ ends. SpellsCut front.now rest.now ends.0 ends.1) }
@@ -34,11 +34,11 @@ fn read_ends(front: &[u8], rest: &[u8], most: u32) -> Option<(i64, i64)>
     Some((lo, hi))
 }
 
-/// Reads the range that a word spells, as its least and its greatest number: one number, which is both,
-/// or two numbers `LO..HI` with LO at most HI.
+/// Reads the range that a word spells, as its least and its greatest number: one number, which is
+/// both, or two numbers `LO..HI` with LO at most HI.
 ///
-/// `most` is at most 1,000,000,000. `None` means that the word spells no range whose ends stand from
-/// `-most` to `most`, however long it is.
+/// `most` is at most 1,000,000,000. `None` means that the word, of any length, spells no range
+/// whose ends lie from `-most` to `most`.
 pub(crate) fn read_range(word: &[u8], most: u32) -> Option<(i64, i64)>
     requires { most ≤ greatest_number }
     ensures some { IfSome result (λ ends. SpellsRange word.now ends.0 ends.1) }

@@ -18,15 +18,16 @@ use crate::range::read_range;
 use itoa::Buffer;
 use pw_kinds::{Exact, Interval};
 
-// The numbers of intervals, and exact numbers, lie from the negative of these to these.
+// The numbers of intervals, and exact numbers, lie between the negatives of these and these.
 const GREATEST_OF_INTERVALS: u32 = 1_000_000;
 
 const GREATEST_EXACT: u32 = 1_000_000_000;
 
-/// The information of the kind that a word spells: `nothing`, `contradiction`; for an interval `N` or `LO..HI` with
-/// LO at most HI, both from -1,000,000 to 1,000,000; for an exact number `N`, from -1,000,000,000 to 1,000,000,000; for
-/// a set `{`, the names of at least one of its members joined by `,`, `}`, in any order and none twice. None where the
-/// word spells no information of the kind. A set kind is named there with all its places.
+/// The information of the kind that a word spells: `nothing`, `contradiction`; for an interval `N`
+/// or `LO..HI` with LO at most HI, both from -1,000,000 to 1,000,000; for an exact number `N`, from
+/// -1,000,000,000 to 1,000,000,000; for a set `{`, the names of at least one of its members joined
+/// by `,`, `}`, in any order and none twice. None if the word spells no information of the kind.
+/// For a set kind, `names` has the set, with all its places.
 pub fn read_info<N: KindNames>(word: &[u8], kind: Kind, names: &N) -> Option<Info>
     requires named { IsNamed (N.members names.now) kind }
     ensures some { IfSome result (λ info. SpellsInfo (N.members names.now) word.now kind info) }
@@ -71,9 +72,9 @@ fn read_exact(word: &[u8]) -> Option<Info>
     Some(Info::of_exact(exact))
 }
 
-/// Writes the text of an information. On `Failed` a front of the text was passed. A set kind is named there with all
-/// its places.
-// Inlined, so that an information that was just found need not be stored to be written.
+/// Writes the text of an information. On `Failed` a front of the text was passed. For a set kind,
+/// `names` has the set, with all its places.
+// Inlined, so that an information that was just found need not be stored before it is written.
 #[inline(always)]
 pub fn write_info<N: KindNames, O: Output>(
     info: &Info,
@@ -116,7 +117,7 @@ fn write_exact<O: Output>(part: Exact, output: &mut O) -> Result<(), Failed>
 }
 
 #[tactic(auto, using(crate::proofs::PassingFacts::first_fails, crate::proofs::PassingFacts::second_writes))]
-// Writes `N` where both ends are that number, else `LO..HI`.
+// Writes `N` if both ends are that number, and otherwise `LO..HI`.
 fn write_range<O: Output>(lo: i64, hi: i64, output: &mut O) -> Result<(), Failed>
     ensures { Writes O.passes O.has_failed output.old output.new result (text_of_range lo hi) }
 {
@@ -137,7 +138,7 @@ fn write_end<O: Output>(number: i64, output: &mut O) -> Result<(), Failed>
     write_number(number, output)
 }
 
-// Writes a number. Inlined as what calls it is.
+// Writes a number. Inlined, like its caller.
 #[inline(always)]
 fn write_number<O: Output>(number: i64, output: &mut O) -> Result<(), Failed>
     ensures { Writes O.passes O.has_failed output.old output.new result (signed_decimal number) }

@@ -5,7 +5,7 @@ ghost use Rattle.pw_info.specs.Lines.{lines_of};
 use crate::lines::next_line;
 use std::marker::Model;
 
-// The first line of a text, and what comes after it.
+// The first line of a text, and the text after it.
 fn split_line(text: &[u8]) -> Option<(&[u8], &[u8])>
     ensures { MatchOption result (lines_of text.now ≡ [])
         (λ parts. lines_of text.now ≡ parts.0.now ∷ lines_of parts.1.now) }
@@ -19,7 +19,7 @@ fn split_line(text: &[u8]) -> Option<(&[u8], &[u8])>
     Some(text.split_at(text.len()))
 }
 
-/// The lines of a text that are left, as a list of lines.
+/// The remaining lines of a text, as a list of lines.
 #[derive(Drop)]
 pub struct TextLines<'a> {
     rest: &'a [u8],
@@ -42,7 +42,7 @@ impl<'a> TextLines<'a> {
         TextLines { rest: text }
     }
 
-    /// Takes the next line, or gives `None` where no line is left.
+    /// Takes the next line, or gives `None` if no line is left.
     pub fn next(&mut self) -> Option<&'a [u8]>
         ensures { MatchOption result ((self.old ≡ []) × (self.new ≡ []))
             (λ line. self.old ≡ line.now ∷ self.new) }

@@ -1,4 +1,4 @@
-//! Words of a line that are read as names.
+//! Words of a line, read as names.
 ghost use Rattle.std.specs.Prelude.{◌≡◌, true, false, MatchOption};
 ghost use Rattle.std.specs.List.{list_all};
 ghost use Rattle.pw_info.specs.Name as spec;

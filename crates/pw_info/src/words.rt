@@ -14,14 +14,16 @@ fn is_blank(byte: u8) -> bool
     byte == b' ' || byte == b'\t' || byte == b'\r'
 }
 
-// A blank or a visible ASCII character. No branch depends on the byte, so that many bytes can be tested at once.
+// A blank or a visible ASCII character. No branch depends on the byte, so that many bytes can be
+// tested at once.
 fn is_allowed(byte: u8) -> bool
     ensures { result ≡ spec.is_allowed byte }
 {
     is_blank(byte) | ((byte >= 0x21) & (byte <= 0x7E))
 }
 
-/// Whether the line says nothing: it is empty, blanks alone, or a comment, whatever bytes follow its `#`.
+/// Whether the line says nothing: it is empty, only blanks, or a comment, with any bytes after its
+/// `#`.
 pub fn idles(line: &[u8]) -> bool
     ensures { result ≡ spec.is_idle line.now }
 {
@@ -37,7 +39,8 @@ pub fn idles(line: &[u8]) -> bool
 pub fn allows_all(line: &[u8]) -> bool
     ensures { result ≡ list_all spec.is_allowed line.now }
 {
-    // It goes on past a byte that is not allowed: a loop that may end early tests one byte at a time.
+    // It does not stop at a byte that is not allowed: a loop that may stop early tests one byte at
+    // a time.
     let mut all = true;
     for byte in line {
         all &= is_allowed(*byte);
@@ -45,10 +48,10 @@ pub fn allows_all(line: &[u8]) -> bool
     all
 }
 
-// Spaces at the end of a line are passed over so many at once.
+// Spaces at the end of a line are skipped this many at once.
 const SPACES: &[u8] = b"        ";
 
-// The line without spaces at its end, of which fewer are left than are passed over at once.
+// The line without the spaces at its end, except for fewer than are skipped at once.
 fn without_last_spaces(line: &[u8]) -> &[u8]
     ensures { spec.words_of result.now ≡ spec.words_of line.now }
 {
@@ -59,7 +62,7 @@ fn without_last_spaces(line: &[u8]) -> &[u8]
     front
 }
 
-// How many blanks the bytes begin with.
+// The number of blanks at the front of the bytes.
 fn blank_len(bytes: &[u8]) -> usize
     ensures value { result ≡ prefix_len spec.is_blank bytes.now }
     ensures within { result ≤ length bytes.now }
@@ -72,14 +75,14 @@ fn blank_len(bytes: &[u8]) -> usize
     bytes.len()
 }
 
-// What comes after the blanks.
+// The bytes after the blanks at the front.
 fn after_blanks(bytes: &[u8]) -> &[u8]
     ensures { result.now ≡ drop (prefix_len spec.is_blank bytes.now) bytes.now }
 {
     &bytes[blank_len(bytes)..]
 }
 
-// How many bytes the first word has, where no blank stands before it.
+// The number of bytes of the first word, if no blank comes before it.
 fn word_len(bytes: &[u8]) -> usize
     ensures value { result ≡ prefix_len spec.is_plain bytes.now }
     ensures within { result ≤ length bytes.now }
@@ -97,7 +100,8 @@ fn word_len(bytes: &[u8]) -> usize
     end
 }
 
-// The first word, and what comes after it. Inlined, as `Words::next` is: a call costs as much as what it does.
+// The first word, and the bytes after it. Inlined, like `Words::next`: a call costs as much as the
+// work.
 #[inline(always)]
 fn split_word(bytes: &[u8]) -> Option<(&[u8], &[u8])>
     ensures { MatchOption result (spec.words_of bytes.now ≡ [])
@@ -111,7 +115,7 @@ fn split_word(bytes: &[u8]) -> Option<(&[u8], &[u8])>
     Some(text.split_at(end))
 }
 
-/// The words of a line that are left, as a list of words.
+/// The remaining words of a line, as a list of words.
 #[derive(Drop)]
 pub struct Words<'a> {
     rest: &'a [u8],
@@ -136,7 +140,7 @@ impl<'a> Words<'a> {
         }
     }
 
-    /// Takes the next word, or gives `None` where no word is left.
+    /// Takes the next word, or gives `None` if no word is left.
     #[inline(always)]
     pub fn next(&mut self) -> Option<&'a [u8]>
         ensures { MatchOption result ((self.old ≡ []) × (self.new ≡ []))
@@ -154,7 +158,7 @@ impl<'a> Words<'a> {
         after_blanks(self.rest).is_empty()
     }
 
-    /// The same words, to go over them a second time.
+    /// The same words, for going over them a second time.
     pub fn again(&self) -> Words<'a>
         ensures { result ≡ self.now }
     {

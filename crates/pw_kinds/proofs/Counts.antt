@@ -59,7 +59,7 @@ none_where : (b : Bool) → b ≡ false → cond b 1 0 ≤ 0
 none_where true e = absurd (cc)
 none_where false e = omega arith
 
--- where all pass, as many pass as there are
+-- if all pass, as many pass as there are
 pub count_all : (p : ℤ → Bool) (n : ℕ) (v : ℤ) → ((w : ℤ) → v ≤ℤ w → w <ℤ (v +ℤ pos n) → p w ≡ true) → count p n v ≡ n
 unfolding count
 count_all p zero v every = refl
@@ -67,7 +67,7 @@ count_all p (suc n) v every =
     let here = one_where (p v) (every v (omega (arith, ints)) (omega (arith, ints))) in
     omega (arith, here, one_most (p v), count_all p n (v +ℤ pos 1) (λ w low high. every w (omega (arith, ints)) (omega (arith, ints))))
 
--- where none passes, none is counted
+-- if none passes, none is counted
 pub count_none : (p : ℤ → Bool) (n : ℕ) (v : ℤ) → ((w : ℤ) → p w ≡ false) → count p n v ≡ 0
 unfolding count
 count_none p zero v never = refl

@@ -34,7 +34,7 @@ true_eq a b e = (Decides-int_eq a b).1 e
 pub self_eq : (a : ℤ) → int_eq a a ≡ true
 self_eq a = true_eq a a refl
 
--- a number in range is possible where any is
+-- a number in range is possible if any is
 pub true_number : (v : ℤ) → exact_lowest ≤ℤ v → v ≤ℤ exact_highest → is_in_exact_range v ≡ true
 true_number v p q = true_between exact_lowest v exact_highest p q
 
@@ -85,7 +85,7 @@ same_values Empty Any same = absurd (any_not_empty (λ v. sym (same v)))
 same_values Empty (One n) same = absurd (one_not_empty n (λ v. sym (same v)))
 same_values Empty Empty same = refl
 
--- of two that leave the same numbers in range possible likewise
+-- the same for two that leave the same numbers in range possible
 pub same_in_range : (e f : Exact) → ((v : ℤ) → is_in_exact_range v ≡ true → allows e v ≡ allows f v) → e ≡ f
 same_in_range e f same = same_values e f (λ v. same_test _ _
     (λ h. sym (same v (allows_in_range e v h)) ∙ h)
@@ -160,7 +160,7 @@ pub closest_closest : (p : ℤ → Bool) → IsClosest p (closest p)
 unfolding closest
 closest_closest p = between_closest p _ _ (least_is p exact_numbers exact_lowest) (greatest_is p exact_numbers exact_highest)
 
--- an exact value that leaves possible just what passes, of the numbers in range, is the closest
+-- an exact value that leaves possible exactly what passes, of the numbers in range, is the closest
 pub closest_is : (p : ℤ → Bool) (e : Exact) → ((v : ℤ) → is_in_exact_range v ≡ true → allows e v ≡ p v) → e ≡ closest p
 closest_is p e same =
     let c : IsClosest p (closest p) = closest_closest p in
@@ -199,7 +199,7 @@ both_one m f = elim (cases_Bool (allows f m.value)) [
   )
 ]
 
--- some exact value leaves possible just what two leave
+-- some exact value leaves possible exactly what two leave
 both_values : (e f : Exact) → (r : Exact) × ((v : ℤ) → allows r v ≡ (allows e v && allows f v))
 both_values Any f = (f, λ v. same_test _ _ (λ h. both_true _ _ (allows_in_range f v h) h) (λ h. (true_both _ _ h).1))
 both_values Empty f = (Empty, λ v. refl)
@@ -214,7 +214,7 @@ allows-meet e f v =
     let (r, same) = both_values e f in
     ap (λ (x : Exact). allows x v) (sym (meet_is e f r same)) ∙ same v
 
--- ---- what the code's cases stand for
+-- ---- the meaning of the code's cases
 
 pub any_not_one : (n : ℤ) → IsOne Any n → ⊥
 any_not_one n h = zero_one n (eq_true (pos 0) n (sym (h (pos 0)) ∙ zero_number)) (eq_true (pos 1) n (sym (h (pos 1)) ∙ one_number))
@@ -260,7 +260,7 @@ one_within m n e v h = true_eq v n.value (eq_true v m.value h ∙ e)
 pub within_one : (m n : Number) → IsWithin (One m) (One n) → m.value ≡ n.value
 within_one m n w = eq_true m.value n.value (w m.value (self_eq m.value))
 
--- ---- the same of values that the code has taken apart
+-- ---- the same for values that the code has taken apart
 
 -- a fact of two values, from the fact of what they are
 at_both : (P : Exact → Exact → Type 0) (e f e' f' : Exact) → e ≡ e' → f ≡ f' → P e' f' → P e f

@@ -73,7 +73,7 @@ between_ends lo hi p q r = checked_ends lo hi _ refl (in_order lo hi p q r)
 pub ends : (lo hi : ℤ) → interval_lowest ≤ℤ lo → lo ≤ℤ hi → hi ≤ℤ interval_highest → AreEnds lo hi
 ends lo hi p q r = (q, (p, omega (arith, ints)), (omega (arith, ints), r))
 
--- the interval from one end to another leaves possible just the numbers between them
+-- the interval from one end to another leaves possible exactly the numbers between them
 pub from_to_values : (lo hi : ℤ) → AreEnds lo hi → IsFromTo (from_to lo hi) lo hi
 from_to_values lo hi (order, low, high) v =
     let at : ((from_to lo hi).lo ≡ lo) × ((from_to lo hi).hi ≡ hi) = between_ends lo hi low.0 order high.1 in
@@ -112,7 +112,7 @@ between_is p i (Some lo) (Some hi) same low high =
     let same_hi : i.hi ≡ hi = omega (arith, ints) in
     same_ends i (between (Some lo) (Some hi)) (same_lo ∙ sym ends.0) (same_hi ∙ sym ends.1)
 
--- the interval that leaves possible just what passes, of the numbers in range, is the closest
+-- the interval that leaves possible exactly what passes, of the numbers in range, is the closest
 pub closest_is : (p : ℤ → Bool) (i : Interval) → ((v : ℤ) → interval_lowest ≤ℤ v → v ≤ℤ interval_highest → allows i v ≡ p v) → i ≡ closest p
 unfolding closest
 closest_is p i same = between_is p i _ _ same (least_is p interval_numbers interval_lowest) (greatest_is p interval_numbers interval_highest)
@@ -206,7 +206,7 @@ pub greatest_of_is : (i : Interval) (n : ℤ) → IsGreatestOf i n → greatest_
 unfolding greatest_of
 greatest_of_is i n h = greatest_from i n _ h (greatest_is (allows i) interval_numbers interval_highest)
 
--- ---- what the code's ends stand for
+-- ---- the meaning of the code's ends
 
 pub end_least : (i : Interval) (n : ℤ) → n ≡ i.lo → (IsEmpty i → ⊥) → IsLeastOf i n
 end_least i n e some =
@@ -243,7 +243,7 @@ meet_between i j lo hi s p q = meet_is i j (record { lo = lo; hi = hi; span = s 
 pub meet_values : (i j r : Interval) → r ≡ meet_of i j → (v : ℤ) → allows r v ≡ (allows i v && allows j v)
 meet_values i j r e v = ap (λ (k : Interval). allows k v) e ∙ allows-meet i j v
 
--- one interval is within another where it is empty or its ends lie between the other's
+-- one interval is within another if it is empty or its ends lie between the other's
 pub within_ends : (i j : Interval) → i.lo ≤ℤ i.hi → IsWithin i j → (j.lo ≤ℤ i.lo) × (i.hi ≤ℤ j.hi)
 within_ends i j ordered w =
     let low : (j.lo ≤ℤ i.lo) × (i.lo ≤ℤ j.hi) = allows_true j i.lo (w i.lo (true_allows i i.lo (omega (arith, ints)) ordered)) in
@@ -270,7 +270,8 @@ allows_between_allowed i lo v hi low high from to =
     let at_hi : (i.lo ≤ℤ hi) × (hi ≤ℤ i.hi) = allows_true i hi high in
     true_allows i v (omega (arith, ints)) (omega (arith, ints))
 
--- an interval that leaves some number possible leaves just the numbers from its least to its greatest possible
+-- an interval that leaves some number possible leaves exactly the numbers from its least to its
+-- greatest possible
 pub allows_from_least : (i : Interval) (lo hi : ℤ) → IsLeastOf i lo → IsGreatestOf i hi → IsFromTo i lo hi
 allows_from_least i lo hi (low, least') (high, most) v = same_test _ _
     (λ e. true_between lo v hi (least' v e) (most v e))

@@ -47,7 +47,7 @@ bit_step b n k rest below e =
     let none : k - n ≡ 0 = omega arith in
     ap (λ x. x == 1) (bit_at_cat_high (if b then 1 else 0) n rest k below from ∙ ap (bit_at (if b then 1 else 0)) none ∙ bit_at_lowest (if b then 1 else 0)) ∙ lowest_bit b
 
--- bit k of the mask of a test is set exactly where place k passes
+-- bit k of the mask of a test is set exactly if place k passes
 pub bit_of_mask : (p : ℤ → Bool) (n k : ℕ) → k < n → (bit_at (mask_of p n) k == 1) ≡ p (pos k)
 unfolding mask_of
 bit_of_mask p zero k h = absurd (omega arith)
@@ -92,7 +92,7 @@ and_one : (a b : Bool) → (a ≡ true → b ≡ true) → (a && b) ≡ a
 and_one true b h = h refl
 and_one false b h = refl
 
--- a mask with the bits of one of two, where the other has them, is the mask of both
+-- a mask with the bits of one of two, if the other has them, is the mask of both
 pub inside_both : (a b : ℕ) → ((k : ℕ) → (bit_at a k == 1) ≡ true → (bit_at b k == 1) ≡ true) → bit_and a b ≡ a
 inside_both a b inside = same_from_bits (bit_and a b) a (λ k. same_bit _ _ (bit_at-lt (bit_and a b) k) (bit_at-lt a k) (bits_of_both a b k ∙ and_one _ _ (inside k)))
 

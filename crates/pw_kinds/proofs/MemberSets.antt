@@ -33,7 +33,7 @@ size_is m = let places : IsMask m.size m.mask = m.places in (places.fewest, plac
 pub size_true : (size : ℕ) → IsSize size → is_size size ≡ true
 size_true size (least, most) = grind arith
 
--- the places of a set of so many
+-- the places of a set of this size
 pub place_true : (size k : ℕ) → k < size → is_place size (pos k) ≡ true
 place_true size k h = both_true (le_z (pos 0) (pos k)) (lt_z (pos k) (pos size)) (grind (arith, ints)) (grind (arith, ints))
 
@@ -79,7 +79,7 @@ closest_fields size p h = checked_is size p _ refl (size_true size h)
 pub size_of-closest : (size : ℕ) (p : ℤ → Bool) → IsSize size → size_of (closest size p) ≡ size
 size_of-closest size p h = (closest_fields size p h).0
 
--- the places that pass are just those that are possible
+-- the places that pass are exactly those that are possible
 pub allows-closest : (size : ℕ) (p : ℤ → Bool) → IsSize size → (k : ℕ) → k < size → allows (closest size p) (pos k) ≡ p (pos k)
 allows-closest size p h k l = ap (λ m. bit_at m k == 1) (closest_fields size p h).1 ∙ bit_of_mask p size k l
 
@@ -87,7 +87,7 @@ allows-closest size p h k l = ap (λ m. bit_at m k == 1) (closest_fields size p 
 pub closest_closest : (size : ℕ) (p : ℤ → Bool) → IsSize size → IsClosest size p (closest size p)
 closest_closest size p h = record { of_size = size_of-closest size p h; holds = allows-closest size p h }
 
--- members of which just the places that pass are possible are the closest
+-- members of which exactly the places that pass are possible are the closest
 pub closest_is : (size : ℕ) (p : ℤ → Bool) (m : Members) → size_of m ≡ size → ((k : ℕ) → k < size → allows m (pos k) ≡ p (pos k)) → m ≡ closest size p
 closest_is size p m e same =
     let size' : IsSize size = subst IsSize e (size_is m) in
@@ -120,7 +120,7 @@ allows-meet m n (negsuc k) = refl
 pub meet_is : (m n r : Members) → size_of r ≡ size_of m → ((v : ℤ) → allows r v ≡ (allows m v && allows n v)) → r ≡ meet_of m n
 meet_is m n r size same = same_values r (meet_of m n) (size ∙ sym (size_of-meet m n)) (λ v. same v ∙ sym (allows-meet m n v))
 
--- ---- what the code's masks stand for
+-- ---- the meaning of the code's masks
 
 -- a mask with every bit set
 pub full_values : (size mask : ℕ) → mask + 1 ≡ 2 ^ size → (v : ℤ) → mask_allows mask v ≡ is_place size v

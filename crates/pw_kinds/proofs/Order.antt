@@ -1,4 +1,4 @@
--- Tests of order on whole numbers, and the facts that they stand for.
+-- Tests of order on whole numbers, and the facts that they test.
 use Rattle.std.proofs.Common.{◌≡◌, ℤ, ◌≤ℤ◌, ◌<ℤ◌, Bool, true, false, ◌&&◌, arith, refl, sym}
 use Rattle.std.specs.Int.Signed.{le_z}
 use Rattle.std.proofs.lemmas.Int.{ints}

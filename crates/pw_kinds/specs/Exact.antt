@@ -1,4 +1,4 @@
--- What an exact value says of a number: a set of whole numbers in range, given by its test.
+-- What an exact value says about a number: a set of whole numbers in range, given by its test.
 use Rattle.std.specs.Prelude.{◌≡◌, ℤ, Bool, true, false, ◌&&◌, Option, Some, refl, if◌then◌else◌}
 use Rattle.std.specs.Ordering.{int_eq}
 use Rattle.pw_kinds.specs.declared.exact.Exact.{Exact}
@@ -20,7 +20,7 @@ IsEmpty e = (v : ℤ) → allows e v ≡ false
 abbrev pub IsAny : Exact → Type 0
 IsAny e = (v : ℤ) → is_in_exact_range v ≡ true → allows e v ≡ true
 
--- just one number is possible, this one
+-- exactly one number is possible, this one
 abbrev pub IsOne : Exact → ℤ → Type 0
 IsOne e n = (v : ℤ) → allows e v ≡ int_eq v n
 
@@ -32,22 +32,23 @@ SameValues e f = (v : ℤ) → allows e v ≡ allows f v
 abbrev pub IsWithin : Exact → Exact → Type 0
 IsWithin e f = (v : ℤ) → allows e v ≡ true → allows f v ≡ true
 
--- a number where the test of its range passes, else no number
+-- a number if the test of its range passes, and otherwise no number
 unfoldable pub checked : (n : ℤ) (b : Bool) → is_in_exact_range n ≡ b → Exact
 checked n true e = One (record { value = n; at_least = exact_range_low n e; at_most = exact_range_high n e })
 checked n false e = Empty
 
--- just this number, where it is in range, else no number
+-- only this number if it is in range, and otherwise no number
 abbrev pub one : ℤ → Exact
 one n = checked n _ refl
 
--- what is known where the least and the greatest number that pass are these: the number where they are one
+-- the exact value if these are the least and the greatest number that pass: the number if they are
+-- equal
 abbrev pub between : Option ℤ → Option ℤ → Exact
 between (Some a) (Some b) = if int_eq a b then one a else Any
 between _ _ = Empty
 
--- the most informed in which every number in range that passes is possible: none where no number passes, the number
--- where one alone passes, else any
+-- the most informed value in which every number in range that passes is possible: none if no number
+-- passes, the number if exactly one passes, and otherwise any
 unfoldable pub closest : (ℤ → Bool) → Exact
 closest p = between (least p exact_numbers exact_lowest) (greatest p exact_numbers exact_highest)
 
@@ -59,16 +60,16 @@ any = closest (λ v. true)
 abbrev pub empty : Exact
 empty = closest (λ v. false)
 
--- the merge of two: what both leave possible
+-- the merge of two: it leaves possible what both leave possible
 abbrev pub meet_of : Exact → Exact → Exact
 meet_of e f = closest (λ v. allows e v && allows f v)
 
--- of the numbers in range it leaves possible just those that pass
+-- of the numbers in range, it leaves exactly those possible that pass
 abbrev pub AllowsJust : (ℤ → Bool) → Exact → Type 0
 AllowsJust p e = (v : ℤ) → is_in_exact_range v ≡ true → allows e v ≡ p v
 
--- the most informed in which every number in range that passes is possible, in words: it allows each of them, and is
--- within any other that does
+-- the most informed value in which every number in range that passes is possible, in words: it
+-- allows each of them, and is within any other value that does
 pub record IsClosest (p : ℤ → Bool) (e : Exact) : Type 0 where
   pub holds : (v : ℤ) → is_in_exact_range v ≡ true → p v ≡ true → allows e v ≡ true
   pub smallest : (f : Exact) → ((v : ℤ) → is_in_exact_range v ≡ true → p v ≡ true → allows f v ≡ true) → IsWithin e f

@@ -1,4 +1,4 @@
--- What an interval says of a number: a set of whole numbers in range, given by its test.
+-- What an interval says about a number: a set of whole numbers in range, given by its test.
 use Rattle.std.specs.Prelude.{◌≡◌, ℕ, ℤ, pos, neg_ℤ, ◌≤ℤ◌, Bool, true, false, ◌&&◌, Option, Some, refl}
 use Rattle.std.specs.Int.Signed.{le_z}
 use Rattle.pw_kinds.specs.declared.interval.Interval.{Interval}
@@ -26,7 +26,7 @@ IsWithin i j = (v : ℤ) → allows i v ≡ true → allows j v ≡ true
 abbrev pub SameValues : Interval → Interval → Type 0
 SameValues i j = (v : ℤ) → allows i v ≡ allows j v
 
--- just the numbers from lo to hi are possible
+-- exactly the numbers from lo to hi are possible
 abbrev pub IsFromTo : Interval → ℤ → ℤ → Type 0
 IsFromTo i lo hi = (v : ℤ) → allows i v ≡ (le_z lo v && le_z v hi)
 
@@ -38,12 +38,12 @@ AreEnds lo hi = (lo ≤ℤ hi) × IsInIntervalRange lo × IsInIntervalRange hi
 abbrev pub empty : Interval
 empty = record { lo = pos 1; hi = pos 0; span = empty_span }
 
--- the interval from lo to hi where the test of its ends passes, else the empty one
+-- the interval from lo to hi if the test of its ends passes, and otherwise the empty one
 unfoldable pub checked : (lo hi : ℤ) (b : Bool) → (le_z interval_lowest lo && le_z lo hi && le_z hi interval_highest) ≡ b → Interval
 checked lo hi true e = record { lo = lo; hi = hi; span = checked_span lo hi e }
 checked lo hi false e = empty
 
--- the interval from lo to hi where these are its ends, else the empty one
+-- the interval from lo to hi if these are its ends, and otherwise the empty one
 abbrev pub from_to : ℤ → ℤ → Interval
 from_to lo hi = checked lo hi _ refl
 
@@ -54,7 +54,7 @@ range lo hi = from_to (pos lo) (pos hi)
 abbrev pub from_minus_to : ℕ → ℕ → Interval
 from_minus_to lo hi = from_to (neg_ℤ (pos lo)) (pos hi)
 
--- the interval from the one to the other where there are both, else the empty one
+-- the interval from one number to the other if both exist, and otherwise the empty one
 abbrev pub between : Option ℤ → Option ℤ → Interval
 between (Some lo) (Some hi) = from_to lo hi
 between _ _ = empty
@@ -67,15 +67,15 @@ closest p = between (least p interval_numbers interval_lowest) (greatest p inter
 abbrev pub whole : Interval
 whole = closest (λ v. true)
 
--- the merge of two: what both leave possible
+-- the merge of two: it leaves possible what both leave possible
 abbrev pub meet_of : Interval → Interval → Interval
 meet_of i j = closest (λ v. allows i v && allows j v)
 
--- the least number that is possible, where there is one
+-- the least possible number, if there is one
 unfoldable pub least_of : Interval → Option ℤ
 least_of i = least (allows i) interval_numbers interval_lowest
 
--- the greatest number that is possible, where there is one
+-- the greatest possible number, if there is one
 unfoldable pub greatest_of : Interval → Option ℤ
 greatest_of i = greatest (allows i) interval_numbers interval_highest
 
@@ -93,8 +93,8 @@ pub record PassesFromTo (p : ℤ → Bool) (lo hi : ℤ) : Type 0 where
   pub at_hi : p hi ≡ true
   pub inside : (v : ℤ) → p v ≡ true → (lo ≤ℤ v) × (v ≤ℤ hi)
 
--- the smallest interval in which every number in range that passes is possible, in words: it allows each of them,
--- and is within any interval that does
+-- the smallest interval in which every number in range that passes is possible, in words: it allows
+-- each of them, and is within any interval that does
 pub record IsClosest (p : ℤ → Bool) (i : Interval) : Type 0 where
   pub holds : (v : ℤ) → is_in_interval_range v ≡ true → p v ≡ true → allows i v ≡ true
   pub smallest : (j : Interval) → ((v : ℤ) → is_in_interval_range v ≡ true → p v ≡ true → allows j v ≡ true) → IsWithin i j

@@ -1,6 +1,6 @@
--- The limit of sets, which is how wide a mask is: a later form of declarations may raise it.
+-- The limit of sets, which is the width of a mask: a later form of declarations may raise it.
 use Rattle.std.specs.Prelude.{ℕ}
 
--- the most members that a set may have
+-- the greatest number of members of a set
 abbrev pub most_members : ℕ
 most_members = 64

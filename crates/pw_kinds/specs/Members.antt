@@ -1,11 +1,12 @@
--- What the members of a set that are still possible say of a place: a set of whole numbers, given by its test.
+-- What the still possible members of a set say about a place: a set of whole numbers, given by its
+-- test.
 use Rattle.std.specs.Prelude.{◌≡◌, ℕ, ℤ, pos, ◌<◌, Bool, true, false, ◌&&◌, List, refl}
 use Rattle.std.specs.List.{list_any}
 use Rattle.std.specs.Ordering.{int_eq}
 use Rattle.pw_kinds.specs.declared.members.Members.{Members}
 use Rattle.pw_kinds.specs.Places.{is_size, mask_allows, mask_of, checked_mask, empty_mask}
 
--- how many members the set has
+-- the number of members of the set
 abbrev pub size_of : Members → ℕ
 size_of m = m.size
 
@@ -29,32 +30,35 @@ SameValues m n = (v : ℤ) → allows m v ≡ allows n v
 abbrev pub IsWithin : Members → Members → Type 0
 IsWithin m n = (v : ℤ) → allows m v ≡ true → allows n v ≡ true
 
--- the members whose place passes where the test of the size passes, else no member of a set of two
+-- the members whose place passes if the test of the size passes, and otherwise no member of a set
+-- of two
 unfoldable pub checked : (size : ℕ) (p : ℤ → Bool) (b : Bool) → is_size size ≡ b → Members
 checked size p true e = record { size = size; mask = mask_of p size; places = checked_mask p size e }
 checked size p false e = record { size = 2; mask = 0; places = empty_mask }
 
--- the members of a set of so many whose place passes; of a size that no set has, no member of a set of two
+-- the members of a set of this size whose place passes; for a size that no set has, no member of a
+-- set of two
 unfoldable pub closest : ℕ → (ℤ → Bool) → Members
 closest size p = checked size p _ refl
 
--- the members of a set of so many at these places
+-- the members of a set of this size at these places
 abbrev pub at_places : ℕ → List ℕ → Members
 at_places size places = closest size (λ v. list_any (λ place. int_eq (pos place) v) places)
 
--- every member of a set of so many
+-- every member of a set of this size
 abbrev pub full : ℕ → Members
 full size = closest size (λ v. true)
 
--- no member of a set of so many
+-- no member of a set of this size
 abbrev pub empty : ℕ → Members
 empty size = closest size (λ v. false)
 
--- the merge of two of one size: what both leave possible
+-- the merge of two of one size: it leaves possible what both leave possible
 abbrev pub meet_of : Members → Members → Members
 meet_of m n = closest (size_of m) (λ v. allows m v && allows n v)
 
--- the members whose place passes, in words: of the size, and of its places just those that pass are possible
+-- the members whose place passes, in words: of the size, and exactly the places that pass are
+-- possible
 pub record IsClosest (size : ℕ) (p : ℤ → Bool) (m : Members) : Type 0 where
   pub of_size : size_of m ≡ size
   pub holds : (k : ℕ) → k < size → allows m (pos k) ≡ p (pos k)

@@ -1,4 +1,4 @@
--- Which whole numbers an interval may speak of, and which ones an exact value.
+-- The whole numbers that an interval may contain, and those that an exact value may have.
 use Rattle.std.specs.Prelude.{◌≡◌, ℕ, ℤ, pos, negsuc, ◌≤ℤ◌, Bool, true, ◌&&◌}
 use Rattle.std.specs.Int.Signed.{le_z}
 use Rattle.std.proofs.Common.{arith}
@@ -11,7 +11,7 @@ interval_lowest = negsuc 999999
 abbrev pub interval_highest : ℤ
 interval_highest = pos 1000000
 
--- how many numbers there are from the least to the greatest
+-- the number of numbers from the least to the greatest
 abbrev pub interval_numbers : ℕ
 interval_numbers = 2000001
 
@@ -29,7 +29,7 @@ exact_lowest = negsuc 999999999
 abbrev pub exact_highest : ℤ
 exact_highest = pos 1000000000
 
--- how many numbers there are from the least to the greatest
+-- the number of numbers from the least to the greatest
 abbrev pub exact_numbers : ℕ
 exact_numbers = 2000000001
 

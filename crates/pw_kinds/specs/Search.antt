@@ -1,6 +1,6 @@
--- The first number that passes a test, and how many pass, over a stretch of whole numbers.
--- These are unfoldable and never computed over a whole kind: what they give is told by `least_is`, `greatest_is` and
--- `count_gain`.
+-- The first number that passes a test, and the number of numbers that pass, over a stretch of whole
+-- numbers. These are unfoldable and never computed over a whole kind: `least_is`, `greatest_is` and
+-- `count_gain` say what they give.
 use Rattle.std.specs.Prelude.{ℕ, zero, suc, ◌+◌, ℤ, pos, Bool, cond, Option, Some, None, ◌+ℤ◌, ◌-ℤ◌}
 
 -- the least of the n numbers from v up that passes
@@ -13,7 +13,7 @@ unfoldable pub greatest : (ℤ → Bool) → ℕ → ℤ → Option ℤ
 greatest p zero v = None
 greatest p (suc n) v = cond (p v) (Some v) (greatest p n (v -ℤ pos 1))
 
--- how many of the n numbers from v up pass
+-- the number of the n numbers from v up that pass
 unfoldable pub count : (ℤ → Bool) → ℕ → ℤ → ℕ
 count p zero v = 0
 count p (suc n) v = cond (p v) 1 0 + count p n (v +ℤ pos 1)

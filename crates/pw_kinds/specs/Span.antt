@@ -5,7 +5,7 @@ use Rattle.std.proofs.Common.{arith}
 use Rattle.std.proofs.lemmas.Int.{ints}
 use Rattle.pw_kinds.specs.Ranges.{interval_lowest, interval_highest}
 
--- the ends of an interval: in range, and in one form where nothing lies between them
+-- the ends of an interval: in range, and in one form if no number lies between them
 pub record IsSpan (lo hi : ℤ) : Type 0 where
   pub low : interval_lowest ≤ℤ lo
   pub high : hi ≤ℤ interval_highest

@@ -10,13 +10,13 @@ pub struct Number {
     ghost at_most: { value ≤ℤ exact_highest },
 }
 
-/// What is known of a whole number between -1,000,000,000 and 1,000,000,000 that is known exactly or not at all. Two
-/// that leave the same numbers possible are equal.
+/// What is known about a whole number between -1,000,000,000 and 1,000,000,000 that is known
+/// exactly or not at all. Two that leave the same numbers possible are equal.
 #[derive(Clone, Copy, Debug, PartialEq, Eq)]
 pub enum Exact {
     /// Every number in range is possible.
     Any,
-    /// Just this number is possible.
+    /// Only this number is possible.
     One(Number),
     /// No number is possible.
     Empty,
@@ -35,7 +35,7 @@ impl Exact {
         Exact::Any
     }
 
-    /// Just this number. None outside -1,000,000,000 to 1,000,000,000.
+    /// Only this number. None outside -1,000,000,000 to 1,000,000,000.
     pub fn one(n: i64) -> Option<Exact>
         ensures some { IsSome result ↔ IsInExactRange n }
         ensures values { IfSome result (λ e. IsOne e n) }
@@ -68,7 +68,7 @@ impl Exact {
         matches!(self, Exact::Empty)
     }
 
-    /// The number where exactly one is possible.
+    /// The number, if exactly one is possible.
     pub fn number(self) -> Option<i64>
         ensures { (n : ℤ) → (result ≡ Some n) ↔ IsOne self n }
     {

@@ -1,8 +1,9 @@
-// Intervals: a whole number that is known by the least and the greatest that it may be.
+// Intervals: a whole number that is known by its least and greatest possible values.
 ghost use Rattle.pw_kinds.specs.Span.{IsSpan};
 
-/// What is known of a whole number between -1,000,000 and 1,000,000: which numbers are still possible, from a least
-/// to a greatest one, or none at all. Two intervals that leave the same numbers possible are equal.
+/// What is known about a whole number between -1,000,000 and 1,000,000: which numbers are still
+/// possible, from a least to a greatest one, or none at all. Two intervals that leave the same
+/// numbers possible are equal.
 #[derive(Clone, Copy, Debug, PartialEq, Eq)]
 pub struct Interval {
     lo: i64,
@@ -16,7 +17,8 @@ impl Interval {
     ghost use Rattle.pw_kinds.specs.Interval.{allows, IsEmpty, IsWithin, IsFromTo, AreEnds, IsLeastOf, IsGreatestOf};
     ghost use Rattle.pw_kinds.specs.Interval.{empty, whole, meet_of, least_of, greatest_of};
 
-    /// The numbers from `lo` to `hi`. None where `lo` is above `hi` or an end is outside -1,000,000 to 1,000,000.
+    /// The numbers from `lo` to `hi`. None if `lo` is above `hi` or an end is outside -1,000,000 to
+    /// 1,000,000.
     pub fn new(lo: i64, hi: i64) -> Option<Interval>
         ensures some { IsSome result ↔ AreEnds lo hi }
         ensures values { IfSome result (λ i. IsFromTo i lo hi) }

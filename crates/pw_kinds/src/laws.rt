@@ -1,4 +1,5 @@
-//! Laws of the kinds, each the contract of a function that does nothing: they hold of every value of the kind.
+//! Laws of the kinds. Each is the contract of a function that does nothing, and holds of every
+//! value of the kind.
 
 ghost use Rattle.std.specs.Prelude.{◌≡◌, ℕ, ℤ, pos, negsuc, neg_ℤ, ◌&&◌, Bool, true, false, Some, [], ◌∷◌};
 ghost use Rattle.std.specs.Int.Signed.{le_z};
@@ -19,26 +20,29 @@ pub fn same_values_are_equal()
     ensures { (i j : Interval) → SameValues i j → i ≡ j }
 {}
 
-/// The interval from one number to another leaves possible just those between, and no other interval does.
+/// The interval from one number to another leaves exactly the numbers between them possible, both
+/// included, and no other interval does.
 pub fn ends_give_an_interval()
     ensures values { (lo hi : ℤ) → AreEnds lo hi → IsFromTo (from_to lo hi) lo hi }
     ensures only { (lo hi : ℤ) (i : Interval)
         → AreEnds lo hi → IsFromTo i lo hi → i ≡ from_to lo hi }
 {}
 
-/// The closest interval to a test is the smallest in which each number in range that passes is possible.
+/// The closest interval to a test is the smallest one in which each number in range that passes is
+/// possible.
 pub fn closest_is_smallest()
     ensures { (p : ℤ → Bool) → IsClosest p (closest p) }
 {}
 
-/// What the definitions of the whole interval, of the empty one and of a merge leave possible.
+/// The numbers that the definitions of the whole interval, of the empty one and of a merge leave
+/// possible.
 pub fn merge_is_intersection()
     ensures whole { (v : ℤ) → allows whole v ≡ is_in_interval_range v }
     ensures empty { IsEmpty empty }
     ensures meet { (i j : Interval) (v : ℤ) → allows (meet_of i j) v ≡ (allows i v && allows j v) }
 {}
 
-/// The definitions on small intervals.
+/// Examples: the definitions on small intervals.
 pub fn interval_examples()
     ensures overlap { meet_of (range 5 9) (range 0 7) ≡ range 5 7 }
     ensures touch { meet_of (from_minus_to 3 2) (range 2 4) ≡ range 2 2 }
@@ -61,7 +65,8 @@ pub fn same_members_are_equal()
         → members.size_of m ≡ members.size_of n → members.SameValues m n → m ≡ n }
 {}
 
-/// The closest members to a test are those whose place passes, and any that are so are the closest.
+/// The closest members to a test are those whose place passes, and any members like that are the
+/// closest.
 pub fn closest_members_are_those_that_pass()
     ensures closest { (size : ℕ) (p : ℤ → Bool)
         → IsSize size → members.IsClosest size p (members.closest size p) }
@@ -69,7 +74,7 @@ pub fn closest_members_are_those_that_pass()
         → members.IsClosest size p m → m ≡ members.closest size p }
 {}
 
-/// What the definitions of every member, of no member and of a merge leave possible.
+/// The places that the definitions of every member, of no member and of a merge leave possible.
 pub fn merge_of_members_is_intersection()
     ensures full { (size : ℕ) → IsSize size
         → (v : ℤ) → members.allows (members.full size) v ≡ is_place size v }
@@ -81,7 +86,7 @@ pub fn merge_of_members_is_intersection()
         → members.allows m v ≡ true → is_place (members.size_of m) v ≡ true }
 {}
 
-/// The definitions of members on a set of three.
+/// Examples: the definitions of members on a set of three.
 pub fn members_examples()
     ensures full { members.full 3 ≡ at_places 3 (0 ∷ 1 ∷ 2 ∷ []) }
     ensures past { members.allows (members.full 3) (pos 3) ≡ false }
@@ -100,14 +105,14 @@ pub fn same_exact_values_are_equal()
     ensures { (e f : Exact) → exact.SameValues e f → e ≡ f }
 {}
 
-/// The closest exact value to a test is the most informed in which each number in range that passes is possible; one
-/// that leaves just these possible is the closest.
+/// The closest exact value to a test is the most informed one in which each number in range that
+/// passes is possible. A value that leaves exactly these numbers possible is the closest.
 pub fn closest_exact_is_most_informed()
     ensures closest { (p : ℤ → Bool) → exact.IsClosest p (exact.closest p) }
     ensures just { (p : ℤ → Bool) (e : Exact) → exact.AllowsJust p e → e ≡ exact.closest p }
 {}
 
-/// What the definitions of one number, of any, of none and of a merge leave possible.
+/// The numbers that the definitions of one number, of any, of none and of a merge leave possible.
 pub fn merge_of_exact_values_is_intersection()
     ensures one { (n : ℤ) → is_in_exact_range n ≡ true → exact.IsOne (exact.one n) n }
     ensures any { (v : ℤ) → exact.allows exact.any v ≡ is_in_exact_range v }
@@ -117,7 +122,7 @@ pub fn merge_of_exact_values_is_intersection()
     ensures range { (e : Exact) (v : ℤ) → exact.allows e v ≡ true → is_in_exact_range v ≡ true }
 {}
 
-/// The definitions of exact values on small numbers.
+/// Examples: the definitions of exact values on small numbers.
 pub fn exact_examples()
     ensures same { exact.meet_of (exact.one (pos 7)) (exact.one (pos 7)) ≡ exact.one (pos 7) }
     ensures other { exact.meet_of (exact.one (pos 7)) (exact.one (pos 8)) ≡ exact.empty }

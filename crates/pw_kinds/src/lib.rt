@@ -1,5 +1,5 @@
-//! The kinds of partial information that a cell may hold about its value: intervals of whole numbers, the members of
-//! a set, and exact numbers.
+//! The kinds of partial information that a cell may hold about its value: intervals of whole
+//! numbers, the members of a set, and exact numbers.
 #![tactic(auto)]
 
 mod exact;

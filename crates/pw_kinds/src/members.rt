@@ -2,11 +2,12 @@
 ghost use Rattle.std.specs.Prelude.{◌≡◌, ◌+◌, ◌^◌};
 ghost use Rattle.pw_kinds.specs.Places.{IsMask, IsSize};
 
-/// How many members a set may have at most, which is how many bits a mask has.
+/// The greatest number of members of a set, which is the number of bits in a mask.
 const MOST_MEMBERS: u8 = 64;
 
-/// What is known of one of the members of a set: which of them are still possible. A set has 2 to 64 members, and
-/// each is told by its place, from 0 on. Two that leave the same places of sets of one size possible are equal.
+/// What is known about one of the members of a set: which of them are still possible. A set has 2
+/// to 64 members, and each is identified by its place, from 0 on. Two values that leave the same
+/// places of sets of one size possible are equal.
 #[derive(Clone, Copy, Debug, PartialEq, Eq)]
 pub struct Members {
     size: u8,
@@ -51,8 +52,8 @@ impl Members {
         Members { size, mask: 0 }
     }
 
-    /// The members whose bit of `mask` is set, bit k for place k, of a set of `size` members. None where no set has
-    /// that size (2 to 64), or where a bit at or past the size is set.
+    /// The members whose bit of `mask` is set, bit k for place k, of a set of `size` members. None
+    /// if no set has that size (2 to 64), or if a bit at or past the size is set.
     pub fn of(size: u8, mask: u64) -> Option<Members>
         ensures some { IsSome result ↔ (IsSize size × ((k : ℕ) → IsBitSet mask k → k < size)) }
         ensures size { IfSome result (λ m. size_of m ≡ size) }
@@ -67,14 +68,14 @@ impl Members {
         Some(Members { size, mask })
     }
 
-    /// How many members the set has.
+    /// The number of members of the set.
     pub fn size(self) -> u8
         ensures { result ≡ size_of self }
     {
         self.size
     }
 
-    /// A number whose bit k is set exactly where place k is possible.
+    /// A number whose bit k is set exactly if place k is possible.
     pub fn mask(self) -> u64
         ensures { (k : ℕ) → IsBitSet result k ↔ (allows self (pos k) ≡ true) }
     {
@@ -88,7 +89,7 @@ impl Members {
         place < self.size && (self.mask >> place) & 1 == 1
     }
 
-    /// The same, with the member at this place possible too. The place is below the size.
+    /// The same members, and the member at this place too. The place is below the size.
     pub fn with(self, place: u8) -> Members
         requires { place < size_of self }
         ensures size { size_of result ≡ size_of self }

@@ -49,7 +49,7 @@ calls_placed network line number calls cells support well are may few first is =
     (are.calls_are ∙ ap (on_places (expansion_of network.declared.compounds (callables.Compound number))) (as_many network line number calls cells support well are may few))
     ∙ sym (expansion_placed network.declared.compounds (callables.Compound number) cells (λ j. cells_in network + j))
 
--- what stands at a place is a cell that is there
+-- what is at a place is a cell that exists
 placed_here : (cells : List ℕ) (first place inner many : ℕ) → place < length cells + inner → All (λ cell. cell < many) cells → first + inner ≤ many →
     at_place cells (λ j. first + j) place < many
 placed_here [] first place inner many below here room = omega arith
@@ -107,7 +107,7 @@ procedure_attached declared inner instances instances_room instances_after last 
     ∙ ap (λ l. map attached_of l ++ attached_of x ∷ []) same_instances ∙ ap (λ l. map attached_of instances ++ l) one in
     λ i. record { declared = declared; inner = sym (append-nil (map inner_of inner)) i; attached = attaches i; last_line = line }
 
--- what a declaration says of a callable and cells, where it takes them, allows their attachment
+-- what a declaration says about a callable and cells, if it takes them, allows their attachment
 pub may_attach : (network : Network) (line : ℕ) (callable other : Callable) (cells : List ℕ) (kinds : List Kind) (takes : Bool) →
     IsTrue takes ↔ Takes network.declared callable (kinds_at kinds cells) → takes ≡ true → kinds ≡ network.declared.kinds →
     All (λ cell. cell < length network.declared.cells) cells → network.last_line < line → line ≤ most_lines → callable ≡ other → MayAttach network line other cells

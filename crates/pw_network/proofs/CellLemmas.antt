@@ -11,7 +11,7 @@ get-kept f [] place x e there read = absurd (omega arith)
 get-kept f (y ∷ inner) zero x e there read = ap (λ z. f (inner_of z)) (sym read)
 get-kept f (y ∷ inner) (suc place) x e there read = get-kept f inner place x e (omega arith) read
 
--- past the declared cells stands what is kept of the inner cell
+-- past the declared cells comes what is kept of the inner cells
 pub after_declared : {C : Type 0} (f : InnerCell → C) (declared : List C) (inner : List InnerKept) (n cell place : ℕ) (x : InnerKept) (e : C) →
     length declared ≡ n → n ≤ cell → cell - n ≡ place → place < length inner → x ≡ get_or inner place x →
     f (inner_of x) ≡ get_or (declared ++ map f (map inner_of inner)) cell e
@@ -24,7 +24,7 @@ all_alike [] cell x = refl
 all_alike (y ∷ declared) zero x = refl
 all_alike (y ∷ declared) (suc cell) x = all_alike declared cell x
 
--- what is said of each declared cell is said of one
+-- what is said about each declared cell is said about one
 pub among_declared : {B C : Type 0} (declared : List B) (more : List C) (cell : ℕ) (x : C) → cell < length declared →
     x ≡ get_or (map (λ (name : B). x) declared ++ more) cell x
 among_declared declared more cell x there =

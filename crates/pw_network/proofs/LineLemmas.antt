@@ -25,7 +25,7 @@ module _ {X : Type 0} (n : X → ℕ) (last line : ℕ) (xs ys : List X) (more :
       (All-weaker (λ x. n x ≤ last) (λ x. n x ≤ line) (λ x below. omega arith) xs past)
       (All-weaker (λ y. n y ≡ line) (λ y. n y ≤ line) (λ y same. omega arith) ys own)
 
-  -- and where what was there does not fall, nothing falls
+  -- and if what was there does not fall, nothing falls
   pub order_more : IsNonDecreasingBy n xs → IsNonDecreasingBy n (xs ++ ys)
   order_more order i j d upto within =
       elim (cases_lt j (length xs)) [

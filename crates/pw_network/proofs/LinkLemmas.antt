@@ -1,4 +1,5 @@
--- Lists of readers through one table of links: they stay linked when one more is appended, and when cells are added.
+-- Lists of readers through one table of links: they stay linked when one more is appended, and when
+-- cells are added.
 use Rattle.std.proofs.Common.{◌≡◌, ℕ, zero, suc, ◌+◌, ◌-◌, ◌<◌, ◌≤◌, inl, inr, cond, min, List, [], ◌∷◌, ◌++◌, length, map, drop, take, get_or, set, replicate, refl, sym, ap, subst, ◌∙◌, arith, append-nil, append_assoc, length-append, eq-eqb}
 use Rattle.std.specs.Prelude.{All}
 use Rattle.std.proofs.Math.Nat.{min-eq_left, min-eq_right}
@@ -54,7 +55,7 @@ none_left cell from at readings d upto there reads none =
     let long = ap length none in
     omega arith
 
--- ---- places that are told in other ways
+-- ---- places given in other ways
 
 pub leads_as : (readings : List Reading) (cell other from after at place : ℕ) → cell ≡ other → from ≡ after → at ≡ place →
     LeadsTo readings cell from at → LeadsTo readings other after place
@@ -192,7 +193,7 @@ module _ (readings : List Reading) (x : Reading) (few : length readings + 1 ≤ 
     still_led : (at : ℕ) → at < length readings → get_or led at 0 ≡ get_or (set nexts e.last (length readings)) at 0
     still_led at there = get_or_append_left (set nexts e.last (length readings)) (no_place ∷ []) 0 at (let l = length-set nexts e.last (length readings) in omega arith)
 
-    -- one that was there leads to the next
+    -- one that existed leads to the next
     last_led : (at : ℕ) (d : Reading) → at < length readings → at ≡ e.last → LeadsTo more (get_or readings at d).cell (at + 1) (get_or led at 0)
     last_led at d there is =
         let cell = (get_or readings at d).cell in

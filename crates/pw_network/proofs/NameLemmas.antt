@@ -75,7 +75,7 @@ inner_name network line callable cells support j here =
     ap (name_from (cells_in network + j)) (past ∙ new ∙ new_origin line 0 (inner_kinds_of network.declared.compounds callable) j here)
     ∙ ap (InnerCellOf line) number
 
--- the cells that were there keep their names
+-- the cells that existed keep their names
 pub kept_name : (network : Network) (line : ℕ) (callable : Callable) (cells : List ℕ) (support : Premises) (cell : ℕ) → cell < cells_in network →
     name_in (with_attached network line callable cells support) cell ≡ name_in network cell
 kept_name network line callable cells support cell here =
@@ -97,7 +97,7 @@ declared_names network [] here = refl
 declared_names network (cell ∷ cells) here =
     λ k. declared_name network cell (here 0 cell (omega arith)) k ∷ declared_names network cells (λ n d small. here (suc n) d (omega (arith, small))) k
 
--- by name, what is attached is what the callable becomes on the names
+-- by name, what is attached is the expansion of the callable on the names
 pub attached_by_name : (network : Network) (line : ℕ) (callable : Callable) (cells : List ℕ) (support : Premises) →
     All (λ cell. cell < length network.declared.cells) cells →
     map (renamed (name_in (with_attached network line callable cells support))) (expansion_of network.declared.compounds callable cells (λ j. cells_in network + j))

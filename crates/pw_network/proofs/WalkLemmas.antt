@@ -1,4 +1,4 @@
--- A walk over the links of a cell: where it begins, and how it goes on.
+-- A walk over the links of a cell: its start, and how it goes on.
 use Rattle.std.proofs.Common.{◌≡◌, ℕ, ◌+◌, ◌<◌, ◌≤◌, List, ◌∷◌, ◌++◌, length, map, drop, get_or, refl, sym, ap, subst, ◌∙◌, arith}
 use Rattle.std.proofs.lemmas.List.{at_drop_more, get_or-map, length-map}
 use Rattle.pw_network.specs.declared.link.Ends.{Ends}
@@ -6,7 +6,7 @@ use Rattle.pw_network.specs.declared.link.Link.{Link}
 use Rattle.pw_network.specs.ReaderLists.{AreLinked, IsWalk, LeadsTo, Reading, next_of, numbers_of, reading_of}
 use Rattle.pw_network.proofs.LinkLemmas.{leads_as, none_past, number_same, rest_past}
 
--- ---- where it begins
+-- ---- the start
 
 module _ (readings : List Reading) (nexts : List ℕ) (ends : List Ends) (linked : AreLinked readings nexts ends) where
   pub first_walk : (cell : ℕ) (e : Ends) → cell < length ends → e ≡ get_or ends cell e → IsWalk readings nexts cell e.first

@@ -26,7 +26,7 @@ same_on : {A B : Type 0} (f g : A → B) (xs : List A) → All (λ x. f x ≡ g 
 same_on f g [] same = refl
 same_on f g (x ∷ xs) same = λ i. same 0 x (omega arith) i ∷ same_on f g xs (λ k d within. same (suc k) d (omega arith)) i
 
--- where there is something of each
+-- if there is something of each
 filter_map_each : {A B : Type 0} (f : A → Option B) (g : A → B) (xs : List A) → All (λ x. f x ≡ Some (g x)) xs → filter_map f xs ≡ map g xs
 filter_map_each f g [] each = refl
 filter_map_each f g (x ∷ xs) each =
@@ -76,7 +76,7 @@ module _ (network : Network) (line : ℕ) (callable : Callable) (cells : List �
       let b = length-inner_cells line 0 own in
       omega arith
 
-  -- a cell that was there has the kind that it had
+  -- a cell that existed has the kind that it had
   same_kind : (cell : ℕ) → cell < cells_in network → kind_in after cell ≡ kind_in network cell
   same_kind cell there =
       let l = length-kinds_in network well in
@@ -116,7 +116,7 @@ module _ (network : Network) (line : ℕ) (callable : Callable) (cells : List �
         ++ sym (same_kind instance.output output) i ∷ [] in
         subst (λ (l : List Kind). AcceptsKinds network.declared.procedures [] (callables.Stored instance.procedure) l) same fits
 
-    -- an instance of cells that were there is one of cells that are
+    -- an instance of cells that existed is one of cells that are
     still_here : (attached : Attached) → SpeaksOf (λ cell. cell < cells_in network) attached.instance → SpeaksOf (λ cell. cell < cells_in after) attached.instance
     still_here attached (inputs, output) =
         let more = cells_after in

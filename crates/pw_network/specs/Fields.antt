@@ -1,4 +1,4 @@
--- What a network in the code is.
+-- The network that the code stores.
 use Rattle.pw_decl.specs.Fields.{declared_by}
 use Rattle.pw_network.specs.declared.network.Network.{Network as NetworkKept}
 use Rattle.pw_network.specs.Kept.{network_from}

@@ -1,4 +1,4 @@
--- What fields in the code keep of instances, of inner cells and of a network.
+-- Instances, inner cells and a network, by the fields that the code stores.
 use Rattle.std.specs.Prelude.{ℕ, List, map}
 use Rattle.pw_decl.specs.Declaration.{Declared}
 use Rattle.pw_network.specs.declared.inner_cell.InnerCell.{InnerCell as InnerKept}
@@ -18,7 +18,7 @@ attached_of kept =
 abbrev pub inner_of : InnerKept → InnerCell
 inner_of kept = record { line = kept.line; number = kept.number; kind = kept.kind }
 
--- what the fields keep of a network
+-- the network that the fields store
 abbrev pub network_from : Declared → List InnerKept → List InstanceKept → ℕ → Network
 network_from declared inner instances last_line =
     record {

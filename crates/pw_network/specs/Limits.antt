@@ -6,6 +6,7 @@ use Rattle.pw_decl.specs.Limits.{most_cells, most_inner_cells}
 abbrev pub most_lines : ℕ
 most_lines = 1000000
 
--- the cells are at most so many: the declared ones, and for each line the inner ones of an attachment
+-- the greatest number of cells: the declared ones, and for each line the inner ones of an
+-- attachment
 abbrev pub most_cells_in : ℕ
 most_cells_in = most_cells + most_inner_cells * most_lines

@@ -12,20 +12,22 @@ use Rattle.pw_decl.specs.Limits.{most_inner_cells}
 use Rattle.pw_decl.specs.WellDeclared.{IsWellDeclared}
 use Rattle.pw_network.specs.Limits.{most_lines}
 
--- an instance, the line at which it was attached and the premises under which
+-- an instance, the line at which it was attached, and the premises under which it was attached
 pub record Attached : Type 0 where
   pub instance : Instance ℕ
   pub line : ℕ
   pub support : Premises
 
--- an inner cell: the line of its attachment, its number among the inner cells of that attachment, from 0, and its kind
+-- an inner cell: the line of its attachment, its number among the inner cells of that attachment,
+-- from 0, and its kind
 pub record InnerCell : Type 0 where
   pub line : ℕ
   pub number : ℕ
   pub kind : Kind
 
--- a network over what is declared: its inner cells, whose numbers follow those of the declared cells, its instances, in the
--- order in which they were attached, and the line of the last attachment, 0 before the first
+-- a network over what is declared: its inner cells, whose numbers follow those of the declared
+-- cells, its instances, in the order in which they were attached, and the line of the last
+-- attachment, 0 before the first
 pub record Network : Type 0 where
   pub declared : Declared
   pub inner : List InnerCell
@@ -36,7 +38,7 @@ pub record Network : Type 0 where
 abbrev pub bare : Declared → Network
 bare d = record { declared = d; inner = []; attached = []; last_line = 0 }
 
--- how many cells there are
+-- the number of cells
 abbrev pub cells_in : Network → ℕ
 cells_in network = length network.declared.cells + length network.inner
 
@@ -44,7 +46,8 @@ cells_in network = length network.declared.cells + length network.inner
 abbrev pub kind_in : Network → ℕ → Kind
 kind_in network cell = slice_index_or (network.declared.kinds ++ map (λ inner. inner.kind) network.inner) cell kinds.Interval
 
--- where a cell comes from, by its number: an inner cell from a line, where it has a number; a declared cell from none
+-- where a cell comes from, by its number: an inner cell from a line, in which it has a number; a
+-- declared cell from none
 abbrev pub origin_in : Network → ℕ → Option (ℕ × ℕ)
 origin_in network cell =
     slice_index_or (map (λ name. None) network.declared.cells ++ map (λ inner. Some (inner.line, inner.number)) network.inner) cell None
@@ -57,11 +60,12 @@ inner_cells_from line number [] = []
 inner_cells_from line number (kind ∷ kinds) =
     record { line = line; number = number; kind = kind } ∷ inner_cells_from line (number + 1) kinds
 
--- an instance that is attached at this line under these premises
+-- an instance attached at this line under these premises
 abbrev pub attached_at : ℕ → Premises → Instance ℕ → Attached
 attached_at line support instance = record { instance = instance; line = line; support = support }
 
--- the network with a callable attached to these cells: its expansion, whose inner cells have the next numbers
+-- the network with a callable attached to these cells: its expansion, whose inner cells have the
+-- next numbers
 abbrev pub with_attached : Network → ℕ → Callable → List ℕ → Premises → Network
 with_attached network line callable cells support =
     record network {
@@ -71,13 +75,13 @@ with_attached network line callable cells support =
       last_line = line;
     }
 
--- ---- what holds of every network
+-- ---- properties of every network
 
--- each instance reads and writes cells that are there
+-- each instance reads and writes existing cells
 abbrev pub InstancesStay : Network → Type 0
 InstancesStay network = All (λ attached. SpeaksOf (λ cell. cell < cells_in network) attached.instance) network.attached
 
--- the procedure of each accepts the kinds of its cells
+-- the procedure of each instance accepts the kinds of its cells
 abbrev pub InstancesFit : Network → Type 0
 InstancesFit network =
     All (λ attached. ∥ FitsCells network.declared.procedures (kind_in network) attached.instance ∥₁) network.attached
@@ -86,11 +90,11 @@ InstancesFit network =
 abbrev pub LinesInOrder : Network → Type 0
 LinesInOrder network = IsNonDecreasingBy (λ (inner : InnerCell). inner.line) network.inner
 
--- none of them comes after the line of the last attachment
+-- no line of an inner cell comes after the line of the last attachment
 abbrev pub LinesReached : Network → Type 0
 LinesReached network = All (λ inner. inner.line ≤ network.last_line) network.inner
 
--- so it is, and the limits are kept
+-- all of this holds, and the limits are kept
 pub record IsWellNetwork (network : Network) : Type 0 where
   pub declared : IsWellDeclared network.declared
   pub lines : network.last_line ≤ most_lines
@@ -100,17 +104,18 @@ pub record IsWellNetwork (network : Network) : Type 0 where
   pub order : LinesInOrder network
   pub reached : LinesReached network
 
--- ---- what may be attached
+-- ---- conditions of an attachment
 
 -- the cells are declared
 abbrev pub AreDeclared : Network → List ℕ → Type 0
 AreDeclared network cells = All (λ cell. cell < length network.declared.cells) cells
 
--- the callable takes cells of the kinds of these
+-- the callable takes cells of these cells' kinds
 abbrev pub TakesCells : Network → Callable → List ℕ → Type 0
 TakesCells network callable cells = Takes network.declared callable (kinds_at network.declared.kinds cells)
 
--- the callable may be attached to the cells at this line: it takes them, they are declared, and the line comes next
+-- the callable may be attached to the cells at this line: it takes them, they are declared, and the
+-- line comes next
 pub record MayAttach (network : Network) (line : ℕ) (callable : Callable) (cells : List ℕ) : Type 0 where
   pub takes : TakesCells network callable cells
   pub here : AreDeclared network cells

@@ -8,15 +8,16 @@ use Rattle.pw_network.specs.ReaderLists.{Reading, numbers_of}
 abbrev pub reads : ℕ → Attached → Bool
 reads cell attached = list_any (nat_eq cell) attached.instance.inputs
 
--- the numbers of the instances that do, of those whose numbers are from this one on, rising
+-- the numbers of the instances that read it, of the instances with numbers from this one on, in
+-- rising order
 abbrev pub readers_from : List Attached → ℕ → ℕ → List ℕ
 readers_from attached cell number =
     filter (λ n. slice_index_or (map (reads cell) attached) n false) (range_with_len number (length attached - number))
 
--- the numbers of all that do, rising
+-- the numbers of all instances that read it, in rising order
 abbrev pub readers_of : Network → ℕ → List ℕ
 readers_of network cell = readers_from network.attached cell 0
 
--- of each cell these list the readers
+-- these list the readers of each cell
 abbrev pub AreReaders : List Reading → List Attached → Type 0
 AreReaders readings attached = (cell : ℕ) → numbers_of cell readings ≡ readers_from attached cell 0

@@ -1,4 +1,4 @@
-//! The lists of a network grow, where there is room.
+//! Growing the lists of a network, where there is room.
 ghost use Rattle.std.specs.Prelude.{◌≡◌, ◌+◌, ◌*◌, ◌<◌, ◌≤◌, ◌++◌, ◌∷◌, [], All, length, map, vec_len, vec_capacity};
 ghost use Rattle.pw_procs.specs.Arguments.{cells_of};
 ghost use Rattle.pw_decl.specs.Expansion.{at_place, renamed};
@@ -41,8 +41,8 @@ pub(crate) fn append_instance<A: Allocator + Copy>(
     let _ = instances.push(instance);
 }
 
-// Appends the instances of calls: a place stands for one of these cells, and past their end for an inner cell, of which the
-// first has the number `first`.
+// Appends the instances of calls: a place means one of these cells, or, past their end, an inner
+// cell. The first inner cell has the number `first`.
 pub(crate) fn append_instances<A: Allocator + Copy>(
     alloc: Global,
     instances: &mut Vec<Instance, A>,

@@ -1,4 +1,4 @@
-//! Inner cells, as they are kept.
+//! The stored form of inner cells.
 
 use pw_info::Kind;
 
@@ -7,7 +7,7 @@ use pw_info::Kind;
 pub(crate) struct InnerCell {
     // The line of the attachment.
     pub(crate) line: u32,
-    // Its number among the inner cells of the attachment, from 0.
+    // The number of the cell among the inner cells of the attachment, from 0.
     pub(crate) number: u16,
     pub(crate) kind: Kind,
 }

@@ -10,10 +10,10 @@ use pw_procs::Arguments;
 use smallvec::SmallVec;
 use std::alloc::Global;
 
-// A procedure reads eight cells at most.
+// A procedure reads at most eight cells.
 pub(crate) const MOST_INPUTS: usize = 8;
 
-/// A procedure between cells. A cell goes by its number in the network.
+/// A procedure between cells. Cells are given by their numbers in the network.
 #[derive(Debug, Drop)]
 pub struct Instance {
     /// The number of the procedure in the registry.
@@ -29,7 +29,8 @@ pub struct Instance {
 }
 
 impl Instance {
-    // The procedure of this number between these cells: it writes the last and reads the others.
+    // The procedure of this number between these cells: it writes the last cell and reads the
+    // others.
     pub(crate) fn new(
         alloc: Global,
         procedure: u8,

@@ -6,8 +6,9 @@ ghost use Rattle.pw_decl.specs.Expansion.{expansion_of, renamed};
 ghost use Rattle.pw_network.specs.Network.{Network, cells_in, with_attached};
 ghost use Rattle.pw_network.specs.Names.{DeclaredCell, InnerCellOf, name_in};
 
-/// Named by declaration and by line instead of by number, the instances of an attachment are what the callable becomes on
-/// the names of its cells; and the cells that were there keep their names.
+/// With names from declaration and line instead of numbers, the instances of an attachment are the
+/// expansion of the callable on the names of its cells. The cells that existed before keep their
+/// names.
 pub fn instances_by_name()
     ensures named { (network : Network) (line : ℕ) (callable : Callable) (cells : List ℕ) (support : Premises)
         → All (λ cell. cell < length network.declared.cells) cells

@@ -1,4 +1,5 @@
-//! Networks: callables attached to the cells of a declaration, each as instances of procedures between cells.
+//! Networks: callables attached to the cells of a declaration, each as instances of procedures
+//! between cells.
 #![tactic(auto)]
 
 mod attaching;

@@ -1,6 +1,7 @@
 //! Links between the readers of a cell.
 
-// One reader of a cell, and where the next one stands among the links: past their end where it is the last.
+// One reader of a cell, and the place of the next reader among the links. The place is past their
+// end if this reader is the last.
 #[derive(Clone, Copy, Debug)]
 pub(crate) struct Link {
     pub(crate) cell: u32,
@@ -9,7 +10,8 @@ pub(crate) struct Link {
     pub(crate) next: usize,
 }
 
-// Where the first and the last reader of a cell stand among the links: past their end where it has none.
+// The places of the first and the last reader of a cell among the links. They are past the end if
+// the cell has no readers.
 #[derive(Clone, Copy, Debug)]
 pub(crate) struct Ends {
     pub(crate) first: usize,

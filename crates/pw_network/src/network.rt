@@ -1,4 +1,5 @@
-//! What is attached to the cells of a declaration: instances of procedures, between its cells and inner ones.
+//! What is attached to the cells of a declaration: instances of procedures, between its cells and
+//! inner cells.
 ghost use Rattle.std.specs.Prelude.{◌≡◌, ◌<◌, ◌≤◌, length, map, IfOk, IfErr, OnOk, OnErr};
 ghost use Rattle.pw_procs.specs.Arguments.{cells_of};
 ghost use Rattle.pw_decl.specs.declared.step.Callable.TheVariants as callables;
@@ -34,14 +35,14 @@ use pw_premises::PremiseSet;
 use pw_procs::Arguments;
 use std::alloc::{AllocError, Allocator, Global};
 
-/// The cells of a declaration, after them inner cells, which attachments made for themselves, and the instances between
-/// them, in the order of the attachments.
+/// The cells of a declaration, after them the inner cells that attachments made for themselves, and
+/// the instances between them, in the order of the attachments.
 #[derive(Drop)]
 pub struct Network<'d, 'r, A: Allocator = Global> {
     declaration: &'d Declaration<'r, A>,
     inner: Vec<InnerCell, A>,
     instances: Vec<Instance, A>,
-    // The numbers of those that read each cell.
+    // The numbers of the instances that read each cell.
     lists: ReaderLists<A>,
     // The line of the last attachment, 0 before the first.
     last_line: u32,
@@ -55,7 +56,7 @@ pub struct Network<'d, 'r, A: Allocator = Global> {
 impl<'d, 'r, A: Allocator + Copy> Network<'d, 'r, A> {
     ghost use Rattle.pw_network.specs.Fields.{network_by};
 
-    /// The cells of the declaration, and nothing attached. It may fail for want of memory.
+    /// The cells of the declaration, with nothing attached. Fails only when out of memory.
     pub fn new(
         alloc: A,
         declaration: &'d Declaration<'r, A>,
@@ -72,15 +73,15 @@ impl<'d, 'r, A: Allocator + Copy> Network<'d, 'r, A> {
         })
     }
 
-    /// The declaration whose cells it has.
+    /// The declaration that the cells come from.
     pub fn declaration(&self) -> &'d Declaration<'r, A>
         ensures { declared_by result.now ≡ (network_by self.now).declared }
     {
         self.declaration
     }
 
-    /// The instances, in the order in which they were attached. Each reads and writes cells that are there, of kinds that
-    /// its procedure accepts.
+    /// The instances, in the order in which they were attached. Each reads and writes existing
+    /// cells, of kinds that its procedure accepts.
     pub fn instances(&self) -> &[Instance]
         ensures instances { map attached_of result.now ≡ (network_by self.now).attached }
         ensures here { InstancesStay (network_by self.now) }
@@ -89,7 +90,7 @@ impl<'d, 'r, A: Allocator + Copy> Network<'d, 'r, A> {
         &self.instances
     }
 
-    /// The number of cells, the declared ones and the inner ones.
+    /// The number of cells, declared and inner.
     pub fn cells(&self) -> u32
         ensures count { result ≡ cells_in (network_by self.now) }
         ensures most { result ≤ most_cells_in }
@@ -109,8 +110,8 @@ impl<'d, 'r, A: Allocator + Copy> Network<'d, 'r, A> {
         self.inner[(cell - declared) as usize].kind
     }
 
-    /// Of an inner cell the line of its attachment and its number there, from 0; none of a declared cell. The lines do not
-    /// fall in the order of the cells.
+    /// The line of an inner cell's attachment and the cell's number there, from 0. None for a
+    /// declared cell. In the order of the cells, the lines never fall.
     pub fn inner(&self, cell: u32) -> Option<(u32, u16)>
         requires { cell < cells_in (network_by self.now) }
         ensures origin { result ≡ origin_in (network_by self.now) cell }
@@ -132,16 +133,17 @@ impl<'d, 'r, A: Allocator + Copy> Network<'d, 'r, A> {
         self.last_line
     }
 
-    /// The numbers of the instances that read the cell, rising.
+    /// The numbers of the instances that read the cell, in rising order.
     pub fn readers(&self, cell: u32) -> Readers<'_>
         ensures { result ≡ readers_of (network_by self.now) cell }
     {
         self.lists.readers(cell)
     }
 
-    /// Attaches a callable, which is there, to declared cells under these premises, at a line after the last: its instances,
-    /// and its inner cells, whose numbers come next. It fails where the callable does not take these cells, or else for want
-    /// of memory, and then nothing changes.
+    /// Attaches a callable, which must exist, to declared cells under these premises, at a line
+    /// after the last: adds its instances, and its inner cells, which get the next numbers. Fails
+    /// if the callable does not take these cells, and otherwise only when out of memory. After a
+    /// failure nothing is changed.
     pub fn attach(
         &mut self,
         line: u32,
@@ -180,7 +182,7 @@ impl<'d, 'r, A: Allocator + Copy> Network<'d, 'r, A> {
         }
     }
 
-    // Attaches a procedure. It fails only for want of memory, and then nothing changes.
+    // Attaches a procedure. Fails only when out of memory; then nothing changes.
     fn attach_procedure(
         &mut self,
         line: u32,
@@ -204,8 +206,8 @@ impl<'d, 'r, A: Allocator + Copy> Network<'d, 'r, A> {
         Ok(())
     }
 
-    // Attaches a compound, of which these are the calls and the kinds of the inner cells. It fails only for want of memory,
-    // and then nothing changes.
+    // Attaches a compound with these calls and these kinds of inner cells. Fails only when out of
+    // memory; then nothing changes.
     fn attach_compound(
         &mut self,
         line: u32,

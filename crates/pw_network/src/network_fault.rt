@@ -5,6 +5,6 @@
 pub enum NetworkFault {
     /// The callable does not take cells of these kinds.
     WrongArguments,
-    /// There is no memory for it.
+    /// Out of memory.
     Memory,
 }

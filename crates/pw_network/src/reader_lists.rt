@@ -9,11 +9,11 @@ use crate::link::{Ends, Link};
 use crate::readers::Readers;
 use std::alloc::{AllocError, Allocator, Global};
 
-// Stands for a link where there is none: no table is so long.
+// Means no link: no table is this long.
 const NONE: usize = usize::MAX;
 
-// A list of readers for each cell, in the order in which they were appended. The lists go through one table, so that room
-// in it is room for any of them.
+// A list of readers for each cell, in the order in which they were appended. All lists are in one
+// table, so room in the table is room for any of them.
 #[derive(Drop)]
 pub(crate) struct ReaderLists<A: Allocator = Global> {
     links: Vec<Link, A>,
@@ -22,7 +22,7 @@ pub(crate) struct ReaderLists<A: Allocator = Global> {
 }
 
 impl<A: Allocator + Copy> ReaderLists<A> {
-    // Lists of so many cells, all empty. It fails only for want of memory.
+    // This many cells, with empty lists. Fails only when out of memory.
     pub(crate) fn new(alloc: A, cells: usize) -> Result<ReaderLists<A>, AllocError>
         ensures links { IfOk result (λ lists. lists.links.items ≡ []) }
         ensures cells { IfOk result (λ lists. vec_len lists.ends ≡ cells) }
@@ -37,7 +37,8 @@ impl<A: Allocator + Copy> ReaderLists<A> {
         })
     }
 
-    // Makes room for so many cells more, and so many readers. It fails only for want of memory; the lists stay as they are.
+    // Makes room for this many more cells and this many more readers. Fails only when out of
+    // memory. The lists are unchanged.
     pub(crate) fn reserve(&mut self, cells: usize, readers: usize) -> Result<(), AllocError>
         ensures links { self.new.links.items ≡ self.old.links.items }
         ensures cells { vec_len self.new.ends ≡ vec_len self.old.ends }
@@ -49,7 +50,7 @@ impl<A: Allocator + Copy> ReaderLists<A> {
         Ok(())
     }
 
-    // Adds so many cells that nothing reads yet.
+    // Adds `count` cells that nothing reads yet.
     pub(crate) fn add_cells(&mut self, count: usize)
         requires room { vec_len self.old.ends + count ≤ vec_capacity self.old.ends }
         ensures links { self.new.links ≡ self.old.links }
@@ -62,7 +63,7 @@ impl<A: Allocator + Copy> ReaderLists<A> {
         let _ = self.ends.resize(self.ends.len() + count, none);
     }
 
-    // Appends a reader to the list of each of these cells, once where a cell is named twice.
+    // Appends a reader to the list of each of these cells, only once if a cell is named twice.
     pub(crate) fn append(&mut self, number: usize, cells: &[u32])
         requires here { All (λ cell. cell < vec_len self.old.ends) cells.now }
         requires room { vec_len self.old.links + length cells.now ≤ vec_capacity self.old.links }
@@ -116,7 +117,7 @@ impl<A: Allocator + Copy> ReaderLists<A> {
         Readers::new(&self.links, cell, first)
     }
 
-    // Where the first reader of a cell stands among the links.
+    // The place of the first reader of a cell among the links.
     fn first(&self, cell: u32) -> usize
         ensures walk { IsWalk (map reading_of self.now.links.items) (map next_of self.now.links.items) cell result }
         ensures all { numbers_of cell (drop result (map reading_of self.now.links.items))
@@ -136,7 +137,7 @@ fn has(cells: &[u32], cell: u32) -> bool
     cells.iter().any(|other| cell == *other)
 }
 
-// Lets the link at a place lead to another one, where there is a link at that place.
+// Sets the next place of the link at a place, if there is a link at that place.
 fn lead<A: Allocator>(links: &mut Vec<Link, A>, place: usize, next: usize)
     ensures readings { map reading_of links.new.items ≡ map reading_of links.old.items }
     ensures nexts { map next_of links.new.items ≡ slice_set (map next_of links.old.items) place next }

@@ -6,12 +6,12 @@ ghost use Rattle.pw_network.specs.ReaderLists.{IsWalk, next_of, numbers_of, read
 use crate::link::Link;
 use std::marker::Model;
 
-/// The numbers of the instances that read a cell and are still to come, in rising order.
+/// The remaining numbers of the instances that read a cell, in rising order.
 #[derive(Drop)]
 pub struct Readers<'n> {
     links: &'n [Link],
     cell: u32,
-    // Where the next one stands among the links: past their end where none is left.
+    // The place of the next reader among the links: past their end if none is left.
     at: usize,
 }
 
@@ -28,7 +28,8 @@ impl<'n> Model for Readers<'n> {
 }
 
 impl<'n> Readers<'n> {
-    // The numbers of those that read the cell, from this place on, where one of them stands if there is any.
+    // The numbers of the instances that read the cell, from this place on. It is the place of one
+    // of them, if any is left.
     pub(crate) fn new(links: &'n [Link], cell: u32, at: usize) -> Readers<'n>
         requires { IsWalk (map reading_of links.now) (map next_of links.now) cell at }
         ensures { result ≡ numbers_of cell (drop at (map reading_of links.now)) }

@@ -44,7 +44,7 @@ parts p w n h = ap (filter p) (range_parts 0 n (suc (w - (n + 1))) n w (omega ar
 pick : (b c : Bool) (xs ys : List ℕ) → b ≡ c → cond b xs ys ≡ cond c xs ys
 pick b c xs ys e = ap (λ d. cond d xs ys) e
 
--- where n is the least that passes p, and r passes what p does but n
+-- if n is the least that passes p, and r passes what p does but n
 first_below : (p r : ℕ → Bool) (w n : ℕ) → n < w → p n ≡ true → r n ≡ false → ((q : ℕ) → q < n → p q ≡ false) → ((q : ℕ) → q ≢ n → r q ≡ p q)
     → filter p (range_with_len 0 w) ≡ n ∷ filter r (range_with_len 0 w)
 first_below p r w n h one without none others =
@@ -54,7 +54,7 @@ first_below p r w n h one without none others =
     parts p w n h ∙ (λ i. low_p i ++ pick (p n) true (n ∷ above i) (above i) one i)
     ∙ sym (ap (λ (xs : List ℕ). n ∷ xs) (parts r w n h ∙ (λ i. low_r i ++ pick (r n) false (n ∷ filter r (range_with_len (n + 1) (w - (n + 1)))) (filter r (range_with_len (n + 1) (w - (n + 1)))) without i)))
 
--- where n is the greatest that passes p, and r passes what p does but n
+-- if n is the greatest that passes p, and r passes what p does but n
 last_below : (p r : ℕ → Bool) (w n : ℕ) → n < w → p n ≡ true → r n ≡ false → ((q : ℕ) → n < q → p q ≡ false) → ((q : ℕ) → q ≢ n → r q ≡ p q)
     → filter p (range_with_len 0 w) ≡ filter r (range_with_len 0 w) ++ n ∷ []
 last_below p r w n h one without none others =

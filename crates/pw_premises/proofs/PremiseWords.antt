@@ -82,7 +82,7 @@ no_rest : (a b : Bool) → (a ≡ true → b ≡ true) → (a && not b) ≡ fals
 no_rest true b h = ap not (h refl)
 no_rest false b h = refl
 
--- no bit of a is left once those of b are taken away where the set of a is a subset of that of b
+-- no bit of a is left after those of b are taken away where the set of a is a subset of that of b
 is_subset_of_words : (w : Width) (a b : ℕ) → a < 2 ^ bits w → b < 2 ^ bits w
     → nat_eq (bit_and a (bit_not w b)) 0 ≡ is_subset (set_where (bits w) (has_bit a)) (set_where (bits w) (has_bit b))
 is_subset_of_words w a b h k = is_subset-set_where (bits w) (has_bit a) (has_bit b) _
@@ -90,7 +90,7 @@ is_subset_of_words w a b h k = is_subset-set_where (bits w) (has_bit a) (has_bit
     (λ all. eq-eqb _ _ (zero_from_bits (bits w) _ (omega (arith, and_le_l a (bit_not w b))) (pow_pos _)
     (λ q below. has_bit-and_not w a b q k below ∙ no_rest _ _ (all q below))))
 
--- two words are the same exactly where they hold the same set
+-- two words are the same exactly if they hold the same set
 pub same_word : (a b : ℕ) → a < 2 ^ 64 → b < 2 ^ 64 → nat_eq a b ≡ has_same_numbers (set_where 64 (has_bit a)) (set_where 64 (has_bit b))
 same_word a b h k = both_ways _ _
     (λ e. (same_numbers_equal _ _).1 (ap (λ n. set_where 64 (has_bit n)) (eqb-true a b e)))
@@ -162,7 +162,7 @@ without_past_word a n h = same_set nat_cmp_total nat_cmp-IsAntisymmetric _ _ (λ
       not_below : (n : ℕ) → 64 ≤ n → nat_lt n 64 ≡ false
       not_below n h = grind (arith, nat_tests)
 
--- a word is 0 exactly where its set is empty
+-- a word is 0 exactly if its set is empty
 pub empty_word : (a : ℕ) → a < 18446744073709551616 → Decides (nat_eq a 0) (set_where 64 (has_bit a) ≡ empty)
 empty_word a h = (
   λ e. ap (λ n. set_where 64 (has_bit n)) (eqb-true a 0 e) ∙ none_in_word,

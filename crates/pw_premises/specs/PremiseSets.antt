@@ -1,4 +1,5 @@
--- Laws of the set that a word holds: what it contains, and that the word is found again from it.
+-- Laws of the set stored in a word: what it contains, and that the word can be computed from the
+-- set.
 use Rattle.std.specs.Prelude.{◌≡◌, ℕ, zero, suc, ◌+◌, ◌*◌, ◌%◌, ◌<◌, ◌≤◌, ◌^◌, Bool, true, false, not, cond, ◌&&◌, ◌||◌, nat_eq, nat_lt}
 use Rattle.std.specs.List.{range_with_len, list_any}
 use Rattle.std.specs.Ordering.{nat_cmp}
@@ -35,7 +36,7 @@ below_passes w q a h = grind (arith, nat_tests)
 past_none : (w q : ℕ) (a : Bool) → w ≤ q → (nat_lt q w && a) ≡ nat_lt q w
 past_none w q a h = grind (arith, nat_tests)
 
--- below w it contains what passes
+-- below w it contains the numbers that pass
 pub contains-set_where_below : (w : ℕ) (p : ℕ → Bool) (q : ℕ) → q < w → contains (set_where w p) q ≡ p q
 contains-set_where_below w p q h = contains-set_where w p q ∙ below_passes w q (p q) h
 
@@ -43,7 +44,7 @@ contains-set_where_below w p q h = contains-set_where w p q ∙ below_passes w q
 pub contains-set_where_past : (w : ℕ) (p : ℕ → Bool) (q : ℕ) → w ≤ q → contains (set_where w p) q ≡ nat_lt q w
 contains-set_where_past w p q h = contains-set_where w p q ∙ past_none w q (p q) h
 
--- a set is known by what it contains
+-- a set is determined by what it contains
 set_where-is : (w : ℕ) (p : ℕ → Bool) (s : FinSet nat_cmp) → ((q : ℕ) → (nat_lt q w && p q) ≡ contains s q) → set_where w p ≡ s
 set_where-is w p s same = same_set nat_cmp_total nat_cmp-IsAntisymmetric _ _ (λ q. contains-set_where w p q ∙ same q)
 
@@ -58,7 +59,7 @@ and_false : (a : Bool) → (a && false) ≡ false
 and_false true = refl
 and_false false = refl
 
--- where nothing passes it is empty
+-- if no number passes, the set is empty
 pub set_where-none : (w : ℕ) → set_where w (λ _. false) ≡ empty
 set_where-none w = set_where-is w _ empty (λ q. and_false _ ∙ sym (contains-empty nat_cmp q))
 
@@ -66,7 +67,7 @@ and_or : (a b c : Bool) → (a && (b || c)) ≡ ((a && b) || (a && c))
 and_or true b c = refl
 and_or false b c = refl
 
--- where one of two tests passes it is the union
+-- the set of the numbers that pass one of two tests is the union
 pub set_where-or : (w : ℕ) (p r : ℕ → Bool) → set_where w (λ k. p k || r k) ≡ union (set_where w p) (set_where w r)
 set_where-or w p r = set_where-is w _ _ (λ q. and_or (nat_lt q w) (p q) (r q)
     ∙ sym (contains-union nat_cmp_total _ _ q ∙ (λ i. contains-set_where w p q i || contains-set_where w r q i)))
@@ -75,7 +76,7 @@ and_and_not : (a b c : Bool) → (a && (b && not c)) ≡ ((a && b) && not (a && 
 and_and_not true b c = refl
 and_and_not false b c = refl
 
--- where the one test passes and the other does not it is the difference
+-- the set of the numbers that pass the one test and not the other is the difference
 pub set_where-and_not : (w : ℕ) (p r : ℕ → Bool) → set_where w (λ k. p k && not (r k)) ≡ difference (set_where w p) (set_where w r)
 set_where-and_not w p r = set_where-is w _ _ (λ q. and_and_not (nat_lt q w) (p q) (r q)
     ∙ sym (contains-difference nat_cmp_total _ _ q ∙ (λ i. contains-set_where w p q i && not (contains-set_where w r q i))))
@@ -83,7 +84,7 @@ set_where-and_not w p r = set_where-is w _ _ (λ q. and_and_not (nat_lt q w) (p 
 one_below : (w n q : ℕ) → n < w → (nat_lt q w && nat_eq q n) ≡ (nat_eq q n || false)
 one_below w n q h = grind (arith, nat_tests)
 
--- where n alone passes it holds n alone
+-- if only n passes, the set has only n
 pub set_where-one : (w n : ℕ) → n < w → set_where w (λ k. nat_eq k n) ≡ insert empty n
 set_where-one w n h = set_where-is w _ _ (λ q. one_below w n q h
     ∙ sym (contains-insert nat_cmp_total empty n q ∙ (λ i. unsigned_tied q n i || contains-empty nat_cmp q i)))
@@ -96,7 +97,7 @@ one_of_range a (suc n) q = ap (λ b. nat_eq a q || b) (one_of_range (a + 1) n q)
 contains_numbers_below : (n q : ℕ) → contains (from_list {R = nat_cmp} (range_with_len 0 n)) q ≡ nat_lt q n
 contains_numbers_below n q = contains-from_list_nat (range_with_len 0 n) q ∙ one_of_range 0 n q ∙ grind (arith, nat_tests)
 
--- where what is below n passes it holds the numbers below n
+-- if the numbers below n pass, the set has the numbers below n
 pub set_where-below : (w n : ℕ) → n ≤ w → set_where w (λ k. nat_lt k n) ≡ from_list (range_with_len 0 n)
 set_where-below w n h = set_where-is w _ _ (λ q. lt_both w n q h ∙ sym (contains_numbers_below n q)) where
   lt_both : (w n q : ℕ) → n ≤ w → (nat_lt q w && nat_lt q n) ≡ nat_lt q n
@@ -108,7 +109,7 @@ and_right w q a e = (grind (arith, nat_tests), grind (arith, nat_tests))
 and_both : (w q : ℕ) (a : Bool) → q < w → a ≡ true → (nat_lt q w && a) ≡ true
 and_both w q a h e = grind (arith, nat_tests)
 
--- a test that each number below w which passes p passes r is the subset test
+-- the test that each number below w which passes p also passes r is the subset test
 pub is_subset-set_where : (w : ℕ) (p r : ℕ → Bool) (b : Bool)
     → (b ≡ true → (q : ℕ) → q < w → p q ≡ true → r q ≡ true)
     → (((q : ℕ) → q < w → p q ≡ true → r q ≡ true) → b ≡ true)
@@ -134,6 +135,6 @@ number_of-bits zero n s same = omega arith
 number_of-bits (suc w) n s same = same_cond _ _ _ _ _ (same w (omega arith)) (number_of-bits w n s (λ k h. same k (omega arith)))
     ∙ if_bit (bit_at n w) (2 ^ w) (n % 2 ^ w) (bit_at-lt n w) ∙ sym (mod-pow-add n 1 w) ∙ ap (λ k. n % 2 ^ k) (omega arith)
 
--- the word is found again from its set
+-- the word can be computed from its set
 pub number_of-set_where : (n : ℕ) → n < 2 ^ 64 → number_of 64 (set_where 64 (has_bit n)) ≡ n
 number_of-set_where n h = number_of-bits 64 n _ (λ k below. contains-set_where_below 64 (has_bit n) k below) ∙ mod-eq_of_lt h

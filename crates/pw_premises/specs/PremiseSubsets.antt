@@ -54,7 +54,7 @@ and_true false b e = ((cc), (cc))
 true_and : (a b : Bool) → a ≡ true → b ≡ true → (a && b) ≡ true
 true_and a b e h = ap (λ c. c && b) e ∙ h
 
--- a union is a subset where both its parts are
+-- a union is a subset exactly if both its parts are
 pub union_is_subset_both : (s t u : FinSet nat_cmp) → is_subset (union s t) u ≡ (is_subset s u && is_subset t u)
 union_is_subset_both s t u = both_ways _ _
     (λ all. true_and _ _ (is_subset_trans s _ u (is_subset_union_left s t) all) (is_subset_trans t _ u (is_subset_union_right s t) all))

@@ -1,4 +1,4 @@
--- Sets of premises, and how many premises there may be.
+-- Sets of premises, and the limit on premises.
 use Rattle.std.specs.Prelude.{ℕ}
 use Rattle.std.specs.Ordering.{nat_cmp}
 use Rattle.std.specs.FinSet.{FinSet}
@@ -7,7 +7,7 @@ use Rattle.std.specs.FinSet.{FinSet}
 abbrev pub Premises : Type 0
 Premises = FinSet nat_cmp
 
--- premises have the numbers below this one: the limit of these sets, which are words of so many bits. Larger sets
--- change it alone; nothing else in a contract depends on it
+-- premises have the numbers below this one. It is the limit of these sets, which are words of this
+-- many bits. Larger sets change only this number; nothing else in a contract depends on it
 abbrev pub most_premises : ℕ
 most_premises = 64

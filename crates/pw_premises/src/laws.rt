@@ -1,4 +1,5 @@
-//! Laws of sets of premises, each the contract of a function that does nothing: they hold of every set.
+//! Laws of sets of premises. Each is the contract of a function that does nothing, and holds of
+//! every set.
 
 ghost use Rattle.std.specs.Prelude.{◌≡◌, ◌<◌, ◌↔◌, ◌&&◌, ℕ, true, Contains};
 ghost use Rattle.std.specs.List.Sorted.{IsStrictlyIncreasing};
@@ -6,7 +7,7 @@ ghost use Rattle.std.specs.FinSet.{empty, contains, remove, union, is_subset};
 ghost use Rattle.pw_premises.specs.Numbers.{numbers_of};
 ghost use Rattle.pw_premises.specs.Premises.{Premises, most_premises};
 
-/// To be a subset is a partial order, and the empty set is the least.
+/// The subset relation is a partial order, and the empty set is the least.
 pub fn subset_is_an_order()
     ensures reflexive { (s : Premises) → is_subset s s ≡ true }
     ensures transitive { (s t u : Premises) → is_subset s t ≡ true → is_subset t u ≡ true
@@ -15,7 +16,7 @@ pub fn subset_is_an_order()
     ensures least { (s : Premises) → is_subset empty s ≡ true }
 {}
 
-/// What two sets are joined to is the least set of which both are subsets.
+/// The join of two sets is the least set of which both are subsets.
 pub fn join_is_least_upper_bound()
     ensures own { (s t : Premises) → is_subset s (union s t) ≡ true }
     ensures other { (s t : Premises) → is_subset t (union s t) ≡ true }
@@ -28,7 +29,7 @@ pub fn without_is_a_subset()
     ensures { (s : Premises) (n : ℕ) → is_subset (remove s n) s ≡ true }
 {}
 
-/// The list of the numbers of a set rises, and has just those numbers of premises that are in the set.
+/// The list of the numbers of a set rises, and has exactly the numbers of the premises in the set.
 pub fn numbers_are_the_members()
     ensures rising { (s : Premises) → IsStrictlyIncreasing (numbers_of s) }
     ensures members { (s : Premises) (q : ℕ)

@@ -4,7 +4,7 @@ ghost use Rattle.std.specs.Iterator.{YieldsFirst, YieldsLast, item_count};
 
 use std::marker::Model;
 
-/// The numbers of a set that are still to come, in rising order; from the back they come falling.
+/// The remaining numbers of a set, in rising order, or in falling order from the back.
 #[derive(Clone, Debug, Drop)]
 pub struct Numbers {
     pub(crate) bits: u64,

@@ -89,7 +89,7 @@ impl PremiseSet {
         }
     }
 
-    /// The premises of this set but `n`; `n` may be any number, also one that is not in the set.
+    /// The premises of this set except `n`; `n` may be any number, also one that is not in the set.
     #[tactic(auto, using(crate::proofs::PremiseWords::without_in_word, crate::proofs::PremiseWords::without_past_word))]
     pub fn without(self, n: u8) -> PremiseSet
         ensures removed { result ≡ set.remove self n }
@@ -121,7 +121,7 @@ impl PremiseSet {
         Numbers { bits: self.bits }
     }
 
-    /// Whether the premise `n` is in this set; none from 64 on is.
+    /// Whether the premise `n` is in this set; no premise from 64 on is.
     #[tactic(auto, using(crate::proofs::PremiseWords::bit_in_word, crate::proofs::PremiseWords::past_word))]
     pub fn contains(&self, n: u8) -> bool
         ensures member { result ≡ set.contains self.now n }

@@ -6,7 +6,7 @@ use Rattle.pw_procs.specs.declared.meaning.Meaning.{Meaning}
 use Rattle.pw_procs.specs.declared.stored.Stored.{Stored}
 use Rattle.pw_procs.specs.Procedure.{Procedure, procedure_of, procedures_of, named_meanings, names_of, IsAdded}
 
--- the procedures are as they were, and the new one
+-- the procedures are unchanged, and the new one is added
 pub procedures-added : {X : Type 0} {F : X → Type 0} {C : _} (old new : List (Stored X F C)) (name : List ℕ) (inputs : List Slot) (output : Slot) (meaning : Meaning)
     → (is : IsAdded old new name inputs output meaning) → procedures_of new ≡ procedures_of old ++ procedure_of is.added ∷ []
 procedures-added old new name inputs output meaning is = ap procedures_of is.list ∙ map-append procedure_of old (is.added ∷ [])

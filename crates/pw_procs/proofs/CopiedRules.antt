@@ -29,7 +29,7 @@ copies_value rules copies same output inputs =
     let allow : rules_allow copies inputs ≡ rules_allow rules inputs = fun_ext (copies_allow rules copies same inputs) in
     cc
 
--- a rule that is copied and its copy stand at one place
+-- a rule that is copied and its copy are at one place
 copy_at : (rules copies : List Rule) → AllZip IsCopy rules copies → (k : ℕ) (d : Rule) → k < length copies → (k < length rules) × IsCopy (slice_index_or rules k d) (slice_index_or copies k d)
 copy_at rules copies same k d below =
     let here : k < length rules = subst (λ n. k < n) (sym (length_all_zip IsCopy rules copies same)) below in

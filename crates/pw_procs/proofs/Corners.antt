@@ -29,7 +29,7 @@ product_read a b p at_a at_b e =
     let same : to_z w64 (of_z w64 (a *ℤ b)) ≡ a *ℤ b = to_z-of_z w64 (a *ℤ b) fits in
     rw same_p same
 
--- factors in order give products in order, turned round by a negative factor
+-- factors in order give products in order, reversed by a negative factor
 product_up : (a b : ℤ) (k : ℕ) → a ≤ℤ b → (a *ℤ pos k) ≤ℤ (b *ℤ pos k)
 product_up a b k h = omega (arith, ints, mul-le-mul_right k (le_out a b h))
 
@@ -134,7 +134,7 @@ square_above x r a b p q (a_in, from) (b_in, to) low high above = is_hull_of _ _
     let to_v : (v *ℤ v) ≤ℤ (b *ℤ b) = square_up v b (omega (arith, ints)) (to v here) in
     (omega (arith, ints), omega (arith, ints)))
 
--- below 0 they do so turned round
+-- below 0 they do so reversed
 pub square_below : (x r : Interval) (a b p q : ℤ) → IsLeastOf x a → IsGreatestOf x b → p ≡ a *ℤ a → q ≡ b *ℤ b → b ≤ℤ pos 0
     → ((v : ℤ) → interval.allows r v ≡ (is_in_interval_range v && le_z q v && le_z v p)) → info.Interval r ≡ square_of (info.Interval x)
 square_below x r a b p q (a_in, from) (b_in, to) low high below = is_hull_of _ _ q p r (image_one (λ v. v *ℤ v) (info.Interval x))

@@ -30,14 +30,15 @@ product_up a b k h = omega (arith, ints, mul-le-mul_right k (le_out a b h))
 product_down : (a b : ℤ) (k : ℕ) → a ≤ℤ b → (b *ℤ negsuc k) ≤ℤ (a *ℤ negsuc k)
 product_down a b k h = omega (arith, ints, mul-le-mul_right (suc k) (le_out a b h))
 
--- a number is at or below the quotient rounded down just where its product with the divisor is at or below the dividend
+-- a number is at or below the quotient rounded down exactly if its product with the divisor is at
+-- or below the dividend
 below_floor : (t q : ℤ) (k : ℕ) → 0 < k → q ≤ℤ int_div_euclid t (pos k) → (q *ℤ pos k) ≤ℤ t
 below_floor (pos a) (pos b) k p h = let e : b * k ≤ a = (le-div_iff_mul-le p).0 (omega (arith, ints)) in omega (arith, ints, e)
 below_floor (pos a) (negsuc b) k p h = let e = product_up (negsuc b) (pos 0) k (omega (arith, ints)) in omega (arith, ints, e)
 below_floor (negsuc a) (pos b) k p h = absurd (omega (arith, ints))
 below_floor (negsuc a) (negsuc b) k p h = let e : a < suc b * k = (div-lt_iff_lt-mul p).0 (omega (arith, ints)) in omega (arith, ints, e)
 
--- and the other way round
+-- and conversely
 floor_above : (t q : ℤ) (k : ℕ) → 0 < k → (q *ℤ pos k) ≤ℤ t → q ≤ℤ int_div_euclid t (pos k)
 floor_above (pos a) (pos b) k p h = let e : b ≤ a / k = (le-div_iff_mul-le p).1 (omega (arith, ints)) in omega (arith, ints, e)
 floor_above (pos a) (negsuc b) k p h = omega (arith, ints)
@@ -79,7 +80,7 @@ ceil_is t x y s f r below same d e q =
 
 -- ---- tests of one or the other
 
--- one of two tests passes where the first does, and where the second does, and only there
+-- one of two tests passes if the first does, and if the second does, and only there
 left_true : (a b : Bool) → a ≡ true → (a || b) ≡ true
 left_true true b p = refl
 left_true false b p = absurd (cc)
@@ -99,7 +100,7 @@ both_same p q = λ k. sym p k && sym q k
 either_same : {a b c d : Bool} → a ≡ b → c ≡ d → (b || d) ≡ (a || c)
 either_same p q = λ k. sym p k || sym q k
 
--- the lesser of two is at or below a number just where one of them is
+-- the lesser of two is at or below a number exactly if one of them is
 min_below : (a b v : ℤ) → le_z (int_min a b) v ≡ (le_z a v || le_z b v)
 min_below a b v = same_test _ _
     (λ e.
@@ -110,7 +111,7 @@ min_below a b v = same_test _ _
       | inr l ↦ let h : b ≤ℤ v = le_true b v l in true_le (int_min a b) v (omega (arith, ints, clamps))
     ])
 
--- the greater of two is at or above a number just where one of them is
+-- the greater of two is at or above a number exactly if one of them is
 max_above : (a b v : ℤ) → le_z v (int_max a b) ≡ (le_z v a || le_z v b)
 max_above a b v = same_test _ _
     (λ e.
@@ -121,8 +122,8 @@ max_above a b v = same_test _ _
       | inr l ↦ let h : v ≤ℤ b = le_true v b l in true_le v (int_max a b) (omega (arith, ints, clamps))
     ])
 
--- a number times one of two divisors is at or above a dividend: with positive divisors, the number is at or above a
--- true quotient
+-- a number times one of two divisors is at or above a dividend: with positive divisors, the number
+-- is at or above a true quotient
 abbrev is_above_corner : ℤ → ℤ → ℤ → ℤ → Bool
 is_above_corner t x y q = le_z t (q *ℤ x) || le_z t (q *ℤ y)
 
@@ -153,7 +154,8 @@ product_least : (q a b c : ℤ) → a ≤ℤ b → b ≤ℤ c → ((q *ℤ a) �
 product_least (pos k) a b c l m = let e = product_up a b k l in inl (omega (arith, ints, e))
 product_least (negsuc k) a b c l m = let e = product_down b c k m in inr (omega (arith, ints, e))
 
--- some possible dividend is at or below q times some possible divisor just where the least is, of the end divisors
+-- some possible dividend is at or below q times some possible divisor exactly if the least is, of
+-- the end divisors
 below_corners : (t x : Interval) (t_lo x_lo x_hi : ℤ) → IsLeastOf t t_lo → IsLeastOf x x_lo → IsGreatestOf x x_hi → (q : ℤ)
     → some (info.Interval t) (λ a. some (info.Interval x) (λ b. le_z a (q *ℤ b))) ≡ is_above_corner t_lo x_lo x_hi q
 below_corners t x t_lo x_lo x_hi (lo_here, lo_least) (one_here, one_least) (other_here, other_most) q = same_test _ _
@@ -172,7 +174,8 @@ below_corners t x t_lo x_lo x_hi (lo_here, lo_least) (one_here, one_least) (othe
       | inr l ↦ true_some (info.Interval x) (λ b. le_z t_lo (q *ℤ b)) x_hi other_here l
     ]))
 
--- some possible dividend is at or above q times some possible divisor just where the greatest is, of the end divisors
+-- some possible dividend is at or above q times some possible divisor exactly if the greatest is,
+-- of the end divisors
 above_corners : (t x : Interval) (t_hi x_lo x_hi : ℤ) → IsGreatestOf t t_hi → IsLeastOf x x_lo → IsGreatestOf x x_hi → (q : ℤ)
     → some (info.Interval t) (λ a. some (info.Interval x) (λ b. le_z (q *ℤ b) a)) ≡ is_below_corner t_hi x_lo x_hi q
 above_corners t x t_hi x_lo x_hi (hi_here, hi_most) (one_here, one_least) (other_here, other_most) q = same_test _ _
@@ -193,14 +196,14 @@ above_corners t x t_hi x_lo x_hi (hi_here, hi_most) (one_here, one_least) (other
 
 -- ---- quotients of intervals
 
--- a test of order, and the fact that it stands for
+-- a test of order, and the fact that it tests
 lt_true : (a b : ℤ) → a <ℤ b → lt_z a b ≡ true
 lt_true a b h = grind (arith, ints)
 
 lt_false : (a b : ℤ) → b ≤ℤ a → lt_z a b ≡ false
 lt_false a b h = grind (arith, ints)
 
--- where all possible divisors have one sign, one test of the sign stands for all
+-- if all possible divisors have one sign, one test of the sign decides for all
 one_sign : (t x : Info) (sign : Bool) (p r : ℤ → ℤ → Bool) → ((b : ℤ) → allows x b ≡ true → lt_z (pos 0) b ≡ sign)
     → some t (λ a. some x (λ b. if lt_z (pos 0) b then p a b else r a b)) ≡ some t (λ a. some x (λ b. if sign then p a b else r a b))
 one_sign t x sign p r signs = some_same t _ _ (λ a a_here. some_same x _ _ (λ b b_here. ap (λ s. if s then p a b else r a b) (signs b b_here)))
@@ -213,7 +216,7 @@ some_at_most t x q = some (info.Interval t) (λ a. some (info.Interval x) (λ b.
 abbrev some_at_least : Interval → Interval → ℤ → Bool
 some_at_least t x q = some (info.Interval t) (λ a. some (info.Interval x) (λ b. is_quotient_at_least q a b))
 
--- where the divisor cannot be 0, the interval of the quotients is the quotient
+-- if the divisor cannot be 0, the interval of the quotients is the quotient
 quotient_is : (t x r : Interval) → ((a : ℤ) → interval.allows t a ≡ true → interval.allows x (pos 0) ≡ true → ⊥)
     → ((q : ℤ) → interval_lowest ≤ℤ q → q ≤ℤ interval_highest → interval.allows r q ≡ (some_at_most t x q && some_at_least t x q))
     → info.Interval r ≡ quotient_of (info.Interval t) (info.Interval x)
@@ -225,7 +228,7 @@ quotient_is t x r not_zero same =
     ap info.Interval (intervals.closest_is (λ q. some_at_most t x q && some_at_least t x q) r same)
     ∙ sym (ap (λ (zero_too : Bool). if zero_too then nothing kinds.Interval else between_quotients (info.Interval t) (info.Interval x)) unlike)
 
--- where there is nothing to divide, or nothing to divide by, the quotient leaves nothing possible
+-- if there is nothing to divide, or nothing to divide by, the quotient leaves nothing possible
 pub no_quotient : (t x r : Interval) → IsEmpty r → ((a b : ℤ) → interval.allows t a ≡ true → interval.allows x b ≡ true → ⊥) → info.Interval r ≡ quotient_of (info.Interval t) (info.Interval x)
 no_quotient t x r empty none = quotient_is t x r (λ a. none a (pos 0)) (λ q low high. empty q ∙ sym (is_false _ (λ e.
     let (one, other) = true_both (some_at_most t x q) (some_at_least t x q) e in
@@ -233,7 +236,7 @@ no_quotient t x r empty none = quotient_is t x r (λ a. none a (pos 0)) (λ q lo
     let (b, b_here, passes) = some_true (info.Interval x) (λ b. is_quotient_at_most q a b) inner in
     none a b a_here b_here)))
 
--- where the divisor may be 0, nothing is known of the quotient
+-- if the divisor may be 0, nothing is known about the quotient
 pub any_quotient : (t x : Interval) (t_lo x_lo x_hi : ℤ) → IsLeastOf t t_lo → IsLeastOf x x_lo → IsGreatestOf x x_hi → x_lo ≤ℤ pos 0 → pos 0 ≤ℤ x_hi
     → info.Interval interval.whole ≡ quotient_of (info.Interval t) (info.Interval x)
 any_quotient t x t_lo x_lo x_hi t_least x_least x_most below above =
@@ -244,7 +247,8 @@ any_quotient t x t_lo x_lo x_hi t_least x_least x_most below above =
     (intervals.true_allows x (pos 0) (omega (arith, ints)) (omega (arith, ints))) in
     sym (ap (λ (zero_too : Bool). if zero_too then nothing kinds.Interval else between_quotients (info.Interval t) (info.Interval x)) like)
 
--- the sign of possible divisors: that of the least, where it is positive, and of the greatest, where it is negative
+-- the sign of possible divisors: that of the least, if it is positive, and of the greatest, if it
+-- is negative
 positive_sign : (x : Interval) (x_lo b : ℤ) → IsLeastOf x x_lo → pos 0 <ℤ x_lo → interval.allows x b ≡ true → lt_z (pos 0) b ≡ true
 positive_sign x x_lo b (here, least) p e = let l : x_lo ≤ℤ b = least b e in lt_true (pos 0) b (omega (arith, ints))
 
@@ -264,7 +268,8 @@ positive_quotient t x r t_lo t_hi x_lo x_hi t_least t_most x_least x_most p corn
     ∙ ap (λ (b : Bool). b && is_above_corner t_lo x_lo x_hi q && is_below_corner t_hi x_lo x_hi q) (true_between interval_lowest q interval_highest low high)
     ∙ both_same from to)
 
--- a product with a negated number passes a bound just where the product with the number passes the negated bound
+-- a product with a negated number passes a bound exactly if the product with the number passes the
+-- negated bound
 negated_above : (t x s y q : ℤ) → s ≡ neg_ℤ t → y ≡ neg_ℤ x → le_z s (q *ℤ y) ≡ le_z (q *ℤ x) t
 negated_above t x s y q d e =
     let n : (q *ℤ y) ≡ neg_ℤ (q *ℤ x) = product_neg q x y e in

@@ -23,7 +23,8 @@ use Rattle.pw_procs.proofs.Possible.{some_true, true_some, contradiction_none}
 is_in_hull : Exact → ℤ → Bool
 is_in_hull e v = some (info.Exact e) (λ z. le_z z v) && some (info.Exact e) (λ z. le_z v z)
 
--- an interval that leaves possible just what lies in the hull is the interval of the exact number
+-- an interval that leaves possible exactly what lies in the hull is the interval of the exact
+-- number
 point_is : (e : Exact) (i : Interval) → ((v : ℤ) → interval_lowest ≤ℤ v → v ≤ℤ interval_highest → interval.allows i v ≡ is_in_hull e v) → info.Interval i ≡ point_of (info.Exact e)
 unfolding is_in_hull
 point_is e i same = ap info.Interval (intervals.closest_is (λ v. some (info.Exact e) (λ z. le_z z v) && some (info.Exact e) (λ z. le_z v z)) i same)
@@ -70,7 +71,7 @@ outside_point e i n one outside none = point_is e i (λ v low high.
     let at : (n ≤ℤ v) × (v ≤ℤ n) = between_true n v n h in
     outside (omega (arith, ints), omega (arith, ints)))))
 
--- one number gives the interval of it alone where there is one, else the empty one
+-- one number gives the interval of it alone if there is one, otherwise the empty one
 pub point_one : (e : Exact) (n : ℤ) (made : Option Interval) (otherwise : Interval) → exact.IsOne e n → (IsInIntervalRange n → IsSome made) → IfSome made (λ i. interval.IsFromTo i n n) → interval.IsEmpty otherwise
     → info.Interval (unwrap_or made otherwise) ≡ point_of (info.Exact e)
 point_one e n (Some i) otherwise one in_range from_to none = one_point e i n one from_to

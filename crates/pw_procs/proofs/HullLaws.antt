@@ -81,7 +81,7 @@ abbrev reaches : NumberSet → ℤ → Bool
 reaches set v = set (λ z. le_z z v) && set (λ z. le_z v z)
 
 module _ (numbers : ℤ → Type 0) (set : NumberSet) (are : IsSetOf numbers set) where
-  -- just what lies between two numbers of the set passes it
+  -- exactly what lies between two numbers of the set passes it
   reaches_within : (v : ℤ) → reaches set v ≡ true → LiesWithin numbers v
   reaches_within v e =
       let both : (set (λ z. le_z z v) ≡ true) × (set (λ z. le_z v z) ≡ true) = true_both _ _ e in
@@ -93,7 +93,7 @@ module _ (numbers : ℤ → Type 0) (set : NumberSet) (are : IsSetOf numbers set
   within_reaches v (lo, hi, lo_in, hi_in, from, to) =
       both_true _ _ (are.found (λ z. le_z z v) lo lo_in (true_le lo v from)) (are.found (λ z. le_z v z) hi hi_in (true_le v hi to))
 
-  -- where no number of the set is at or below a number, the hull is above it; and the other way round
+  -- if no number of the set is at or below a number, the hull is above it; and conversely
   none_below : (v : ℤ) → set (λ z. le_z z v) ≡ false → allows (hull_of set) v ≡ true → ⊥
   none_below v none e =
       let at : ((v +ℤ pos 1) ≤ℤ v) × (v ≤ℤ interval_highest) = closest_between (reaches set) (v +ℤ pos 1) interval_highest (λ w r h.
@@ -149,7 +149,7 @@ closest_mono (kinds.Members set) p q more = members_mono set.size set.sized p q 
 closest_mono kinds.Exact p q more =
     (exacts.closest_closest p).smallest (exact.closest q) (λ v r e. (exacts.closest_closest q).holds v r (more v r e))
 
--- where nothing passes the closest is the contradiction
+-- if nothing passes the closest is the contradiction
 pub closest_none : (k : Kind) (p : ℤ → Bool) → ((v : ℤ) → p v ≡ false) → IsContradiction (closest k p)
 closest_none k p none v = is_false _ (λ e.
     not_both _ (closest_mono k p (λ w. false) (λ w r h. sym (none w) ∙ h) v e) (allows-contradiction k v))
@@ -171,7 +171,7 @@ truths_mono set others part = closest_mono bool _ _ (λ v r e. part (int_eq v) e
 pub one_mono : (op : ℤ → ℤ) (y x : Info) → Implies y x → ArePartOf (image_of_one op y) (image_of_one op x)
 one_mono op y x implied passes = some_mono y x (λ a. passes (op a)) (λ a. passes (op a)) implied (λ a e. e)
 
--- more of two values pass a test where more are possible
+-- more of two values pass a test if more are possible
 pub pair_mono : (y z x w : Info) (test : ℤ → ℤ → Bool) → Implies y x → Implies z w
     → some y (λ a. some z (λ b. test a b)) ≡ true → some x (λ a. some w (λ b. test a b)) ≡ true
 pair_mono y z x w test first_implied second_implied = some_mono y x (λ a. some z (λ b. test a b)) (λ a. some w (λ b. test a b)) first_implied
@@ -197,7 +197,7 @@ truths_none set none = closest_none bool _ (λ v. none (int_eq v))
 pub one_none : (op : ℤ → ℤ) (x : Info) → IsContradiction x → IsNone (image_of_one op x)
 one_none op x none passes = contradiction_none x none (λ a. passes (op a))
 
--- no two values pass a test where either is of a contradiction
+-- no two values pass a test if either is of a contradiction
 pub pair_none : (x y : Info) (test : ℤ → ℤ → Bool) → IsContradiction x ⊎ IsContradiction y → some x (λ a. some y (λ b. test a b)) ≡ false
 pair_none x y test (inl none) = contradiction_none x none (λ a. some y (λ b. test a b))
 pair_none x y test (inr none) = none_some x (λ a. some y (λ b. test a b)) (λ a here e. not_both _ e (contradiction_none y none (λ b. test a b)))
@@ -211,7 +211,7 @@ two_none op x y either passes = pair_none x y (λ a b. passes (op a b)) either
 itself_within : (numbers : ℤ → Type 0) (z : ℤ) → numbers z → LiesWithin numbers z
 itself_within numbers z here = (z, z, here, here, omega (arith, ints), omega (arith, ints))
 
--- what an operation gives on possible values is possible where it is in range
+-- what an operation gives on possible values is possible if it is in range
 pub one_holds : (op : ℤ → ℤ) (x : Info) (a z : ℤ) → z ≡ op a → is_in_interval_range z ≡ true → allows x a ≡ true → allows (hull_of (image_of_one op x)) z ≡ true
 one_holds op x a z is range possible = (hull_is _ _ (image_one op x)).holds z range (itself_within _ z (a, possible, is))
 

@@ -15,7 +15,7 @@ use Rattle.pw_procs.specs.Values.{NumberSet, IsSetOf, IsImageOfOne, IsImageOfTwo
 use Rattle.pw_procs.specs.Meaning.{sum_of, difference_of}
 use Rattle.pw_procs.proofs.Possible.{some_true, true_some}
 
--- all that an operation gives is just these numbers
+-- all that an operation gives is exactly these numbers
 pub image_one : (operation : ℤ → ℤ) (x : Info) → IsSetOf (IsImageOfOne operation x) (image_of_one operation x)
 image_one operation x = record {
   found = λ passes z member e. let (a, here, same) = member in true_some x (λ a. passes (operation a)) a here (ap passes (sym same) ∙ e);
@@ -32,7 +32,8 @@ image_two operation x y = record {
       (operation a b, (a, b, here, there, refl), passed);
 }
 
--- an interval of the numbers in range from the least to the greatest of a set is the hull of the set
+-- an interval of the numbers in range from the least to the greatest of a set is the hull of the
+-- set
 pub is_hull_of : (numbers : ℤ → Type 0) (set : NumberSet) (lo hi : ℤ) (r : Interval) → IsSetOf numbers set
     → numbers lo → numbers hi → ((z : ℤ) → numbers z → (lo ≤ℤ z) × (z ≤ℤ hi))
     → ((v : ℤ) → interval.allows r v ≡ (is_in_interval_range v && le_z lo v && le_z v hi)) → info.Interval r ≡ hull_of set
@@ -59,7 +60,7 @@ no_hull numbers set r are none empty = ap info.Interval (intervals.closest_is _ 
     let (below, below_in, below_v) = are.known (λ z. le_z z v) both.0 in
     none below below_in))))
 
--- an operation gives nothing where an input leaves nothing possible
+-- an operation gives nothing if an input leaves nothing possible
 pub hull_of_none : (operation : ℤ → ℤ) (x r : Interval) → IsEmpty x → IsEmpty r
     → info.Interval r ≡ hull_of (image_of_one operation (info.Interval x))
 hull_of_none operation x r none = no_hull _ _ r (image_one operation (info.Interval x))
@@ -101,7 +102,8 @@ difference_is x y r a b c d lo hi (a_in, from_a) (b_in, to_b) (c_in, from_c) (d_
     let to_w : w ≤ℤ d = to_d w there in
     (omega (arith, ints), omega (arith, ints)))
 
--- a number lies between the ends cut to the range just where it is in range and lies between the ends
+-- a number lies between the ends cut to the range exactly if it is in range and lies between the
+-- ends
 pub between_cut : (lo hi a b v : ℤ) → a ≡ int_max lo interval_lowest → b ≡ int_min hi interval_highest
     → (le_z a v && le_z v b) ≡ (is_in_interval_range v && le_z lo v && le_z v hi)
 between_cut lo hi a b v low high = same_test _ _
@@ -120,7 +122,8 @@ between_cut lo hi a b v low high = same_test _ _
     let to : v ≤ℤ hi = le_true v hi outer.1 in
     true_between a v b (omega (arith, ints, clamps)) (omega (arith, ints, clamps)))
 
--- where the ends cut to the range are not in order and in range, no number in range lies between the ends
+-- if the ends cut to the range are not in order and in range, no number in range lies between the
+-- ends
 pub none_cut : (lo hi a b v : ℤ) → a ≡ int_max lo interval_lowest → b ≡ int_min hi interval_highest
     → ((a ≤ℤ b) × IsInIntervalRange a × IsInIntervalRange b → ⊥) → (is_in_interval_range v && le_z lo v && le_z v hi) ≡ false
 none_cut lo hi a b v low high none = is_false _ (λ e.

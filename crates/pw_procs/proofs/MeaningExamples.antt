@@ -101,7 +101,7 @@ squares_from_to i k f h =
 
 -- ---- quotients by 2
 
--- a divisor that is just 2, and what passes of a value and of it
+-- a divisor that is exactly 2, and what passes of a value and of it
 is_two : (j : Interval) (b : ℤ) → IsFromTo j (pos 2) (pos 2) → interval.allows j b ≡ true → b ≡ pos 2
 is_two j b g e = let at : (pos 2 ≤ℤ b) × (b ≤ℤ pos 2) = true_from_to j (pos 2) (pos 2) b g e in omega (arith, ints)
 
@@ -144,7 +144,7 @@ half_from_to i j k a b low high f g h ordered into out =
     let at : (low ≤ℤ q) × (q ≤ℤ high) = into q (omega (arith, ints)) (omega (arith, ints)) in
     from_to_true k low high q h at.0 at.1)))))
 
--- nothing is known of a quotient by what may be 0
+-- nothing is known about a quotient by what may be 0
 pub quotient_open : (i j : Interval) (a b c d : ℤ) → IsFromTo i a b → IsFromTo j c d → a ≤ℤ b → c ≤ℤ pos 0 → pos 0 ≤ℤ d
     → quotient_of (info.Interval i) (info.Interval j) ≡ nothing kinds.Interval
 quotient_open i j a b c d f g ordered low high =
@@ -159,7 +159,7 @@ quotient_of_none x = same_values _ _ (kind-quotient (contradiction kinds.Interva
 
 -- ---- truths
 
--- truths are equal just where what they stand for is
+-- truths are equal exactly if their values are
 same_truth : (b c : Bool) → int_eq (truth b) (truth c) ≡ true → b ≡ c
 same_truth true true e = refl
 same_truth true false e = sym e
@@ -207,7 +207,7 @@ just_only b (pos k) e =
     sym (exacts.eq_true (truth b) (pos k) (sym (sets.allows-closest 2 (int_eq (truth b)) two_is_size k l) ∙ e))
 just_only b (negsuc k) e = absurd (not_both _ e refl)
 
--- either truth is possible where nothing is known
+-- either truth is possible if nothing is known
 pub either : (b : Bool) → allows (nothing bool) (truth b) ≡ true
 either true = allows-nothing bool (pos 1)
 either false = allows-nothing bool (pos 0)
@@ -229,7 +229,7 @@ negated b = truths_at (image_of_one negation (just b)) (int_eq (truth (not b))) 
 
 -- ---- ranges of numbers
 
--- just the numbers from lo to hi are possible, where both ends are in range
+-- exactly the numbers from lo to hi are possible, if both ends are in range
 pub from_to_is : (lo hi : ℤ) → (le_z interval_lowest lo && le_z hi interval_highest) ≡ true → IsFromTo (interval.closest (λ v. le_z lo v && le_z v hi)) lo hi
 from_to_is lo hi e v =
     let both : (le_z interval_lowest lo ≡ true) × (le_z hi interval_highest ≡ true) = true_both _ _ e in
@@ -245,7 +245,7 @@ from_to_is lo hi e v =
 
 -- ---- switches
 
--- a switch that is just true passes its input, and one that may be false passes nothing
+-- a switch that is exactly true passes its input, and one that may be false passes nothing
 pub switched_open : (p x : Info) → allows p (truth true) ≡ true → allows p (truth false) ≡ false → switched p x ≡ x
 switched_open p x may_be_true is_not_false =
     let possible : is_possible p ≡ true = true_some p (λ v. true) (truth true) may_be_true refl in
@@ -303,7 +303,7 @@ fixed_one i e n f one = sym (ap info.Exact (exacts.closest_is (interval.allows i
     (λ h. let at : (n ≤ℤ v) × (v ≤ℤ n) = between_true n v n h in let same : v ≡ n = omega (arith, ints) in exacts.true_eq v n same)
     (λ h. let same : v ≡ n = exacts.eq_true v n h in true_between n v n (omega (arith, ints)) (omega (arith, ints)))))))
 
--- just a number is possible, where it is in range
+-- only one number is possible, if it is in range
 pub exactly_is : (n : ℤ) → is_in_exact_range n ≡ true → IsOne (exact.closest (λ v. int_eq v n)) n
 exactly_is n range = subst (λ (e : Exact). IsOne e n)
     (exacts.closest_is (λ v. int_eq v n) (exact.checked n _ refl) (λ v r. exacts.one_is n range v)) (exacts.one_is n range)

@@ -52,7 +52,7 @@ implies_nothing a k same v e = allows-nothing k v ∙ subst (λ (l : Kind). is_v
 contradiction_implies : (k : Kind) (a : Info) → Implies (contradiction k) a
 contradiction_implies k a v e = absurd (not_both _ e (allows-contradiction k v))
 
--- some value is possible in the less informed where one is in the more informed
+-- some value is possible in the less informed if one is in the more informed
 possible_mono : (y x : Info) → Implies y x → is_possible y ≡ true → is_possible x ≡ true
 possible_mono y x implied e = some_mono y x (λ v. true) (λ v. true) implied (λ v h. h) e
 
@@ -70,7 +70,7 @@ passed_mono true true true false y x same implied more close = absurd (not_both 
 passed_mono true true false true y x same implied more close = implies_nothing y (kind_of x) same
 passed_mono true true false false y x same implied more close = implied
 
--- nothing where one test passes, which passes where another does
+-- nothing if one test passes, which passes if another does
 open_mono : (test' test : Bool) (y x : Info) → (test' ≡ true → test ≡ true) → kind_of y ≡ kinds.Interval → Implies y x
     → Implies (if test' then nothing kinds.Interval else y) (if test then nothing kinds.Interval else x)
 open_mono true true y x more same implied v e = e
@@ -78,14 +78,14 @@ open_mono true false y x more same implied v e = absurd (not_both _ (more refl) 
 open_mono false true y x more same implied v e = implies_nothing y kinds.Interval same v e
 open_mono false false y x more same implied v e = implied v e
 
--- the contradiction where one test fails, which passes where another does
+-- the contradiction if one test fails, which passes if another does
 closed_mono : (test' test : Bool) (k : Kind) (y x : Info) → (test' ≡ true → test ≡ true) → Implies y x
     → Implies (if test' then y else contradiction k) (if test then x else contradiction k)
 closed_mono true true k y x more implied = implied
 closed_mono true false k y x more implied = absurd (not_both _ (more refl) refl)
 closed_mono false test k y x more implied = contradiction_implies k (if test then x else contradiction k)
 
--- a quotient is more informed where its inputs are
+-- a quotient is more informed if its inputs are
 quotient_mono : (s y t x : Info) → Implies s t → Implies y x → Implies (quotient_of s y) (quotient_of t x)
 quotient_mono s y t x first_implied second_implied = open_mono (is_possible s && allows y (pos 0)) (is_possible t && allows x (pos 0)) _ _
     (λ e. let both : (is_possible s ≡ true) × (allows y (pos 0) ≡ true) = true_both _ _ e in
@@ -115,7 +115,8 @@ all_include_mono (guard ∷ guards) (y ∷ ys) (x ∷ xs) h e =
     let both : (includes guard x ≡ true) × (all_include guards xs ≡ true) = true_both _ _ e in
     both_true _ _ (includes_mono guard y x h.0 both.0) (all_include_mono guards ys xs h.1 both.1)
 
--- a rule that applies to less informed inputs applies to more informed ones, and so leaves no more possible
+-- a rule that applies to less informed inputs applies to more informed ones, and so leaves no more
+-- possible
 rule_mono : (applies applied result : Bool) → (applied ≡ true → applies ≡ true) → (not applies || result) ≡ true → (not applied || result) ≡ true
 rule_mono applies false result more e = refl
 rule_mono true true result more e = e
@@ -130,7 +131,7 @@ rules_mono (rule ∷ rules) ys xs h v e =
     (rule_mono _ (all_include rule.guards.items xs) _ (all_include_mono rule.guards.items ys xs h) both.0)
     (rules_mono rules ys xs h v both.1)
 
--- inputs that are all possible are so where they are less informed
+-- inputs that are all possible are so if they are less informed
 all_possible_mono : (ys xs : List Info) → AllZip Implies ys xs → list_all is_possible ys ≡ true → list_all is_possible xs ≡ true
 all_possible_mono [] [] h e = e
 all_possible_mono [] (x ∷ xs) h e = absurd h
@@ -209,7 +210,7 @@ value_of_rules_none : (k : Kind) (rules : List Rule) (xs : List Info) → list_a
 value_of_rules_none k rules xs none = subst (λ (b : Bool). IsContradiction (if b then closest k (rules_allow rules xs) else contradiction k)) (sym none)
     (allows-contradiction k)
 
--- the value of any other meaning is contradictory where some input is
+-- the value of any other meaning is contradictory if some input is
 pub value_none : (output : Slot) (meaning : Meaning) (slots : List Slot) (xs : List Info) → (meaning ≢ meanings.Switch) → AreSlotsOf meaning slots output
     → FitSlots slots xs → (k : ℕ) → k < length xs → IsContradiction (input xs k) → IsContradiction (value_of_meaning output meaning xs)
 value_none output meanings.Adder slots xs other are f k l none = hull_none _ (two_none (λ a b. a +ℤ b) _ _ (contradictory_two _ _ slots xs are.0 f k l none))

@@ -1,4 +1,4 @@
--- The one possible value, where there is just one.
+-- The one possible value, if there is exactly one.
 use Rattle.std.proofs.Common.{◌≡◌, ◌↔◌, ℕ, ℤ, pos, negsuc, ◌<◌, ◌≤◌, ◌≤ℤ◌, Bool, true, false, IsTrue, Some, arith, refl, sym, ◌∙◌, ap, subst}
 use Rattle.std.proofs.lemmas.Int.{ints}
 use Rattle.pw_kinds.specs.declared.interval.Interval.{Interval}
@@ -15,7 +15,7 @@ use Rattle.pw_kinds.proofs.Exacts.{self_eq, eq_true, true_eq}
 abbrev pub IsOnly : (ℤ → Bool) → ℤ → Type 0
 IsOnly passes v = (passes v ≡ true) × ((w : ℤ) → passes w ≡ true → w ≡ v)
 
--- where no place below a number that is at least the size is possible, none is
+-- if no place below a number that is at least the size is possible, none is
 pub none_below : (m : Members) (n : ℕ) → members.size_of m ≤ n → ((k : ℕ) → k < n → members.allows m (pos k) ≡ false) → members.IsEmpty m
 none_below m n most none (pos k) = is_false _ (λ e. let below : k < members.size_of m = allows_below m k e in not_both _ e (none k (omega arith)))
 none_below m n most none (negsuc k) = refl
@@ -29,11 +29,11 @@ only_end i lo hi n (low, least) (high, most) same e v = (
   λ only. ap Some (e ∙ only.1 lo low),
 )
 
--- where a place is possible and another one is too, there is no one place
+-- if a place is possible and another one is too, there is no one place
 pub not_only : (m : Members) (k : ℕ) (r : Bool) → members.allows m (pos k) ≡ true → (IsTrue r ↔ ((w : ℤ) → members.allows m w ≡ true → w ≡ pos k)) → r ≡ false → (v : ℤ) → IsOnly (members.allows m) v → ⊥
 not_only m k r here tells other v only = not_both r (tells.1 (λ w h. only.1 w h ∙ sym (only.1 (pos k) here))) other
 
--- an exact value is of one number just where that is its one possible number
+-- an exact value is of one number exactly if that is its one possible number
 pub one_only : (e : Exact) (v : ℤ) → exact.IsOne e v → IsOnly (exact.allows e) v
 one_only e v one = (one v ∙ self_eq v, λ w h. eq_true w v (sym (one w) ∙ h))
 

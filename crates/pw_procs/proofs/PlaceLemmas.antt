@@ -38,7 +38,7 @@ added f key ks none =
     let new : list_any (λ k. bytes_eq (f key) (f k)) ks ≡ false = list_any-map f (bytes_eq (f key)) ks ∙ none-list_any (bytes_eq (f key)) 0 (map f ks) none in
     rw new (map_push f ks key)
 
--- where all names are texts and one more is, all are with it
+-- if all names are texts and one more is, all are with it
 pub texts_added : {K : Type 0} (f : K → List ℕ) (key : K) (ks : List K) → IsUtf8 (f key) → All (λ k. IsUtf8 (f k)) ks
     → All (λ k. IsUtf8 (f k)) (if list_any (λ k. bytes_eq (f key) (f k)) ks then ks else ks ++ key ∷ [])
 texts_added f key ks text texts =
@@ -47,7 +47,7 @@ texts_added f key ks text texts =
       | inr new ↦ rw new (All-push (λ k. IsUtf8 (f k)) ks key texts text)
     ]
 
--- ---- the name at a place, where no two names are equal
+-- ---- the name at a place, if no two names are equal
 
 differs : {K : Type 0} (f : K → List ℕ) (x k : K) → bytes_eq (f x) (f k) ≡ false → bytes_eq (f k) (f x) ≡ false
 differs f x k apart =
@@ -81,7 +81,7 @@ own_name f ks names i k view within at distinct =
     let few : i < length ks = omega (arith, ap length view, length-map ks f) in
     rw (← view) (own_place f ks i k distinct (slice_get_read ks (length ks) i k refl few at))
 
--- and stands there
+-- and is there
 pub name_there : {K : Type 0} (f : K → List ℕ) (ks : List K) (names : List (List ℕ)) (i : ℕ) (k : K) →
     map f ks ≡ names → i < length names → k ≡ get_or ks i k → slice_get names i ≡ Some (f k)
 name_there f ks names i k view within at =

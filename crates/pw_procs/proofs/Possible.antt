@@ -37,7 +37,7 @@ some_found : (p : ℤ → Bool) (r : Option ℤ) → IsLeast p exact_numbers exa
 some_found p None found v low high e = absurd (not_both _ e (found v low (omega (arith, ints))))
 some_found p (Some x) found v low high e = refl
 
--- where some possible value passes there is one, and one that passes is some
+-- if some possible value passes there is one, and one that passes is some
 pub some_true : (a : Info) (p : ℤ → Bool) → some a p ≡ true → (v : ℤ) × (allows a v ≡ true) × (p v ≡ true)
 unfolding some
 some_true a p e =
@@ -51,7 +51,7 @@ true_some a p v here passes =
     let range : (exact_lowest ≤ℤ v) × (v ≤ℤ exact_highest) = allows_in_range a v here in
     some_found (λ v. allows a v && p v) _ (least_is (λ v. allows a v && p v) exact_numbers exact_lowest) v range.0 range.1 (both_true _ _ here passes)
 
--- some value of the more informed passes only where some of the less informed does
+-- some value of the more informed passes only if some of the less informed does
 pub some_mono : (a b : Info) (p q : ℤ → Bool) → Implies a b → ((v : ℤ) → p v ≡ true → q v ≡ true) → some a p ≡ true → some b q ≡ true
 some_mono a b p q implied more e = let (v, here, passes) = some_true a p e in true_some b q v (implied v here) (more v passes)
 
@@ -68,7 +68,7 @@ none_some a p none = is_false _ (λ e. let (v, here, passes) = some_true a p e i
 pub some_none : (a : Info) (p : ℤ → Bool) → some a p ≡ false → (v : ℤ) → allows a v ≡ true → p v ≡ true → ⊥
 some_none a p none v here passes = not_both _ (true_some a p v here passes) none
 
--- an information is contradictory just where no value is possible
+-- an information is contradictory exactly if no value is possible
 pub contradiction_none : (a : Info) → IsContradiction a → (p : ℤ → Bool) → some a p ≡ false
 contradiction_none a none p = none_some a p (λ v here passes. not_both _ here (none v))
 

@@ -20,7 +20,7 @@ use Rattle.pw_procs.specs.declared.registry.RegistryFault.TheVariants.{Duplicate
 name_at : {K : Type 0} (f : K → List ℕ) (xs : List K) (i : ℕ) (x : K) → i < length xs → x ≡ get_or xs i x → slice_get (map f xs) i ≡ Some (f x)
 name_at f xs i x within here = slice_get-map f xs i ∙ ap (option_map f) (slice_get_read xs (length xs) i x refl within here)
 
--- what is made of the item at a place stands at that place of the list that is made of the items
+-- what is made of the item at a place is at that place of the list that is made of the items
 pub made_at : {K P : Type 0} (g : K → P) (xs : List K) (i : ℕ) (x : K) → i < length xs → x ≡ get_or xs i x → (i < length (map g xs)) × (g x ≡ get_or (map g xs) i (g x))
 made_at g xs i x within here = (omega (arith, length-map xs g), sym (get_or-map g xs i x (g x) within ∙ ap g (sym here)))
 
@@ -60,7 +60,7 @@ place_from i (first ∷ names) name place e =
       | inr other ↦ (let (k, p, at) = place_from (i + 1) names name place (rw other at e) in (suc k, omega arith, at))
     ]
 
--- the name that has a place stands there
+-- the name that has a place is there
 pub at_place : (names : List (List ℕ)) (name : List ℕ) (place : ℕ) → place_of_name names name ≡ Some place → slice_get names place ≡ Some name
 at_place names name place e = let (k, p, at) = place_from 0 names name place e in (let same : place ≡ k = omega arith in rw same at)
 
@@ -90,7 +90,7 @@ up_to k n below =
       | inr least ↦ inr (grind (arith, nat_tests))
     ]
 
--- where nothing is wrong with the next name either, nothing is wrong up to there
+-- if nothing is wrong with the next name either, nothing is wrong up to there
 pub free_more : {K : Type 0} (f : K → List ℕ) (xs : List K) (i : ℕ) (x : K) → i < length xs → x ≡ get_or xs i x →
     ((fault : RegistryFault) → IsFaultAfter (map f (take i xs)) (f x) fault → ⊥) → AreFreeBelow (map f xs) i → AreFreeBelow (map f xs) (i + 1)
 free_more f xs i x within here free before k name fault below at wrong =
@@ -135,7 +135,7 @@ is_new f xs i x within here names =
 
 -- ---- names that are known
 
--- a place at which a name stands is one of the list
+-- a place that has a name is one of the list
 place_below : (names : List (List ℕ)) (k : ℕ) (name : List ℕ) → slice_get names k ≡ Some name → k < length names
 place_below [] k name at = absurd (cc)
 place_below (first ∷ names) zero name at = omega arith
@@ -149,19 +149,19 @@ or_second : (a b : Bool) → b ≡ true → (a || b) ≡ true
 or_second true b e = refl
 or_second false b e = e
 
--- whether names may stand in a registry after others, but for their number
+-- whether names may be in a registry after others, apart from their number
 abbrev pub are_free : List (List ℕ) → List (List ℕ) → Bool
 are_free before [] = true
 are_free before (name ∷ names) =
     is_name name && not (list_any (bytes_eq name) taken_names) && not (list_any (bytes_eq name) before) && are_free (before ++ name ∷ []) names
 
--- a name that is there passes the test for it
+-- a name that exists passes the test for it
 any_there : (names : List (List ℕ)) (name : List ℕ) → Contains names name → list_any (bytes_eq name) names ≡ true
 any_there [] name (k, within, e) = absurd (omega arith)
 any_there (first ∷ names) name (zero, within, e) = ap (λ b. b || list_any (bytes_eq name) names) ((bytes_eq-Decides name first).1 (sym e))
 any_there (first ∷ names) name (suc k, within, e) = or_second (bytes_eq name first) _ (any_there names name (k, omega arith, e))
 
--- a name that passes is no bad one, and none of those before it
+-- a name that passes is not a bad one, and none of those before it
 no_fault : (before : List (List ℕ)) (name : List ℕ) (fault : RegistryFault) → is_name name ≡ true → not (list_any (bytes_eq name) taken_names) ≡ true
     → not (list_any (bytes_eq name) before) ≡ true → IsFaultAfter before name fault → ⊥
 no_fault before name BadName named free new (inl bad) = not_both _ named bad
@@ -188,7 +188,7 @@ free_after before (first ∷ names) e (suc k) name fault at wrong =
 pub registered_by_test : (names : List (List ℕ)) → are_free [] names ≡ true → length names ≤ 64 → AreRegistered names
 registered_by_test names e few = record { most = few; free = λ k name fault below at wrong. free_after [] names e k name fault at wrong }
 
--- names of a registry are refused for want of memory alone
+-- names of a registry are refused only when out of memory
 pub only_memory : (names : List (List ℕ)) (fault : RegistryFault) → AreRegistered names → IsRegistryFault names fault → fault ≡ Memory
 only_memory names Memory are is = refl
 only_memory names TooMany are is = absurd (omega (arith, are.most))

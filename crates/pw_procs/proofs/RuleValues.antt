@@ -140,7 +140,7 @@ rule_rests rules inputs v place rule value here q so_far rests =
     ∙ ap (λ b. allows value v && b) (from_rule rules inputs v place rule here q
     ∙ ap (λ b. (not b || allows rule.result v) && rules_allow (drop (place + 1) rules) inputs v) rests)
 
--- what leaves possible just what all rules do is their value
+-- what leaves possible exactly what all rules do is their value
 pub rules_value : (kind : Kind) (rules : List Rule) (inputs : List Info) (value : Info) (place : ℕ) → list_all is_possible inputs ≡ true → length rules ≤ place → kind_of value ≡ kind
     → ((v : ℤ) → is_value kind v ≡ true → rules_allow rules inputs v ≡ (allows value v && rules_allow (drop place rules) inputs v))
     → value ≡ value_of_rules kind rules inputs

@@ -18,7 +18,7 @@ after xs = take (length xs - 1) (drop 1 xs)
 after_first : {A : Type 0} (x : A) (xs : List A) → after (x ∷ xs) ≡ xs
 after_first x xs = take_all (length (x ∷ xs) - 1) xs (omega arith)
 
--- kinds are those in slots where the first is, and those after it are
+-- kinds are those in slots if the first is, and those after it are
 pub kinds_from_first : (same : Kind) (slots : List Slot) (kinds : List Kind) (slot : Slot) (kind : Kind) (rest : Bool) →
     0 < length slots → 0 < length kinds → slot ≡ get_or slots 0 slot → kind ≡ get_or kinds 0 kind → kind ≡ kind_in same slot →
     IsTrue rest ↔ (after kinds ≡ map (kind_in same) (after slots)) → IsTrue rest ↔ (kinds ≡ map (kind_in same) slots)
@@ -72,7 +72,7 @@ equal_sets a b s t p q numbers = (
   λ e. let sizes : s.size ≡ t.size = ap size_of_kind (sym p ∙ e ∙ q) in grind (arith, nat_tests),
 )
 
--- the slots of the inputs, written over the first of nine copies of the output, and one copy more
+-- the slots of the inputs, written over the first of nine copies of the output, and one more copy
 pub with_output : (written inputs : List Slot) (count : ℕ) (output : Slot) → written ≡ inputs → length written ≡ length (take count (replicate 9 output)) → count ≤ 8 →
     take (count + 1) (written ++ drop count (replicate 9 output)) ≡ inputs ++ output ∷ []
 with_output written inputs count output same room most =

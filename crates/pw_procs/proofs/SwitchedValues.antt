@@ -22,7 +22,7 @@ false_switched p x possible here = rw (possible, here) refl
 true_switched : (p x : Info) → is_possible p ≡ true → allows p (pos 0) ≡ false → x ≡ switched p x
 true_switched p x possible nowhere = rw (possible, nowhere) refl
 
--- the same of the members that truths are: none is possible
+-- the same for the members that truths are: none is possible
 pub empty_switches : (part : Members) (p x : Info) → info.Members 0 part ≡ p → members.IsEmpty part → contradiction (kind_of x) ≡ switched p x
 empty_switches part p x e none =
     subst (λ (q : Info). contradiction (kind_of x) ≡ switched q x) e

@@ -23,7 +23,7 @@ use Rattle.pw_procs.proofs.OnlyValues.{IsOnly}
 
 -- ---- tests and their opposites
 
--- a test fails where its opposite passes, and its opposite passes where it fails
+-- a test fails if its opposite passes, and its opposite passes if it fails
 from_not : (b : Bool) → not b ≡ true → b ≡ false
 from_not true e = sym e
 from_not false e = refl
@@ -44,7 +44,7 @@ not_either_test : (a b : Bool) → not (a || b) ≡ (not a && not b)
 not_either_test true b = refl
 not_either_test false b = refl
 
--- one of two tests passes just where `or` does
+-- one of two tests passes exactly if `or` does
 either_true : (a b : Bool) → (a ≡ true) ⊎ (b ≡ true) → (a || b) ≡ true
 either_true true b h = refl
 either_true false b (inl e) = absurd (cc)
@@ -54,7 +54,7 @@ true_either : (a b : Bool) → (a || b) ≡ true → (a ≡ true) ⊎ (b ≡ tru
 true_either true b e = inl refl
 true_either false b e = inr e
 
--- what `or` and `and` say of two tests where the first is known
+-- what `or` and `and` say about two tests if the first is known
 pub either_first : (a b : Bool) → a ≡ true → (a || b) ≡ true
 either_first true b e = refl
 either_first false b e = absurd (cc)
@@ -80,7 +80,7 @@ each_truth set part at_false at_true zero h = at_false
 each_truth set part at_false at_true (suc zero) h = at_true
 each_truth set part at_false at_true (suc (suc k)) h = absurd (omega arith)
 
--- truths that allow `false` and `true` just where a set has these are those of the set
+-- truths that allow `false` and `true` exactly if a set has these are those of the set
 pub truths_are : (set : NumberSet) (part : Members) → members.size_of part ≡ 2
     → members.allows part (pos 0) ≡ set (int_eq (pos 0)) → members.allows part (pos 1) ≡ set (int_eq (pos 1)) → info.Members 0 part ≡ truths_of set
 truths_are set part size at_false at_true =
@@ -99,7 +99,7 @@ only_second true false = refl
 only_second false true = refl
 only_second false false = refl
 
--- none, then `false` where it may be, then `true` where it may be
+-- none, then `false` if it may be, then `true` if it may be
 pub truths_from : (f t : Bool) (none one part : Members) → members.IsEmpty none
     → ((v : ℤ) → members.allows one v ≡ (members.allows none v || (f && int_eq (pos 0) v)))
     → ((v : ℤ) → members.allows part v ≡ (members.allows one v || (t && int_eq (pos 1) v)))
@@ -115,7 +115,7 @@ truths_from f t none one part empty first second size set at_false at_true =
 abbrev pub some_pair : Info → Info → (ℤ → ℤ → Bool) → Bool
 some_pair x y passes = some x (λ a. some y (passes a))
 
--- where some pair passes there is one, and one that passes is some
+-- if some pair passes there is one, and one that passes is some
 some_pair_true : (x y : Info) (passes : ℤ → ℤ → Bool) → some_pair x y passes ≡ true → (a : ℤ) × (b : ℤ) × (allows x a ≡ true) × (allows y b ≡ true) × (passes a b ≡ true)
 some_pair_true x y passes e =
     let (a, at_a, rest) = some_true x (λ a. some y (passes a)) e in
@@ -127,7 +127,7 @@ true_some_pair x y passes a b at_a at_b passed = true_some x (λ a. some y (pass
 
 -- ---- what an operation gives that tells a truth
 
--- a truth is the place of `false` where its test fails, and that of `true` where it passes
+-- a truth is the place of `false` if its test fails, and that of `true` if it passes
 false_is : (b : Bool) → int_eq (pos 0) (truth b) ≡ not b
 false_is true = refl
 false_is false = refl
@@ -136,20 +136,20 @@ true_is : (b : Bool) → int_eq (pos 1) (truth b) ≡ b
 true_is true = refl
 true_is false = refl
 
--- `false` is given where some pair fails, `true` where some pair passes
+-- `false` is given if some pair fails, `true` if some pair passes
 pub image_false : (test : ℤ → ℤ → Bool) (x y : Info) → image_of_two (λ a b. truth (test a b)) x y (int_eq (pos 0)) ≡ some_pair x y (λ a b. not (test a b))
 image_false test x y = some_same x _ _ (λ a at_a. some_same y _ _ (λ b at_b. false_is (test a b)))
 
 pub image_true : (test : ℤ → ℤ → Bool) (x y : Info) → image_of_two (λ a b. truth (test a b)) x y (int_eq (pos 1)) ≡ some_pair x y test
 image_true test x y = some_same x _ _ (λ a at_a. some_same y _ _ (λ b at_b. true_is (test a b)))
 
--- where one of two informations is contradictory nothing is given
+-- if one of two informations is contradictory nothing is given
 pub no_image : (operation : ℤ → ℤ → ℤ) (x y : Info) → IsContradiction x ⊎ IsContradiction y → (passes : ℤ → Bool) → image_of_two operation x y passes ≡ false
 no_image operation x y (inl none) passes = contradiction_none x none (λ a. some y (λ b. passes (operation a b)))
 no_image operation x y (inr none) passes =
     none_some x (λ a. some y (λ b. passes (operation a b))) (λ a at_a e. not_both _ e (contradiction_none y none (λ b. passes (operation a b))))
 
--- what is no contradiction leaves some value possible
+-- what is not a contradiction leaves some value possible
 pub possible : (x : Info) → (IsContradiction x → ⊥) → is_possible x ≡ true
 possible x known = elim (cases_Bool (is_possible x)) [
   | inl e ↦ e
@@ -158,14 +158,14 @@ possible x known = elim (cases_Bool (is_possible x)) [
 
 -- ---- order
 
--- the test of strict order, and the fact that it stands for
+-- the test of strict order, and the fact that it tests
 lt_true : (a b : ℤ) → lt_z a b ≡ true → a <ℤ b
 lt_true a b e = grind (arith, ints)
 
 true_lt : (a b : ℤ) → a <ℤ b → lt_z a b ≡ true
 true_lt a b h = grind (arith, ints)
 
--- a number of one interval is above one of the other just where the greatest is above the least
+-- a number of one interval is above one of the other exactly if the greatest is above the least
 pub some_above : (x y : Interval) (greatest least hi lo : ℤ) → interval.IsGreatestOf x greatest → interval.IsLeastOf y least → hi ≡ greatest → lo ≡ least
     → image_of_two (λ a b. truth (le_z a b)) (info.Interval x) (info.Interval y) (int_eq (pos 0)) ≡ lt_z lo hi
 some_above x y greatest least hi lo (high, most) (low, fewest) same_hi same_lo = image_false le_z (info.Interval x) (info.Interval y) ∙ same_test _ _
@@ -179,7 +179,7 @@ some_above x y greatest least hi lo (high, most) (low, fewest) same_hi same_lo =
     let apart : lo <ℤ hi = lt_true lo hi e in
     true_some_pair (info.Interval x) (info.Interval y) (λ a b. not (le_z a b)) greatest least high low (to_not _ (false_le greatest least (omega (arith, ints)))))
 
--- a number of one interval is at most one of the other just where the least is at most the greatest
+-- a number of one interval is at most one of the other exactly if the least is at most the greatest
 pub some_at_most : (x y : Interval) (least greatest lo hi : ℤ) → interval.IsLeastOf x least → interval.IsGreatestOf y greatest → lo ≡ least → hi ≡ greatest
     → image_of_two (λ a b. truth (le_z a b)) (info.Interval x) (info.Interval y) (int_eq (pos 1)) ≡ le_z lo hi
 some_at_most x y least greatest lo hi (low, fewest) (high, most) same_lo same_hi = image_true le_z (info.Interval x) (info.Interval y) ∙ same_test _ _
@@ -212,7 +212,7 @@ same_words x y a b at_a at_b =
     (λ e. let same = eqb-true (of_z w64 a) (of_z w64 b) e in true_eq a b (omega (arith, ints, same)))
     (λ e. eq-eqb (of_z w64 a) (of_z w64 b) (ap (of_z w64) (eq_true a b e)))
 
--- of two with one value each, `false` is given where these differ, and `true` where they are equal
+-- of two with one value each, `false` is given if these differ, and `true` if they are equal
 pub only_differ : (x y : Info) (a b : ℤ) → IsOnly (allows x) a → IsOnly (allows y) b → image_of_two (λ a b. truth (int_eq a b)) x y (int_eq (pos 0)) ≡ not (eqb (of_z w64 a) (of_z w64 b))
 only_differ x y a b only_a only_b =
     image_false int_eq x y ∙ pair_of_only x y (λ a b. not (int_eq a b)) a b only_a only_b ∙ ap not (sym (same_words x y a b only_a.0 only_b.0))
@@ -221,7 +221,7 @@ pub only_equal : (x y : Info) (a b : ℤ) → IsOnly (allows x) a → IsOnly (al
 only_equal x y a b only_a only_b =
     image_true int_eq x y ∙ pair_of_only x y int_eq a b only_a only_b ∙ sym (same_words x y a b only_a.0 only_b.0)
 
--- where not both have just one value some pair differs
+-- if not both have exactly one value some pair differs
 pub some_differ : (x y : Info) (r s : Option ℤ) → is_possible x ≡ true → is_possible y ≡ true
     → ((v : ℤ) → (r ≡ Some v) ↔ IsOnly (allows x) v) → ((v : ℤ) → (s ≡ Some v) ↔ IsOnly (allows y) v)
     → ((a b : ℤ) → r ≡ Some a → s ≡ Some b → ⊥) → some_pair x y (λ a b. not (int_eq a b)) ≡ true
@@ -240,7 +240,7 @@ some_differ x y r s possible_x possible_y only_x only_y others = elim (cases_Boo
       )
 ]
 
--- some pair is equal just where the merge of the two is no contradiction
+-- some pair is equal exactly if the merge of the two is not a contradiction
 pub some_equal : (x y both : Info) (r : Bool) → ((v : ℤ) → allows both v ≡ (allows x v && allows y v)) → (IsTrue r ↔ IsContradiction both) → some_pair x y int_eq ≡ not r
 some_equal x y both r values tells = same_test _ _
     (λ e.
@@ -267,7 +267,7 @@ place_of_false part (pos (suc zero)) two here other = absurd (cc)
 place_of_false part (pos (suc (suc k))) two here other = let below : suc (suc k) < size_of part = allows_below part (suc (suc k)) here in absurd (omega arith)
 place_of_false part (negsuc k) two here other = absurd (cc)
 
--- whether it may be another than true: where it may be false
+-- whether it may be another than true: if it may be false
 pub has_other : (part : Members) → size_of part ≡ 2 → members.allows part (pos 0) ≡ some (info.Members 0 part) (λ a. not (is_true a))
 has_other part two = same_test _ _
     (λ e. true_some (info.Members 0 part) (λ a. not (is_true a)) (pos 0) e refl)
@@ -280,7 +280,7 @@ negation_false x = some_same x _ is_true (λ a here. false_is (not (is_true a)) 
 pub negation_true : (x : Info) → image_of_one (λ a. truth (not (is_true a))) x (int_eq (pos 1)) ≡ some x (λ a. not (is_true a))
 negation_true x = some_same x _ (λ a. not (is_true a)) (λ a here. true_is (not (is_true a)))
 
--- some pair passes two tests just where a value of each passes its own
+-- some pair passes two tests exactly if a value of each passes its own
 some_both : (x y : Info) (p q : ℤ → Bool) → some_pair x y (λ a b. p a && q b) ≡ (some x p && some y q)
 some_both x y p q = same_test _ _
     (λ e.
@@ -293,7 +293,8 @@ some_both x y p q = same_test _ _
     let (b, at_b, passed_b) = some_true y q parts.1 in
     true_some_pair x y (λ a b. p a && q b) a b at_a at_b (both_true _ _ passed_a passed_b))
 
--- some pair passes one of two tests just where a value of one passes its own, and the other has a value
+-- some pair passes one of two tests exactly if a value of one passes its own, and the other has a
+-- value
 some_either : (x y : Info) (p q : ℤ → Bool) → is_possible x ≡ true → is_possible y ≡ true → some_pair x y (λ a b. p a || q b) ≡ (some x p || some y q)
 some_either x y p q possible_x possible_y = same_test _ _
     (λ e.
@@ -319,7 +320,7 @@ some_either x y p q possible_x possible_y = same_test _ _
 pair_same : (x y : Info) (p q : ℤ → ℤ → Bool) → ((a b : ℤ) → p a b ≡ q a b) → some_pair x y p ≡ some_pair x y q
 pair_same x y p q same = some_same x _ _ (λ a at_a. some_same y _ _ (λ b at_b. same a b))
 
--- what `and` gives, of which `false` wants two that are no contradictions
+-- what `and` gives, of which `false` wants two that are not contradictions
 pub conjunction_false : (x y : Info) → is_possible x ≡ true → is_possible y ≡ true
     → image_of_two (λ a b. truth (is_true a && is_true b)) x y (int_eq (pos 0)) ≡ (some x (λ a. not (is_true a)) || some y (λ b. not (is_true b)))
 conjunction_false x y possible_x possible_y =
@@ -330,7 +331,7 @@ conjunction_false x y possible_x possible_y =
 pub conjunction_true : (x y : Info) → image_of_two (λ a b. truth (is_true a && is_true b)) x y (int_eq (pos 1)) ≡ (some x is_true && some y is_true)
 conjunction_true x y = image_true (λ a b. is_true a && is_true b) x y ∙ some_both x y is_true is_true
 
--- what `or` gives, of which `true` wants two that are no contradictions
+-- what `or` gives, of which `true` wants two that are not contradictions
 pub disjunction_false : (x y : Info) → image_of_two (λ a b. truth (is_true a || is_true b)) x y (int_eq (pos 0)) ≡ (some x (λ a. not (is_true a)) && some y (λ b. not (is_true b)))
 disjunction_false x y =
     image_false (λ a b. is_true a || is_true b) x y

@@ -1,4 +1,5 @@
--- The table of meanings: of each its inputs, its output, and its value over all values that the inputs leave possible.
+-- The table of meanings: for each its inputs, its output, and its value over all possible values of
+-- the inputs.
 use Rattle.std.specs.Prelude.{◌≡◌, Bool, true, false, not, ◌&&◌, ◌||◌, ◌+ℤ◌, ◌-ℤ◌, ◌*ℤ◌, List, [], ◌∷◌, map, if◌then◌else◌}
 use Rattle.std.specs.Int.Signed.{le_z}
 use Rattle.std.specs.Ordering.{int_eq}
@@ -31,43 +32,43 @@ product_of x y = hull_of (image_of_two (λ a b. a *ℤ b) x y)
 abbrev pub square_of : Info → Info
 square_of x = hull_of (image_of_one (λ a. a *ℤ a) x)
 
--- all that `is the first at most the second?` gives
+-- all results of `is the first at most the second?`
 abbrev pub at_most_of : Info → Info → Info
 at_most_of x y = truths_of (image_of_two (λ a b. truth (le_z a b)) x y)
 
--- all that `are the two equal?` gives
+-- all results of `are the two equal?`
 abbrev pub equality_of : Info → Info → Info
 equality_of x y = truths_of (image_of_two (λ a b. truth (int_eq a b)) x y)
 
--- all that `not` gives
+-- all results of `not`
 abbrev pub negation_of : Info → Info
 negation_of p = truths_of (image_of_one (λ a. truth (not (is_true a))) p)
 
--- all that `and` gives
+-- all results of `and`
 abbrev pub conjunction_of : Info → Info → Info
 conjunction_of p q = truths_of (image_of_two (λ a b. truth (is_true a && is_true b)) p q)
 
--- all that `or` gives
+-- all results of `or`
 abbrev pub disjunction_of : Info → Info → Info
 disjunction_of p q = truths_of (image_of_two (λ a b. truth (is_true a || is_true b)) p q)
 
--- what passes where the truth p is exactly true; nothing where p may be false, whatever the other input is
+-- the other input if the truth p is exactly true; nothing if p may be false, for any other input
 abbrev pub switched : Info → Info → Info
 switched p x =
     if not (is_possible p) then contradiction (kind_of x)
     else if allows p (truth false) then nothing (kind_of x)
     else x
 
--- the interval of an exact number: the hull of those that are possible, so nothing of any, and no number of one that is
--- out of range
+-- the interval of an exact number: the hull of the possible numbers, so nothing for any number, and
+-- no number for one out of range
 abbrev pub point_of : Info → Info
 point_of k = hull_of (some k)
 
--- the exact number of an interval: the number where just one is possible
+-- the exact number of an interval: the number if exactly one is possible
 abbrev pub fixed_of : Info → Info
 fixed_of x = closest kinds.Exact (allows x)
 
--- the meaning is given by rules: it is none of the table
+-- the meaning is given by rules: it is not in the table
 abbrev pub is_given_by_rules : Meaning → Bool
 is_given_by_rules (meanings.Rules rules) = true
 is_given_by_rules _ = false
@@ -102,13 +103,14 @@ output_of_meaning meanings.Copy = slots.Same
 output_of_meaning meanings.Fixed = slots.Fixed kinds.Exact
 output_of_meaning _ = slots.Fixed kinds.Interval
 
--- slots are a meaning's: those of the table; of rules any fixed kinds that the rules have
+-- slots are a meaning's: for a meaning of the table those of the table, and for rules any fixed
+-- kinds that the rules have
 abbrev pub AreSlotsOf : Meaning → List Slot → Slot → Type 0
 AreSlotsOf (meanings.Rules rules) inputs output =
     (kinds : List Kind) × (kind : Kind) × (inputs ≡ map slots.Fixed kinds) × (output ≡ slots.Fixed kind) × AreRules kinds kind rules.items
 AreSlotsOf meaning inputs output = (inputs ≡ inputs_of_meaning meaning) × (output ≡ output_of_meaning meaning)
 
--- the value of a meaning whose output has this slot; of rules the slot is of a fixed kind
+-- the value of a meaning whose output has this slot; for rules the slot is of a fixed kind
 abbrev pub value_of_meaning : Slot → Meaning → List Info → Info
 value_of_meaning output meanings.Adder inputs = sum_of (input inputs 0) (input inputs 1)
 value_of_meaning output meanings.Subtractor inputs = difference_of (input inputs 0) (input inputs 1)

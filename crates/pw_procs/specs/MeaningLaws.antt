@@ -1,4 +1,4 @@
--- What the laws of meanings say of one meaning.
+-- The laws of meanings, stated for one meaning.
 use Rattle.std.specs.Prelude.{◌≡◌, ℕ, ◌<◌, ℤ, true, false, List, [], ◌∷◌, length, map}
 use Rattle.std.specs.List.{AllZip}
 use Rattle.pw_kinds.specs.Ranges.{is_in_interval_range}
@@ -21,7 +21,7 @@ abbrev pub IsMonotone : Slot → Meaning → Type 0
 IsMonotone output meaning = (ys xs : List Info) → map kind_of ys ≡ map kind_of xs → AllZip Implies ys xs
     → Implies (value_of_meaning output meaning ys) (value_of_meaning output meaning xs)
 
--- on inputs that fit these slots the value is contradictory where some input is
+-- on inputs that fit these slots the value is contradictory if some input is
 abbrev pub IsContradictedByInputs : Slot → Meaning → List Slot → Type 0
 IsContradictedByInputs output meaning slots = (xs : List Info) → FitSlots slots xs → (k : ℕ) → k < length xs
     → IsContradiction (input xs k) → IsContradiction (value_of_meaning output meaning xs)
@@ -35,15 +35,16 @@ abbrev pub KeepsSolutionsOfTwo : Meaning → (ℤ → ℤ → ℤ → Type 0) �
 KeepsSolutionsOfTwo meaning solves = (output : Slot) (xs : List Info) (a b z : ℤ) → solves a b z → is_in_interval_range z ≡ true
     → allows (input xs 0) a ≡ true → allows (input xs 1) b ≡ true → allows (value_of_meaning output meaning xs) z ≡ true
 
--- a switch: where its truth is exactly true its value is what it passes, and where it may be false, nothing
+-- a switch: if its truth is exactly true, its value is the other input, and if the truth may be
+-- false, nothing
 abbrev pub SwitchPasses : Info → Info → Type 0
 SwitchPasses p x = allows p (truth true) ≡ true → allows p (truth false) ≡ false → switched p x ≡ x
 
 abbrev pub SwitchWaits : Info → Info → Type 0
 SwitchWaits p x = allows p (truth false) ≡ true → switched p x ≡ nothing (kind_of x)
 
--- one rule of one input: where its guard includes the input the value is its result, and where the input may be what the
--- guard leaves out, nothing
+-- one rule of one input: if its guard includes the input, the value is its result, and if the input
+-- may be outside the guard, nothing
 abbrev pub RuleApplies : Rule → Info → Info → Type 0
 RuleApplies rule guard x = rule.guards.items ≡ guard ∷ [] → is_possible x ≡ true → Implies x guard
     → value_of_rules (kind_of rule.result) (rule ∷ []) (x ∷ []) ≡ rule.result

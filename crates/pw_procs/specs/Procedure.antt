@@ -1,4 +1,5 @@
--- Stored procedures as contracts see them: all but their bodies, of which nothing need be known.
+-- Stored procedures as contracts see them: everything but their bodies, about which nothing need be
+-- known.
 use Rattle.std.specs.Prelude.{◌≡◌, ℕ, List, [], ◌∷◌, ◌++◌, map}
 use Rattle.std.specs.String.{string_bytes}
 use Rattle.pw_info.specs.declared.kind.Kind.{Kind}
@@ -18,11 +19,11 @@ pub record Procedure : Type 0 where
   pub meaning : Meaning
   pub slots : ∥ IsSignatureOf meaning signature ∥₁
 
--- what a stored procedure is, whatever its body
+-- a stored procedure, without its body
 abbrev pub procedure_of : {X : Type 0} {F : X → Type 0} {C : _} → Stored X F C → Procedure
 procedure_of stored = record { name = string_bytes stored.name; signature = stored.signature; meaning = stored.meaning; slots = stored.slots }
 
--- the same of each of a list
+-- the same for each of a list
 abbrev pub procedures_of : {X : Type 0} {F : X → Type 0} {C : _} → List (Stored X F C) → List Procedure
 procedures_of list = map procedure_of list
 
@@ -38,7 +39,8 @@ stored_names list = names_of (procedures_of list)
 abbrev pub value_by : Procedure → List Info → Info
 value_by procedure inputs = value_under procedure.signature procedure.meaning inputs
 
--- where a procedure accepts the kinds of the inputs and then a kind, the inputs fit, and its value is of that kind
+-- if a procedure accepts the kinds of the inputs and then a kind, the inputs fit, and its value is
+-- of that kind
 abbrev pub GivesWhatItAccepts : Procedure → List Info → Kind → Type 0
 GivesWhatItAccepts procedure inputs output = Accepts procedure.signature (map kind_of inputs ++ output ∷ [])
     → FitSignature procedure.signature inputs × (kind_of (value_by procedure inputs) ≡ output)
@@ -53,10 +55,10 @@ pub record IsAdded {X : Type 0} {F : X → Type 0} {C : _} (old new : List (Stor
   pub output_is : output_slot_of (procedure_of added).signature ≡ output
   pub meaning_is : (procedure_of added).meaning ≡ meaning
 
--- the same of a meaning of the table
+-- the same for a meaning of the table
 abbrev pub IsTableAdded : {X : Type 0} {F : X → Type 0} {C : _} → (old new : List (Stored X F C)) → List ℕ → Meaning → Type 0
 IsTableAdded old new name meaning = IsAdded old new name (inputs_of_meaning meaning) (output_of_meaning meaning) meaning
 
--- the meanings of procedures under their names, in order
+-- the meanings of procedures with their names, in order
 abbrev pub named_meanings : List Procedure → List (List ℕ × Meaning)
 named_meanings procedures = map (λ procedure. (procedure.name, procedure.meaning)) procedures

@@ -1,10 +1,10 @@
--- Which lists of procedures make a registry, and what is wrong with the others.
+-- Which lists of procedures make a registry, and the faults of the others.
 use Rattle.std.specs.Prelude.{◌≡◌, ◌<◌, ◌≤◌, ◌⊎◌, ℕ, List, [], ◌∷◌, codes, length, take, slice_get, Some, false, Contains}
 use Rattle.pw_info.specs.Name.{is_name}
 use Rattle.pw_procs.specs.declared.registry.RegistryFault.{RegistryFault}
 use Rattle.pw_procs.specs.declared.registry.RegistryFault.TheVariants.{DuplicateName, BadName, TooMany, Memory}
 
--- the most procedures that a registry may have
+-- the greatest number of procedures in a registry
 abbrev pub most_procedures : ℕ
 most_procedures = 64
 
@@ -16,17 +16,17 @@ taken_names = codes "sum" ∷ codes "product" ∷ codes "conditional" ∷ []
 abbrev pub IsBadName : List ℕ → Type 0
 IsBadName name = (is_name name ≡ false) ⊎ Contains taken_names name
 
--- what is wrong with one name, after these: a bad name comes before one that stands before it already
+-- the fault of one name, after these: a bad name comes before a name that is among these already
 abbrev pub IsFaultAfter : List (List ℕ) → List ℕ → RegistryFault → Type 0
 IsFaultAfter before name BadName = IsBadName name
 IsFaultAfter before name DuplicateName = (IsBadName name → ⊥) × Contains before name
 IsFaultAfter before name _ = ⊥
 
--- nothing is wrong with the name, after these
+-- the name has no fault, after these
 abbrev pub IsFaultlessAfter : List (List ℕ) → List ℕ → Type 0
 IsFaultlessAfter before name = (fault : RegistryFault) → IsFaultAfter before name fault → ⊥
 
--- nothing is wrong with the names up to place n
+-- the names up to place n have no fault
 abbrev pub AreFreeBelow : List (List ℕ) → ℕ → Type 0
 AreFreeBelow names n = (k : ℕ) (name : List ℕ) (fault : RegistryFault) → k < n → slice_get names k ≡ Some name → IsFaultAfter (take k names) name fault → ⊥
 
@@ -35,7 +35,7 @@ pub record AreRegistered (names : List (List ℕ)) : Type 0 where
   pub most : length names ≤ most_procedures
   pub free : AreFreeBelow names (length names)
 
--- there are not too many names, and this is the first thing that is wrong with one
+-- there are not too many names, and this is the first fault of a name
 pub record IsFirstFault (names : List (List ℕ)) (fault : RegistryFault) : Type 0 where
   pub most : length names ≤ most_procedures
   pub place : ℕ
@@ -44,7 +44,7 @@ pub record IsFirstFault (names : List (List ℕ)) (fault : RegistryFault) : Type
   pub wrong : IsFaultAfter (take place names) name fault
   pub first : AreFreeBelow names place
 
--- why the procedures of these names make no registry; want of memory comes last
+-- why the procedures of these names make no registry; out of memory comes last
 abbrev pub IsRegistryFault : List (List ℕ) → RegistryFault → Type 0
 IsRegistryFault names TooMany = most_procedures < length names
 IsRegistryFault names Memory = AreRegistered names

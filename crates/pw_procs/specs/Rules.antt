@@ -1,4 +1,4 @@
--- Meanings that are given by rules.
+-- Meanings given by rules.
 use Rattle.std.specs.Prelude.{◌≡◌, ℤ, Bool, true, not, ◌&&◌, ◌||◌, List, [], ◌∷◌, map, if◌then◌else◌}
 use Rattle.std.specs.List.{list_all, All}
 use Rattle.pw_info.specs.declared.kind.Kind.{Kind}
@@ -17,12 +17,12 @@ all_include [] inputs = true
 all_include (guard ∷ guards) [] = true
 all_include (guard ∷ guards) (input ∷ inputs) = includes guard input && all_include guards inputs
 
--- a value stays possible where each rule that applies leaves it possible
+-- a value stays possible if each rule that applies leaves it possible
 abbrev pub rules_allow : List Rule → List Info → ℤ → Bool
 rules_allow rules inputs v = list_all (λ rule. not (all_include rule.guards.items inputs) || allows rule.result v) rules
 
--- the value of rules: what the results of all rules that apply have in common; the contradiction where an input is
--- contradictory
+-- the value of rules: the common part of the results of all rules that apply; the contradiction if
+-- an input is contradictory
 abbrev pub value_of_rules : Kind → List Rule → List Info → Info
 value_of_rules kind rules inputs = if list_all is_possible inputs then closest kind (rules_allow rules inputs) else contradiction kind
 
@@ -42,7 +42,7 @@ results_of rules = map (λ rule. rule.result) rules
 abbrev pub AreRulesLike : Info → Info → List Rule → Type 0
 AreRulesLike guard result rules = AreRules (kind_of guard ∷ []) (kind_of result) rules
 
--- others are rules of each kinds that these are rules of, and have the same values
+-- the others are rules of all kinds that these are rules of, and have the same values
 abbrev pub AreRulesAsWell : List Rule → List Rule → Type 0
 AreRulesAsWell rules others = (inputs : List Kind) (output : Kind) → AreRules inputs output rules → AreRules inputs output others
 

@@ -25,7 +25,7 @@ FitSignature signature inputs = FitSlots (input_slots_of signature) inputs
 abbrev pub Accepts : Signature → List Kind → Type 0
 Accepts signature kinds = KindsFit (input_slots_of signature ++ output_slot_of signature ∷ []) kinds
 
--- the same of the inputs and of the output apart
+-- the same with the inputs and the output apart
 abbrev pub AcceptsApart : Signature → List Kind → Kind → Type 0
 AcceptsApart signature inputs output =
     (same : Kind) × (inputs ≡ map (kind_in same) (input_slots_of signature)) × (output ≡ kind_in same (output_slot_of signature))

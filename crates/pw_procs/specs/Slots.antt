@@ -12,11 +12,12 @@ abbrev pub kind_in : Kind → Slot → Kind
 kind_in same (Fixed kind) = kind
 kind_in same Same = same
 
--- these are the kinds in slots, one for each, where `same` is the kind of the slots that take any kind
+-- these are the kinds in slots, one for each, where `same` is the kind of the slots that take any
+-- kind
 abbrev pub AreKindsIn : List Slot → List Kind → Kind → Type 0
 AreKindsIn slots kinds same = kinds ≡ map (kind_in same) slots
 
--- kinds fit slots: they are those in them, for some kind of the slots that take any
+-- kinds fit slots: they are the kinds in them, for some kind of the slots that take any kind
 abbrev pub KindsFit : List Slot → List Kind → Type 0
 KindsFit slots kinds = (same : Kind) × AreKindsIn slots kinds same
 
@@ -29,11 +30,12 @@ abbrev pub is_same : Slot → Bool
 is_same (Fixed kind) = false
 is_same Same = true
 
--- the most inputs that a procedure may have
+-- the greatest number of inputs of a procedure
 abbrev pub most_inputs : ℕ
 most_inputs = 8
 
--- the slots that a procedure may have: one to eight inputs; an output of any kind where an input is of any kind
+-- the slots that a procedure may have: one to eight inputs; an output of any kind only if an input
+-- is of any kind
 pub record AreSlots (inputs : List Slot) (output : Slot) : Type 0 where
   pub some : 1 ≤ length inputs
   pub most : length inputs ≤ most_inputs

@@ -1,5 +1,6 @@
--- The values that informations leave possible, what an operation gives on all of them, and the information that is
--- nearest to a set of numbers. A set of whole numbers is given by its test: does some number of the set pass?
+-- The values that informations leave possible, what an operation gives on all of them, and the
+-- information nearest to a set of numbers. A set of whole numbers is given by its test: does some
+-- number of the set pass?
 use Rattle.std.specs.Prelude.{◌≡◌, ◌<◌, ℕ, ℤ, pos, neg_ℤ, Bool, true, false, ◌&&◌, List, ◌≤ℤ◌, is_some, slice_index_or}
 use Rattle.std.specs.Int.{IsBitSet}
 use Rattle.std.specs.Int.Signed.{le_z}
@@ -29,22 +30,22 @@ is_possible info = some info (λ v. true)
 abbrev pub NumberSet : Type 0
 NumberSet = (ℤ → Bool) → Bool
 
--- all that an operation gives on possible values
+-- all results of an operation on possible values
 abbrev pub image_of_one : (ℤ → ℤ) → Info → NumberSet
 image_of_one operation x passes = some x (λ a. passes (operation a))
 
 abbrev pub image_of_two : (ℤ → ℤ → ℤ) → Info → Info → NumberSet
 image_of_two operation x y passes = some x (λ a. some y (λ b. passes (operation a b)))
 
--- a number is what an operation gives on a possible value, or on two
+-- a number is the result of an operation on a possible value, or on two
 abbrev pub IsImageOfOne : (ℤ → ℤ) → Info → ℤ → Type 0
 IsImageOfOne operation x z = (a : ℤ) × (allows x a ≡ true) × (z ≡ operation a)
 
 abbrev pub IsImageOfTwo : (ℤ → ℤ → ℤ) → Info → Info → ℤ → Type 0
 IsImageOfTwo operation x y z = (a b : ℤ) × (allows x a ≡ true) × (allows y b ≡ true) × (z ≡ operation a b)
 
--- the hull of a set of numbers, cut to the range of intervals: a number is in it where some number of the set is at or
--- below it, and some is at or above it
+-- the hull of a set of numbers, cut to the range of intervals: a number is in it if some number of
+-- the set is at or below it, and some is at or above it
 abbrev pub hull_of : NumberSet → Info
 hull_of set = closest kinds.Interval (λ v. set (λ z. le_z z v) && set (λ z. le_z v z))
 
@@ -62,11 +63,12 @@ truth false = pos 0
 abbrev pub is_true : ℤ → Bool
 is_true v = int_eq v (pos 1)
 
--- which truths there are in a set of truths
+-- the truths in a set of truths
 abbrev pub truths_of : NumberSet → Info
 truths_of set = closest bool (λ v. set (int_eq v))
 
--- it is what is known of each set of truths that has `false`, and `true`, just where these say so
+-- it is the known information for each set of truths that has `false`, and `true`, exactly if these
+-- say so
 abbrev pub HasTruths : Bool → Bool → Info → Type 0
 HasTruths has_false has_true info = (set : NumberSet)
     → set (int_eq (truth false)) ≡ has_false → set (int_eq (truth true)) ≡ has_true → info ≡ truths_of set
@@ -89,7 +91,7 @@ any_number = nothing kinds.Interval
 abbrev pub no_number : Info
 no_number = contradiction kinds.Interval
 
--- one truth alone, and one number alone, known exactly
+-- only one truth, and only one number, known exactly
 abbrev pub just : Bool → Info
 just b = closest bool (int_eq (truth b))
 
@@ -104,7 +106,7 @@ IsMaskOf size mask = (k : ℕ) → IsBitSet mask k → k < size
 abbrev pub input : List Info → ℕ → Info
 input inputs place = slice_index_or inputs place (nothing kinds.Interval)
 
--- a set has just these numbers
+-- a set has exactly these numbers
 pub record IsSetOf (numbers : ℤ → Type 0) (set : NumberSet) : Type 0 where
   pub found : (passes : ℤ → Bool) (z : ℤ) → numbers z → passes z ≡ true → set passes ≡ true
   pub known : (passes : ℤ → Bool) → set passes ≡ true → (z : ℤ) × numbers z × (passes z ≡ true)
@@ -113,9 +115,10 @@ pub record IsSetOf (numbers : ℤ → Type 0) (set : NumberSet) : Type 0 where
 abbrev pub LiesWithin : (ℤ → Type 0) → ℤ → Type 0
 LiesWithin numbers v = (lo hi : ℤ) × numbers lo × numbers hi × (lo ≤ℤ v) × (v ≤ℤ hi)
 
--- the hull of a set, in words: just the numbers in range that lie between two numbers of the set, or on one, are
--- possible. So whatever is possible lies between any two ends between which all numbers of the set lie. (Of 999,999 and
--- 1,002,000 it is 999999..1000000: the hull is taken first, and then cut.)
+-- the hull of a set, in words: exactly the numbers in range that lie between two numbers of the
+-- set, or on one, are possible. So everything possible lies between any two ends between which all
+-- numbers of the set lie. (Of 999,999 and 1,002,000 it is 999999..1000000: the hull is taken first,
+-- and then cut.)
 pub record IsHull (numbers : ℤ → Type 0) (hull : Info) : Type 0 where
   pub holds : (v : ℤ) → is_in_interval_range v ≡ true → LiesWithin numbers v → allows hull v ≡ true
   pub known : (v : ℤ) → allows hull v ≡ true → (is_in_interval_range v ≡ true) × LiesWithin numbers v

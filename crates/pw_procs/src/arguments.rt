@@ -2,7 +2,8 @@ ghost use Rattle.pw_procs.specs.Shapes.{AreArguments};
 
 const MOST_CELLS: usize = 9;
 
-/// The cells that a procedure is put between, each by its number: one to nine. Two with the same cells are equal.
+/// The cells that a procedure is put between, by number: one to nine. Two values with the same
+/// cells are equal.
 #[derive(Clone, Copy, Debug, PartialEq, Eq)]
 pub struct Arguments {
     held: [u32; 9],

@@ -1,5 +1,5 @@
-//! A plain function for each meaning of the table. Each works on end points, corners and members, and gives the
-//! value that the meaning has over all values that the inputs leave possible.
+//! A plain function for each meaning of the table. Each works on end points, corners and members,
+//! and gives the value that the meaning has over all possible values of the inputs.
 ghost use Rattle.std.specs.Prelude.{◌≡◌};
 ghost use Rattle.pw_procs.specs.Slots.{FitSlots};
 ghost use Rattle.pw_procs.specs.Values.{input};
@@ -57,8 +57,8 @@ pub fn squarer(inputs: &[Info]) -> Info
     Info::of_interval(square(interval_at(inputs, 0)))
 }
 
-/// Of intervals t and x: nothing where x may be 0, else the whole numbers from the least `t / x`, rounded up, to the
-/// greatest, rounded down.
+/// Of intervals t and x: nothing if x may be 0; otherwise the whole numbers from the least `t / x`,
+/// rounded up, to the greatest, rounded down.
 pub fn divider(inputs: &[Info]) -> Info
     requires { FitSlots (inputs_of_meaning Meaning.Divider) inputs.now }
     ensures { result ≡ quotient_of (input inputs.now 0) (input inputs.now 1) }
@@ -106,7 +106,8 @@ pub fn disjoiner(inputs: &[Info]) -> Info
     disjunction(truths_at(inputs, 0), truths_at(inputs, 1))
 }
 
-/// Of a truth p and an information x: x where p is exactly true, the contradiction where p is contradictory, else nothing.
+/// Of a truth p and an information x: x if p is exactly true, the contradiction if p is
+/// contradictory, and otherwise nothing.
 pub fn switch(inputs: &[Info]) -> Info
     requires { FitSlots (inputs_of_meaning Meaning.Switch) inputs.now }
     ensures { result ≡ switched (input inputs.now 0) (input inputs.now 1) }
@@ -130,7 +131,7 @@ pub fn copy(inputs: &[Info]) -> Info
     inputs[0]
 }
 
-/// Of an exact number: the interval of it alone.
+/// Of an exact number: the interval of only that number.
 pub fn point(inputs: &[Info]) -> Info
     requires { FitSlots (inputs_of_meaning Meaning.Point) inputs.now }
     ensures { result ≡ point_of (input inputs.now 0) }
@@ -138,7 +139,7 @@ pub fn point(inputs: &[Info]) -> Info
     Info::of_interval(point_interval(exact_at(inputs, 0)))
 }
 
-/// Of an interval: its number where it has just one, else nothing.
+/// Of an interval: its number if it has exactly one, and otherwise nothing.
 pub fn fixed(inputs: &[Info]) -> Info
     requires { FitSlots (inputs_of_meaning Meaning.Fixed) inputs.now }
     ensures { result ≡ fixed_of (input inputs.now 0) }

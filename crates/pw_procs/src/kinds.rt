@@ -14,8 +14,8 @@ pub fn truth_kind() -> Kind
     Kind::Members(SetKind { number: 0, size: 2 })
 }
 
-/// The members of a set by a mask: those whose bits are set. Where a bit at or past the size of the set is set, the mask
-/// is none of the set's, and the result is the contradiction.
+/// The members of a set, by a mask: those whose bits are set. If a bit at or past the size of the
+/// set is set, it is no mask of this set, and the result is the contradiction.
 pub fn members_of_mask(set: SetKind, mask: u64) -> Info
     ensures kind { kind_of result ≡ Kind.Members set }
     ensures values { IsMaskOf set.size mask → PassesBitsOf mask (allows result) }

@@ -1,4 +1,5 @@
-//! Laws of the meanings, each the contract of a function that does nothing: they hold of every meaning and all inputs.
+//! Laws of the meanings. Each is the contract of a function that does nothing, and holds of every
+//! meaning and all inputs.
 
 ghost use Rattle.std.specs.Prelude.{◌≡◌, ◌≢◌, ◌↔◌, ℕ, ℤ, pos, ◌+ℤ◌, ◌-ℤ◌, ◌*ℤ◌, Bool, true, false, not, List, [], ◌∷◌, ◌++◌};
 ghost use Rattle.pw_info.specs.declared.kind.Kind.{Kind};
@@ -22,8 +23,9 @@ ghost use Rattle.pw_procs.specs.Meaning.{at_most_of, equality_of, negation_of, c
 ghost use Rattle.pw_procs.specs.MeaningLaws.{IsOfSlotKind, IsMonotone, IsContradictedByInputs, KeepsSolutionsOfOne, KeepsSolutionsOfTwo};
 ghost use Rattle.pw_procs.specs.MeaningLaws.{SwitchPasses, SwitchWaits, RuleApplies, RuleWaits};
 
-/// The hull of a set of numbers leaves just the numbers in range possible that lie between two of the set, or on one; and
-/// what an operation gives on possible values is a set of just these numbers.
+/// The hull of a set of numbers leaves exactly the numbers in range possible that lie between two
+/// numbers of the set, or on one; and what an operation gives on possible values is a set of
+/// exactly these numbers.
 pub fn hull_lies_between()
     ensures image_of_one { (op : ℤ → ℤ) (x : Info)
         → IsSetOf (IsImageOfOne op x) (image_of_one op x) }
@@ -37,27 +39,28 @@ pub fn hull_lies_between()
         → IsHull (IsImageOfTwo op x y) (hull_of (image_of_two op x y)) }
 {}
 
-/// The value of a meaning is of the kind of its output, where the inputs fit.
+/// The value of a meaning is of the kind of its output, if the inputs fit.
 pub fn values_have_the_output_kind()
     ensures { (output : Slot) (meaning : Meaning) (slots : List Slot)
         → AreSlotsOf meaning slots output → IsOfSlotKind output meaning slots }
 {}
 
-/// Kinds fit a signature where those of the inputs and that of the output do, with one kind for the slots of any kind.
+/// Kinds fit a signature if the kinds of the inputs and the kind of the output do, with one kind
+/// for all slots of any kind.
 pub fn kinds_fit_apart()
     ensures { (signature : Signature) (xs : List Kind) (k : Kind)
         → Accepts signature (xs ++ k ∷ []) ↔ AcceptsApart signature xs k }
 {}
 
-/// A procedure gives values of the kind of its output. So where it accepts the kinds of some inputs and a kind besides,
-/// the inputs fit and its value is of that kind.
+/// A procedure gives values of the kind of its output. So if it accepts the kinds of some inputs
+/// followed by one more kind, the inputs fit and its value is of that last kind.
 pub fn procedures_give_their_output_kind()
     ensures kind { (procedure : Procedure) → IsOfOutputKind procedure.signature procedure.meaning }
     ensures accepted { (procedure : Procedure) (xs : List Info) (k : Kind)
         → GivesWhatItAccepts procedure xs k }
 {}
 
-/// A list of procedures under names that those of a registry may have is refused for want of memory alone.
+/// A list of procedures under names that a registry allows is refused only when out of memory.
 pub fn good_names_are_refused_for_memory_alone()
     ensures { (names : List (List ℕ)) (fault : RegistryFault)
         → AreRegistered names → IsRegistryFault names fault → fault ≡ Memory }
@@ -68,7 +71,8 @@ pub fn meanings_are_monotone()
     ensures { (output : Slot) (meaning : Meaning) → IsMonotone output meaning }
 {}
 
-/// Where some input is contradictory the value is the contradiction; of a switch, where its truth is.
+/// If some input is contradictory, the value is the contradiction; for a switch, if its truth is
+/// contradictory.
 pub fn contradictory_inputs_give_contradictions()
     ensures value { (output : Slot) (meaning : Meaning) (slots : List Slot) → (meaning ≢ Switch)
         → AreSlotsOf meaning slots output → IsContradictedByInputs output meaning slots }
@@ -76,8 +80,8 @@ pub fn contradictory_inputs_give_contradictions()
         → IsContradiction (input xs 0) → IsContradiction (value_of_meaning output Switch xs) }
 {}
 
-/// Numbers in range that satisfy the relation of a meaning of arithmetic stay possible: where the inputs allow theirs,
-/// the value allows the output's.
+/// Numbers in range that satisfy the relation of an arithmetic meaning stay possible: if the inputs
+/// allow theirs, the value allows the output's.
 pub fn arithmetic_loses_no_solution()
     ensures adder { KeepsSolutionsOfTwo Adder (λ x y z. z ≡ x +ℤ y) }
     ensures subtractor { KeepsSolutionsOfTwo Subtractor (λ t x z. z ≡ t -ℤ x) }
@@ -86,7 +90,7 @@ pub fn arithmetic_loses_no_solution()
     ensures divider { KeepsSolutionsOfTwo Divider (λ t x z. z *ℤ x ≡ t) }
 {}
 
-/// The definitions on small inputs: ranges of numbers.
+/// Examples: the definitions on small ranges of numbers.
 pub fn examples_of_numbers()
     ensures sum { sum_of (range 1 2) (range 10 20) ≡ range 11 22 }
     ensures difference { difference_of (range 10 20) (range 1 2) ≡ range 8 19 }
@@ -101,7 +105,7 @@ pub fn examples_of_numbers()
     ensures fixed { fixed_of (range 5 5) ≡ exactly (pos 5) }
 {}
 
-/// The same of truths.
+/// Examples: the same for truths.
 pub fn examples_of_truths()
     ensures at_most { at_most_of (range 1 5) (range 5 9) ≡ just true }
     ensures at_most_open { at_most_of (range 1 6) (range 5 9) ≡ nothing bool }
@@ -116,7 +120,7 @@ pub fn examples_of_truths()
     ensures disjoiner_open { disjunction_of (nothing bool) (just false) ≡ nothing bool }
 {}
 
-/// The same of switches and rules.
+/// Examples: the same for switches and rules.
 pub fn examples_of_switches_and_rules()
     ensures switch_true { (p x : Info) → SwitchPasses p x }
     ensures switch_false { (p x : Info) → SwitchWaits p x }

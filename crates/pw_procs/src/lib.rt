@@ -1,5 +1,5 @@
-//! What propagators mean, and procedures that give it: meanings with their laws, a body for each, signatures, stored
-//! procedures and registries of them, and tables of names.
+//! The meanings of propagators, and procedures that compute them: meanings with their laws, a body
+//! for each, signatures, stored procedures, registries of them, and tables of names.
 #![tactic(auto)]
 
 mod arguments;

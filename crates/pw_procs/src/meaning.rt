@@ -1,8 +1,8 @@
 use crate::rule::Rule;
 
-/// What a propagator tells of its output: the value of a meaning is taken over all values that its inputs leave possible. Where an
-/// input is contradictory the value is the contradiction, but for `Switch`. (Radul and Sussman, *The Art of the
-/// Propagator*, on primitive propagators.)
+/// What a propagator says about its output: the value of a meaning is taken over all possible
+/// values of its inputs. If an input is contradictory, the value is the contradiction, except for
+/// `Switch`. (Radul and Sussman, *The Art of the Propagator*, on primitive propagators.)
 #[derive(Debug, Drop)]
 pub enum Meaning {
     /// Of intervals x and y: the hull of all `x + y`.
@@ -13,8 +13,8 @@ pub enum Meaning {
     Multiplier,
     /// Of an interval x: the hull of all `x * x`.
     Squarer,
-    /// Of intervals t and x: nothing where x may be 0, else the whole numbers from the least true quotient, rounded up,
-    /// to the greatest, rounded down.
+    /// Of intervals t and x: nothing if x may be 0; otherwise the whole numbers from the least true
+    /// quotient, rounded up, to the greatest, rounded down.
     Divider,
     /// Of intervals x and y: whether `x <= y`, as far as it is known.
     AtMost,
@@ -26,15 +26,15 @@ pub enum Meaning {
     Conjoiner,
     /// Of two truths: all `p or q`.
     Disjoiner,
-    /// Of a truth p and an information x: x where p is exactly true, the contradiction where p is contradictory, else
-    /// nothing.
+    /// Of a truth p and an information x: x if p is exactly true, the contradiction if p is
+    /// contradictory, and otherwise nothing.
     Switch,
     /// Of an information x: x.
     Copy,
-    /// Of an exact number: the interval of it alone.
+    /// Of an exact number: the interval of only that number.
     Point,
-    /// Of an interval: its number where it has just one, else nothing.
+    /// Of an interval: its number if it has exactly one, and otherwise nothing.
     Fixed,
-    /// What the results of all rules that apply have in common.
+    /// The common part of the results of all rules that apply.
     Rules(Vec<Rule>),
 }

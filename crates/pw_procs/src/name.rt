@@ -1,4 +1,4 @@
-// A name of a table, and a word that is looked up among them.
+// A name in a table, or a word that is looked up in it.
 ghost use Rattle.std.specs.Prelude.{◌≡◌, ◌∷◌, []};
 ghost use Rattle.std.specs.Cmp.{on_equiv, on_per, partial_equiv_from_equiv};
 ghost use Rattle.std.specs.Cmp.Lexicographic.{nat_list_eq_equiv};
@@ -10,8 +10,8 @@ ghost use Rattle.pw_procs.specs.Name.{name_bytes};
 use std::alloc::Allocator;
 use std::hash::{Hash, Hasher};
 
-/// A name that a table keeps, or a word that is looked up. Both are hashed by all their bytes at once: a slice would be
-/// hashed by one after another, and a text would have to be looked at first.
+/// A name that a table keeps, or a word that is looked up. Both are hashed by all their bytes at
+/// once: a slice would be hashed byte by byte, and a text would have to be checked first.
 #[derive(Drop)]
 pub(crate) enum Name<'w, A: Allocator> {
     /// A name of the table.

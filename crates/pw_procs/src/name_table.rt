@@ -11,7 +11,7 @@ use std::alloc::{AllocError, Allocator, Global};
 use std::hash::{BuildHasherDefault, FoldHasher};
 use std::marker::Model;
 
-// So many names are looked through one after another, which takes less than to hash the word.
+// This many names are searched one after another, which costs less than hashing the word.
 const FEW: usize = 8;
 
 // The place of the name that is equal to the word, if there is one.
@@ -42,7 +42,7 @@ impl<A: Allocator> Model for NameTable<A> {
 }
 
 impl<A: Allocator + Copy> NameTable<A> {
-    /// A table with no name. It takes no memory.
+    /// A table with no names. Takes no memory.
     pub fn new(alloc: A) -> NameTable<A>
         ensures { result ≡ [] }
     {
@@ -69,7 +69,8 @@ impl<A: Allocator + Copy> NameTable<A> {
         self.find_by_hash(word)
     }
 
-    // The same, by the hash of the word. It stands alone, so that little is done for a few names.
+    // The same, by the hash of the word. A function of its own, so that little is done for a few
+    // names.
     #[inline(never)]
     fn find_by_hash(&self, word: &[u8]) -> Option<usize>
         ensures number { result ≡ place_of_name self.now word.now }
@@ -91,7 +92,8 @@ impl<A: Allocator + Copy> NameTable<A> {
         name
     }
 
-    /// Adds a name, which gets the next number. It fails only for want of memory, and then the table stays as it was.
+    /// Adds a name, which gets the next number. Fails only when out of memory; then the table is
+    /// unchanged.
     pub fn add(&mut self, name: &str) -> Result<(), AllocError>
         requires { place_of_name self.old name.now ≡ None }
         ensures ok { OnOk result (self.new ≡ self.old ++ name.now ∷ []) }

@@ -15,8 +15,8 @@ use crate::table::signature_of;
 use pw_info::Kind;
 use std::alloc::{AllocError, Global};
 
-/// Puts a procedure with a meaning of the table at the end of a list. Its body gives the meaning's value on every list that
-/// fits. It fails only for want of memory, and then the list stays as it was.
+/// Puts a procedure with a meaning of the table at the end of a list. Its body gives the meaning's
+/// value on every list that fits. Fails only when out of memory; then the list is unchanged.
 pub fn add_of_table(
     alloc: Global,
     list: &mut Vec<Stored>,
@@ -38,8 +38,8 @@ pub fn add_of_table(
     Ok(())
 }
 
-/// Puts a procedure of one input that is given by rules at the end of a list. Its body gives the value of the rules on
-/// every input of the kind. It fails only for want of memory, and then the list stays as it was.
+/// Puts a procedure of one input, given by rules, at the end of a list. Its body gives the value of
+/// the rules on every input of the kind. Fails only when out of memory; then the list is unchanged.
 pub fn add_by_rules(
     alloc: Global,
     list: &mut Vec<Stored>,

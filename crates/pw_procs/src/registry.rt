@@ -1,4 +1,4 @@
-//! The procedures that there are, by name and by number.
+//! The procedures of a program, by name and by number.
 ghost use Rattle.std.specs.Prelude.{◌≡◌, ◌↔◌, ◌<◌, length, slice_get, Some, IsTrue, IfOk, IfErr, IfSome, IfNone, Contains};
 ghost use Rattle.pw_procs.specs.Place.{place_of_name};
 ghost use Rattle.pw_procs.specs.Procedure.{procedure_of, procedures_of, stored_names};
@@ -16,7 +16,8 @@ const MOST_PROCEDURES: usize = 64;
 pub enum RegistryFault {
     /// 1: an earlier procedure has the name.
     DuplicateName,
-    /// 2: no procedure may have the name: it is no name, or one of `sum`, `product` and `conditional`.
+    /// 2: no procedure may have the name: it is not a name, or it is `sum`, `product` or
+    /// `conditional`.
     BadName,
     /// 3: there are more than 64.
     TooMany,
@@ -24,7 +25,7 @@ pub enum RegistryFault {
     Memory,
 }
 
-/// Procedures under names of their own, each with a number, from 0 in the order of the list.
+/// Procedures with different names, each with a number, from 0 in the order of the list.
 #[derive(Drop)]
 pub struct Registry<A: Allocator = Global> {
     entries: Vec<Stored>,
@@ -69,7 +70,7 @@ fn fault_after(before: &[Stored], name: &[u8]) -> Option<RegistryFault>
     None
 }
 
-// What is wrong with the list, memory apart.
+// The first fault of the list, apart from memory.
 fn first_fault(entries: &[Stored]) -> Option<RegistryFault>
     ensures none { IfNone result (AreRegistered (stored_names entries.now)) }
     ensures fault { IfSome result (λ fault. IsRegistryFault (stored_names entries.now) fault) }
@@ -100,9 +101,10 @@ fn names_of<A: Allocator + Copy>(alloc: A, entries: &[Stored]) -> Result<NameTab
 impl<A: Allocator + Copy> Registry<A> {
     ghost use Rattle.pw_procs.specs.Registry.{procedures_in, names_in};
 
-    /// The registry of these procedures: at most 64, each under a name that is free for a procedure, no two under one.
-    /// Otherwise the list is handed back with the first thing that is wrong: too many, then, from the first on, a bad
-    /// name or one that an earlier procedure has, and want of memory last.
+    /// The registry of these procedures: at most 64, each under a name that a procedure may have,
+    /// no two under the same name. Otherwise the list is handed back with its first fault: too many
+    /// procedures; then, from the first procedure on, a bad name or the name of an earlier
+    /// procedure; and last, out of memory.
     pub fn new(alloc: A, entries: Vec<Stored>) -> Result<Registry<A>, (RegistryFault, Vec<Stored>)>
         ensures holds { IfOk result (λ made. procedures_in made ≡ procedures_of entries.items) }
         ensures names { IfOk result (λ made. AreRegistered (stored_names entries.items)) }
@@ -123,7 +125,7 @@ impl<A: Allocator + Copy> Registry<A> {
         *self.entries.allocator()
     }
 
-    /// How many procedures there are.
+    /// The number of procedures.
     pub fn len(&self) -> usize
         ensures { result ≡ length (procedures_in self.now) }
     {

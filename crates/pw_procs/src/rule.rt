@@ -3,7 +3,7 @@ ghost use Rattle.std.specs.Prelude.{◌≡◌};
 use pw_info::Info;
 use std::alloc::AllocError;
 
-/// A rule: what is known of the output where each guard includes its input.
+/// A rule: what is known about the output if each guard includes its input.
 #[derive(Debug, Drop)]
 pub struct Rule {
     /// One for each input, of its kind.

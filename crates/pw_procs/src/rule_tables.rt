@@ -1,4 +1,5 @@
-//! Lists of rules: how they are made, and copied for a body that owns the table that its meaning tells.
+//! Lists of rules: making them, and copying them for a body that owns the table that its meaning
+//! describes.
 ghost use Rattle.std.specs.Prelude.{◌≡◌, ◌++◌, ◌∷◌, [], IfOk, OnOk};
 ghost use Rattle.pw_procs.specs.Rules.{AreRulesLike, AreRulesAsWell, HaveTheSameValues, guards_of, results_of};
 

@@ -17,7 +17,7 @@ fn kind_in(slot: Slot, same: Kind) -> Kind
     }
 }
 
-// Whether two kinds are one.
+// Whether two kinds are equal.
 fn are_equal(one: Kind, another: Kind) -> bool
     ensures { IsTrue result ↔ (one ≡ another) }
 {
@@ -30,7 +30,7 @@ fn are_equal(one: Kind, another: Kind) -> bool
     }
 }
 
-/// Whether two lists of kinds are one.
+/// Whether two lists of kinds are equal.
 pub fn are_equal_kinds(kinds: &[Kind], others: &[Kind]) -> bool
     ensures { IsTrue result ↔ (kinds.now ≡ others.now) }
 {
@@ -43,7 +43,7 @@ pub fn are_equal_kinds(kinds: &[Kind], others: &[Kind]) -> bool
     }
 }
 
-// The kind in the first slot of any kind, if there is one: where kinds fit, they fit with it.
+// The kind in the first slot of any kind, if there is one. If kinds fit, they fit with it.
 fn same_kind(slots: &[Slot], kinds: &[Kind]) -> Kind
     ensures { (same : Kind) → spec.AreKindsIn slots.now kinds.now same
         → spec.AreKindsIn slots.now kinds.now result }
@@ -57,7 +57,7 @@ fn same_kind(slots: &[Slot], kinds: &[Kind]) -> Kind
     }
 }
 
-// Whether these are the kinds in the slots, where `same` is the kind in those of any kind.
+// Whether these are the kinds in the slots, where `same` is the kind in the slots of any kind.
 fn are_kinds_in(slots: &[Slot], kinds: &[Kind], same: Kind) -> bool
     ensures { IsTrue result ↔ spec.AreKindsIn slots.now kinds.now same }
 {
@@ -77,7 +77,8 @@ fn kinds_fit(slots: &[Slot], kinds: &[Kind]) -> bool
     are_kinds_in(slots, kinds, same_kind(slots, kinds))
 }
 
-/// The slots of a procedure: one to eight inputs, and an output. The output is of any kind only where an input is.
+/// The slots of a procedure: one to eight inputs, and an output. The output is of any kind only if
+/// an input is.
 #[derive(Clone, Copy)]
 pub struct Signature {
     slots: [Slot; 8],
@@ -91,8 +92,8 @@ impl Signature {
     ghost use Rattle.pw_procs.specs.Slots.{AreSlots};
     ghost use Rattle.pw_procs.specs.Signature.{input_slots_of, output_slot_of, FitSignature, Accepts};
 
-    /// The signature with these slots. None unless there are one to eight inputs, and None where the output is `Same`
-    /// and no input is.
+    /// The signature with these slots. None unless there are one to eight inputs, and None if the
+    /// output is `Same` and no input is.
     pub fn new(inputs: &[Slot], output: Slot) -> Option<Signature>
         ensures some { IsSome result ↔ AreSlots inputs.now output }
         ensures inputs { IfSome result (λ signature. input_slots_of signature ≡ inputs.now) }
@@ -119,7 +120,8 @@ impl Signature {
         &self.slots[..self.count]
     }
 
-    /// Whether informations fit the inputs: one for each, of its kind, those of all `Same` slots of one kind.
+    /// Whether informations fit the inputs: one for each, of its kind, and all of one kind in the
+    /// `Same` slots.
     pub fn fits(&self, inputs: &[Info]) -> bool
         ensures { IsTrue result ↔ FitSignature self.now inputs.now }
     {
@@ -133,7 +135,7 @@ impl Signature {
         kinds_fit(self.inputs(), &kinds[..inputs.len()])
     }
 
-    /// Whether kinds fit the inputs and the output, whose kind is last.
+    /// Whether kinds fit the inputs and the output. The output's kind is last.
     pub fn accepts(&self, kinds: &[Kind]) -> bool
         ensures { IsTrue result ↔ Accepts self.now kinds.now }
     {

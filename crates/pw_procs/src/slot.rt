@@ -5,6 +5,6 @@ use pw_info::Kind;
 pub enum Slot {
     /// Information of this kind.
     Fixed(Kind),
-    /// Information of any kind, which is the same in all such places of one procedure.
+    /// Information of any kind, the same kind in all these places of one procedure.
     Same,
 }

@@ -6,11 +6,12 @@ use crate::meaning::Meaning;
 use crate::signature::Signature;
 use pw_info::Info;
 
-/// What a procedure runs: from the informations of its inputs to that of its output.
+/// The code of a procedure: from the informations of its inputs to the information of its output.
 pub type Body = Box<dyn Fn(&[Info]) -> Info>;
 
-/// A procedure: a name, what it takes and gives, what it means, and a body that gives its meaning's value on every list
-/// that fits. Whoever makes one proves that; whoever calls it needs no more than the meaning.
+/// A procedure: a name, what it takes and gives, what it means, and a body that gives its meaning's
+/// value on every list that fits. The maker of a procedure proves that; the caller needs only the
+/// meaning.
 #[derive(Drop)]
 pub struct Stored {
     name: String,
@@ -23,8 +24,9 @@ pub struct Stored {
 }
 
 impl Stored {
-    /// The procedure of this name, signature, meaning and body. The signature is one of the meaning; the body may be
-    /// called on every list that fits, and gives the meaning's value there. It takes no memory.
+    /// The procedure with this name, signature, meaning and body. The signature is one of the
+    /// meaning. The body may be called on every list that fits, and gives the meaning's value
+    /// there. Takes no memory.
     pub fn new(name: String, signature: Signature, meaning: Meaning, body: Body) -> Stored
         requires slots { IsSignatureOf meaning signature }
         requires callable { (p : _) → FitSignature signature p.now → Body.pre body p }
@@ -56,7 +58,7 @@ impl Stored {
         self.name.as_str()
     }
 
-    /// What it takes and gives: its values on inputs that fit are of the kind of the output.
+    /// What it takes and gives. Its values on inputs that fit are of the kind of the output.
     pub fn signature(&self) -> &Signature
         ensures signature { result.now ≡ self.now.signature }
         ensures kind { IsOfOutputKind self.now.signature self.now.meaning }

@@ -13,7 +13,7 @@ const NUMBER: Slot = Slot::Fixed(Kind::Interval);
 
 const EXACT: Slot = Slot::Fixed(Kind::Exact);
 
-/// The signature of a meaning. None for one that is given by rules: its kinds are those of the rules.
+/// The signature of a meaning. None for a meaning given by rules: its kinds are those of the rules.
 pub fn signature_of(meaning: &Meaning) -> Option<Signature>
     ensures inputs { IfSome result (λ s. input_slots_of s ≡ inputs_of_meaning meaning.now) }
     ensures output { IfSome result (λ s. output_slot_of s ≡ output_of_meaning meaning.now) }

@@ -1,4 +1,5 @@
--- Which cells are contradictory, and in which attachments: what a list of them is so far, and how it grows.
+-- Which cells are contradictory, and in which attachments: what a list of them is so far, and how
+-- it grows.
 use Rattle.std.proofs.Common.{◌≡◌, ◌≢◌, ◌↔◌, ℕ, zero, suc, ◌+◌, ◌-◌, ◌<◌, ◌≤◌, ◌⊎◌, Bool, true, false, cond, inl, inr, List, [], ◌∷◌, ◌++◌, IsTrue, Option, Some, None, length, map, filter, get_or, refl, sym, ap, subst, ◌∙◌, arith, All, Contains, append-nil, length-append, map-id}
 use Rattle.std.specs.Prelude.{pos, slice_get}
 use Rattle.std.specs.List.{range_with_len}
@@ -47,12 +48,12 @@ numbers_more n =
     ∙ map-range_with_len_more (λ k. k) 0 n n (omega arith)
     ∙ ap (λ l. l ++ n ∷ []) (map-id (range_with_len 0 n))
 
--- with one number more, it is there if it passes
+-- with one more number, it is there if it passes
 passing_more : (p : ℕ → Bool) (n : ℕ) →
     filter p (range_with_len 0 (n + 1)) ≡ filter p (range_with_len 0 n) ++ cond (p n) (n ∷ []) []
 passing_more p n = ap (filter p) (numbers_more n) ∙ filter-append p (range_with_len 0 n) (n ∷ [])
 
--- with one number more that passes, and which the code pushes, and with one that fails
+-- with one more number that passes, and which the code pushes, and with one that fails
 pub passing_pushed : (p : ℕ → Bool) (n : ℕ) (before after : List ℕ) → p n ≡ true → before ≡ filter p (range_with_len 0 n) →
     after ≡ before ++ n ∷ [] → after ≡ filter p (range_with_len 0 (n + 1))
 passing_pushed p n before after passes so_far pushed =
@@ -68,13 +69,13 @@ passing_left p n before after fails so_far same =
 
 -- ---- the test in the code
 
--- what the code says of the value of a cell is what the test says
+-- what the code says about the value of a cell is what the test says
 pub tested : (answer : Bool) (known value : Info) → (IsTrue answer ↔ IsContradiction known) → known ≡ value →
     answer ≡ is_contradiction value
 tested answer known value says is =
     same_from_decides answer (is_contradiction known) says (contradiction_is known) ∙ ap is_contradiction is
 
--- ---- nothing is no contradiction
+-- ---- nothing is not a contradiction
 
 -- each kind has a value that is written so
 zero_is_value : (k : Kind) → is_value k (pos 0) ≡ true
@@ -82,21 +83,21 @@ zero_is_value kinds.Interval = refl
 zero_is_value (kinds.Members set) = let sized = set.sized in grind (arith, nat_tests)
 zero_is_value kinds.Exact = refl
 
--- so where nothing is known of a value, that is no contradiction
+-- so if nothing is known about a value, that is not a contradiction
 pub nothing_is_possible : (k : Kind) → is_contradiction (nothing k) ≡ true → ⊥
 nothing_is_possible k e =
     false≢true (sym ((contradiction_is (nothing k)).0 e (pos 0)) ∙ allows-nothing k (pos 0) ∙ zero_is_value k)
 
 -- ---- inner cells
 
--- the inner cell of a network that a cell is, which is no declared one
+-- the cell is an inner cell of the network, made at this line
 record IsInner (network : Network) (cell line : ℕ) : Type 0 where
   place : ℕ
   after : cell ≡ length network.declared.cells + place
   here : place < length network.inner
   line_is : (e : InnerCell) → (get_or network.inner place e).line ≡ line
 
--- where an inner cell comes from
+-- the origin of an inner cell
 abbrev origin_of : InnerCell → Option (ℕ × ℕ)
 origin_of inner = Some (inner.line, inner.number)
 
@@ -138,14 +139,14 @@ inner_at network cell line number is =
           ]
     ]
 
--- where a cell comes from the line that stands last, any line that it comes from is among the lines
+-- if a cell comes from the last line of the list, any line that it comes from is among the lines
 pub among_lines : (network : Network) (cell : ℕ) (lines : List ℕ) (last line number other place : ℕ) →
     slice_get lines last ≡ Some line → Some (line, number) ≡ origin_in network cell → origin_in network cell ≡ Some (other, place) → Contains lines other
 among_lines network cell lines last line number other place at first second =
     subst (Contains lines) (same_line line number other place (first ∙ second))
     (last, slice_get_within lines last line at, get_or_from_slice_get lines last line line at)
 
--- where the lines of inner cells do not fall, a later one has no lower line
+-- if the lines of inner cells do not fall, a later one has no lower line
 pub line_not_lower : (network : Network) → LinesInOrder network → (b c line number later other : ℕ) → b ≤ c →
     origin_in network b ≡ Some (line, number) → origin_in network c ≡ Some (later, other) → line ≤ later
 line_not_lower network order b c line number later other upto first second =
@@ -165,7 +166,7 @@ pub record HasConflictBelow (network : Network) (value : ℕ → Info) (limit li
   pub origin : origin_in network cell ≡ Some (line, number)
   pub contradictory : is_contradiction (value cell) ≡ true
 
--- the lines of the attachments that have one, rising
+-- the lines of the attachments that have one, in rising order
 pub record AreLinesBelow (network : Network) (value : ℕ → Info) (limit : ℕ) (lines : List ℕ) : Type 0 where
   pub rising : IsStrictlyIncreasing lines
   pub sound : All (HasConflictBelow network value limit) lines
@@ -221,7 +222,8 @@ module _ (network : Network) (value : ℕ → Info) where
             )
       ]
 
-  -- the lines stay with one cell more which is no contradiction, or of which the line is among them
+  -- the lines stay with one more cell which is not a contradiction, or of which the line is among
+  -- them
   pub same_lines : (limit : ℕ) (lines : List ℕ) → AreLinesBelow network value limit lines →
       ((line number : ℕ) → origin_in network limit ≡ Some (line, number) → is_contradiction (value limit) ≡ true →
       Contains lines line) → AreLinesBelow network value (limit + 1) lines
@@ -288,7 +290,7 @@ module _ (network : Network) (value : ℕ → Info) where
 
 -- ---- the values of the cells are all that counts
 
--- where two say the same of the cells below a number, the same of them pass
+-- if two say the same about the cells below a number, the same cells pass
 pub same_passing : (f g : ℕ → Info) (from n limit : ℕ) → from + n ≤ limit → ((cell : ℕ) → cell < limit → f cell ≡ g cell) →
     filter (λ cell. is_contradiction (f cell)) (range_with_len from n)
     ≡ filter (λ cell. is_contradiction (g cell)) (range_with_len from n)
@@ -308,7 +310,8 @@ same_conflict network f g line same has =
       contradictory = ap is_contradiction (sym (same has.cell has.here)) ∙ has.contradictory;
     }
 
--- where two say the same of each cell of the network, the conflicts by the one are those by the other
+-- if two say the same about each cell of the network, the conflicts by the one are those by the
+-- other
 pub conflicts_same : (network : Network) (f g : ℕ → Info) (conflicts : Conflicts) →
     ((cell : ℕ) → cell < cells_in network → f cell ≡ g cell) → AreConflicts network f conflicts → AreConflicts network g conflicts
 conflicts_same network f g conflicts same are =

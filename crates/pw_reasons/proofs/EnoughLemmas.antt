@@ -18,7 +18,7 @@ use Rattle.pw_reasons.specs.Enough.{AreEnough}
 use Rattle.pw_reasons.specs.Reason.{Grows, tried}
 use Rattle.pw_reasons.proofs.ReasonLemmas.{part_without, tried_in, tried_out}
 
--- what is enough stays so where what is told stays
+-- what is enough stays enough if the told facts stay
 pub enough_same : (network : Network) (old new : Store) → KeepsMore network old new → (cell : ℕ) (info : Info) (w premises : Premises) →
     AreEnough network old cell info w premises → AreEnough network new cell info w premises
 enough_same network old new grows cell info w premises are = record {
@@ -68,7 +68,8 @@ module _ (network : Network) (store : Store) (cell : ℕ) where
     enough = are.enough;
   }
 
-  -- a premise was tried without which these are left: where some premises are enough for the value without it, it goes
+  -- a premise was tried without which these are left: if some premises are enough for the value
+  -- without it, it goes
   pub goes : Grows (λ w. value_in network store w cell) → (w left without : Premises) (premise : ℕ) → without ≡ remove left premise →
       is_subset left w ≡ true → (info : Info) → info ≡ value_in network store w cell → (support : Premises) →
       AreEnough network store cell info without support → without ≡ tried (λ w. value_in network store w cell) w left premise
@@ -79,7 +80,7 @@ module _ (network : Network) (store : Store) (cell : ℕ) where
       (λ v possible. are.enough v (grows.more support (remove left premise)
       (subst (λ (s : Premises). is_subset support s ≡ true) less are.within) v possible))))
 
-  -- and where the value does not follow without it, it stays
+  -- and if the value does not follow without it, it stays
   pub remains : (w left without : Premises) (premise : ℕ) → without ≡ remove left premise → (info : Info) → info ≡ value_in network store w cell →
       (Implies (value_in network store without cell) info → ⊥) → left ≡ tried (λ w. value_in network store w cell) w left premise
   remains w left without premise less info is not_implied =

@@ -1,5 +1,5 @@
--- Premises that contradict themselves: they do so where more is believed, told and attached; and which sets are covered once one
--- more is noted.
+-- Premises that contradict themselves: they do so if more is believed, told and attached; and which
+-- sets are covered after one more is noted.
 use Rattle.std.proofs.Common.{◌≡◌, ℕ, ◌<◌, Bool, true, false, not, cond, ◌||◌, ◌⊎◌, List, [], ◌∷◌, ◌++◌, Contains, filter, length, refl, sym, ap, ◌∙◌, subst, arith, inl, inr, length-append}
 use Rattle.std.specs.FinSet.{is_subset}
 use Rattle.std.proofs.lemmas.Bool.{cases_Bool, false≢true}
@@ -41,7 +41,7 @@ larger_nogood network store well same part premises within is = record {
       (value_grows network store well same is.cell part premises within) is.contradictory;
 }
 
--- and where more is attached and no less is told, each still is
+-- and if more is attached and no less is told, each is still a nogood
 pub wider_nogood : (network wider : Network) → IsWellNetwork network → IsWellNetwork wider → IsWider network wider → (old new : Store) →
     kinds_of old ≡ kinds_in network → kinds_of new ≡ kinds_in wider → (premises : Premises) →
     ((cell : ℕ) → cell < cells_in network → Implies (told_in new cell premises) (told_in old cell premises)) →
@@ -58,7 +58,7 @@ wider_nogood network wider well also wide old new same fits premises told is =
           (λ cell below. told cell (omega (arith, many, below))) is.cell (omega (arith, many, is.here))) is.contradictory;
     }
 
--- where the same is told, all are what they were
+-- if the same is told, all stay as they were
 pub nogoods_same : (network : Network) (old new : Store) → ((cell : ℕ) (w : Premises) → told_in new cell w ≡ told_in old cell w) →
     (nogoods : List Premises) → AreNogoods network old nogoods → AreNogoods network new nogoods
 nogoods_same network old new told =
@@ -68,9 +68,9 @@ nogoods_same network old new told =
       contradictory = subst IsContradiction (sym (same_value network old new told premises is.cell)) is.contradictory;
     })
 
--- ---- one set more
+-- ---- one more set
 
--- whatever is noted afterwards was noted, or is one
+-- each set that is noted afterwards was noted before, or is this one
 pub nogoods_more : (network : Network) (store : Store) (premises : Premises) (old new : List Premises) → AreNogoods network store old →
     IsNogood network store premises → ((noted : Premises) → Contains new noted → (noted ≡ premises) ⊎ Contains old noted) → AreNogoods network store new
 nogoods_more network store premises old new are is within =
@@ -85,7 +85,7 @@ covers_grows nogoods part w within covered =
     let some = Any-from_list_any (λ noted. is_subset noted part) nogoods covered in
     list_any-from_Any (λ noted. is_subset noted w) nogoods (some.0, some.1, some.2, some.3, is_subset_trans some.1 part w some.4 within)
 
--- where these are covered, one more set of them covers nothing more
+-- if these are covered, one more set of them covers nothing more
 pub covers_already : (premises : Premises) (nogoods : List Premises) → covers nogoods premises ≡ true → (w : Premises) →
     covers nogoods w ≡ (is_subset premises w || covers nogoods w)
 covers_already premises nogoods covered w = by_test (is_subset premises w) refl where
@@ -104,7 +104,8 @@ module _ (premises : Premises) where
   noted_after nogoods reserved dropped new same less more =
       more ∙ ap (λ (l : List Premises). l ++ premises ∷ []) (less ∙ ap others same)
 
-  -- where this is not a part, what the others cover is what all do: one that includes it is no part either
+  -- if this is not a part, what the others cover is what all do: one that includes it is not a part
+  -- either
   module _ (w : Premises) (apart : is_subset premises w ≡ false) where
     or_false : (a b : Bool) → a ≡ false → (a || b) ≡ b
     or_false a b none = ap (λ c. c || b) none
@@ -126,7 +127,7 @@ module _ (premises : Premises) where
     others_cover (noted ∷ nogoods) =
         one_dropped (is_subset premises noted) noted (others nogoods) nogoods refl (others_cover nogoods)
 
-  -- with this set after the others, just what it covers is covered, and what was
+  -- with this set after the others, exactly what it covers is covered, and what was
   pub covers_noted : (nogoods : List Premises) (w : Premises) →
       covers (others nogoods ++ premises ∷ []) w ≡ (is_subset premises w || covers nogoods w)
   covers_noted nogoods w =

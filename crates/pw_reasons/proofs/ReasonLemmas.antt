@@ -1,4 +1,5 @@
--- What is left of a worldview once premises of it were tried: a part that gives the same value, and that keeps just what is needed.
+-- What is left of a worldview after premises of it were tried: a part that gives the same value,
+-- and that keeps exactly what is needed.
 use Rattle.std.proofs.Common.{◌≡◌, ◌≢◌, ℕ, zero, suc, ◌+◌, ◌<◌, ◌≤◌, ◌↔◌, Bool, true, false, not, cond, ◌&&◌, ◌||◌, if◌then◌else◌, List, [], ◌∷◌, ◌++◌, filter, length, reverse, refl, sym, ap, subst, ◌∙◌, arith, inl, inr, Decides}
 use Rattle.std.specs.Prelude.{nat_eq, nat_lt}
 use Rattle.std.specs.Iterator.{YieldsLast}
@@ -68,7 +69,8 @@ second_of_two : (a b : Bool) (n q : ℕ) → n < q → ((a && nat_lt q n) || (b 
 second_of_two a b n q above = grind (arith, nat_tests)
 
 module _ (earlier later : Premises) (n : ℕ) where
-  -- the premises of the one set before this one and of the other after it: what these contain before it, there, and after it
+  -- the premises of the one set before this one and of the other after it: what these contain
+  -- before it, there, and after it
   contains-before : (q : ℕ) → q < n → contains (before_and_after earlier later n) q ≡ contains earlier q
   contains-before q below = contains-before_and_after earlier later n q ∙ first_of_two (contains earlier q) (contains later q) n q below
 
@@ -78,7 +80,7 @@ module _ (earlier later : Premises) (n : ℕ) where
   contains-after : (q : ℕ) → n < q → contains (before_and_after earlier later n) q ≡ contains later q
   contains-after q above = contains-before_and_after earlier later n q ∙ second_of_two (contains earlier q) (contains later q) n q above
 
-  -- and a set that contains just this is that
+  -- and a set that contains exactly this is that
   is_before_and_after : (s : Premises) → ((q : ℕ) → q < n → contains s q ≡ contains earlier q) → contains s n ≡ false →
       ((q : ℕ) → n < q → contains s q ≡ contains later q) → s ≡ before_and_after earlier later n
   is_before_and_after s before there after =
@@ -115,7 +117,7 @@ module _ (value : Premises → Info) (worldview : Premises) where
       stays true = without_others left n q other
       stays false = refl
 
-    -- the premise stays just where the value without it is another
+    -- the premise stays exactly if the value without it is another
     tried_itself : contains left n ≡ true → (contains (tried value worldview left n) n ≡ true) ↔ (value (remove left n) ≢ value worldview)
     tried_itself here =
         decided (same_info (value (remove left n)) (value worldview)) (same_info_is (value (remove left n)) (value worldview))
@@ -141,11 +143,12 @@ module _ (value : Premises → Info) (worldview : Premises) where
   left_same [] = refl
   left_same (premise ∷ later) = tried_same (left_of value worldview later) premise (left_same later)
 
-  -- the premises of the worldview from this one on, so many numbers of them
+  -- the premises of the worldview among `many` numbers from this one on
   abbrev row : ℕ → ℕ → List ℕ
   row from many = filter (contains worldview) (range_with_len from many)
 
-  -- what is left of such a row: the first of it is tried last, if the worldview has it
+  -- the remaining premises after a row like this: its first premise is tried last, if the worldview
+  -- has it
   first_tried : (P : Premises → Type 0) (many from : ℕ) →
       (contains worldview from ≡ true → P (tried value worldview (left_of value worldview (row (from + 1) many)) from)) →
       (contains worldview from ≡ false → P (left_of value worldview (row (from + 1) many))) →
@@ -157,7 +160,7 @@ module _ (value : Premises → Info) (worldview : Premises) where
     choose true there passed = there refl
     choose false there passed = passed refl
 
-  -- the premises before those that were tried are left as they were
+  -- the premises before those that were tried are unchanged
   untried : (many from q : ℕ) → q < from → contains (left_of value worldview (row from many)) q ≡ contains worldview q
   untried zero from q below = refl
   untried (suc many) from q below =
@@ -165,12 +168,12 @@ module _ (value : Premises → Info) (worldview : Premises) where
       first_tried (λ s. contains s q ≡ contains worldview q) many from
       (λ has. tried_others (left_of value worldview (row (from + 1) many)) from q (λ e. omega arith) ∙ later) (λ lacks. later)
 
-  -- a premise is in this set just where it is needed: where the premises before it, with those of the set after it, give
-  -- another value than the worldview
+  -- a premise is in this set exactly if it is needed: if the premises before it, with those of the
+  -- set after it, give another value than the worldview
   abbrev IsKeptIfNeeded : ℕ → Premises → Type 0
   IsKeptIfNeeded n left = (contains left n ≡ true) ↔ (value (before_and_after worldview left n) ≢ value worldview)
 
-  -- of a premise that is tried this becomes so, where those before it are left as they were
+  -- this becomes true of a premise that is tried, if the premises before it are unchanged
   kept_here : (left : Premises) (n : ℕ) → ((q : ℕ) → q ≤ n → contains left q ≡ contains worldview q) → contains worldview n ≡ true →
       IsKeptIfNeeded n (tried value worldview left n)
   kept_here left n earlier here =
@@ -183,7 +186,7 @@ module _ (value : Premises → Info) (worldview : Premises) where
           (without_itself left n)
           (λ q above. without_others left n q (λ e. omega arith) ∙ sym (tried_others left n q (λ e. omega arith)))
 
-  -- and it stays so where a premise before it is tried
+  -- and it stays so if a premise before it is tried
   kept_still : (left : Premises) (m n : ℕ) → m < n → IsKeptIfNeeded n left → IsKeptIfNeeded n (tried value worldview left m)
   kept_still left m n before so_far =
       subst (λ (b : Bool). (b ≡ true) ↔ (value (before_and_after worldview (tried value worldview left m) n) ≢ value worldview))
@@ -195,7 +198,7 @@ module _ (value : Premises → Info) (worldview : Premises) where
           (contains-before worldview left n) (contains-there worldview left n)
           (λ q above. contains-after worldview left n q above ∙ sym (tried_others left m q (λ e. omega arith)))
 
-  -- so what is left has just those of the premises tried that are needed
+  -- so what is left has exactly those of the premises tried that are needed
   kept : (many from n : ℕ) → from ≤ n → n < from + many → contains worldview n ≡ true →
       IsKeptIfNeeded n (left_of value worldview (row from many))
   kept zero from n low high here = absurd (omega arith)
@@ -213,7 +216,8 @@ module _ (value : Premises → Info) (worldview : Premises) where
       another : contains worldview from ≡ false → from ≢ n
       another lacks same = let wrong : false ≡ true = sym lacks ∙ ap (contains worldview) same ∙ here in absurd (cc)
 
-  -- where the value grows, a part of the worldview whose value implies the worldview's has the same value
+  -- if the value grows, a part of the worldview whose value implies the worldview's has the same
+  -- value
   pub implied_same : Grows value → (part : Premises) → is_subset part worldview ≡ true → Implies (value part) (value worldview) →
       value part ≡ value worldview
   implied_same grows part within implied =
@@ -250,14 +254,15 @@ module _ (value : Premises → Info) (worldview : Premises) where
   unfolding reason_of
   reason_same = left_same (numbers_of worldview)
 
-  -- it has just those premises of the worldview that are needed
+  -- it has exactly those premises of the worldview that are needed
   pub reason_keeps : (premise : ℕ) → premise < most_premises → contains worldview premise ≡ true →
       IsKeptIfNeeded premise (reason_of value worldview)
   unfolding reason_of numbers_of
   reason_keeps premise below here = kept most_premises 0 premise (omega arith) (omega arith) here
 
-  -- where the value grows, it is another without any one of its premises: the rest of the reason is a part of the premises
-  -- before this one with those of the reason after it, and these are a part of the worldview
+  -- if the value grows, it is another without any one of its premises: the rest of the reason is a
+  -- part of the premises before this one with those of the reason after it, and these are a part of
+  -- the worldview
   pub reason_needed : Grows value → (premise : ℕ) → premise < most_premises → contains (reason_of value worldview) premise ≡ true →
       value (remove (reason_of value worldview) premise) ≢ value worldview
   reason_needed grows premise below needed same =
@@ -295,7 +300,7 @@ module _ (value : Premises → Info) (worldview : Premises) where
 
 -- ---- the trials, from the last premise to the first
 
--- premises that come from the last to the first are a list turned round
+-- premises that come from the last to the first are a list reversed
 pub premises_fall : {s : Rev (List ℕ)} (premises : List ℕ) → rev_source s ≡ premises →
     YieldsList (rev_steps (YieldsLast (λ left. left))) (λ n. n) s (reverse premises)
 premises_fall {s} premises is =
@@ -305,7 +310,7 @@ premises_fall {s} premises is =
     (λ t n u last. ap reverse last ∙ reverse-append (rev_source u) (n ∷ [])) s)
 
 module _ (value : Premises → Info) (worldview : Premises) where
-  -- what is left once the premises that came so far, from the last on, were tried
+  -- what is left after the premises that came so far, from the last on, were tried
   abbrev pub left_after : List ℕ → Premises
   left_after came = left_of value worldview (reverse came)
 
@@ -317,7 +322,7 @@ module _ (value : Premises → Info) (worldview : Premises) where
   pub after_part : (came : List ℕ) → is_subset (left_after came) worldview ≡ true
   after_part came = left_part value worldview (reverse came)
 
-  -- once all came, what is left is the reason
+  -- after all came, what is left is the reason
   pub all_tried : (left : Premises) (came : List ℕ) → left ≡ left_after came → came ≡ reverse (numbers_of worldview) →
       left ≡ reason_of value worldview
   unfolding reason_of

@@ -1,4 +1,4 @@
--- The test of two informations for being one is exact, and so is that of a contradiction.
+-- The test whether two informations are equal is exact, and so is that of a contradiction.
 use Rattle.std.proofs.Common.{◌≡◌, true, Decides, refl, ap, subst, ◌∙◌}
 use Rattle.std.specs.Prelude.{nat_eq}
 use Rattle.std.specs.Ordering.{int_eq}
@@ -65,7 +65,7 @@ self_info (info.Exact e) = self_exact e
 
 -- ---- the tests are exact
 
--- the test decides whether two informations are one
+-- the test decides whether two informations are equal
 pub same_info_is : (a b : Info) → Decides (same_info a b) (a ≡ b)
 same_info_is a b = (infos_are a b, λ e. subst (λ (c : Info). same_info a c ≡ true) e (self_info a))
 

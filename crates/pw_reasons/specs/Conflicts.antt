@@ -1,4 +1,4 @@
--- Which cells of a network are contradictory, and in which attachments.
+-- The contradictory cells of a network, and the attachments that have such inner cells.
 use Rattle.std.specs.Prelude.{◌≡◌, ◌↔◌, ℕ, ◌<◌, true, List, Contains, Some, filter, length}
 use Rattle.std.specs.List.{range_with_len}
 use Rattle.std.specs.List.Sorted.{IsStrictlyIncreasing}
@@ -19,8 +19,9 @@ pub record HasConflict (network : Network) (value : ℕ → Info) (line : ℕ) :
   pub origin : origin_in network cell ≡ Some (line, number)
   pub contradictory : is_contradiction (value cell) ≡ true
 
--- where these are the values of its cells, the conflicts of the network are these: the declared cells whose value is a
--- contradiction, in order; and the lines of the attachments with such an inner cell, rising, each once
+-- given the values of its cells, these are the conflicts of the network: the declared cells whose
+-- value is a contradiction, in order; and the lines of the attachments with an inner cell like
+-- that, in rising order, each once
 pub record AreConflicts (network : Network) (value : ℕ → Info) (conflicts : Conflicts) : Type 0 where
   pub cells : conflicts.cells ≡ filter (λ cell. is_contradiction (value cell)) (range_with_len 0 (length network.declared.cells))
   pub rising : IsStrictlyIncreasing conflicts.lines

@@ -1,4 +1,4 @@
--- What it is for premises to be enough for an information of a cell.
+-- Premises that are enough for an information about a cell.
 use Rattle.std.specs.Prelude.{◌≡◌, ℕ, true}
 use Rattle.std.specs.FinSet.{is_subset}
 use Rattle.pw_info.specs.declared.info.Info.{Info}
@@ -8,7 +8,8 @@ use Rattle.pw_cells.specs.Cells.{Store}
 use Rattle.pw_network.specs.Network.{Network}
 use Rattle.pw_settle.specs.Values.{value_in}
 
--- they are premises of the worldview, and where just they are believed the value of the cell says at least this
+-- they are premises of the worldview, and if exactly they are believed, the value of the cell says
+-- at least this
 pub record AreEnough (network : Network) (store : Store) (cell : ℕ) (info : Info) (worldview premises : Premises) : Type 0 where
   pub within : is_subset premises worldview ≡ true
   pub enough : Implies (value_in network store premises cell) info

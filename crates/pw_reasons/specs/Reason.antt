@@ -7,26 +7,30 @@ use Rattle.pw_premises.specs.Numbers.{numbers_of}
 use Rattle.pw_premises.specs.Premises.{Premises}
 use Rattle.pw_reasons.specs.SameInfo.{same_info}
 
--- a value in each worldview, of one kind, of which no less is known where more is believed
+-- a value in each worldview, of one kind, of which no less is known if more is believed
 pub record Grows (value : Premises → Info) : Type 0 where
   pub kinds : (s t : Premises) → kind_of (value s) ≡ kind_of (value t)
   pub more : (s t : Premises) → is_subset s t ≡ true → Implies (value t) (value s)
 
--- what is left of a set of premises once this one was tried: it goes where the value without it is that of the worldview
+-- the remaining premises of a set after this one was tried: it is taken out if the value without it
+-- is that of the worldview
 abbrev pub tried : (Premises → Info) → Premises → Premises → ℕ → Premises
 tried value worldview left premise =
     if same_info (value (remove left premise)) (value worldview) then remove left premise else left
 
--- what is left of the worldview once these of its premises were tried, the last of them first
+-- the remaining premises of the worldview after these of its premises were tried, the last of them
+-- first
 abbrev pub left_of : (Premises → Info) → Premises → List ℕ → Premises
 left_of value worldview [] = worldview
 left_of value worldview (premise ∷ later) = tried value worldview (left_of value worldview later) premise
 
--- the reason of the value in a worldview: what is left of it once each of its premises was tried, from the last to the first
+-- the reason of the value in a worldview: the remaining premises after each was tried, from the
+-- last to the first
 unfoldable pub reason_of : (Premises → Info) → Premises → Premises
 reason_of value worldview = left_of value worldview (numbers_of worldview)
 
--- the premises of the first set that come before this one, with those of the second that come after it
+-- the premises of the first set that come before this one, with those of the second that come after
+-- it
 abbrev pub before_and_after : Premises → Premises → ℕ → Premises
 before_and_after earlier later premise =
     union (retain earlier (λ n. nat_lt n premise)) (retain later (λ n. nat_lt premise n))

@@ -1,4 +1,4 @@
--- The test of two informations for being one.
+-- The test whether two informations are the same.
 use Rattle.std.specs.Prelude.{Bool, true, false, ◌&&◌, nat_eq}
 use Rattle.std.specs.Ordering.{int_eq}
 use Rattle.pw_kinds.specs.declared.exact.Exact.{Exact}
@@ -13,18 +13,18 @@ use Rattle.pw_info.specs.Information.{kind_of, contradiction}
 abbrev pub same_interval : Interval → Interval → Bool
 same_interval a b = int_eq a.lo b.lo && int_eq a.hi b.hi
 
--- members of sets of one size, with the same of them possible
+-- members of sets of one size, with the same members possible
 abbrev pub same_members : Members → Members → Bool
 same_members a b = nat_eq a.size b.size && nat_eq a.mask b.mask
 
--- exact values
+-- equal exact values
 abbrev pub same_exact : Exact → Exact → Bool
 same_exact Any Any = true
 same_exact (One a) (One b) = int_eq a.value b.value
 same_exact Empty Empty = true
 same_exact a b = false
 
--- whether two informations are one
+-- whether two informations are the same
 abbrev pub same_info : Info → Info → Bool
 same_info (info.Interval a) (info.Interval b) = same_interval a b
 same_info (info.Members number a) (info.Members other b) = nat_eq number other && same_members a b

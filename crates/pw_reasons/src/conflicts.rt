@@ -30,7 +30,8 @@ impl<A: Allocator> Conflicts<A> {
         &self.cells
     }
 
-    /// The lines of the attachments that have an inner cell whose value is a contradiction, rising, each once.
+    /// The lines of the attachments that have an inner cell whose value is a contradiction, in
+    /// rising order, each once.
     pub fn lines(&self) -> &[u32]
         ensures { result.now ≡ self.now.lines }
     {

@@ -1,5 +1,5 @@
-//! Laws of reasons and of nogoods, each the contract of a function that does nothing. Those of reasons hold of every value that
-//! grows with what is believed.
+//! Laws of reasons and of nogoods. Each is the contract of a function that does nothing. The laws
+//! of reasons hold of every value that grows with the beliefs.
 ghost use Rattle.std.specs.Prelude.{◌≡◌, ◌≢◌, ◌<◌, ◌↔◌, ℕ, true};
 ghost use Rattle.std.specs.Bool.{Decides};
 ghost use Rattle.std.specs.FinSet.{contains, is_subset, remove};
@@ -14,13 +14,14 @@ ghost use Rattle.pw_info.specs.Information.{Implies, IsContradiction};
 ghost use Rattle.pw_settle.specs.Values.{kinds_in, value_in};
 ghost use Rattle.pw_settle.specs.Wider.{IsWider};
 
-/// The test of two informations for being one is exact, and so is that of a contradiction.
+/// The test whether two informations are the same is exact, and so is the test for a contradiction.
 pub fn tests_of_informations_are_exact()
     ensures same { (a b : Info) → Decides (same_info a b) (a ≡ b) }
     ensures contradiction { (a : Info) → Decides (is_contradiction a) (IsContradiction a) }
 {}
 
-/// A reason is a part of the worldview that gives the same value, and without any one of its premises the value differs.
+/// A reason is a part of the worldview that gives the same value, and without any one of its
+/// premises the value differs.
 pub fn reasons_are_irredundant()
     ensures part { (value : Premises → Info) (worldview : Premises) → is_subset (reason_of value worldview) worldview ≡ true }
     ensures same { (value : Premises → Info) (worldview : Premises) → value (reason_of value worldview) ≡ value worldview }
@@ -29,8 +30,8 @@ pub fn reasons_are_irredundant()
         → value (remove (reason_of value worldview) premise) ≢ value worldview }
 {}
 
-/// Which premises of the worldview a reason has: just those where the premises before it, with those of the reason after it,
-/// give another value than the worldview.
+/// The premises of the worldview that a reason has: exactly those where the premises before it,
+/// with those of the reason after it, give another value than the worldview.
 pub fn reasons_keep_what_is_needed()
     ensures { (value : Premises → Info) (worldview : Premises) (premise : ℕ)
         → premise < most_premises → contains worldview premise ≡ true
@@ -38,15 +39,15 @@ pub fn reasons_keep_what_is_needed()
         ↔ (value (before_and_after worldview (reason_of value worldview) premise) ≢ value worldview) }
 {}
 
-/// More is known of each cell of a network where more is believed. So the laws of reasons hold of what `reason` answers: without any
-/// one of its premises the cell has another value.
+/// More is known about each cell of a network if more is believed. So the laws of reasons hold of
+/// what `reason` answers: without any one of its premises the cell has another value.
 pub fn values_grow()
     ensures { (network : Networks) (store : Store) → IsWellNetwork network
         → kinds_of store ≡ kinds_in network → (cell : ℕ) → Grows (λ w. value_in network store w cell) }
 {}
 
-/// A nogood stays one, whatever comes: where more is believed; and where more is attached, and no less is told of any cell in the
-/// worldview of its premises.
+/// A nogood stays a nogood: if more is believed; and if more is attached, and no less is told about
+/// any cell in the worldview of its premises.
 pub fn nogoods_stay_nogoods()
     ensures larger { (network : Networks) (store : Store) → IsWellNetwork network
         → kinds_of store ≡ kinds_in network

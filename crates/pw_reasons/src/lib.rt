@@ -1,4 +1,4 @@
-//! Why a value is what it is, and what contradicts itself.
+//! Why a value is what it is, and what is contradictory.
 #![tactic(auto)]
 
 mod conflicts;

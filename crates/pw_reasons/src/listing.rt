@@ -1,4 +1,4 @@
-//! Which cells are contradictory, and in which attachments.
+//! The contradictory cells, and the attachments that have such inner cells.
 ghost use Rattle.std.specs.Prelude.{◌≡◌, ◌↔◌, ℕ, Contains, filter, length, IfOk};
 ghost use Rattle.std.specs.List.{range_with_len};
 ghost use Rattle.std.specs.List.Sorted.{IsStrictlyIncreasing};
@@ -13,12 +13,12 @@ use pw_network::Network;
 use pw_settle::Settled;
 use std::alloc::{AllocError, Allocator};
 
-/// What is contradictory where these are the values of the cells of the network, of which each has one: the declared cells
-/// whose value is a contradiction, and the lines of the attachments that have such an inner cell. It fails only for want of
-/// memory.
+/// What is contradictory if these are the values of the cells of the network, one value for each
+/// cell: the declared cells whose value is a contradiction, and the lines of the attachments that
+/// have an inner cell like that. Fails only when out of memory.
 ///
-/// A contradiction in a cell is no fault of the network: it is told to who asks (Radul and Sussman, *The Art of the
-/// Propagator*, on contradictions under a worldview).
+/// A contradiction in a cell is no fault of the network: it is reported to the asker (Radul and
+/// Sussman, *The Art of the Propagator*, on contradictions under a worldview).
 pub fn list_conflicts<A: Allocator + Copy>(
     alloc: A,
     network: &Network<'_, '_, A>,
@@ -53,8 +53,9 @@ fn contradictory_cells<A: Allocator + Copy>(
     Ok(cells)
 }
 
-// The lines of the attachments that have an inner cell whose value is a contradiction, rising, each once. The lines of
-// inner cells do not fall, so a line that was pushed before is the last that was.
+// The lines of the attachments that have an inner cell whose value is a contradiction, in rising
+// order, each once. The lines of inner cells do not fall, so a line that was pushed before is the
+// last one pushed.
 fn contradictory_lines<A: Allocator + Copy>(
     alloc: A,
     network: &Network<'_, '_, A>,

@@ -1,4 +1,4 @@
-//! What is remembered of contradictions.
+//! Nogoods: noted sets of premises that contradict themselves.
 ghost use Rattle.std.specs.Prelude.{◌≡◌, ◌↔◌, ◌⊎◌, ◌||◌, [], true, false, not, filter, vec_len, vec_capacity, ◌≤◌, Contains, OnErr, OnOk};
 ghost use Rattle.std.specs.FinSet.{is_subset};
 ghost use Rattle.pw_premises.specs.Premises.{Premises};
@@ -8,8 +8,8 @@ use pw_premises::PremiseSet;
 use std::alloc::{AllocError, Allocator, Global};
 use std::marker::Model;
 
-/// Sets of premises, each noted since something is contradictory where just these are believed: so it is in every worldview
-/// that includes one of them.
+/// Sets of premises. Each is noted because something is contradictory if exactly these premises are
+/// believed; so it is in every worldview that includes one of the sets.
 ///
 /// (Radul and Sussman, *The Art of the Propagator*, on nogood sets.)
 #[derive(Drop)]
@@ -31,7 +31,7 @@ impl<A: Allocator> Model for Nogoods<A> {
 }
 
 impl<A: Allocator + Copy> Nogoods<A> {
-    /// No set is noted. It takes no memory.
+    /// No sets. Takes no memory.
     pub fn new(alloc: A) -> Nogoods<A>
         ensures { result ≡ [] }
     {
@@ -40,15 +40,16 @@ impl<A: Allocator + Copy> Nogoods<A> {
         }
     }
 
-    /// Notes a set of premises, and answers whether that was news: it was not where a noted set is a part of it, and then
-    /// nothing changes, and no memory is taken. Noted sets that include it are forgotten, since it covers what they cover. It
-    /// fails only for want of memory, and then nothing changes.
+    /// Notes a set of premises, and answers whether it was news. It was not news if a noted set is
+    /// a subset of it; then nothing changes, and no memory is taken. Noted sets that include it are
+    /// dropped, since it covers what they cover. Fails only when out of memory; then nothing
+    /// changes.
     pub fn note(&mut self, premises: &PremiseSet) -> Result<bool, AllocError>
         ensures known { (result ≡ Ok false) ↔ (covers self.old premises.now ≡ true) }
         ensures same { result ≡ Ok false → self.new ≡ self.old }
         ensures covered { OnOk result ((w : Premises)
             → covers self.new w ≡ (is_subset premises.now w || covers self.old w)) }
-        // Each set that is noted afterwards was noted before, or is this one.
+        // Each set that is noted afterwards was noted before, or is this set.
         ensures within { (noted : Premises) → Contains self.new noted
             → (noted ≡ premises.now) ⊎ Contains self.old noted }
         ensures err { OnErr result (self.new ≡ self.old) }
@@ -62,7 +63,7 @@ impl<A: Allocator + Copy> Nogoods<A> {
         Ok(true)
     }
 
-    /// Whether a noted set is a part of these premises. It takes no memory.
+    /// Whether a noted set is a subset of these premises. Takes no memory.
     pub fn covers(&self, premises: &PremiseSet) -> bool
         ensures { result ≡ covers self.now premises.now }
     {

@@ -23,14 +23,15 @@ use pw_premises::PremiseSet;
 use pw_settle::{Settled, settle};
 use std::alloc::{AllocError, Allocator};
 
-// What is left of a worldview, and premises of it that are enough for the value of a cell.
+// The remaining premises of a worldview, and some of them that are enough for the value of a cell.
 #[derive(Clone, Copy)]
 struct Left {
     premises: PremiseSet,
     support: PremiseSet,
 }
 
-// Premises of the worldview that are enough for the information, where what is kept of the cell there says it.
+// Premises of the worldview that are enough for the information, if the kept facts of the cell say
+// it there.
 fn kept_support<A: Allocator + Copy>(
     network: &Network<'_, '_, A>,
     store: &mut CellStore<A>,
@@ -46,7 +47,7 @@ fn kept_support<A: Allocator + Copy>(
     ensures unchanged { store.new ≡ store.old }
     ensures enough { IfSome result (AreEnough (network_by network.now) store.old cell info.now worldview.now) }
 {
-    // The network is the one that the store is for.
+    // The network belongs to the store.
     let _instances = network.instances();
     let kept = store.kept(cell, worldview);
     if kept.info.implies(info) {
@@ -56,8 +57,8 @@ fn kept_support<A: Allocator + Copy>(
     }
 }
 
-// Premises of the worldview that are enough for the information, where it follows there at the cell. It settles only where what
-// is kept does not say it already, and fails only for want of memory.
+// Premises of the worldview that are enough for the information, if it follows there at the cell.
+// Settles only if the kept facts do not say it already. Fails only when out of memory.
 fn support_within<A: Allocator + Copy>(
     alloc: A,
     network: &Network<'_, '_, A>,
@@ -89,8 +90,9 @@ fn support_within<A: Allocator + Copy>(
     }
 }
 
-// What is left once this premise was tried: it goes where the value of the cell stays without it. One that what is left has
-// enough without goes at once. It fails only for want of memory.
+// The remaining premises after this one was tried: it is taken out if the value of the cell stays
+// the same without it. A premise that is not in the known support is taken out at once. Fails only
+// when out of memory.
 fn try_premise<A: Allocator + Copy>(
     alloc: A,
     network: &Network<'_, '_, A>,
@@ -127,8 +129,8 @@ fn try_premise<A: Allocator + Copy>(
     }
 }
 
-// What is left of the worldview once each of its premises was tried, from the last to the first. It fails only for want of
-// memory.
+// The remaining premises of the worldview after each was tried, from the last to the first. Fails
+// only when out of memory.
 fn try_premises<A: Allocator + Copy>(
     alloc: A,
     network: &Network<'_, '_, A>,
@@ -156,18 +158,21 @@ fn try_premises<A: Allocator + Copy>(
     Ok(left.premises)
 }
 
-/// Why the cell has its value in the worldview in which the network was settled: going over the premises of the worldview
-/// from the last to the first, each is taken out without which the value of the cell stays the same. What is left gives the
-/// same value, and without any one of its premises the value differs. Where the value is a contradiction, what is left is
-/// noted. It fails only for want of memory.
+/// Why the cell has its value in the worldview in which the network was settled. Goes over the
+/// premises of the worldview from the last to the first, and takes out each one without which the
+/// value of the cell stays the same. The remaining premises give the same value, and without any
+/// one of them the value differs. If the value is a contradiction, they are noted. Fails only when
+/// out of memory.
 ///
-/// The store is sound, and the nogoods are sets of premises that contradict themselves. Both stay so, the store keeps no less
-/// than before, what was told stays as it was, and what was covered is covered: after a failure too.
+/// The store is sound, and the nogoods are sets of premises that contradict themselves. Both stay
+/// so, the store keeps no less than before, the told facts are unchanged, and what was covered is
+/// covered: after a failure too.
 ///
-/// Premises that are enough for the value are always at hand. One that is not among them is taken out at once; for one that is,
-/// it is seen what is kept without it, and where that does not say the value, what settles without it. (Radul and Sussman,
-/// *The Art of the Propagator*, keep one support with each value; that it is made irredundant, in a fixed order, is this
-/// program's.)
+/// Premises that are enough for the value are always at hand. A premise that is not among them is
+/// taken out at once. For a premise that is, the kept facts are looked up without it, and if they
+/// do not say the value, the network is settled without it. (Radul and Sussman, *The Art of the
+/// Propagator*, keep one support with each value. Making it irredundant, in a fixed order, is this
+/// program's own.)
 pub fn reason<A: Allocator + Copy>(
     alloc: A,
     network: &Network<'_, '_, A>,

@@ -1,4 +1,4 @@
--- What a settling comes to after the last session of a user.
+-- The result of a settling that starts from the last session of a user.
 use Rattle.std.proofs.Common.{◌≡◌, ℕ, ◌+◌, ◌≤◌, Bool, true, false, List, length, Option, Some, None, Result, Ok, Err, sym, ap, ◌∙◌, subst, inl, inr, arith}
 use Rattle.std.specs.Prelude.{IfOk, OnOk}
 use Rattle.std.specs.FinSet.{is_subset}
@@ -25,7 +25,7 @@ use Rattle.pw_sessions.proofs.FewCalls.{due_most, due_none, no_gains}
 
 module _ (network : Network) (well : IsWellNetwork network) (old new : Store) (w : Premises) (same : kinds_of old ≡ kinds_in network)
     (sound : IsSound network old) where
-  -- what is kept once it is done
+  -- what is kept after it is done
   abbrev Kept : Type 0
   Kept = IsSound network old → (cell : ℕ) → kept_in new cell w ≡ value_in network old w cell
 
@@ -36,7 +36,7 @@ module _ (network : Network) (well : IsWellNetwork network) (old new : Store) (w
   current_after (Ok settled) grows is kept fits all = current_settled network well old new w settled same grows (is sound) fits all (kept sound)
   current_after (Err e) grows is kept fits all = fits
 
-  -- ---- how often it calls, anew
+  -- ---- the number of calls, anew
 
   pub once_anew : {E : Type 0} (r : Result Settled E) → OnOk r Kept →
       IfOk r (λ settled. settled.calls ≤ visible_count network w + gains network old new w) →
@@ -61,10 +61,10 @@ module _ (network : Network) (well : IsWellNetwork network) (old new : Store) (w
   none_anew (Ok settled) last none least = λ session has. absurd (none-some session (sym none ∙ has))
   none_anew (Err e) last none least = least
 
-  -- ---- how often it calls from earlier values
+  -- ---- the number of calls from earlier values
 
   module _ (before : Session) (last : Option Session) (had : last ≡ Some before) where
-    -- at least once for each instance that is due, and at most so often with what is gained
+    -- at least once for each instance that is due, and at most as many times more as is gained
     abbrev Due : Settled → Type 0
     Due settled = is_subset before.values.worldview w ≡ true → (due : List Bool)
         × AreDue network old w before.values due × (tally due ≤ settled.calls) × (settled.calls ≤ tally due + gains network old new w)
@@ -116,7 +116,7 @@ module _ (network : Network) (well : IsWellNetwork network) (old new : Store) (w
     }
     due_again (Err e) due least most = least
 
--- so it is where still more is kept afterwards
+-- so it is if still more is kept afterwards
 pub due_still : (network : Network) (old found new : Store) (w : Premises) (last : Option Session) (calls : ℕ) → KeepsMore network found new →
     CallsDue network old found w last calls → CallsDue network old new w last calls
 due_still network old found new w last calls more due = record {

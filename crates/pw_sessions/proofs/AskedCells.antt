@@ -1,4 +1,5 @@
--- What an ask is answered with: what settles in the network, which is what follows from the visible entries.
+-- The answer to an ask: what settles in the network, which is what follows from the visible
+-- entries.
 use Rattle.std.proofs.Common.{◌≡◌, ℕ, ◌<◌, List, false, length, ap, subst, ◌∙◌, inl}
 use Rattle.pw_info.specs.declared.info.Info.{Info}
 use Rattle.pw_cells.specs.Cells.{told_in}
@@ -17,7 +18,7 @@ use Rattle.pw_sessions.proofs.WrittenCells.{unwritten_is}
 pub well_left : (d : Declared) (readings : List LineReading) (bench : Workbench) → IsWellNetwork bench.network → IsLeftBy d readings bench → IsWellDeclared d
 well_left d readings bench well left = subst IsWellDeclared left.set_up.declared well.declared
 
--- where no visible instance writes the cell, what the store is told is what settles
+-- if no visible instance writes the cell, what the store is told is what settles
 pub told_answers : (d : Declared) (readings : List LineReading) (bench : Workbench) (user cell : ℕ) (info : Info) → IsWellNetwork bench.network →
     IsLeftBy d readings bench → cell < length bench.network.declared.cells → is_written bench.network.attached cell (beliefs_in bench user) ≡ false →
     info ≡ told_in bench.store cell (beliefs_in bench user) → AnswersAsk bench user cell (reply.Value info)

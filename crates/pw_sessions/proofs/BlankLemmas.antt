@@ -15,7 +15,7 @@ unrefused Blank = Blank
 unrefused (Refused refusal) = Blank
 unrefused (Says command) = Says command
 
--- such a line leaves the same entries
+-- a line like this leaves the same entries
 entries_of-unrefused : (number : ℕ) (reading : LineReading) → entries_of number (unrefused reading) ≡ entries_of number reading
 entries_of-unrefused number Blank = refl
 entries_of-unrefused number (Refused refusal) = refl
@@ -28,7 +28,7 @@ entries_from-unrefused number (reading ∷ readings) =
     ap (λ (es : List Entry). es ++ entries_from (number + 1) (map unrefused readings)) (entries_of-unrefused number reading)
     ∙ ap (λ es. entries_of number reading ++ es) (entries_from-unrefused (number + 1) readings)
 
--- such a line leaves the same beliefs
+-- a line like this leaves the same beliefs
 believed_after-unrefused : (user : ℕ) (beliefs : Premises) (reading : LineReading) → believed_after user beliefs (unrefused reading) ≡ believed_after user beliefs reading
 believed_after-unrefused user beliefs Blank = refl
 believed_after-unrefused user beliefs (Refused refusal) = refl
@@ -43,7 +43,7 @@ beliefs-unrefused user beliefs (reading ∷ readings) =
     ∙ beliefs-unrefused user (believed_after user beliefs reading) readings
 
 module _ (d : Declared) where
-  -- such lines before leave a line its reply
+  -- with earlier lines like this, a line keeps its reply
   reply_to-unrefused : (before : List LineReading) (reading : LineReading) → reply_to d (map unrefused before) reading ≡ reply_to d before reading
   reply_to-unrefused before Blank = refl
   reply_to-unrefused before (Refused refusal) = refl
@@ -51,7 +51,8 @@ module _ (d : Declared) where
       ap (λ es. Some (answer_to d es (beliefs_at d (user_of command) (map unrefused before)) command)) (entries_from-unrefused 1 before)
       ∙ ap (λ beliefs. Some (answer_to d (entries_before before) beliefs command)) (beliefs-unrefused (user_of command) _ before)
 
-  -- readings before that differ in what was refused and what was blank make no difference to the replies after them
+  -- readings before that differ in what was refused and what was blank make no difference to the
+  -- replies after them
   replies_after-alike : (before other after : List LineReading) → map unrefused before ≡ map unrefused other → replies_after d before after ≡ replies_after d other after
   replies_after-alike before other [] e = refl
   replies_after-alike before other (reading ∷ after) e =

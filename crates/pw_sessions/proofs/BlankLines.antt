@@ -1,4 +1,5 @@
--- Blank lines leave what is there, so a command may come any number of them later; and what its line leaves then.
+-- Blank lines leave a workbench unchanged, so a command may come after any number of them; and what
+-- its line leaves then.
 use Rattle.std.proofs.Common.{◌≡◌, ℕ, zero, suc, ◌+◌, ◌<◌, List, [], ◌∷◌, ◌++◌, length, replicate, Some, inl, inr, refl, sym, ap, ◌∙◌, subst, append-nil, append_assoc, length-append, arith}
 use Rattle.std.proofs.lemmas.List.{length-replicate}
 use Rattle.pw_decl.specs.Declaration.{Declared}
@@ -46,7 +47,7 @@ can_carry_out bench line command can =
 pub user_is_there : (bench : Workbench) (user : ℕ) → IsUserOf bench user → user < length bench.beliefs
 user_is_there bench user is = omega (arith, is.there, is.left.set_up.users)
 
--- and is one whatever lines left it
+-- and is declared, for all lines that left it
 pub user_is_declared : (d : Declared) (before : List LineReading) (bench : Workbench) (user : ℕ) → IsUserOf bench user → IsLeftBy d before bench →
     user < length d.users
 user_is_declared d before bench user is left = omega (arith, user_is_there bench user is, left.set_up.users)

@@ -1,4 +1,4 @@
--- Lines made blank that a reply does not rest on leave the reply as it is.
+-- Blanking the lines that a reply does not rest on leaves the reply unchanged.
 use Rattle.std.proofs.Common.{◌≡◌, ℕ, ◌+◌, eqb, List, [], ◌∷◌, ◌++◌, map, fold, Some, refl, sym, ap, ◌∙◌, inl, inr}
 use Rattle.std.specs.FinSet.{is_subset}
 use Rattle.std.proofs.lemmas.Bool.{cases_Bool}

@@ -31,7 +31,7 @@ use Rattle.pw_sessions.proofs.WorkbenchLemmas.{left_as_before, left_attached, le
 use Rattle.pw_sessions.proofs.WrittenCells.{written_is}
 
 module _ (d : Declared) (well : IsWellDeclared d) (readings : List LineReading) (old : Workbench) (left : IsLeftBy d readings old) where
-  -- what was answered stays so where only more is kept
+  -- what was answered stays so if only more is kept
   pub carried_keeping : (user : ℕ) (new : Workbench) (command : Command) (answer : Reply) → OnlyKeepsMore old user new →
       IsCarriedOut d readings command old answer → IsCarriedOut d readings command new answer
   carried_keeping user new command answer keeps carried =
@@ -141,7 +141,7 @@ module _ (d : Declared) (well : IsWellDeclared d) (readings : List LineReading) 
       value_is d (entries_before readings) old.network old.store (beliefs_in old user) cell well left.fit (rise_before readings) left.network left.told here
       ∙ ap (λ w. value_in d (visible_in (entries_before readings) w) cell) (left.beliefs user there)
 
-  -- and where an instance writes the cell, so do the visible entries
+  -- and if an instance writes the cell, so do the visible entries
   entries_write : (user cell : ℕ) → user < length d.users → cell < length d.cells → is_written old.network.attached cell (beliefs_in old user) ≡ true →
       IsWritten d (visible_in (entries_before readings) (beliefs_at d user readings)) cell
   entries_write user cell there here written =
@@ -168,14 +168,14 @@ module _ (d : Declared) (well : IsWellDeclared d) (readings : List LineReading) 
 
   -- ---- a why
 
-  -- what follows at the cell, whatever is believed
+  -- what follows at the cell, for all beliefs
   abbrev by_number : ℕ → Premises → Info
   by_number cell w = settled.value_in old.network old.store w cell
 
   abbrev by_name : ℕ → Premises → Info
   by_name cell w = value_in d (visible_in (entries_before readings) w) cell
 
-  -- what settles at the cell, whatever is believed, is what follows
+  -- what settles at the cell is what follows, for all beliefs
   settles_everywhere : (cell : ℕ) → cell < length d.cells → by_number cell ≡ by_name cell
   settles_everywhere cell here = λ i w.
       value_is d (entries_before readings) old.network old.store w cell well left.fit (rise_before readings) left.network left.told here i

@@ -1,4 +1,5 @@
--- Settled values are current after a settling, and stay so as others settle, and as what comes that is no news to them.
+-- Settled values are current after a settling, and stay current when others settle, and when
+-- something comes that is not news to them.
 use Rattle.std.proofs.Common.{◌≡◌, ℕ, ◌+◌, ◌<◌, ◌≤◌, Bool, true, false, List, [], ◌∷◌, ◌++◌, All, zero, suc, length, map, get_or, refl, sym, ap, ◌∙◌, subst, inl, inr, arith}
 use Rattle.std.proofs.Math.Path.{fun_ext}
 use Rattle.std.specs.Prelude.{◌-◌, nat_lt, slice_index_or}
@@ -42,7 +43,7 @@ use Rattle.pw_settle.proofs.WiderNetworks.{value_says_told}
 many_cells : (network : Network) (store : Store) → kinds_of store ≡ kinds_in network → length store.cells ≡ length (kinds_in network)
 many_cells network store same = sym (length-map store.cells (λ (c : Cell). c.kind)) ∙ ap length same
 
--- what is said of a cell that was there
+-- what is said about a cell that existed
 pub said_at : (network : Network) (settled : Settled) (cell : ℕ) → cell < length settled.infos → said_of network settled cell ≡ info_at settled.infos cell
 said_at network settled cell there =
     get_or_default settled.infos cell (nothing ((numbered (kinds_in network)).kind cell)) (nothing kinds.Interval) there
@@ -98,7 +99,7 @@ said_past network settled cell past beyond =
     get_or_past settled.infos cell (nothing ((numbered (kinds_in network)).kind cell)) past
     ∙ ap nothing (get_or_past (kinds_in network) cell kinds.Interval beyond)
 
--- the values of a settling are current once it is done
+-- the values of a settling are current after it is done
 pub current_settled : (network : Network) (well : IsWellNetwork network) (old new : Store) (w : Premises) (settled : Settled) → kinds_of old ≡ kinds_in network →
     KeepsMore network old new → IsSettled network old w settled → IsFitting network new settled → settled.instances ≡ length network.attached →
     ((cell : ℕ) → kept_in new cell w ≡ value_in network old w cell) → IsCurrent network new settled
@@ -130,7 +131,7 @@ current_settled network well old new w settled same grows is fits all kept = rec
 
 -- ---- as more is kept
 
--- current values are current where more is kept that follows
+-- current values are current if more is kept that follows
 pub current_keeping : (network : Network) (old new : Store) (settled : Settled) → kinds_of old ≡ kinds_in network → IsSound network old →
     KeepsMore network old new → IsCurrent network old settled → IsCurrent network new settled
 current_keeping network old new settled same sound grows is = record {
@@ -149,11 +150,11 @@ current_keeping network old new settled same sound grows is = record {
   still : (cell : ℕ) → value_in network old w cell ≡ value_in network new w cell
   still cell = sym (same_value network old new grows.told w cell)
 
--- ---- as a fact is told that is no news
+-- ---- a fact is told that is not news
 
 module _ (network : Network) (well : IsWellNetwork network) (old new : Store) (cell : ℕ) (fact : Fact) (same : kinds_of old ≡ kinds_in network)
     (kind : kind_of fact.info ≡ kind_in_store old cell) (takes : TakesFact cell fact old new) (sound : IsSound network old) where
-  -- where what is kept says already what it shows, what is kept stays
+  -- if what is kept says already what it shows, what is kept stays
   kept_already : (w : Premises) → Implies (kept_in old cell w) (shows w fact) → (c : ℕ) → kept_in new c w ≡ kept_in old c w
   kept_already w says =
       by_cell (λ c. kept_in new c w ≡ kept_in old c w) cell
@@ -161,7 +162,7 @@ module _ (network : Network) (well : IsWellNetwork network) (old new : Store) (c
       ∙ meet_implied (kept_in old cell w) (shows w fact) (kind-kept old cell w ∙ sym kind ∙ sym (kind-shows w fact)) says)
       (λ c other. ap (λ (x : Cell). kept_of x w) (takes.others c other))
 
-  -- and says all that is told, where it did
+  -- and says everything told, if it did before
   says_told : (w : Premises) → Implies (kept_in old cell w) (shows w fact) → SaysTold old w → SaysTold new w
   says_told w says told c below =
       also_implies (told_in new c w) (kept_in old c w) (kept_in new c w) (sym (kept_already w says c))
@@ -173,7 +174,7 @@ module _ (network : Network) (well : IsWellNetwork network) (old new : Store) (c
       (sym (ap (λ (x : Cell). told_of x w) (takes.others c other))) (told c there)) c
       (omega (arith, below, many_cells network new (takes.kinds ∙ same), many_cells network old same)))
 
-  -- current values are current still, where they say already what it shows
+  -- current values are current still, if they say already what it shows
   pub current_told : (settled : Settled) → cell < length settled.infos → SayAlready cell fact settled → IsCurrent network old settled →
       IsCurrent network new settled
   current_told settled there says is =
@@ -203,7 +204,7 @@ module _ (network wider : Network) (wide : IsWider network wider) (well : IsWell
   many : length old.cells ≡ length (kinds_in network)
   many = many_cells network old same
 
-  -- a cell that was there is as it was
+  -- a cell that existed is unchanged
   stays : (c : ℕ) → here c → cell_at new c ≡ cell_at old c
   stays c there = cell_stays old new own are c (omega (arith, there, many))
 
@@ -280,7 +281,7 @@ module _ (network wider : Network) (wide : IsWider network wider) (well : IsWell
 
 -- ---- what comes under premises of which one is not believed
 
--- whatever is attached is hidden where its premises are
+-- everything attached is hidden if its premises are not all believed
 pub hidden_after : (network wider : Network) (wide : IsWider network wider) (support w : Premises) → All (λ (a : Attached). a.support ≡ support) wide.more →
     is_subset support w ≡ false → (number : ℕ) → length network.attached ≤ number → visible_at wider w number ≡ false
 hidden_after network wider wide support w all hidden number past =

@@ -1,4 +1,4 @@
--- What entries tell of a cell by its name, with one entry more.
+-- What entries tell about a cell by its name, with one more entry.
 use Rattle.std.proofs.Common.{◌≡◌, Bool, true, false, List, [], ◌∷◌, ◌++◌, cond, fold, refl, sym, ap, ◌∙◌, append-nil, inl, inr}
 use Rattle.std.specs.Prelude.{ℕ, Option, Some, None, if◌then◌else◌, filter, not, slice_get}
 use Rattle.std.specs.List.{cons_option, flat_map}
@@ -35,12 +35,12 @@ use Rattle.pw_sessions.specs.Entries.{Entry, Told, Attached, support_of}
 
 -- ---- tells
 
--- an information of the cell of this name, merged with what a source tells of it
+-- an information of the cell of this name, merged with what a source tells about it
 abbrev pub with_tell : Name → Info → Source Name → Info
 with_tell name info (sources.Told at told) = if same_name at name then meet info told else info
 with_tell name info (Propagator procedure inputs output) = info
 
--- an information of a cell by its name, merged with what visible entries tell of it
+-- an information of a cell by its name, merged with what visible entries tell about it
 abbrev pub told_by : Declared → List Entry → Premises → Name → Info → Info
 told_by d entries w name info = fold (with_tell name) info (sources_after d (visible_in entries w))
 
@@ -53,7 +53,7 @@ tells_alone d entries known name info (sources.Told at told ∷ given) =
     tells_alone d entries known name (if same_name at name then meet info told else info) given
 tells_alone d entries known name info (Propagator procedure inputs output ∷ given) = tells_alone d entries known name info given
 
--- what is left where a propagator may stand before it
+-- what is left if a propagator may come before it
 propagator_or_none : (procedures : List Procedure) (instance : Instance Name) (name : Name) (info : Info) (found : Option Procedure) (rest : List (Source Name)) →
     fold (with_tell name) info
     (cons_option (option_map (λ (procedure : Procedure). Propagator procedure instance.inputs instance.output) found) rest)
@@ -114,7 +114,7 @@ one_more d entries entry name info true =
     ∙ fold-append (with_tell name) info (sources_after d entries) (sources_of d entry)
 one_more d entries entry name info false = ap (λ (l : List Entry). fold (with_tell name) info (sources_after d l)) (append-nil entries)
 
--- what is told with one entry more, seen or not
+-- the told information with one more entry, seen or not
 told_more : (d : Declared) (entries : List Entry) (entry : Entry) (w : Premises) (name : Name) (info : Info) →
     told_by d (entries ++ entry ∷ []) w name info
     ≡ (if is_visible w entry then fold (with_tell name) (told_by d entries w name info) (sources_of d entry) else told_by d entries w name info)
@@ -135,13 +135,13 @@ attachment_tells_nothing d entries w name info line callable cells support =
     told_more d entries (Attached line callable cells support) w name info
     ∙ if_same (is_subset support w) _ (told_by d entries w name info) (propagators_tell_nothing d.procedures _ name (told_by d entries w name info))
 
--- what is merged where a fact is visible is what it shows
+-- what is merged if a fact is visible is what it shows
 met : (v : Info) (fact : Fact) (b : Bool) → kind_of v ≡ kind_of fact.info →
     (if b then meet v fact.info else v) ≡ meet v (if b then fact.info else nothing (kind_of fact.info))
 met v fact true same = refl
 met v fact false same = sym (ap (λ k. meet v (nothing k)) (sym same) ∙ meet_nothing v)
 
--- a fact that is told of the cell tells what it shows
+-- a fact told about the cell tells what it shows
 pub told_here : (d : Declared) (entries : List Entry) (w : Premises) (name : Name) (info : Info) (line at : ℕ) (fact : Fact) →
     kind_of info ≡ kind_of fact.info → same_name (DeclaredCell at) name ≡ true →
     told_by d (entries ++ Told line at fact ∷ []) w name info ≡ meet (told_by d entries w name info) (shows w fact)
@@ -151,7 +151,7 @@ told_here d entries w name info line at fact of_kind here =
     ∙ ap (λ b. if is_subset fact.support w then (if b then meet known fact.info else known) else known) here
     ∙ met known fact (is_subset fact.support w) (kind-tells name info (sources_after d (visible_in entries w)) ∙ of_kind)
 
--- a fact that is told of another cell tells nothing of this one
+-- a fact told about another cell tells nothing about this one
 pub told_elsewhere : (d : Declared) (entries : List Entry) (w : Premises) (name : Name) (info : Info) (line at : ℕ) (fact : Fact) →
     same_name (DeclaredCell at) name ≡ false → told_by d (entries ++ Told line at fact ∷ []) w name info ≡ told_by d entries w name info
 told_elsewhere d entries w name info line at fact there =
@@ -181,20 +181,20 @@ filter_narrower p q within (x ∷ xs) = elim (cases_Bool (p x)) [
   ]
 ]
 
--- what is visible under some of what is believed is visible
+-- what is visible under some of the beliefs is visible
 visible_narrower : (entries : List Entry) (some beliefs : Premises) → is_subset some beliefs ≡ true →
     visible_in (visible_in entries beliefs) some ≡ visible_in entries some
 visible_narrower entries some beliefs within =
     filter_narrower (is_visible some) (is_visible beliefs) (λ entry seen. is_subset_trans (support_of entry) some beliefs seen within) entries
 
--- the reason from the visible entries alone is the reason
+-- the reason from only the visible entries is the reason
 reason-visible : (d : Declared) (entries : List Entry) (beliefs : Premises) (cell : ℕ) →
     reason_in d (visible_in entries beliefs) beliefs cell ≡ reason_in d entries beliefs cell
 reason-visible d entries beliefs cell =
     reason_of_subsets (λ w. value_in d (visible_in (visible_in entries beliefs) w) cell) (λ w. value_in d (visible_in entries w) cell) beliefs
     (λ some within. ap (λ (l : List Entry). value_in d l cell) (visible_narrower entries some beliefs within))
 
--- the answer from the visible entries alone is the answer
+-- the answer from only the visible entries is the answer
 pub answer-visible : (d : Declared) (entries : List Entry) (beliefs : Premises) (command : Command) →
     answer_to d (visible_in entries beliefs) beliefs command ≡ answer_to d entries beliefs command
 answer-visible d entries beliefs (commands.Ask user cell) =

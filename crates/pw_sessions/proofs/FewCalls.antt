@@ -17,7 +17,7 @@ use Rattle.pw_settle.proofs.SettledStores.{tally_visible}
 use Rattle.pw_settle.proofs.SumsBelow.{sum_bound}
 use Rattle.pw_sessions.specs.Session.{IsCurrent, KeepsValues}
 
--- where the same is kept, nothing is gained
+-- if the same is kept, nothing is gained
 none_gained : (n reads : ℕ) → (n - n) * reads ≤ 0
 none_gained n reads = let none : n - n ≡ 0 = omega arith in subst (λ k. k * reads ≤ 0) (sym none) (omega arith)
 
@@ -45,7 +45,7 @@ fewer_flags (b ∷ flags) (c ∷ more) many all =
     each true true so = omega arith
     each true false so = absurd (both_ways false refl (so refl))
 
--- where none is set, none is counted
+-- if none is set, none is counted
 pub no_flags : (flags : List Bool) → ((n : ℕ) → is_set flags n ≡ true → ⊥) → tally flags ≤ 0
 no_flags [] none = omega arith
 no_flags (true ∷ flags) none = absurd (none 0 refl)

@@ -1,4 +1,4 @@
--- What the steps of a line come to for who is fresh.
+-- The effect of the steps of a line on fresh users.
 use Rattle.std.proofs.Common.{◌≡◌, ℕ, true, List, ◌++◌, All, map, refl, sym, ap, ◌∙◌, subst, inl, inr}
 use Rattle.std.specs.Prelude.{◌⊎◌}
 use Rattle.pw_info.specs.declared.kind.Kind.{Kind}
@@ -41,7 +41,7 @@ store_fits bench can = record {
   sessions = can.set_up.fit;
 }
 
--- a fact that is told is of the kind of its cell
+-- a told fact is of the kind of its cell
 pub kind_of_told : (bench : Workbench) → IsWellNetwork bench.network → IsSetUpFor bench.network.declared bench → (user cell : ℕ) (fact : Fact) →
     IsDeclared bench.network.declared (Says (commands.Tell user cell fact)) → kind_of fact.info ≡ kind_in_store bench.store cell
 kind_of_told bench well set_up user cell fact named =
@@ -51,7 +51,7 @@ kind_of_told bench well set_up user cell fact named =
 
 module _ (bench : Workbench) (network : IsWellNetwork bench.network) (user cell : ℕ)
     (named : IsDeclared bench.network.declared (Says (commands.Ask user cell))) where
-  -- it settles where an instance writes the cell
+  -- it settles if an instance writes the cell
   pub asks_written : (d : Declared) (before : List LineReading) → IsLeftBy d before bench → Settles d before (commands.Ask user cell) →
       is_written bench.network.attached cell (beliefs_in bench user) ≡ true
   asks_written d before left settles =
@@ -69,7 +69,7 @@ module _ (bench : Workbench) (network : IsWellNetwork bench.network) (user cell 
 
 -- ---- an attachment
 
--- who was fresh is so still, or sees it
+-- a user who was fresh still is, or sees it
 pub attached_seen : (old new : Workbench) (line user : ℕ) (callable : Callable) (on : Arguments) (support : Premises) → IsWellNetwork old.network →
     IsWellNetwork new.network → StoreFits old → IsAttached old line callable (cells_of on) support new → (other : ℕ) → IsFresh old other →
     MayEndFreshness old other (commands.Attach user callable on support) new reply.Done ⊎ IsFresh new other

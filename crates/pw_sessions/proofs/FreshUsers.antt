@@ -1,4 +1,4 @@
--- Who is fresh stays so, line after line, but for the lines that may end it.
+-- Fresh users stay fresh, line after line, except after lines that may end it.
 use Rattle.std.proofs.Common.{◌≡◌, ℕ, ◌<◌, ◌≤◌, eqb, true, false, zero, suc, List, All, replicate, length, map, get_or, set, Option, None, Some, refl, sym, ap, ◌∙◌, subst, inl, inr, arith, get_or-set_same}
 use Rattle.std.specs.Prelude.{◌≢◌, ◌⊎◌, IfSome, nat_lt}
 use Rattle.std.specs.FinSet.{empty, is_subset}
@@ -38,9 +38,9 @@ use Rattle.pw_sessions.proofs.CurrentValues.{current_attached, current_keeping, 
 use Rattle.pw_sessions.proofs.FewCalls.{no_flags, none_due}
 use Rattle.pw_sessions.proofs.LastValues.{keeps_more_alike}
 
--- ---- who stays fresh
+-- ---- users that stay fresh
 
--- with the same session and beliefs, where what was current is
+-- with the same session and beliefs, if what was current still is
 stays_fresh : (old new : Workbench) (user : ℕ) → session_in new user ≡ session_in old user → beliefs_in new user ≡ beliefs_in old user →
     ((settled : Settled) → IsCurrent old.network old.store settled → IsCurrent new.network new.store settled) → IsFresh old user → IsFresh new user
 stays_fresh old new user session beliefs still is = record {
@@ -50,7 +50,7 @@ stays_fresh old new user session beliefs still is = record {
   current = still is.session.values is.current;
 }
 
--- another than the one who asks
+-- a user other than the asker
 pub fresh_beside : (old : Workbench) (user : ℕ) (new : Workbench) → StoreFits old → OnlyKeepsMore old user new → (other : ℕ) → (other ≡ user → ⊥) →
     IsFresh old other → IsFresh new other
 fresh_beside old user new fits keeps other differs =
@@ -58,7 +58,7 @@ fresh_beside old user new fits keeps other differs =
     (λ settled is. subst (λ (n : Network). IsCurrent n new.store settled) (sym keeps.network)
     (current_keeping old.network old.store new.store settled fits.kinds fits.sound keeps.grows is))
 
--- all, where nothing changes but the room for cells
+-- all users, if only the room for cells changes
 fresh_as_before : (old new : Workbench) → StoreFits old → IsAsBefore old new → (user : ℕ) → IsFresh old user → IsFresh new user
 fresh_as_before old new fits still user =
     stays_fresh old new user (ap (λ (ss : List (Option Session)). get_or ss user None) still.sessions)
@@ -69,7 +69,7 @@ fresh_as_before old new fits still user =
 
 -- ---- what is attached under premises
 
--- a user to whom it is not visible has the session still, and stays fresh where its values stay current
+-- a user to whom it is not visible keeps the session, and stays fresh if its values stay current
 after_hidden : (old new : Workbench) (support : Premises) → new.beliefs ≡ old.beliefs → new.sessions ≡ map (option_map (after_entry support)) old.sessions →
     ((settled : Settled) → is_subset support settled.worldview ≡ false → IsCurrent old.network old.store settled → IsCurrent new.network new.store settled) →
     (user : ℕ) → is_subset support (beliefs_in old user) ≡ false → IsFresh old user → IsFresh new user
@@ -82,7 +82,7 @@ after_hidden old new support beliefs sessions still user hidden is = record {
   current = still is.session.values (ap (is_subset support) is.worldview ∙ hidden) is.current;
 }
 
--- so who is fresh stays so, or sees it
+-- so a fresh user stays fresh, or sees it
 seen_or_fresh : (old new : Workbench) (support : Premises) → new.beliefs ≡ old.beliefs → new.sessions ≡ map (option_map (after_entry support)) old.sessions →
     ((settled : Settled) → is_subset support settled.worldview ≡ false → IsCurrent old.network old.store settled → IsCurrent new.network new.store settled) →
     (user : ℕ) → IsFresh old user → (is_subset support (beliefs_in old user) ≡ true) ⊎ IsFresh new user
@@ -92,7 +92,7 @@ seen_or_fresh old new support beliefs sessions still user is =
       | inr hidden ↦ inr (after_hidden old new support beliefs sessions still user hidden is)
     ]
 
--- a user who has a session is there, and the session fits
+-- a user who has a session exists, and the session fits
 session_there : (bench : Workbench) (user : ℕ) (session : Session) → session_in bench user ≡ Some session → user < length bench.sessions
 session_there bench user session has = elim (cases_Bool (nat_lt user (length bench.sessions))) [
   | inl is ↦ ltb-true user (length bench.sessions) is
@@ -106,7 +106,7 @@ its_session bench user session has fits =
     subst (λ (o : Option Session). IfSome o (IsSessionOf bench.network bench.store)) has
     (fits.sessions user None (session_there bench user session has))
 
--- where a fact is told, who is fresh stays so, or it says what does not follow there
+-- if a fact is told, a fresh user stays fresh, or it says something that does not follow there
 pub fresh_told : (old new : Workbench) (cell : ℕ) (fact : Fact) → IsWellNetwork old.network → StoreFits old → cell < length old.network.declared.cells →
     kind_of fact.info ≡ kind_in_store old.store cell → IsTold old cell fact new → (user : ℕ) → IsFresh old user →
     (Implies (value_in old.network old.store (beliefs_in old user) cell) (shows (beliefs_in old user) fact) → ⊥) ⊎ IsFresh new user
@@ -147,14 +147,14 @@ fresh_attached old new line callable cells support well also fits kinds wide all
 
 -- ---- commands that settle nothing
 
--- none calls few
+-- no calls are few calls
 pub calls_none : (old : Workbench) (user calls : ℕ) → calls ≡ 0 → CallsFew old user calls
 calls_none old user calls none = record {
   none = λ is. none;
   once = λ other is same. omega (arith, none);
 }
 
--- where nobody's freshness ends
+-- if nobody's freshness ends
 module _ (old new : Workbench) (command : Command) (answer : Reply)
     (quiet : (d : Declared) (before : List LineReading) → Settles d before command → ⊥) where
   pub counts_none : new.calls ≡ 0 → CountsCalls old command new answer
@@ -170,7 +170,7 @@ module _ (old new : Workbench) (command : Command) (answer : Reply)
     stays = stays;
   }
 
--- a change of beliefs: who was fresh is so still, or believes something else
+-- a change of beliefs: a user who was fresh still is, or believes something else
 pub fresh_believed : (old : Workbench) (beliefs : List Premises) (user : ℕ) → IsFresh old user →
     (beliefs_in (record old { beliefs = beliefs }) user ≢ beliefs_in old user) ⊎ IsFresh (record old { beliefs = beliefs }) user
 fresh_believed old beliefs user is =
@@ -234,7 +234,7 @@ fresh_remembered old user settled there worldview current = record {
 
 -- ---- a settling of the user
 
--- how few calls it made, where it calls none from values that are current, and few where what is kept is the value
+-- it made few calls, if it makes none from current values, and few if what is kept is the value
 pub calls_few : (old : Workbench) (user calls : ℕ) → ((session : Session) → session_in old user ≡ Some session →
     session.values.worldview ≡ beliefs_in old user → IsCurrent old.network old.store session.values → calls ≡ 0) →
     (KeepsValues old.network old.store (beliefs_in old user) → calls ≤ visible_count old.network (beliefs_in old user)) → CallsFew old user calls
@@ -278,7 +278,7 @@ due_fresh old user is uncounted = record {
   worldview : (session : Session) → session_in old user ≡ Some session → session.values.worldview ≡ w
   worldview session has = ap (λ (s : Session). s.values.worldview) (own session has) ∙ is.worldview
 
-  -- no flag of so many is set
+  -- no flag of `count` flags is set
   get_or-replicate_same : (count n : ℕ) → get_or (replicate count false) n false ≡ false
   get_or-replicate_same zero n = refl
   get_or-replicate_same (suc count) zero = refl
@@ -312,7 +312,7 @@ asked_refused old found user Settling settling few due = record {
   none = λ not. absurd (not settling);
 }
 
--- with what is told, where nothing is to settle
+-- with what is told, if nothing is to be settled
 pub asked_quiet : (old : Workbench) (user : ℕ) (Settling : Type 0) (answer : Reply) → (Settling → ⊥) → old.calls ≡ 0 →
     IsAsked old user Settling old answer
 asked_quiet old user Settling answer quiet none = record {
@@ -336,7 +336,8 @@ asked_known old user Settling answer fresh none = record {
 
 -- ---- what a user knows
 
--- a user whose session is known to be current is fresh, where its values were found under what the user believes
+-- a user whose session is known to be current is fresh, if its values were found under what the
+-- user believes
 pub known_fresh : (bench : Workbench) (user : ℕ) (session : Session) → session_in bench user ≡ Some session → StoreFits bench →
     session.is_current ≡ true → session.values.worldview ≡ beliefs_in bench user → IsFresh bench user
 known_fresh bench user session has fits known worldview = record {

@@ -1,4 +1,4 @@
--- Entries, beliefs and replies of one line more.
+-- Entries, beliefs and replies of one more line.
 use Rattle.std.proofs.Common.{◌≡◌, ℕ, suc, ◌+◌, List, [], ◌∷◌, ◌++◌, length, Option, refl, sym, ap, ◌∙◌, append-nil, append_assoc, arith}
 use Rattle.std.proofs.lemmas.List.Sums.{fold-append}
 use Rattle.pw_decl.specs.Declaration.{Declared}
@@ -29,7 +29,8 @@ entries_before-snoc readings reading = entries_from-snoc 1 readings reading ∙ 
 
 -- ---- beliefs
 
--- what a user believes after one more line: what the user believed before it, and what the line changes of that
+-- what a user believes after one more line: what the user believed before it, and what the line
+-- changes of that
 pub beliefs_at-snoc : (d : Declared) (user : ℕ) (readings : List LineReading) (reading : LineReading) →
     beliefs_at d user (readings ++ reading ∷ []) ≡ believed_after user (beliefs_at d user readings) reading
 beliefs_at-snoc d user readings reading = fold-append (believed_after user) (all_premises d) readings (reading ∷ [])

@@ -1,4 +1,4 @@
--- More is known where more is believed.
+-- More is known if more is believed.
 use Rattle.std.proofs.Common.{◌≡◌, ℕ, suc, ◌+◌, ◌<◌, true, List, [], ◌∷◌, ◌++◌, length, get_or, sym, subst, ◌∙◌, All, Contains, arith}
 use Rattle.std.specs.List.{flat_map}
 use Rattle.std.specs.FinSet.{is_subset}
@@ -50,7 +50,7 @@ some_among f (x ∷ some) all among =
 
 -- ---- entries
 
--- what is visible where less is believed is visible where more is
+-- what is visible where less is believed is visible if more is
 still_visible : (entries : List Entry) (s t : Premises) → is_subset s t ≡ true → All (Contains (visible_in entries t)) (visible_in entries s)
 still_visible entries s t within =
     let here : All (λ (entry : Entry). is_visible t entry ≡ true → Contains (visible_in entries t) entry) (visible_in entries s) =
@@ -82,7 +82,7 @@ fit_from d number (reading ∷ readings) named =
 
 -- ---- values
 
--- no less is known of a declared cell where more is believed
+-- no less is known about a declared cell if more is believed
 pub values_grow : (d : Declared) (readings : List LineReading) (cell : ℕ) → IsWellDeclared d → All (IsDeclared d) readings → cell < length d.cells →
     Grows (value_under d (entries_before readings) cell)
 values_grow d readings cell well named here =

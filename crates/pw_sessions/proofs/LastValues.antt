@@ -33,14 +33,14 @@ use Rattle.pw_sessions.specs.Workbench.{SessionsFit, Workbench, beliefs_in}
 use Rattle.pw_sessions.proofs.CurrentValues.{current_attached, current_keeping, current_told, hidden_after}
 use Rattle.pw_settle.proofs.SoundStores.{more_kept, sound_same}
 
--- where each that fits still does, they do
+-- if each that fits still does, they do
 all_fit : (network after : Network) (old new : Store) → ((session : Session) → IsSessionOf network old session → IsSessionOf after new session) →
     (sessions : List (Option Session)) → SessionsFit network old sessions → SessionsFit after new sessions
 all_fit network after old new still sessions fit =
     All-weaker (λ session. IfSome session (IsSessionOf network old)) (λ session. IfSome session (IsSessionOf after new))
     (λ session fits. IfSome_then session fits still) sessions fit
 
--- where more is kept that follows
+-- if more is kept that follows
 pub session_keeping : (network : Network) (old new : Store) → kinds_of old ≡ kinds_in network → IsSound network old → KeepsMore network old new →
     (session : Session) → IsSessionOf network old session → IsSessionOf network new session
 session_keeping network old new same sound grows session fits = record {
@@ -54,7 +54,7 @@ pub sessions_keeping : (network : Network) (old new : Store) (sessions : List (O
 sessions_keeping network old new sessions same sound grows =
     all_fit network network old new (session_keeping network old new same sound grows) sessions
 
--- a store of the same cells keeps more, in a manner of speaking
+-- a store of the same cells keeps at least as much
 pub keeps_more_alike : (network : Network) (old new : Store) → new.cells ≡ old.cells → KeepsMore network old new
 keeps_more_alike network old new alike = record {
   kinds = ap (λ (cs : List Cell). map (λ (c : Cell). c.kind) cs) alike;
@@ -63,7 +63,7 @@ keeps_more_alike network old new alike = record {
   sound = sound_same network old new alike;
 }
 
--- where the cells are the same
+-- if the cells are the same
 pub sessions_same : (network : Network) (old new : Store) (sessions : List (Option Session)) → kinds_of old ≡ kinds_in network →
     IsSound network old → new.cells ≡ old.cells → SessionsFit network old sessions → SessionsFit network new sessions
 sessions_same network old new sessions same sound alike =
@@ -71,7 +71,7 @@ sessions_same network old new sessions same sound alike =
 
 -- ---- as something comes under premises
 
--- once each fits that was told what was attached, they do
+-- if each session still fits after something was attached, all of them do
 all_after : (support : Premises) (network after : Network) (old new : Store) →
     ((session : Session) → IsSessionOf network old session → IsSessionOf after new (after_entry support session)) → (sessions : List (Option Session)) →
     SessionsFit network old sessions → SessionsFit after new (map (option_map (after_entry support)) sessions)
@@ -99,7 +99,7 @@ says_of_hidden values cell fact kind hidden =
     implies_shown (info_at values.infos cell) fact values.worldview kind
     (λ seen. absurd (both_ways (is_subset fact.support values.worldview) hidden seen))
 
--- where a fact is told
+-- if a fact is told
 module _ (network : Network) (old : Store) (cell : ℕ) (fact : Fact) (same : kinds_of old ≡ kinds_in network)
     (kind : kind_of fact.info ≡ kind_in_store old cell) (declared : cell < length network.declared.cells) where
   -- each session has a value of the cell, of the kind of the fact
@@ -142,7 +142,7 @@ module _ (network : Network) (old : Store) (cell : ℕ) (fact : Fact) (same : ki
         subst (λ o. IfSome o (IsSessionOf network new)) (get_or_default after user None d there)
         (each_told (get_or sessions user None) (get_or after user None) (became.each user) (fit user None (omega (arith, there, became.many))))
 
--- where more is attached, with new cells
+-- if more is attached, with new cells
 pub sessions_attached : (network wider : Network) (wide : IsWider network wider) → IsWellNetwork network → IsWellNetwork wider → (old new : Store)
     (own : List Kind) → kinds_of old ≡ kinds_in network → kinds_of new ≡ kinds_in wider → new.cells ≡ old.cells ++ map new_cell own → IsSound network old →
     (support : Premises) → All (λ (a : Attached). a.support ≡ support) wide.more → (sessions : List (Option Session)) → SessionsFit network old sessions →
@@ -242,7 +242,8 @@ session_of old user new settled well keeps is current = record {
   current = λ same. current;
 }
 
--- a store that keeps more, once the last session of the user is given up, and another count of calls
+-- a store that keeps more, after the last session of the user is given up, and another count of
+-- calls
 pub only_settles : (old : Workbench) (user : ℕ) (store : Store) (calls : ℕ) → KeepsMore old.network old.store store →
     StaysUpstream old.network old.store store →
     OnlyKeepsMore old user (record old { store = store; sessions = set old.sessions user None; calls = calls })

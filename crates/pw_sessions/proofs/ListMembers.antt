@@ -1,4 +1,5 @@
--- Members of lists: of what a map, a filter and a list of lists give, and of numbers that rise, which their members determine.
+-- Members of lists: of what a map, a filter and a list of lists give, and of numbers that rise,
+-- which their members determine.
 use Rattle.std.proofs.Common.{◌≡◌, ℕ, zero, suc, ◌<◌, ◌≤◌, ◌⊎◌, inl, inr, Bool, true, List, [], ◌∷◌, filter, map, refl, sym, ap, ◌∙◌, arith, All, Contains}
 use Rattle.std.specs.List.{AllPairs, flat_map, list_any}
 use Rattle.std.specs.List.Sorted.{IsStrictlyIncreasing}
@@ -45,7 +46,7 @@ member_of_one f (x ∷ xs) y has =
       | inr later ↦ let found = member_of_one f xs y later in (found.0, contains_more x found.0 xs found.1, found.2)
     ]
 
--- where a member passes, some does
+-- if a member passes, some does
 pub any_member : {X : Type 0} (p : X → Bool) (xs : List X) (x : X) → Contains xs x → p x ≡ true → list_any p xs ≡ true
 any_member p xs x (k, within, is) passes = list_any_at p xs k x within (ap p is ∙ passes)
 
@@ -67,7 +68,8 @@ not_below x n xs pairs has =
       | inr later ↦ let above = All-contains (λ m. x < m) xs n (rest_above x xs pairs) later in omega (arith, above)
     ]
 
--- where two lists that rise begin with the same and each member of the first is one of the second, so it is with their rests
+-- if two lists that rise begin with the same and each member of the first is one of the second, so
+-- it is with their rests
 rest_within : (x y : ℕ) (xs ys : List ℕ) → x ≡ y → AllPairs (λ m n. m < n) (x ∷ xs) →
     ((n : ℕ) → Contains (x ∷ xs) n → Contains (y ∷ ys) n) → (n : ℕ) → Contains xs n → Contains ys n
 rest_within x y xs ys same pairs within n has =

@@ -57,7 +57,7 @@ inner_named d entries =
 
 -- ---- kinds by name
 
--- where both find the kinds of an entry, they find the same of its inner cells
+-- if both find the kinds of an entry, they find the same for its inner cells
 same_found : (d : Declared) (all some : List Entry) (entry : Entry) → FindsKinds d all entry → FindsKinds d some entry →
     All (λ name. kind_by_name d some name ≡ kind_by_name d all name) (inner_names_of d entry)
 same_found d all some (Told line cell fact) finds also = All-nil (λ name. kind_by_name d some name ≡ kind_by_name d all name)

@@ -1,4 +1,5 @@
--- What settles in the network that entries make lists the conflicts that the visible entries have by name.
+-- What settles in the network that entries make lists the conflicts that the visible entries have
+-- by name.
 use Rattle.std.proofs.Common.{◌≡◌, ℕ, ◌<◌, Bool, true, false, inl, inr, List, [], ◌∷◌, Option, Some, None, filter, fold, length, map, not, refl, sym, ap, subst, ◌∙◌, arith, All, Contains}
 use Rattle.std.specs.Prelude.{if◌then◌else◌}
 use Rattle.std.specs.List.{AllPairs, flat_map, range_with_len}
@@ -41,7 +42,7 @@ use Rattle.pw_sessions.proofs.NamedValues.{seen_over, value_by_number, value_is,
 -- ---- a cell of which nothing is said
 
 module _ {C : Type 0} (cells : Cells C) (c : C) where
-  -- sources of other cells leave an information of this one as it is
+  -- sources of other cells leave an information about this cell unchanged
   others_leave : (known : C → Info) (info : Info) (sources : List (Source C)) → All (λ s. cell_of s ≡ c → ⊥) sources →
       fold (with_source cells known c) info sources ≡ info
   others_leave known info [] others = refl
@@ -52,7 +53,7 @@ module _ {C : Type 0} (cells : Cells C) (c : C) where
       ap (λ (b : Bool). fold (with_source cells known c) (if b then meet info (said_by known source) else info) sources) differs
       ∙ others_leave known info sources (All-tail (λ s. cell_of s ≡ c → ⊥) source sources others)
 
-  -- so where no source informs the cell, nothing follows of it
+  -- so if no source informs the cell, nothing follows of it
   nothing_follows : (over : List C) (sources : List (Source C)) → AreOver cells over sources →
       All (λ s. cell_of s ≡ c → ⊥) sources → fixpoint cells over sources c ≡ nothing (cells.kind c)
   nothing_follows over sources are others =
@@ -91,7 +92,7 @@ same_line d entry line number has =
     let same : line ≡ line_of entry = cc in
     sym same
 
--- where entries name an inner cell, one of them made it
+-- if entries name an inner cell, one of them made it
 made_by : (d : Declared) (entries : List Entry) (line number : ℕ) → Contains (names_after d entries) (InnerCellOf line number) →
     (entry : Entry) × Contains entries entry × Contains (inner_names_of d entry) (InnerCellOf line number)
 made_by d entries line number has =
@@ -154,7 +155,7 @@ module _ (d : Declared) (entries : List Entry) (network : Network) (store : Stor
       ∙ told_merged (named_cells d entries) (names_after d entries) said (seen_over d well entries fit rise w)
       (told_of (named_cells d entries) said) (λ c among. refl) (name_in network cell)
 
-  -- where the visible entries name it, this is their value by name
+  -- if the visible entries name it, this is their value by name
   value_shown : (cell : ℕ) → cell < cells_in network → Contains (names_after d shown) (name_in network cell) →
       value cell ≡ value_by_name d shown (name_in network cell)
   value_shown cell here among =
@@ -163,7 +164,7 @@ module _ (d : Declared) (entries : List Entry) (network : Network) (store : Stor
       (All-filter (is_visible w) (FindsKinds d entries) entries (finds_kinds d 0 entries rise)) shown_find
       (All-filter (is_visible w) (AreNamed d entries) entries (inner_named d entries)) (name_in network cell) among
 
-  -- and where they do not, nothing is known of it
+  -- and if they do not, nothing is known about it
   value_hidden : (cell : ℕ) → cell < cells_in network → (Contains (names_after d shown) (name_in network cell) → ⊥) →
       value cell ≡ nothing (kind_by_name d entries (name_in network cell))
   value_hidden cell here hidden =
@@ -243,8 +244,8 @@ module _ (d : Declared) (entries : List Entry) (network : Network) (store : Stor
             ∙ ap clashes found.2 ∙ any.4;
       }
 
--- what settles in the network that entries make, from a store that was told what they tell, has the conflicts of the visible
--- entries
+-- what settles in the network that entries make, from a store that was told what they tell, has the
+-- conflicts of the visible entries
 pub conflicts_named : (d : Declared) (entries : List Entry) (network : Network) (store : Store) (w : Premises)
     (conflicts : Conflicts) → IsWellDeclared d → All (FitsDeclared d) entries → RiseFrom 0 entries → network ≡ network_after d entries →
     WasTold d entries network store → AreConflicts network (values.value_in network store w) conflicts →

@@ -1,4 +1,4 @@
--- The network that entries make, by the names of its cells: what the rest needs to know of it.
+-- The network that entries make, by the names of its cells: the facts that the other proofs need.
 use Rattle.std.proofs.Common.{◌≡◌, ℕ, ◌<◌, List, filter, length, map, sym, subst, ◌∙◌, arith, All}
 use Rattle.std.specs.List.{flat_map, range_with_len}
 use Rattle.std.specs.FinSet.{is_subset}
@@ -21,8 +21,9 @@ use Rattle.pw_sessions.proofs.NetworkInstances.{instances_of, instances_stay, vi
 use Rattle.pw_sessions.proofs.NetworkKinds.{kinds_by_name, kinds_many}
 use Rattle.pw_sessions.proofs.NetworkNames.{declared_after, declared_name_after, names_apart, names_of_network}
 
--- the network is over the declaration; in the order of their numbers its cells have the names that the entries make, all
--- different, and the kinds that go with them; and by these names its visible instances are those of the visible entries
+-- the network is over the declaration; in the order of their numbers its cells have the names that
+-- the entries make, all different, and the kinds that go with them; and by these names its visible
+-- instances are those of the visible entries
 pub record IsNamedAfter (d : Declared) (entries : List Entry) (network : Network) : Type 0 where
   pub declared : network.declared ≡ d
   pub names : map (name_in network) (range_with_len 0 (cells_in network)) ≡ names_after d entries
@@ -64,7 +65,8 @@ module _ (d : Declared) (entries : List Entry) (network : Network) (named : IsNa
       (All-filter (λ (a : AttachedInstance). is_subset a.support w)
       (λ (a : AttachedInstance). SpeaksOf (λ c. c < cells_in network) a.instance) network.attached named.stay)
 
-  -- by name, what the visible instances are as sources is the propagators of what the visible entries say
+  -- by name, what the visible instances are as sources is the propagators of what the visible
+  -- entries say
   pub visible_propagators : (w : Premises) →
       map (source_renamed (name_in network)) (propagators_of network.declared.procedures (visible_instances network.attached w)) ≡
       filter is_propagator (sources_after d (visible_in entries w))

@@ -1,4 +1,5 @@
--- What entries say of cells by name: the propagators are those of their instances, they fit the kinds, and all stays on the names.
+-- What entries say about cells by name: the propagators are those of their instances, they fit the
+-- kinds, and all stays on the names.
 use Rattle.std.proofs.Common.{◌≡◌, ℕ, ◌<◌, List, [], ◌∷◌, ◌++◌, Option, Some, filter, length, map, get_or, refl, sym, ap, subst, ◌∙◌, arith, All, Contains}
 use Rattle.std.proofs.Math.Logic.{∥∥₁_map}
 use Rattle.std.specs.Prelude.{slice_get}
@@ -47,7 +48,7 @@ propagators_after d (entry ∷ entries) =
 
 -- ---- what entries say
 
--- where there is something of each
+-- if there is something of each
 filter_map_each : {A B : Type 0} (f : A → Option B) (g : A → B) (xs : List A) → All (λ x. f x ≡ Some (g x)) xs →
     filter_map f xs ≡ map g xs
 filter_map_each f g [] each = refl
@@ -65,7 +66,8 @@ module _ (d : Declared) (all : List Entry) where
       (All-weaker (λ cell. cell < length d.cells) (λ cell. slice_get d.kinds cell ≡ Some (kind_at d cell))
       (λ cell there. slice_get-get_or d.kinds cell kinds.Interval (omega (arith, many, there))) cells here))
 
-  -- the instances of an entry that fits the declaration, and of which the kinds are found, fit the kinds of their names
+  -- the instances of an entry that fits the declaration, and of which the kinds are found, fit the
+  -- kinds of their names
   pub instances_fit : length d.kinds ≡ length d.cells → ∥ AreCompoundsAfter d.procedures [] d.compounds ∥₁ → (entry : Entry) →
       FitsDeclared d entry → FindsKinds d all entry →
       All (λ instance. ∥ FitsCells d.procedures (kind_by_name d all) instance ∥₁) (instances_of d entry)
@@ -89,7 +91,7 @@ module _ (d : Declared) (all : List Entry) where
       let entry : Entry = Attached line callable cells support in
       propagators_fit (named_cells d all) d.procedures (instances_of d entry) (instances_fit many steps entry fits finds)
 
-  -- and where its inner cells are named, it says something of names alone
+  -- and if its inner cells are named, it mentions only these names
   sources_name : (entry : Entry) → FitsDeclared d entry → AreNamed d all entry →
       All (Names (Contains (names_after d all))) (sources_of d entry)
   sources_name (Told line cell fact) fits named =

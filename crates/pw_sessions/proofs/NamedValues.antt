@@ -1,4 +1,4 @@
--- What settles in the network that entries make is what follows from them by name, from the visible ones alone.
+-- What settles in the network that entries make is what follows from the visible entries by name.
 use Rattle.std.proofs.Common.{◌≡◌, ℕ, ◌<◌, List, [], ◌++◌, length, map, map-id, refl, sym, ap, ◌∙◌, arith, All, Contains}
 use Rattle.std.specs.List.{range_with_len}
 use Rattle.std.proofs.lemmas.List.{map-append}
@@ -35,7 +35,7 @@ use Rattle.pw_sessions.proofs.NamedNetworks.{IsNamedAfter, declared_here, named_
 
 -- ---- from the names of all entries to those of some
 
--- under the same names a source is as it is
+-- under the same names a source is unchanged
 source_same : {C : Type 0} (source : Source C) → source_renamed (λ c. c) source ≡ source
 source_same (sources.Told cell info) = refl
 source_same (Propagator procedure inputs output) = ap (λ l. Propagator procedure l output) (map-id inputs)
@@ -93,7 +93,7 @@ module _ (d : Declared) (well : IsWellDeclared d) (entries : List Entry) (fit : 
 
 module _ (d : Declared) (entries : List Entry) (network : Network) (named : IsNamedAfter d entries network) (w : Premises)
     (store : Store) (told : WasTold d entries network store) where
-  -- what is told of a cell by its name
+  -- the told information about a cell by its name
   abbrev told_named : Name → Info
   told_named = told_of (named_cells d entries) (sources_after d (visible_in entries w))
 
@@ -111,7 +111,7 @@ module _ (d : Declared) (entries : List Entry) (network : Network) (named : IsNa
   names_are : AreNamesOf (numbered (kinds_in network)) (named_cells d entries) (λ c. c < cells_in network) (name_in network)
   names_are = record { apart = named.apart; kinds = λ c here. sym (named.kinds c here) }
 
-  -- what the store is told of the cells is told of them by name
+  -- what the store is told about the cells is told about them by name
   told_by_name : map (source_renamed (name_in network)) (told_sources store w (length (kinds_in network))) ≡
       map (λ name. sources.Told name (told_named name)) (names_after d entries)
   told_by_name =
@@ -126,7 +126,8 @@ module _ (d : Declared) (entries : List Entry) (network : Network) (named : IsNa
       ∙ sym (map-map (λ n. sources.Told n (told_named n)) name numbers)
       ∙ ap (map (λ n. sources.Told n (told_named n))) names_by_number
 
-  -- by name, the sources of the network are what the visible entries say, with what is told in one piece
+  -- by name, the sources of the network are what the visible entries say, with the told facts in
+  -- one piece
   sources_by_name : map (source_renamed (name_in network)) (sources_in network store w) ≡
       told_in_one (names_after d entries) told_named (sources_after d (visible_in entries w))
   sources_by_name =
@@ -134,7 +135,7 @@ module _ (d : Declared) (entries : List Entry) (network : Network) (named : IsNa
       (propagators_of network.declared.procedures (visible_instances network.attached w))
       ∙ (λ i. told_by_name i ++ visible_propagators d entries network named w i)
 
-  -- all of them are of cells that are there
+  -- all of them are of cells that exist
   sources_here : All (Names (λ c. c < cells_in network)) (sources_in network store w)
   sources_here =
       All-append (Names (λ c. c < cells_in network)) (told_sources store w (length (kinds_in network)))
@@ -143,7 +144,8 @@ module _ (d : Declared) (entries : List Entry) (network : Network) (named : IsNa
       (propagators_name (λ c. c < cells_in network) network.declared.procedures (visible_instances network.attached w)
       (visible_stay d entries network named w))
 
-  -- what settles at a cell follows at its name from what the visible entries say, with what is told in one piece
+  -- what settles at a cell follows at its name from what the visible entries say, with the told
+  -- facts in one piece
   pub value_by_number : (cell : ℕ) → cell < cells_in network → values.value_in network store w cell ≡
       fixpoint (named_cells d entries) (names_after d entries)
       (told_in_one (names_after d entries) told_named (sources_after d (visible_in entries w))) (name_in network cell)
@@ -152,8 +154,8 @@ module _ (d : Declared) (entries : List Entry) (network : Network) (named : IsNa
       (sources_in network store w) sources_here (numbers_of (kinds_in network)) cell here)
       ∙ (λ i. fixpoint (named_cells d entries) (names_by_number i) (sources_by_name i) (name_in network cell))
 
--- what settles at a declared cell of the network that entries make, from a store that was told what they tell, is what follows
--- from the visible entries
+-- what settles at a declared cell of the network that entries make, from a store that was told what
+-- they tell, is what follows from the visible entries
 pub value_is : (d : Declared) (entries : List Entry) (network : Network) (store : Store) (w : Premises) (cell : ℕ) → IsWellDeclared d →
     All (FitsDeclared d) entries → RiseFrom 0 entries → network ≡ network_after d entries → WasTold d entries network store →
     cell < length d.cells → values.value_in network store w cell ≡ value_in d (visible_in entries w) cell

@@ -1,4 +1,5 @@
--- The instances of the network that entries make: by the names of their cells they are what the entries attach.
+-- The instances of the network that entries make: by the names of their cells they are what the
+-- entries attach.
 use Rattle.std.proofs.Common.{◌≡◌, ℕ, ◌+◌, ◌<◌, Bool, true, false, cond, List, [], ◌∷◌, ◌++◌, fold, filter, length, map, refl, sym, ap, ◌∙◌, arith, append-nil, append_assoc, All}
 use Rattle.std.specs.List.{flat_map}
 use Rattle.std.specs.FinSet.{is_subset}
@@ -28,7 +29,7 @@ renamed_same : {C D : Type 0} (f g : C → D) (instance : Instance C) → Speaks
 renamed_same f g instance same =
     λ i. record { procedure = instance.procedure; inputs = same_on f g instance.inputs same.0 i; output = same.1 i }
 
--- an instance that speaks of some cells speaks of more
+-- an instance that mentions some cells mentions more
 speaks_more : {C : Type 0} (IsHere IsThere : C → Type 0) → ((c : C) → IsHere c → IsThere c) → (instance : Instance C) →
     SpeaksOf IsHere instance → SpeaksOf IsThere instance
 speaks_more IsHere IsThere more instance speaks =
@@ -44,13 +45,13 @@ visible_append attached more w =
     ∙ map-append (λ (a : AttachedInstance). a.instance) (filter (λ (a : AttachedInstance). is_subset a.support w) attached)
     (filter (λ (a : AttachedInstance). is_subset a.support w) more)
 
--- those of one attachment are visible where its premises are believed
+-- those of one attachment are visible if its premises are believed
 visible_all : (line : ℕ) (support w : Premises) (made : List (Instance ℕ)) → is_subset support w ≡ true →
     visible_instances (map (attached_at line support) made) w ≡ made
 visible_all line support w [] visible = refl
 visible_all line support w (instance ∷ made) visible = rw visible (ap (λ l. instance ∷ l) (visible_all line support w made visible))
 
--- and hidden where they are not
+-- and hidden if they are not
 visible_none : (line : ℕ) (support w : Premises) (made : List (Instance ℕ)) → is_subset support w ≡ false →
     visible_instances (map (attached_at line support) made) w ≡ []
 visible_none line support w [] hidden = refl
@@ -72,7 +73,7 @@ module _ (network : Network) (line : ℕ) (callable : Callable) (cells : List �
   abbrev made : List (Instance ℕ)
   made = expansion_of network.declared.compounds callable cells (λ j. cells_in network + j)
 
-  -- what is attached stays on the cells that are there
+  -- what is attached stays on the cells that exist
   made_here : All (SpeaksOf (λ cell. cell < cells_in after)) made
   made_here =
       let more = cells_with_attached network line callable cells support in
@@ -81,7 +82,7 @@ module _ (network : Network) (line : ℕ) (callable : Callable) (cells : List �
       (λ cell there. omega (arith, more, there)) cells here)
       (λ j within. omega (arith, more, within))
 
-  -- so where the instances stay on the cells, they still do
+  -- so if the instances stay on the cells, they still do
   stay_attached : InstancesStay network → InstancesStay after
   stay_attached stay =
       let more = cells_with_attached network line callable cells support in
@@ -94,7 +95,7 @@ module _ (network : Network) (line : ℕ) (callable : Callable) (cells : List �
       network.attached stay)
       (All-map (λ (a : AttachedInstance). SpeaksOf (λ cell. cell < cells_in after) a.instance) (attached_at line support) made made_here)
 
-  -- by the names that they have at last, they are what the callable becomes on names
+  -- by the names that they have at last, they are the expansion of the callable on names
   made_by_name : (entries : List Entry) →
       map (renamed (name_in (fold with_entry after entries))) made ≡ instances_of network.declared (Attached line callable cells support)
   made_by_name entries =
@@ -106,7 +107,7 @@ module _ (network : Network) (line : ℕ) (callable : Callable) (cells : List �
       (names_stay after entries) instance speaks)) made made_here)
       ∙ attached_by_name network line callable cells support here
 
--- where the instances stay on the cells, they still do with further entries
+-- if the instances stay on the cells, they still do with further entries
 stay_from : (network : Network) (entries : List Entry) → All (FitsDeclared network.declared) entries → InstancesStay network →
     InstancesStay (fold with_entry network entries)
 stay_from network [] fit stay = stay
@@ -128,7 +129,7 @@ told_attaches_none : (d : Declared) (line cell : ℕ) (fact : Fact) (seen : Bool
 told_attaches_none d line cell fact true rest = refl
 told_attaches_none d line cell fact false rest = refl
 
--- an attachment has its instances where it is seen
+-- an attachment has its instances if it is seen
 attached_seen : (d : Declared) (entry : Entry) (seen : Bool) (shown : List (Instance Name)) (rest : List Entry) →
     (seen ≡ true → shown ≡ instances_of d entry) → (seen ≡ false → shown ≡ []) →
     shown ++ flat_map (instances_of d) rest ≡ flat_map (instances_of d) (cond seen (entry ∷ rest) rest)
@@ -164,7 +165,8 @@ visible_from network (Attached line callable cells support ∷ entries) w fit =
     (λ seen. ap (map (renamed name)) (visible_all line support w made seen) ∙ made_by_name network line callable cells support here entries)
     (λ hidden. ap (map (renamed name)) (visible_none line support w made hidden)))
 
--- by the names of their cells, the visible instances of the network that entries make are what the visible entries attach
+-- by the names of their cells, the visible instances of the network that entries make are what the
+-- visible entries attach
 pub visible_by_name : (d : Declared) (entries : List Entry) (w : Premises) → All (FitsDeclared d) entries →
     map (renamed (name_in (network_after d entries))) (visible_instances (network_after d entries).attached w) ≡
     flat_map (instances_of d) (visible_in entries w)

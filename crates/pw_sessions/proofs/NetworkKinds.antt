@@ -19,7 +19,7 @@ use Rattle.pw_sessions.specs.Workbench.{network_after, with_entry}
 use Rattle.pw_sessions.proofs.EntriesRise.{FindsKinds, finds_kinds}
 use Rattle.pw_sessions.proofs.NetworkNames.{declared_after, name_of_new, which_cell}
 
--- where each declared cell has a kind, each cell of the network has one
+-- if each declared cell has a kind, each cell of the network has one
 length-kinds_in : (network : Network) → length network.declared.kinds ≡ length network.declared.cells →
     length (kinds_in network) ≡ cells_in network
 length-kinds_in network many =
@@ -41,7 +41,7 @@ module _ (network : Network) (line : ℕ) (callable : Callable) (cells : List �
   after = with_attached network line callable cells support
 
   module _ (many : length network.declared.kinds ≡ length network.declared.cells) where
-    -- a cell that was there has the kind that it had
+    -- a cell that existed has the kind that it had
     old_kind : (cell : ℕ) → cell < cells_in network → kind_in after cell ≡ kind_in network cell
     old_kind cell here =
         let l = length-kinds_in network many in

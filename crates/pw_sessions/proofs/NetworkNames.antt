@@ -1,4 +1,5 @@
--- The cells of the network that entries make have, in the order of their numbers, the names that the entries make, all different.
+-- The cells of the network that entries make have, in the order of their numbers, the names that
+-- the entries make, all different.
 use Rattle.std.proofs.Common.{◌≡◌, ℕ, zero, suc, ◌+◌, ◌-◌, ◌<◌, ◌≤◌, ◌⊎◌, inl, inr, List, [], ◌∷◌, ◌++◌, fold, length, map, refl, sym, ap, subst, ◌∙◌, arith, append-nil, append_assoc, length-append}
 use Rattle.std.specs.List.{flat_map, range_with_len}
 use Rattle.std.proofs.lemmas.Bool.{cases_lt}
@@ -55,7 +56,7 @@ module _ (network : Network) (line : ℕ) (callable : Callable) (cells : List �
   abbrev after : Network
   after = with_attached network line callable cells support
 
-  -- there are its inner cells more
+  -- the network has the inner cells of the attachment in addition
   pub cells_with_attached : cells_in after ≡ cells_in network + length own
   cells_with_attached =
       let a = length-append network.inner (inner_cells_from line 0 own) in
@@ -79,7 +80,7 @@ module _ (network : Network) (line : ℕ) (callable : Callable) (cells : List �
       (range_split 0 (cells_in network) (length own) (cells_in after) (cells_in network) cells_with_attached (omega arith))
       ∙ map-append (name_in after) old new ∙ (λ i. kept i ++ made i)
 
-  -- a number is that of a cell that was there, or of one of these
+  -- a number is that of a cell that existed, or of one of these
   pub which_cell : (c : ℕ) → c < cells_in after → (c < cells_in network) ⊎ ((j : ℕ) × (j < length own) × (cells_in network + j ≡ c))
   which_cell c within =
       let more = cells_with_attached in
@@ -94,7 +95,7 @@ module _ (network : Network) (line : ℕ) (callable : Callable) (cells : List �
 
 -- ---- all entries
 
--- one entry more is one step more
+-- one more entry is one more step
 pub network_after-snoc : (d : Declared) (entries : List Entry) (entry : Entry) →
     network_after d (entries ++ entry ∷ []) ≡ with_entry (network_after d entries) entry
 network_after-snoc d entries entry = fold_push with_entry (bare d) entries entry
@@ -130,7 +131,7 @@ names_from network (Attached line callable cells support ∷ entries) =
     ∙ ap (λ (l : List Name). l ++ rest) (names_with_attached network line callable cells support)
     ∙ append_assoc before own rest
 
--- the cells of the declaration are called so
+-- the cells of the declaration have their declared names
 names_of_bare : (d : Declared) →
     map (name_in (bare d)) (range_with_len 0 (cells_in (bare d))) ≡ map DeclaredCell (range_with_len 0 (length d.cells))
 names_of_bare d =
@@ -139,13 +140,14 @@ names_of_bare d =
     ∙ range_maps (name_in (bare d)) DeclaredCell 0 0 (length d.cells)
     (λ j within. declared_name (bare d) (0 + j) (omega (arith, within)))
 
--- the cells of the network that entries make have, in the order of their numbers, the names that the entries make
+-- the cells of the network that entries make have, in the order of their numbers, the names that
+-- the entries make
 pub names_of_network : (d : Declared) (entries : List Entry) →
     map (name_in (network_after d entries)) (range_with_len 0 (cells_in (network_after d entries))) ≡ names_after d entries
 names_of_network d entries =
     names_from (bare d) entries ∙ ap (λ (l : List Name). l ++ flat_map (inner_names_of d) entries) (names_of_bare d)
 
--- a declared cell is called so whatever is attached
+-- a declared cell has this name, no matter what is attached
 pub declared_name_after : (d : Declared) (entries : List Entry) (cell : ℕ) → cell < length d.cells →
     name_in (network_after d entries) cell ≡ DeclaredCell cell
 declared_name_after d entries cell here =
@@ -184,14 +186,14 @@ module _ (old line : ℕ) (network : Network) (callable : Callable) (cells : Lis
   abbrev count : ℕ
   count = length (inner_kinds_of network.declared.compounds callable)
 
-  -- a cell that was there and a new one have two names
+  -- a cell that existed and a new one have two names
   old_and_new : (b c j : ℕ) → b < cells_in network → j < count → cells_in network + j ≡ c → name_in new b ≡ name_in new c → ⊥
   old_and_new b c j here within is same =
       not_later old line j (name_in network b) above (are.lines b here)
       (sym (kept_name network line callable cells support b here) ∙ same
       ∙ name_of_new network line callable cells support j c within is)
 
-  -- new ones that have one name are one
+  -- new cells with equal names are equal
   two_new : (b c i j : ℕ) → i < count → cells_in network + i ≡ b → j < count → cells_in network + j ≡ c →
       name_in new b ≡ name_in new c → b ≡ c
   two_new b c i j first at second is same =
@@ -249,7 +251,7 @@ apart_bare d =
       lines = λ c within. subst (IsUpTo 0) (sym (declared_name (bare d) c (omega (arith, within)))) tt;
     }
 
--- where the lines of entries rise, no two cells of the network that they make have one name
+-- if the lines of entries rise, no two cells of the network that they make have one name
 pub names_apart : (d : Declared) (entries : List Entry) → RiseFrom 0 entries →
     (b c : ℕ) → b < cells_in (network_after d entries) → c < cells_in (network_after d entries) →
     name_in (network_after d entries) b ≡ name_in (network_after d entries) c → b ≡ c

@@ -1,4 +1,4 @@
--- Premises that contradict themselves do so still, as more is told and attached.
+-- Premises that contradict themselves still do so after more is told and attached.
 use Rattle.std.proofs.Common.{◌≡◌, ℕ, List, ◌++◌, map, sym, ap, ◌∙◌, arith}
 use Rattle.std.proofs.lemmas.List.Elements.{All-weaker}
 use Rattle.pw_info.specs.declared.kind.Kind.{Kind}
@@ -17,7 +17,7 @@ use Rattle.pw_settle.proofs.SoundStores.{cell_stays, more_told}
 use Rattle.pw_sessions.specs.Steps.{TakesFact}
 use Rattle.pw_settle.proofs.StoreCells.{cells_kept}
 
--- where a fact is told
+-- if a fact is told
 pub nogoods_told : (network : Network) → IsWellNetwork network → (old new : Store) (cell : ℕ) (fact : Fact) → kinds_of old ≡ kinds_in network →
     kind_of fact.info ≡ kind_in_store old cell → TakesFact cell fact old new → (nogoods : List Premises) → AreNogoods network old nogoods →
     AreNogoods network new nogoods
@@ -26,7 +26,7 @@ nogoods_told network well old new cell fact same kind takes =
     (λ premises. wider_nogood network network well well (wide_self network) old new same (takes.kinds ∙ same) premises
     (λ c there. more_told network old new same cell fact kind takes.told takes.others c premises))
 
--- where more is attached, and new cells are added
+-- if more is attached, and new cells are added
 pub nogoods_attached : (network wider : Network) → IsWider network wider → IsWellNetwork network → IsWellNetwork wider → (old new : Store)
     (own : List Kind) → kinds_of old ≡ kinds_in network → kinds_of new ≡ kinds_in wider → new.cells ≡ old.cells ++ map new_cell own →
     (nogoods : List Premises) → AreNogoods network old nogoods → AreNogoods wider new nogoods
@@ -38,7 +38,7 @@ nogoods_attached network wider wide well also old new own same fits are =
     (cell_stays old new own are c (let many = cells_kept network old well same in omega (arith, many, there)))))
     (λ v possible. possible)))
 
--- where the cells are the same
+-- if the cells are the same
 pub nogoods_kept : (network : Network) (old new : Store) → new.cells ≡ old.cells → (nogoods : List Premises) → AreNogoods network old nogoods →
     AreNogoods network new nogoods
 nogoods_kept network old new same nogoods =

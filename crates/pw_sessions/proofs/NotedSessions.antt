@@ -1,4 +1,4 @@
--- Sessions are told, one after another, that something came.
+-- Each session, one after another, notes that something came.
 use Rattle.std.proofs.Common.{◌≡◌, ◌≢◌, ℕ, ◌+◌, ◌<◌, ◌≤◌, List, length, map, get_or, set, Option, Some, None, inl, inr, sym, ap, ◌∙◌, subst, arith, get_or-set_other, get_or-set_same}
 use Rattle.std.specs.Option.{option_map}
 use Rattle.std.specs.Prelude.{nat_lt}
@@ -8,12 +8,13 @@ use Rattle.std.proofs.lemmas.List.{ext_get_or, get_or_default, get_or_past, leng
 use Rattle.pw_settle.proofs.KeptFacts.{by_cell}
 use Rattle.pw_sessions.specs.Session.{Becomes, EachBecomes, Session}
 
--- those before this number were told, so that each came of the one that was there, and the others not yet
+-- those before this number were told, so that each came of the one that existed, and the others not
+-- yet
 pub record AreNotedBelow {X : Type 0} (From : Option X → Option X → Type 0) (old now : List (Option X)) (count : ℕ) : Type 0 where
   pub done : (k : ℕ) → k < count → From (get_or old k None) (get_or now k None)
   pub rest : (k : ℕ) → count ≤ k → get_or now k None ≡ get_or old k None
 
--- one was told, and the others are as they were
+-- one session noted it, and the others are unchanged
 pub record IsNotedAt {X : Type 0} (From : Option X → Option X → Type 0) (now next : List (Option X)) (one : ℕ) : Type 0 where
   pub others : (k : ℕ) → k ≢ one → get_or next k None ≡ get_or now k None
   pub here : From (get_or now one None) (get_or next one None)
@@ -33,7 +34,7 @@ noted_next From old now next one so_far at = record {
   is_past : (k one : ℕ) → k ≡ one → one + 1 ≤ k → ⊥
   is_past k one same past = omega (arith, same, past)
 
--- one that is there was set, or there was none
+-- one that exists was set, or there was none
 pub noted_some : {X : Type 0} (From : Option X → Option X → Type 0) (now next : List (Option X)) (one : ℕ) (was is : X) → one < length now →
     get_or now one None ≡ Some was → next ≡ set now one (Some is) → From (Some was) (Some is) → IsNotedAt From now next one
 noted_some From now next one was is there had set_to told = record {
@@ -52,7 +53,7 @@ noted_none From now next one d there none set_to told = record {
       (subst (From None) (sym (ap (λ l. get_or l one None) set_to ∙ get_or-set_same now one (get_or now one d) None there ∙ none)) told);
 }
 
--- ---- once all were told
+-- ---- after all were told
 
 -- what a function makes of each
 abbrev pub IsMadeBy : {X : Type 0} → (X → X) → Option X → Option X → Type 0

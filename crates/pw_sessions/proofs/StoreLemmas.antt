@@ -1,4 +1,5 @@
--- The store of a workbench: it has the cells of the network, and was told of each what the entries tell.
+-- The store of a workbench: it has the cells of the network, and was told what the entries tell
+-- about each cell.
 use Rattle.std.proofs.Common.{◌≡◌, ◌≢◌, ℕ, ◌+◌, ◌<◌, List, [], ◌∷◌, ◌++◌, true, false, length, get_or, map, sym, ap, ◌∙◌, subst, inl, inr, arith}
 use Rattle.std.specs.Prelude.{nat_eq}
 use Rattle.std.proofs.lemmas.Bool.{cases_Bool}
@@ -48,7 +49,7 @@ told_nothing c k w new = ap (λ (x : Cell). cells.told_of x w) new ∙ ap (λ (x
 
 -- ---- what the store was told, cell by cell
 
--- of each cell it was told, in every worldview, what the visible entries tell of it by its name
+-- of each cell it was told, in every worldview, what the visible entries tell about it by its name
 abbrev pub TellsEntries : Declared → List Entry → Network → Store → Type 0
 TellsEntries d entries network store =
     (cell : ℕ) (w : Premises) → cell < cells_in network
@@ -83,7 +84,7 @@ module _ (d : Declared) (many : length d.kinds ≡ length d.cells) (entries : Li
       (sources_after d (visible_in entries w))
       ∙ ap (λ k. told_by d entries w (name_in network cell) (nothing k)) (kind_by_its_name cell within)
 
-  -- so it was told by the definition where it was told cell by cell
+  -- so it was told by the definition if it was told cell by cell
   pub WasTold-from_tells : TellsEntries d entries network store → WasTold d entries network store
   WasTold-from_tells tells cell w within = tells cell w within ∙ sym (told_by_name cell w within)
 
@@ -93,7 +94,7 @@ module _ (d : Declared) (many : length d.kinds ≡ length d.cells) (entries : Li
 
   -- ---- a fact is told
 
-  -- the name of a declared cell is no name of another
+  -- the name of a declared cell is not a name of another
   other_name : (at cell : ℕ) → network.declared ≡ d → at < length d.cells → cell < cells_in network → nat_eq at cell ≡ false →
       same_name (DeclaredCell at) (name_in network cell) ≡ false
   other_name at cell over there within apart =
@@ -114,7 +115,7 @@ module _ (d : Declared) (many : length d.kinds ≡ length d.cells) (entries : Li
       let declared : at < length network.declared.cells = subst (λ (e : Declared). at < length e.cells) (sym over) there in
       (same_name_decides (DeclaredCell at) (name_in network cell)).1 (sym (declared_name network at declared) ∙ ap (name_in network) same)
 
-  -- with one fact more
+  -- with one more fact
   pub tells_more : (new : Store) (line at : ℕ) (fact : Fact) → network.declared ≡ d → at < length d.cells →
       kind_of fact.info ≡ kind_in_store store at →
       ((w : Premises) → told_in new at w ≡ meet (told_in store at w) (shows w fact)) → ((c : ℕ) → c ≢ at → cell_at new c ≡ cell_at store c) →

@@ -1,4 +1,4 @@
--- What leaves each reply as it was, and what commands note.
+-- What leaves each reply unchanged, and what commands note.
 use Rattle.std.proofs.Common.{◌≡◌, true, List, refl, sym, ap, ◌∙◌, subst}
 use Rattle.pw_info.specs.declared.info.Info.{Info}
 use Rattle.pw_info.specs.Information.{IsContradiction}
@@ -19,7 +19,7 @@ use Rattle.pw_sessions.proofs.WorkbenchLemmas.{left_as_before, left_keeping}
 pub no_change_itself : (bench : Workbench) → ShowsNoChange bench bench
 no_change_itself bench = record { network = refl; told = λ cell w. refl; beliefs = refl; left = λ d before left. left }
 
--- where only the room for cells differs, or how often procedures were called
+-- if only the room for cells differs, or how often procedures were called
 pub no_change_as_before : (old new : Workbench) → IsWellNetwork old.network → IsAsBefore old new → ShowsNoChange old new
 no_change_as_before old new network still = record {
   network = still.network;
@@ -28,7 +28,7 @@ no_change_as_before old new network still = record {
   left = λ d before left. left_as_before d (well_left d before old network left).kinds before old new still left;
 }
 
--- where only more is kept
+-- if only more is kept
 pub no_change_keeping : (old : Workbench) (user : _) (new : Workbench) → IsWellNetwork old.network → OnlyKeepsMore old user new → ShowsNoChange old new
 no_change_keeping old user new network keeps = record {
   network = keeps.network;
@@ -39,7 +39,7 @@ no_change_keeping old user new network keeps = record {
 
 -- ---- what is noted
 
--- where nothing is noted that was not, and no reason is told
+-- if nothing new is noted, and no reason is answered
 pub notes_none : (old new : List Premises) (answer : Reply) → new ≡ old →
     ((info : Info) (reason : Premises) → answer ≡ reply.Because info reason → ⊥) → NotesReasons old new answer
 notes_none old new answer same quiet = record {
@@ -47,7 +47,7 @@ notes_none old new answer same quiet = record {
   noted = λ info reason is. absurd (quiet info reason is);
 }
 
--- where a why was refused
+-- if a why was refused
 pub notes_refused : (old found new : List Premises) (answer : Reply) → found ≡ old → ((w : Premises) → covers found w ≡ true → covers new w ≡ true) →
     ((info : Info) (reason : Premises) → answer ≡ reply.Because info reason → ⊥) → NotesReasons old new answer
 notes_refused old found new answer same stay quiet = record {
@@ -55,7 +55,7 @@ notes_refused old found new answer same stay quiet = record {
   noted = λ info reason is. absurd (quiet info reason is);
 }
 
--- where a why was answered
+-- if a why was answered
 pub notes_reason : (old found new : List Premises) (info value : Info) (reason : Premises) → found ≡ old →
     ((w : Premises) → covers found w ≡ true → covers new w ≡ true) → info ≡ value → (IsContradiction value → covers new reason ≡ true) →
     NotesReasons old new (reply.Because info reason)

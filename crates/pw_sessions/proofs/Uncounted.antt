@@ -33,7 +33,7 @@ can_uncounted bench network line command can = record {
   names = can.names;
 }
 
--- who is fresh is so by what is there
+-- a fresh user is fresh without the count too
 fresh_uncounted : (bench : Workbench) (user : ℕ) → IsFresh bench user → IsFresh (uncounted bench) user
 fresh_uncounted bench user is = record { session = is.session; has = is.has; worldview = is.worldview; current = is.current }
 

@@ -84,7 +84,7 @@ module _ (d : Declared) (many : length d.kinds ≡ length d.cells) where
       kinds : kinds_of bench.store ≡ kinds_in bench.network
       kinds = ap (λ (cs : List Cell). map (λ (c : Cell). c.kind) cs) new ∙ kinds_added [] d.kinds ∙ sym (append-nil d.kinds) ∙ ap kinds_in (sym is)
 
-  -- where nothing was attached, nothing told, and each user believes every premise
+  -- if nothing was attached, nothing told, and each user believes every premise
   pub IsLeftBy-new : (bench : Workbench) (users premises : ℕ) → bench.network ≡ bare d → bench.store.cells ≡ map new_cell d.kinds →
       bench.nogoods ≡ [] → bench.beliefs ≡ replicate users (premises_below premises) → bench.sessions ≡ replicate users None → users ≡ length d.users →
       premises ≡ length d.premises → IsLeftBy d [] bench
@@ -110,7 +110,8 @@ module _ (d : Declared) (many : length d.kinds ≡ length d.cells) where
   left_tells readings bench left =
       tells_from_WasTold d many (entries_before readings) (rise_before readings) bench.network bench.store left.network left.set_up.kinds left.told
 
-  -- with the entries of one more line, and what the users believe then, a workbench is what the lines leave
+  -- with the entries of one more line, and what the users believe then, a workbench is what the
+  -- lines leave
   left_after : (readings : List LineReading) (reading : LineReading) (new : Workbench) (added : List Entry) →
       entries_of (length readings + 1) reading ≡ added → IsSetUpFor d new → All (FitsDeclared d) (entries_before readings ++ added) →
       new.network ≡ network_after d (entries_before readings ++ added) → TellsEntries d (entries_before readings ++ added) new.network new.store →
@@ -132,7 +133,8 @@ module _ (d : Declared) (many : length d.kinds ≡ length d.cells) where
         beliefs = λ user below. believed user below ∙ sym (beliefs_at-snoc d user readings reading);
       }
 
-  -- a line that adds no entry leaves the same network and the same store; what users believe may change
+  -- a line that adds no entry leaves the same network and the same store; what users believe may
+  -- change
   left_quiet : (readings : List LineReading) (reading : LineReading) (old : Workbench) (beliefs : List Premises) → IsLeftBy d readings old →
       entries_of (length readings + 1) reading ≡ [] → length beliefs ≡ length d.users →
       ((user : ℕ) → user < length d.users → get_or beliefs user empty ≡ believed_after user (beliefs_at d user readings) reading) →
@@ -227,7 +229,7 @@ module _ (d : Declared) (many : length d.kinds ≡ length d.cells) where
       ∙ ap (λ (ks : List Kind). get_or ks cell kinds.Interval) (fits.kinds ∙ ap (λ (e : Declared). e.kinds ++ inner) fits.declared)
       ∙ get_or_append_left d.kinds inner kinds.Interval cell (omega (arith, below, many))
 
-  -- the line leaves the store with one fact more
+  -- the line leaves the store with one more fact
   pub left_told : (readings : List LineReading) (old new : Workbench) (user cell : ℕ) (fact : Fact) → IsWellNetwork old.network →
       IsLeftBy d readings old → (cell < length d.cells) × (kind_of fact.info ≡ kind_at d cell) → IsTold old cell fact new →
       IsLeftBy d (readings ++ Says (commands.Tell user cell fact) ∷ []) new
@@ -312,7 +314,7 @@ module _ (d : Declared) (many : length d.kinds ≡ length d.cells) where
 
   -- ---- a line that changes what its user believes
 
-  -- what is set for one user is that user's alone
+  -- setting the beliefs of one user changes only these
   get_or-set_by : (f : Premises → Premises) (beliefs : List Premises) (at user : ℕ) → at < length beliefs →
       get_or (set beliefs at (f (get_or beliefs at empty))) user empty
       ≡ (if eqb at user then f (get_or beliefs user empty) else get_or beliefs user empty)

@@ -1,4 +1,5 @@
--- Which cells of the network that entries make are written in a worldview, and what settles at the others: what is told.
+-- Which cells of the network that entries make are written in a worldview, and what settles at the
+-- other cells: the told facts.
 use Rattle.std.proofs.Common.{◌≡◌, ℕ, ◌<◌, Bool, true, false, ◌&&◌, List, [], ◌∷◌, Option, Some, None, filter, length, map, get_or, nat_eq, refl, sym, ap, subst, ◌∙◌, inl, inr, All, Contains, eq-eqb}
 use Rattle.std.proofs.Math.Logic.{∥∥₁_elim}
 use Rattle.std.specs.Prelude.{slice_get}
@@ -39,7 +40,7 @@ use Rattle.pw_sessions.proofs.NetworkInstances.{instances_of}
 
 -- ---- tests and lists
 
--- where no element passes, each fails
+-- if no element passes, each fails
 all_fail : {X : Type 0} (p : X → Bool) (xs : List X) → list_any p xs ≡ false → All (λ x. p x ≡ false) xs
 all_fail p xs none k d within =
     false_from_ne_true (p (get_or xs k d)) (λ passes. both_ways (list_any p xs) none (list_any_at p xs k d within passes))
@@ -147,7 +148,8 @@ module _ (d : Declared) (well : IsWellDeclared d) (entries : List Entry) (fit : 
         | inr hidden ↦ both_ways (is_subset attached.support w) hidden visible
       ]
 
-  -- where no visible instance writes a declared cell, the propagators of the visible entries have other outputs
+  -- if no visible instance writes a declared cell, the propagators of the visible entries have
+  -- other outputs
   other_outputs : (cell : ℕ) → cell < length d.cells → is_written network.attached cell w ≡ false →
       All (λ (s : Source Name). cell_of s ≡ DeclaredCell cell → ⊥) (filter is_propagator (sources_after d seen))
   other_outputs cell here unwritten =
@@ -176,7 +178,7 @@ module _ (d : Declared) (well : IsWellDeclared d) (entries : List Entry) (fit : 
       All-contains (λ (s : Source Name). cell_of s ≡ DeclaredCell cell → ⊥) (filter is_propagator (sources_after d seen)) source
       (other_outputs cell here unwritten) (contains_filter is_propagator (sources_after d seen) source passes has) same)
 
-  -- and where one of them writes it, a visible instance does
+  -- and if one of them writes it, a visible instance does
   written_before : (cell : ℕ) → cell < length d.cells → IsWritten d seen cell → is_written network.attached cell w ≡ true
   written_before cell here written =
       elim (cases_Bool (is_written network.attached cell w)) [
@@ -187,21 +189,22 @@ module _ (d : Declared) (well : IsWellDeclared d) (entries : List Entry) (fit : 
             written refl)
       ]
 
--- where an instance of the network that is visible in a worldview writes a declared cell, one of the visible entries does
+-- if an instance of the network that is visible in a worldview writes a declared cell, one of the
+-- visible entries does
 pub written_is : (d : Declared) (entries : List Entry) (network : Network) (w : Premises) (cell : ℕ) → IsWellDeclared d →
     All (FitsDeclared d) entries → RiseFrom 0 entries → network ≡ network_after d entries → cell < length d.cells →
     is_written network.attached cell w ≡ true → IsWritten d (visible_in entries w) cell
 written_is d entries network w cell well fit rise is here written =
     written_after d well entries fit rise network (named_after d entries network well fit rise is) w cell here written
 
--- and where one of the visible entries does, so does an instance
+-- and if one of the visible entries does, so does an instance
 pub is_written-from : (d : Declared) (entries : List Entry) (network : Network) (w : Premises) (cell : ℕ) → IsWellDeclared d →
     All (FitsDeclared d) entries → RiseFrom 0 entries → network ≡ network_after d entries → cell < length d.cells →
     IsWritten d (visible_in entries w) cell → is_written network.attached cell w ≡ true
 is_written-from d entries network w cell well fit rise is here written =
     written_before d well entries fit rise network (named_after d entries network well fit rise is) w cell here written
 
--- where none writes it, what settles there is what the store is told
+-- if none writes it, what settles there is what the store is told
 pub unwritten_is : (d : Declared) (entries : List Entry) (network : Network) (store : Store) (w : Premises) (cell : ℕ) → IsWellDeclared d →
     All (FitsDeclared d) entries → RiseFrom 0 entries → network ≡ network_after d entries → WasTold d entries network store →
     cell < length d.cells → is_written network.attached cell w ≡ false → told_in store cell w ≡ values.value_in network store w cell

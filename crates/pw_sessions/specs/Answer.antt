@@ -1,4 +1,5 @@
--- The answer to a command: from scratch, from the entries that are visible under the beliefs, and from the beliefs.
+-- The answer to a command: from scratch, from the entries that are visible under the beliefs, and
+-- from the beliefs.
 use Rattle.std.specs.Prelude.{ℕ, Bool, List, [], ◌∷◌, ◌++◌, Option, Some, None, Contains, filter, length, map}
 use Rattle.std.specs.List.{flat_map, list_any, range_with_len}
 use Rattle.std.specs.FinSet.{is_subset}
@@ -31,22 +32,22 @@ is_visible beliefs entry = is_subset (support_of entry) beliefs
 abbrev pub visible_in : List Entry → Premises → List Entry
 visible_in entries beliefs = filter (is_visible beliefs) entries
 
--- what an entry says of cells: a fact is told of its cell; a callable becomes instances on its cells and on inner cells that
--- are called by the line
+-- what an entry says about cells: a fact is told about its cell; a callable becomes instances on
+-- its cells and on inner cells that are named by the line
 abbrev pub sources_of : Declared → Entry → List (Source Name)
 sources_of d (Told line cell fact) = sources.Told (DeclaredCell cell) fact.info ∷ []
 sources_of d (Attached line callable cells support) =
     propagators_of d.procedures (expansion_of d.compounds callable (map DeclaredCell cells) (InnerCellOf line))
 
--- what entries say of cells
+-- what entries say about cells
 abbrev pub sources_after : Declared → List Entry → List (Source Name)
 sources_after d entries = flat_map (sources_of d) entries
 
--- what follows from entries, at each cell: the least informed fixpoint of all that they say
+-- what follows from entries, at each cell: the least informed fixpoint of everything that they say
 abbrev pub value_by_name : Declared → List Entry → Name → Info
 value_by_name d entries name = fixpoint (named_cells d entries) (names_after d entries) (sources_after d entries) name
 
--- what the entries say fits their cells and informs no others, as the laws of the fixpoint ask
+-- what the entries say fits their cells and informs no others, as the laws of the fixpoint require
 abbrev pub MeetTheLaws : Declared → List Entry → Type 0
 MeetTheLaws d entries = AreOver (named_cells d entries) (names_after d entries) (sources_after d entries)
 
@@ -58,19 +59,22 @@ value_in d entries cell = value_by_name d entries (DeclaredCell cell)
 abbrev pub IsWritten : Declared → List Entry → ℕ → Type 0
 IsWritten d entries cell = Contains (map cell_of (filter is_propagator (sources_after d entries))) (DeclaredCell cell)
 
--- the value of a declared cell where just these premises are believed: from the entries that are then visible
+-- the value of a declared cell if exactly these premises are believed: from the entries that are
+-- then visible
 abbrev pub value_under : Declared → List Entry → ℕ → Premises → Info
 value_under d entries cell believed = value_in d (visible_in entries believed) cell
 
--- why the cell has its value where this is believed: of these premises, tried from the last to the first, what the value needs
+-- why the cell has its value under these beliefs: of these premises, tried from the last to the
+-- first, those that the value needs
 abbrev pub reason_in : Declared → List Entry → Premises → ℕ → Premises
 reason_in d entries beliefs cell = reason_of (value_under d entries cell) beliefs
 
--- the entry made an inner cell whose value, where these entries were made, is a contradiction
+-- the entry made an inner cell whose value, with these entries, is a contradiction
 abbrev pub has_conflict : Declared → List Entry → Entry → Bool
 has_conflict d entries entry = list_any (λ name. is_contradiction (value_by_name d entries name)) (inner_names_of d entry)
 
--- what is contradictory where these entries were made: declared cells, in order; and attachments by line, for an inner cell
+-- what is contradictory with these entries: declared cells, in order; and attachments by line, for
+-- an inner cell
 abbrev pub conflicts_of : Declared → List Entry → Conflicts
 conflicts_of d entries =
     record {
@@ -78,9 +82,9 @@ conflicts_of d entries =
       lines = map line_of (filter (has_conflict d entries) entries);
     }
 
--- the answer to a command, where these entries were made and this is what its user believes: to `ask` the value of the cell
--- from the visible entries alone, to `why` this value and its reason, to `conflicts` what the visible entries contradict, to
--- `beliefs` what the user believes, to every other command `ok`
+-- the answer to a command, with these entries and these beliefs of its user: to `ask` the value of
+-- the cell from only the visible entries, to `why` this value and its reason, to `conflicts` what
+-- the visible entries contradict, to `beliefs` the user's beliefs, and to every other command `ok`
 abbrev pub answer_to : Declared → List Entry → Premises → Command → Reply
 answer_to d entries beliefs (commands.Ask user cell) = reply.Value (value_under d entries cell beliefs)
 answer_to d entries beliefs (commands.Why user cell) =
@@ -99,14 +103,15 @@ user_of (commands.Ask user cell) = user
 user_of (commands.Why user cell) = user
 user_of (commands.Conflicts user) = user
 
--- the reply to a line that reads so, after lines that read so; a blank line gets none
+-- the reply to a line with this reading, after lines with these readings; a blank line gets no
+-- reply
 abbrev pub reply_to : Declared → List LineReading → LineReading → Option Reply
 reply_to d before Blank = None
 reply_to d before (Refused refusal) = Some (reply.Refused refusal)
 reply_to d before (Says command) =
     Some (answer_to d (entries_before before) (beliefs_at d (user_of command) before) command)
 
--- the replies to further lines, after lines that read so
+-- the replies to further lines, after lines with these readings
 abbrev pub replies_after : Declared → List LineReading → List LineReading → List (Option Reply)
 replies_after d before [] = []
 replies_after d before (reading ∷ readings) = reply_to d before reading ∷ replies_after d (before ++ reading ∷ []) readings

@@ -1,4 +1,4 @@
--- The cells of a network by name: the declared ones, and the inner ones of what was attached.
+-- The cells of a network by name: the declared cells, and the inner cells of what was attached.
 use Rattle.std.specs.Prelude.{◌≡◌, ℕ, ◌==◌, Bool, false, ◌&&◌, List, [], ◌∷◌, ◌++◌, nat_eq, length, map, slice_index_or, if◌then◌else◌}
 use Rattle.std.specs.Bool.{Decides}
 use Rattle.std.specs.List.{flat_map, range_with_len}
@@ -13,7 +13,7 @@ use Rattle.pw_settle.specs.NumberTest.{nat_eq_decides}
 use Rattle.pw_settle.specs.Sources.{Cells}
 use Rattle.pw_sessions.specs.Entries.{Entry, Told, Attached}
 
--- whether two names are one
+-- whether two names are the same
 abbrev pub same_name : Name → Name → Bool
 same_name (DeclaredCell a) (DeclaredCell b) = nat_eq a b
 same_name (InnerCellOf line number) (InnerCellOf other at) = nat_eq line other && nat_eq number at
@@ -40,12 +40,12 @@ inner_kinds_at d (Told at cell fact ∷ entries) line = inner_kinds_at d entries
 inner_kinds_at d (Attached at callable cells support ∷ entries) line =
     if at == line then inner_kinds_of d.compounds callable else inner_kinds_at d entries line
 
--- the kind of a cell by its name, where these entries were made
+-- the kind of a cell by its name, with these entries
 abbrev pub kind_by_name : Declared → List Entry → Name → Kind
 kind_by_name d entries (DeclaredCell cell) = kind_at d cell
 kind_by_name d entries (InnerCellOf line number) = slice_index_or (inner_kinds_at d entries line) number kinds.Interval
 
--- cells by name, where these entries were made
+-- cells by name, with these entries
 abbrev pub named_cells : Declared → List Entry → Cells Name
 named_cells d entries = record { same = same_name; decides = same_name_decides; kind = kind_by_name d entries }
 
@@ -55,6 +55,6 @@ inner_names_of d (Told line cell fact) = []
 inner_names_of d (Attached line callable cells support) =
     map (InnerCellOf line) (range_with_len 0 (length (inner_kinds_of d.compounds callable)))
 
--- the names of all cells, where these entries were made
+-- the names of all cells, with these entries
 abbrev pub names_after : Declared → List Entry → List Name
 names_after d entries = map DeclaredCell (range_with_len 0 (length d.cells)) ++ flat_map (inner_names_of d) entries

@@ -10,8 +10,8 @@ use Rattle.pw_decl.specs.Declaration.{Declared, Takes, kind_at}
 use Rattle.pw_sessions.specs.declared.command.Command.TheVariants as commands
 use Rattle.pw_sessions.specs.LineReading.{LineReading, Says}
 
--- what an accepted line added to the network: a fact told of a cell; or a callable attached to cells under premises. Each has
--- the number of its line
+-- what an accepted line added to the network: a fact told about a cell; or a callable attached to
+-- cells under premises. Each has the number of its line
 pub data Entry : Type 0 where
   Told : (line cell : ℕ) (fact : Fact) → Entry
   Attached : (line : ℕ) (callable : Callable) (cells : List ℕ) (support : Premises) → Entry
@@ -26,7 +26,7 @@ abbrev pub line_of : Entry → ℕ
 line_of (Told line cell fact) = line
 line_of (Attached line callable cells support) = line
 
--- what a line of this number adds
+-- what a line with this number adds
 abbrev pub entries_of : ℕ → LineReading → List Entry
 entries_of number (Says (commands.Tell user cell fact)) = Told number cell fact ∷ []
 entries_of number (Says (commands.Attach user callable cells support)) = Attached number callable (cells_of cells) support ∷ []
@@ -41,9 +41,10 @@ entries_from number (reading ∷ readings) = entries_of number reading ++ entrie
 abbrev pub entries_before : List LineReading → List Entry
 entries_before readings = entries_from 1 readings
 
--- ---- what holds of entries
+-- ---- properties of entries
 
--- the entry fits what is declared: a fact is of the kind of its cell; a callable takes its cells; the cells are declared
+-- the entry fits what is declared: a fact is of the kind of its cell; a callable takes its cells;
+-- the cells are declared
 abbrev pub FitsDeclared : Declared → Entry → Type 0
 FitsDeclared d (Told line cell fact) = (cell < length d.cells) × (kind_of fact.info ≡ kind_at d cell)
 FitsDeclared d (Attached line callable cells support) =

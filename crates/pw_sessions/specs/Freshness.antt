@@ -1,4 +1,5 @@
--- When a user's next question is answered from what the last one found, and how often procedures are called for it.
+-- When a user's next question is answered from the results of the last one, and how many procedure
+-- calls it takes.
 use Rattle.std.specs.Prelude.{◌≡◌, ◌≢◌, ◌⊎◌, ℕ, ◌+◌, ◌≤◌, Bool, true, false, List, Option, None, Some}
 use Rattle.std.specs.FinSet.{is_subset}
 use Rattle.pw_info.specs.Information.{Implies}
@@ -23,43 +24,47 @@ use Rattle.pw_sessions.specs.Reply as reply
 use Rattle.pw_sessions.specs.Session.{Session, IsCurrent}
 use Rattle.pw_sessions.specs.Workbench.{Workbench, IsLeftBy, beliefs_in, session_in}
 
--- a user is fresh: the values of the last session were found under what the user believes now, and they are current
+-- a user is fresh: the values of the last session were found under the user's current beliefs, and
+-- they are current
 pub record IsFresh (workbench : Workbench) (user : ℕ) : Type 0 where
   pub session : Session
   pub has : session_in workbench user ≡ Some session
   pub worldview : session.values.worldview ≡ beliefs_in workbench user
   pub current : IsCurrent workbench.network workbench.store session.values
 
--- after lines that read so, the command settles: it asks why or for conflicts, or for a cell that a visible instance writes
+-- after lines with these readings, the command settles: it asks why or for conflicts, or for a cell
+-- that a visible instance writes
 abbrev pub Settles : Declared → List LineReading → Command → Type 0
 Settles d before (commands.Ask user cell) = IsWritten d (visible_in (entries_before before) (beliefs_at d user before)) cell
 Settles d before (commands.Why user cell) = Unit {0}
 Settles d before (commands.Conflicts user) = Unit {0}
 Settles d before command = ⊥
 
--- the command attaches under premises that the user believes, or tells what does not follow under what the user believes
+-- the command attaches under premises that the user believes, or tells something that does not
+-- follow under the user's beliefs
 abbrev pub IsNews : Workbench → ℕ → Command → Type 0
 IsNews workbench user (commands.Tell own cell fact) =
     Implies (value_in workbench.network workbench.store (beliefs_in workbench user) cell) (shows (beliefs_in workbench user) fact) → ⊥
 IsNews workbench user (commands.Attach own callable cells support) = is_subset support (beliefs_in workbench user) ≡ true
 IsNews workbench user command = ⊥
 
--- the line may end the freshness of the user: the user believes something else after it, or it is the user's own and was refused,
--- or it told or attached what is news to the user
+-- the line may end the freshness of the user: the user believes something else after it, or it is
+-- the user's own and was refused, or it told or attached something that is news to the user
 abbrev pub MayEndFreshness : Workbench → ℕ → Command → Workbench → Reply → Type 0
 MayEndFreshness old user command new answer =
     (beliefs_in new user ≢ beliefs_in old user)
     ⊎ (((user_of command ≡ user) × (answer ≡ reply.Refused refusal.Memory))
     ⊎ ((answer ≡ reply.Done) × IsNews old user command))
 
--- after a question that settled, its user is fresh; and who was fresh is so still, but for lines that may end it
+-- after a question that settled, its user is fresh; and every user who was fresh is still fresh,
+-- except after lines that may end it
 pub record KeepsFresh (old : Workbench) (command : Command) (new : Workbench) (answer : Reply) : Type 0 where
   pub becomes : (d : Declared) (before : List LineReading) → IsLeftBy d before old → Settles d before command →
       (answer ≡ reply.Refused refusal.Memory) ⊎ IsFresh new (user_of command)
   pub stays : (user : ℕ) → IsFresh old user → MayEndFreshness old user command new answer ⊎ IsFresh new user
 
--- a settling of the user called procedures so often: not at all where the user was fresh, and at most once for each visible
--- instance where someone of the same beliefs was
+-- the number of procedure calls of a settling of the user: none if the user was fresh, and at most
+-- one for each visible instance if some user of the same beliefs was fresh
 pub record CallsFew (old : Workbench) (user : ℕ) (calls : ℕ) : Type 0 where
   pub none : IsFresh old user → calls ≡ 0
   pub once : (other : ℕ) → IsFresh old other → beliefs_in old other ≡ beliefs_in old user →
@@ -70,9 +75,10 @@ pub record AreCalls (first gained calls : ℕ) : Type 0 where
   pub least : first ≤ calls
   pub most : calls ≤ first + gained
 
--- how often a settling in the worldview called procedures, after this session where there is one: once for each instance that is
--- due; or, where there are no values or those of a worldview that is not within this one, for each that is visible; and at most so
--- often again as what is kept of cells gained, for each visible reader
+-- the number of procedure calls of a settling in the worldview, after this session if there is one:
+-- one for each instance that is due; or, if there are no values, or only those of a worldview that
+-- is not within this one, one for each visible instance; and at most as many more as the kept
+-- information about cells gained, for each visible reader
 pub record CallsDue (network : Network) (old new : Store) (w : Premises) (last : Option Session) (calls : ℕ) : Type 0 where
   pub anew : last ≡ None → AreCalls (visible_count network w) (gains network old new w) calls
   pub other : (session : Session) → last ≡ Some session → is_subset session.values.worldview w ≡ false →
@@ -84,13 +90,14 @@ pub record CallsDue (network : Network) (old new : Store) (w : Premises) (last :
 abbrev pub CallsDueFor : Workbench → ℕ → Workbench → Type 0
 CallsDueFor old user new = CallsDue old.network old.store new.store (beliefs_in old user) (session_in old user) new.calls
 
--- a question was refused before it had settled, and no call is counted; or it settled, and this is how often it called
+-- a question was refused before it had settled, and no call is counted; or it settled, and this is
+-- the number of its calls
 abbrev pub CountsSettling : Workbench → ℕ → Workbench → Reply → Type 0
 CountsSettling old user new answer =
     ((answer ≡ reply.Refused refusal.Memory) × (new.calls ≡ 0)) ⊎ CallsDueFor old user new
 
--- a question of the user was answered, which settles where this holds: then its user is fresh after it, and who was fresh still is,
--- but where it was refused
+-- a question of the user was answered, which settles if this holds: then its user is fresh after
+-- it, and a user who was fresh still is, unless it was refused
 pub record IsAsked (old : Workbench) (user : ℕ) (Settling : Type 0) (new : Workbench) (answer : Reply) : Type 0 where
   pub becomes : Settling → (answer ≡ reply.Refused refusal.Memory) ⊎ IsFresh new user
   pub stays : IsFresh old user → (answer ≡ reply.Refused refusal.Memory) ⊎ IsFresh new user
@@ -98,7 +105,7 @@ pub record IsAsked (old : Workbench) (user : ℕ) (Settling : Type 0) (new : Wor
   pub due : Settling → CountsSettling old user new answer
   pub none : (Settling → ⊥) → new.calls ≡ 0
 
--- so did the command; one that does not settle called none
+-- the same for the command; a command that does not settle makes no calls
 pub record CountsCalls (old : Workbench) (command : Command) (new : Workbench) (answer : Reply) : Type 0 where
   pub few : CallsFew old (user_of command) new.calls
   pub due : (d : Declared) (before : List LineReading) → IsLeftBy d before old → Settles d before command →

@@ -1,4 +1,4 @@
--- How a line of a transcript reads, once its bytes are forgotten.
+-- The reading of a line of a transcript, without its bytes.
 use Rattle.std.specs.Prelude.{ℕ, List, ◌++◌, replicate}
 use Rattle.pw_sessions.specs.declared.command.Command.{Command}
 use Rattle.pw_sessions.specs.declared.reply.Refusal.{Refusal}
@@ -9,6 +9,6 @@ pub data LineReading : Type 0 where
   Refused : Refusal → LineReading
   Says : Command → LineReading
 
--- lines, and so many blank ones after them
+-- lines, and this many blank lines after them
 abbrev pub and_blank_lines : List LineReading → ℕ → List LineReading
 and_blank_lines readings blanks = readings ++ replicate blanks Blank

@@ -9,7 +9,8 @@ use Rattle.pw_sessions.specs.declared.command.Command.TheVariants as commands
 use Rattle.pw_sessions.specs.Answer.{user_of}
 use Rattle.pw_sessions.specs.LineReading.{LineReading, Says}
 
--- the cells that a command names are declared, what it tells is of the cell's kind, and what it attaches takes the cells
+-- the cells that a command names are declared, the information that it tells is of the cell's kind,
+-- and the callable that it attaches takes the cells
 abbrev pub NamesDeclared : Declared → Command → Type 0
 NamesDeclared d (commands.Tell user cell fact) = (cell < length d.cells) × (kind_of fact.info ≡ kind_at d cell)
 NamesDeclared d (commands.Attach user callable cells support) =

@@ -1,4 +1,4 @@
--- What a line is answered with.
+-- Replies to lines.
 use Rattle.pw_info.specs.declared.info.Info.{Info}
 use Rattle.pw_premises.specs.Premises.{Premises}
 use Rattle.pw_reasons.specs.Conflicts.{Conflicts}
@@ -6,8 +6,8 @@ use Rattle.pw_sessions.specs.declared.reply.Refusal.{Refusal}
 use Rattle.pw_sessions.specs.declared.reply.Reply.{Reply as ReplyKept}
 use Rattle.pw_sessions.specs.declared.reply.Reply.TheVariants as kept
 
--- a command that tells or changes something was carried out; or a value, with its reason or without; what is contradictory; what
--- a user believes; or why the line was refused
+-- a command that tells or changes something was carried out; or a value, with or without its
+-- reason; or what is contradictory; or what a user believes; or why the line was refused
 pub data Reply : Type 0 where
   Done : Reply
   Value : (info : Info) → Reply
@@ -16,7 +16,7 @@ pub data Reply : Type 0 where
   Believes : (premises : Premises) → Reply
   Refused : (refusal : Refusal) → Reply
 
--- what a reply in the code is, whatever memory holds its lists
+-- the reply that the code stores, for any memory of its lists
 abbrev pub reply_by : {A : Type 0} → ReplyKept A → Reply
 reply_by kept.Done = Done
 reply_by (kept.Value info) = Value info

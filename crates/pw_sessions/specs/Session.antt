@@ -1,4 +1,4 @@
--- What a user's last question found, and what it is for that to be all that there is to find now.
+-- The results of a user's last question, and when they are still the current results.
 use Rattle.std.specs.Prelude.{◌≡◌, ◌⊎◌, ℕ, ◌<◌, ◌≤◌, Bool, true, false, ◌&&◌, not, List, All, length, Option, None, Some, IfSome, slice_index_or}
 use Rattle.std.specs.FinSet.{is_subset}
 use Rattle.pw_info.specs.declared.kind.Kind.{Kind}
@@ -18,55 +18,58 @@ pub record Session : Type 0 where
   pub values : Settled
   pub is_current : Bool
 
--- of each cell that is kept in the worldview which follows there
+-- for each cell, the information kept in the worldview is the one that follows there
 abbrev pub KeepsValues : Network → Store → Premises → Type 0
 KeepsValues network store w = (cell : ℕ) → kept_in store cell w ≡ value_in network store w cell
 
--- settled values are current: they fit; no instance came since that is visible in their worldview; and at each cell they say what
--- follows there now, and that is kept
+-- settled values are current: they fit; no instance came since that is visible in their worldview;
+-- and at each cell they say what follows there now, and this is kept
 pub record IsCurrent (network : Network) (store : Store) (settled : Settled) : Type 0 where
   pub fits : IsFitting network store settled
   pub none_newer : (number : ℕ) → settled.instances ≤ number → visible_at network settled.worldview number ≡ false
   pub said : (cell : ℕ) → said_of network settled cell ≡ value_in network store settled.worldview cell
   pub kept : KeepsValues network store settled.worldview
 
--- a session fits a network and a store: its values do, each declared cell has one, and they are current where that is known
+-- a session fits a network and a store: its values do, each declared cell has a value, and they are
+-- current if that is known
 pub record IsSessionOf (network : Network) (store : Store) (session : Session) : Type 0 where
   pub fits : IsFitting network store session.values
   pub declared : length network.declared.cells ≤ length session.values.infos
   pub current : session.is_current ≡ true → IsCurrent network store session.values
 
--- the session once something was attached under these premises: where that is visible in the worldview of its values, they are not
--- known to be current any more
+-- the session after something was attached under these premises: if that is visible in the
+-- worldview of its values, they are no longer known to be current
 abbrev pub after_entry : Premises → Session → Session
 after_entry support session = record {
   values = session.values;
   is_current = session.is_current && not (is_subset support session.values.worldview);
 }
 
--- the values say already what a fact shows of the cell in their worldview: nothing, where it is not visible there
+-- the values already say what a fact shows about the cell in their worldview: nothing, if it is not
+-- visible there
 abbrev pub SayAlready : ℕ → Fact → Settled → Type 0
 SayAlready cell fact values = Implies (info_at values.infos cell) (shows values.worldview fact)
 
--- the session once a fact was told of the cell: it has the values that it had, and they are known to be current as they were, where
--- they say already what the fact shows, and not any more where they do not
+-- the session after a fact was told about the cell: its values are unchanged. If they already say
+-- what the fact shows, they are known to be current as before; if they do not, they are no longer
+-- known to be current
 pub record IsAfterTell (cell : ℕ) (fact : Fact) (old new : Session) : Type 0 where
   pub values : new.values ≡ old.values
   pub current : (SayAlready cell fact old.values × (new.is_current ≡ old.is_current))
       ⊎ ((SayAlready cell fact old.values → ⊥) × (new.is_current ≡ false))
 
--- each session that is there has a value of the cell, which is of this kind
+-- each session has a value of the cell, which is of this kind
 abbrev pub HaveValues : ℕ → Kind → List (Option Session) → Type 0
 HaveValues cell kind sessions =
     All (λ session. IfSome session
     (λ session. (cell < length session.values.infos) × (kind_of (info_at session.values.infos cell) ≡ kind))) sessions
 
--- the session that came of one before, where there was one; else there is none
+-- the session that came from an earlier one, if there was one; otherwise there is none
 abbrev pub Becomes : (Session → Session → Type 0) → Option Session → Option Session → Type 0
 Becomes From None new = new ≡ None
 Becomes From (Some session) new = (after : Session) × (new ≡ Some after) × From session after
 
--- so it is for each user
+-- the same for each user
 pub record EachBecomes (From : Session → Session → Type 0) (old new : List (Option Session)) : Type 0 where
   pub many : length new ≡ length old
   pub each : (user : ℕ) → Becomes From (slice_index_or old user None) (slice_index_or new user None)

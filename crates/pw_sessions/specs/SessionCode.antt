@@ -1,4 +1,4 @@
--- The code of a session, by which a proof tells sessions apart.
+-- The code of a session. Proofs use it to tell sessions apart.
 use Rattle.std.specs.Prelude.{refl}
 use Rattle.std.specs.Coded.{Coded, code_by, coded×, coded_bool}
 use Rattle.pw_settle.specs.Settled.{Settled}

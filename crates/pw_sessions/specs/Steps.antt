@@ -1,4 +1,4 @@
--- What the steps of carrying out a command ask of a workbench, and what they make of it.
+-- The conditions that the steps of a command put on a workbench, and their results.
 use Rattle.std.specs.Prelude.{◌≡◌, ◌⊎◌, ℕ, ◌+◌, ◌<◌, ◌≤◌, Bool, true, ◌&&◌, List, ◌++◌, length, map, nat_eq}
 use Rattle.std.specs.Option.{option_map}
 use Rattle.std.specs.List.{list_any}
@@ -27,21 +27,23 @@ use Rattle.pw_sessions.specs.NamesDeclared.{IsDeclared}
 use Rattle.pw_sessions.specs.Session.{EachBecomes, IsAfterTell, after_entry}
 use Rattle.pw_sessions.specs.Workbench.{Workbench, IsLeftBy, IsSetUpFor, IsCarriedOut, SessionsFit, beliefs_in, session_in}
 
--- the workbench can carry out the command: what it names is declared, and the line comes after those of all attachments
+-- the workbench can carry out the command: what it names is declared, and the line comes after
+-- those of all attachments
 pub record CanCarryOut (workbench : Workbench) (line : ℕ) (command : Command) : Type 0 where
   pub set_up : IsSetUpFor workbench.network.declared workbench
   pub declared : IsDeclared workbench.network.declared (Says command)
   pub next : workbench.network.last_line < line
   pub most : line ≤ most_lines
 
--- whatever was declared, and however the lines before read, of which this is the next: the command was carried out
+-- for every declaration and all readings of the earlier lines, of which this is the next: the
+-- command was carried out
 abbrev pub CarriesOutNext : Workbench → ℕ → Command → Workbench → Reply → Type 0
 CarriesOutNext old line command new reply =
     (d : Declared) (before : List LineReading) → IsLeftBy d before old → length before + 1 ≡ line → IsDeclared d (Says command)
     → IsCarriedOut d before command new reply
 
--- the store has the cells of the network, with their kinds, and keeps nothing that does not follow; what was noted contradicts
--- itself; and the last session of each user fits
+-- the store has the cells of the network, with their kinds, and keeps only what follows; the noted
+-- sets contradict themselves; and the last session of each user fits
 pub record StoreFits (workbench : Workbench) : Type 0 where
   pub kinds : kinds_of workbench.store ≡ kinds_in workbench.network
   pub sound : IsSound workbench.network workbench.store
@@ -53,7 +55,7 @@ abbrev pub is_written : List Attached → ℕ → Premises → Bool
 is_written attached cell worldview =
     list_any (λ (a : Attached). nat_eq a.instance.output cell && is_subset a.support worldview) attached
 
--- the store took a fact that was told of the cell
+-- the store took a fact that was told about the cell
 pub record TakesFact (cell : ℕ) (fact : Fact) (old new : Store) : Type 0 where
   pub told : GainsTold cell fact old new
   pub kept : GainsKept cell fact old new
@@ -61,7 +63,7 @@ pub record TakesFact (cell : ℕ) (fact : Fact) (old new : Store) : Type 0 where
   pub others : LeavesOthers cell old new
   pub kinds : kinds_of new ≡ kinds_of old
 
--- a fact was told of the cell: the store took it, and each session knows whether it is news
+-- a fact was told about the cell: the store took it, and each session knows whether it is news
 pub record IsTold (old : Workbench) (cell : ℕ) (fact : Fact) (new : Workbench) : Type 0 where
   pub network : new.network ≡ old.network
   pub store : TakesFact cell fact old.store new.store
@@ -70,7 +72,8 @@ pub record IsTold (old : Workbench) (cell : ℕ) (fact : Fact) (new : Workbench)
   pub sessions : EachBecomes (IsAfterTell cell fact) old.sessions new.sessions
   pub calls : new.calls ≡ old.calls
 
--- a callable was attached, and its inner cells added, of which nothing was told; and sessions know that it came
+-- a callable was attached, and its inner cells added, about which nothing was told; and sessions
+-- know that it came
 pub record IsAttached (old : Workbench) (line : ℕ) (callable : Callable) (cells : List ℕ) (support : Premises) (new : Workbench) : Type 0 where
   pub network : new.network ≡ with_attached old.network line callable cells support
   pub cells_are : new.store.cells ≡ old.store.cells ++ map new_cell (inner_kinds_of old.network.declared.compounds callable)
@@ -78,7 +81,8 @@ pub record IsAttached (old : Workbench) (line : ℕ) (callable : Callable) (cell
   pub beliefs : new.beliefs ≡ old.beliefs
   pub sessions : new.sessions ≡ map (option_map (after_entry support)) old.sessions
 
--- the same network, facts, nogoods, beliefs and sessions; only the room for cells may differ, and how often procedures were called
+-- the same network, facts, nogoods, beliefs and sessions; only the room for cells and the number of
+-- procedure calls may differ
 pub record IsAsBefore (old new : Workbench) : Type 0 where
   pub network : new.network ≡ old.network
   pub cells_are : new.store.cells ≡ old.store.cells
@@ -86,8 +90,8 @@ pub record IsAsBefore (old new : Workbench) : Type 0 where
   pub beliefs : new.beliefs ≡ old.beliefs
   pub sessions : new.sessions ≡ old.sessions
 
--- the same network, beliefs and told facts; more may be kept, other sets may be noted, which contradict themselves as before, and the
--- user may have another last session, which fits
+-- the same network, beliefs and told facts; more may be kept, other sets may be noted, which
+-- contradict themselves as before, and the user may have another last session, which fits
 pub record OnlyKeepsMore (old : Workbench) (user : ℕ) (new : Workbench) : Type 0 where
   pub network : new.network ≡ old.network
   pub beliefs : new.beliefs ≡ old.beliefs
@@ -98,23 +102,23 @@ pub record OnlyKeepsMore (old : Workbench) (user : ℕ) (new : Workbench) : Type
   pub grows : KeepsMore old.network old.store new.store
   pub upstream : StaysUpstream old.network old.store new.store
 
--- an ask of the cell by the user was answered: with what settles in the network under what the user believes; or, where a
--- visible instance writes the cell, with want of memory
+-- an ask of the cell by the user was answered: with what settles in the network under the user's
+-- beliefs; or, if a visible instance writes the cell, with out of memory
 abbrev pub AnswersAsk : Workbench → ℕ → ℕ → Reply → Type 0
 AnswersAsk workbench user cell answer =
     (answer ≡ reply.Value (value_in workbench.network workbench.store (beliefs_in workbench user) cell))
     ⊎ ((answer ≡ reply.Refused refusal.Memory) × (is_written workbench.network.attached cell (beliefs_in workbench user) ≡ true))
 
--- a why of the cell by the user was answered: with what settles in the network under what the user believes, and its reason;
--- or with want of memory
+-- a why of the cell by the user was answered: with what settles in the network under the user's
+-- beliefs, and its reason; or with out of memory
 abbrev pub AnswersWhy : Workbench → ℕ → ℕ → Reply → Type 0
 AnswersWhy workbench user cell answer =
     (answer ≡ reply.Because (value_in workbench.network workbench.store (beliefs_in workbench user) cell)
     (reason_of (λ w. value_in workbench.network workbench.store w cell) (beliefs_in workbench user)))
     ⊎ (answer ≡ reply.Refused refusal.Memory)
 
--- a question for conflicts by the user was answered: with those of what settles in the network under what the user believes; or
--- with want of memory
+-- a question for conflicts by the user was answered: with the conflicts of what settles in the
+-- network under the user's beliefs; or with out of memory
 abbrev pub AnswersConflicts : Workbench → ℕ → Reply → Type 0
 AnswersConflicts workbench user answer =
     ((conflicts : Conflicts) × (answer ≡ reply.Listed conflicts)

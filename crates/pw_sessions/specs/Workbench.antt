@@ -1,5 +1,6 @@
--- What is there between two lines: the network, what was told of each of its cells and what is kept of it, which premises were found
--- to contradict themselves, of each user the beliefs now and the last session, and how often the last command called procedures.
+-- The state between two lines: the network, the told and the kept information about each of its
+-- cells, the premises that were found to contradict themselves, the current beliefs and the last
+-- session of each user, and the number of procedure calls of the last command.
 use Rattle.std.specs.Prelude.{◌≡◌, ℕ, ◌<◌, Bool, false, ◌&&◌, List, [], ◌∷◌, ◌++◌, All, fold, length, nat_eq, IfSome, Option, Some, None, slice_index_or}
 use Rattle.std.specs.FinSet.{contains, empty}
 use Rattle.std.specs.List.{list_any}
@@ -24,15 +25,15 @@ use Rattle.pw_sessions.specs.TakesMemory.{MayBecome}
 
 pub record Workbench : Type 0 where
   pub network : Network
-  -- what was told, and what is kept
+  -- the told facts, and the kept facts
   pub store : Store
   -- sets of premises that contradict themselves, for all users
   pub nogoods : List Premises
-  -- of each user, by number
+  -- the beliefs of each user, by number
   pub beliefs : List Premises
-  -- of each user, where there is one, the last session
+  -- the last session of each user, if there is one
   pub sessions : List (Option Session)
-  -- of procedures, by the settling of the last command; none where it did not settle
+  -- the procedure calls made by the settling of the last command; none if it did not settle
   pub calls : ℕ
 
 -- the last session of each user fits the network and the store
@@ -51,28 +52,29 @@ abbrev pub with_entry : Network → Entry → Network
 with_entry network (Told line cell fact) = network
 with_entry network (Attached line callable cells support) = with_attached network line callable cells support
 
--- the network that entries make: the declared cells, and what they attach, in order
+-- the network that entries make: the declared cells, and what the entries attach, in order
 abbrev pub network_after : Declared → List Entry → Network
 network_after d entries = fold with_entry (bare d) entries
 
--- the store was told what the entries tell: of each cell, in every worldview, what those tell of it by its name that are
--- visible there
+-- the store was told what the entries tell: about each cell, in every worldview, what the entries
+-- that are visible there tell about it by its name
 abbrev pub WasTold : Declared → List Entry → Network → Store → Type 0
 WasTold d entries network store =
     (cell : ℕ) (w : Premises) → cell < cells_in network →
     told_in store cell w ≡ told_of (named_cells d entries) (sources_after d (visible_in entries w)) (name_in network cell)
 
--- a fact that an entry told of the cell rests on the premise
+-- a fact that an entry told about the cell rests on the premise
 abbrev pub tells_on : ℕ → ℕ → Entry → Bool
 tells_on cell premise (Told line at fact) = nat_eq at cell && contains fact.support premise
 tells_on cell premise (Attached line callable cells support) = false
 
--- a fact that one of the entries told of the cell does
+-- a fact that one of the entries told about the cell rests on the premise
 abbrev pub is_told_on : List Entry → ℕ → ℕ → Bool
 is_told_on entries cell premise = list_any (tells_on cell premise) entries
 
--- it is set up for the declaration: each user has beliefs and perhaps a last session, which fits; the store has the cells of the
--- network, with their kinds, and keeps nothing that does not follow; and what was noted contradicts itself
+-- it is set up for the declaration: each user has beliefs and perhaps a last session, which fits;
+-- the store has the cells of the network, with their kinds, and keeps only what follows; and the
+-- noted sets contradict themselves
 pub record IsSetUpFor (d : Declared) (workbench : Workbench) : Type 0 where
   pub users : length workbench.beliefs ≡ length d.users
   pub declared : workbench.network.declared ≡ d
@@ -82,19 +84,20 @@ pub record IsSetUpFor (d : Declared) (workbench : Workbench) : Type 0 where
   pub sessions : length workbench.sessions ≡ length d.users
   pub fit : SessionsFit workbench.network workbench.store workbench.sessions
 
--- it is what lines that read so leave: the network is what their entries attach, the store was told what they tell, and each
--- user believes what own lines made of the beliefs
+-- it is what lines with these readings leave: the network is what their entries attach, the store
+-- was told what they tell, and each user's beliefs are those that the user's own lines made
 pub record IsLeftBy (d : Declared) (readings : List LineReading) (workbench : Workbench) : Type 0 where
   pub set_up : IsSetUpFor d workbench
   pub fit : All (FitsDeclared d) (entries_before readings)
   pub network : workbench.network ≡ network_after d (entries_before readings)
   pub told : WasTold d (entries_before readings) workbench.network workbench.store
-  -- and what is kept rests on premises of tells and attachments upstream alone
+  -- the kept facts rest only on premises of tells and attachments upstream
   pub upstream : RestsUpstream workbench.network (is_told_on (entries_before readings)) workbench.store
   pub beliefs : (user : ℕ) → user < length d.users → beliefs_in workbench user ≡ beliefs_at d user readings
 
--- after lines that read so, the command was carried out: its line came to a reading, this is the reply that a line of this
--- reading gets from scratch, and what is there now is what the lines leave with it
+-- after lines with these readings, the command was carried out: its line got a reading, this is the
+-- reply that a line of this reading gets from scratch, and the new workbench is what the lines
+-- leave with it
 pub record IsCarriedOut (d : Declared) (before : List LineReading) (command : Command) (new : Workbench) (reply : Reply) : Type 0 where
   pub reading : LineReading
   pub became : MayBecome d before command reading

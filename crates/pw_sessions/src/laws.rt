@@ -1,4 +1,5 @@
-//! Laws of answers, each the contract of a function that does nothing: they hold of every transcript.
+//! Laws of answers. Each is the contract of a function that does nothing, and holds of every
+//! transcript.
 
 ghost use Rattle.std.specs.Prelude.{◌≡◌, ◌≢◌, ◌<◌, ℕ, true, [], ◌∷◌, ◌++◌, All, List, length};
 ghost use Rattle.std.specs.FinSet.{contains, remove};
@@ -22,29 +23,31 @@ ghost use Rattle.pw_sessions.specs.Workbench.{Workbench, IsCarriedOut, IsLeftBy}
 use crate::command::Command;
 use crate::reply::Refusal;
 
-/// A refused line leaves nothing, whatever it was refused for: the lines after it get the replies that they would get
-/// had it been blank.
+/// A refused line leaves nothing, no matter why it was refused: the later lines get the replies
+/// that they would get if it were blank.
 pub fn refused_lines_count_as_blank()
     ensures { (d : Declared) (before after : List LineReading) (refusal : Refusal) →
         replies_after d (before ++ Refused refusal ∷ []) after ≡ replies_after d (before ++ Blank ∷ []) after }
 {}
 
-/// The answer to a command is the answer from the visible entries alone, as if all that its user does not believe had never
-/// been said.
+/// The answer to a command is the answer from only the visible entries, as if everything that its
+/// user does not believe had never been said.
 pub fn unbelieved_entries_change_nothing()
     ensures { (d : Declared) (entries : List Entry) (beliefs : Premises) (command : Command) →
         answer_to d (visible_in entries beliefs) beliefs command ≡ answer_to d entries beliefs command }
 {}
 
-/// What visible entries say meets what the laws of the fixpoint ask. So these hold of each value in a reply: a round leaves it as it
-/// is, and it is the least informed such.
+/// What visible entries say meets the conditions of the fixpoint's laws. So the laws hold of each
+/// value in a reply: a round leaves it unchanged, and it is the least informed one for which this
+/// holds.
 pub fn visible_entries_meet_the_laws()
     ensures { (d : Declared) (before : List LineReading) (beliefs : Premises) → IsWellDeclared d
         → All (IsDeclared d) before → MeetTheLaws d (visible_in (entries_before before) beliefs) }
 {}
 
-/// More is known where more is believed; so the laws of reasons hold of the reason in a reply to `why`: it is a part of what
-/// the user believes that gives the same value, and without any one of its premises the value is another.
+/// More is known if more is believed. So the laws of reasons hold of the reason in a reply to
+/// `why`: it is a part of the user's beliefs that gives the same value, and without any one of its
+/// premises the value is another.
 pub fn reasons_say_why()
     ensures grows { (d : Declared) (before : List LineReading) (cell : ℕ) → IsWellDeclared d → All (IsDeclared d) before
         → cell < length d.cells → Grows (value_under d (entries_before before) cell) }
@@ -57,15 +60,16 @@ pub fn reasons_say_why()
         ≢ value_under d (entries_before before) cell beliefs }
 {}
 
-/// Users do not disturb each other: a line gets the reply that it would get had all lines before it been blank that it does
-/// not rest on. It rests on the tells and attachments whose premises its user then believes, and on its user's own lines
-/// that change beliefs; a line that says no command rests on none.
+/// Users do not disturb each other. A line gets the reply that it would get if all earlier lines
+/// that it does not rest on were blank. It rests on the tells and attachments whose premises its
+/// user then believes, and on its user's own lines that change beliefs. A line that says no command
+/// rests on no line.
 pub fn unbelieved_lines_count_as_blank()
     ensures { (d : Declared) (before : List LineReading) (last : LineReading) →
         reply_to d (blanked_for d before last) last ≡ reply_to d before last }
 {}
 
-/// A line that is blank or refused leaves a workbench what it is: so a host need give no such line to it.
+/// A blank or refused line leaves a workbench unchanged, so a host need not pass such lines to it.
 pub fn blank_lines_leave_a_workbench()
     ensures { (d : Declared) (before : List LineReading) (blanks : ℕ) (workbench : Workbench)
         → IsWellDeclared d → IsLeftBy d before workbench

@@ -1,4 +1,5 @@
-//! Commands of users, what earlier lines leave behind, and the answer to each command. Nothing here speaks of bytes.
+//! Commands of users, what earlier lines leave behind, and the answer to each command. Nothing here
+//! deals with bytes.
 #![tactic(auto)]
 
 mod command;

@@ -1,4 +1,4 @@
-//! What a line is answered with.
+//! Replies to lines.
 
 use pw_info::Info;
 use pw_premises::PremiseSet;
@@ -6,12 +6,13 @@ use pw_reasons::Conflicts;
 use std::alloc::{Allocator, Global};
 use thiserror::Error;
 
-/// Why a line is refused. A line that several of these apply to is refused for the first of them, in the order
-/// line too long, syntax, unknown user, unknown command, unknown cell, unknown procedure, wrong
-/// information, wrong arguments, unknown premise, not your premise, memory.
+/// Why a line is refused. If several refusals apply to a line, it gets the first of them, in the
+/// order line too long, syntax, unknown user, unknown command, unknown cell, unknown procedure,
+/// wrong information, wrong arguments, unknown premise, not your premise, memory.
 #[derive(Clone, Copy, Debug, PartialEq, Eq, Error)]
 pub enum Refusal {
-    /// A byte that is no blank and not visible ASCII, one word alone, or words that do not fit the command's form.
+    /// A byte that is neither a blank nor visible ASCII, a single word, or words that do not fit
+    /// the command's form.
     #[error("syntax")]
     Syntax,
     /// The first word is no declared user.
@@ -23,7 +24,7 @@ pub enum Refusal {
     /// A cell that is not declared.
     #[error("unknown cell")]
     UnknownCell,
-    /// An attachment of what is neither a procedure nor a compound.
+    /// An attachment of something that is neither a procedure nor a compound.
     #[error("unknown procedure")]
     UnknownProcedure,
     /// An attachment to cells of kinds, or to a number of cells, that the callable does not take.
@@ -46,14 +47,14 @@ pub enum Refusal {
     Memory,
 }
 
-/// What a line is answered with.
+/// The reply to a line.
 #[derive(Drop)]
 pub enum Reply<A: Allocator = Global> {
     /// A command that tells or changes something was carried out.
     Done,
-    /// What is known of the cell that was asked for.
+    /// The known information about the cell that was asked for.
     Value(Info),
-    /// What is known of the cell, and the premises that it needs.
+    /// The known information about the cell, and the premises that it needs.
     Because(Info, PremiseSet),
     /// What is contradictory.
     Listed(Conflicts<A>),

@@ -1,5 +1,6 @@
-//! What the lines so far left: the network, what they told of each of its cells, what was derived from it so far, which premises
-//! were found to contradict themselves, what each user believes, and what each user's last question found.
+//! What the lines so far left: the network, what they told about each of its cells, what was
+//! derived from it so far, which premises were found to contradict themselves, what each user
+//! believes, and what each user's last question found.
 
 ghost use Rattle.std.specs.Prelude.{◌≡◌, ◌<◌, [], List, length, map, replicate, slice_set, IfOk, None, OnOk, OnErr, Some};
 ghost use Rattle.std.specs.Option.{option_map};
@@ -34,7 +35,7 @@ use pw_procs::Arguments;
 use pw_reasons::Nogoods;
 use std::alloc::{AllocError, Allocator, Global};
 
-// The most inner cells that an attachment makes.
+// The greatest number of inner cells that an attachment makes.
 const MOST_INNER_CELLS: u32 = 256;
 
 mod questions;
@@ -42,24 +43,25 @@ mod session;
 
 use session::Session;
 
-/// What earlier lines left: the network, the facts that were told of its cells with those that were derived from them, and what
-/// each user believes now. Users and cells go by their numbers, from 0.
+/// What earlier lines left: the network, the facts told about its cells with the facts derived from
+/// them, and what each user believes now. Users and cells are given by their numbers, from 0.
 #[derive(Drop)]
 pub struct Workbench<'d, 'r, A: Allocator = Global> {
     network: Network<'d, 'r, A>,
-    // It has the cells of the network, and keeps nothing that does not follow.
+    // It has the cells of the network, and keeps only what follows.
     store: CellStore<A>,
-    // Sets of premises that were found to contradict themselves, by whomsoever.
+    // Sets of premises that were found to contradict themselves, by any user.
     nogoods: Nogoods<A>,
-    // Of each user, by number.
+    // The beliefs of each user, by number.
     beliefs: Vec<PremiseSet, A>,
-    // Of each user, by number, what the last question found; none before the first, and after a refusal. Its values still fit.
+    // What the last question of each user found, by number; none before the first question, and
+    // after a refusal. Its values still fit.
     sessions: Vec<Option<Session<A>>, A>,
-    // How often the last command's own settling called procedures.
+    // The number of procedure calls made by the last command's own settling.
     calls: u128,
 }
 
-// That no user has a session. It fails only for want of memory.
+// No user has a session yet. Fails only when out of memory.
 fn no_sessions<A: Allocator + Copy>(
     alloc: A,
     users: u8,
@@ -73,7 +75,8 @@ fn no_sessions<A: Allocator + Copy>(
     Ok(sessions)
 }
 
-// Something was attached under these premises: the sessions that see it know it.
+// Something was attached under these premises: the sessions that see it are no longer known to be
+// current.
 fn note_in_each<A: Allocator>(sessions: &mut [Option<Session<A>>], support: &PremiseSet)
     ensures { sessions.new ≡ map (option_map (after_entry support.now)) sessions.old }
 {
@@ -84,7 +87,8 @@ fn note_in_each<A: Allocator>(sessions: &mut [Option<Session<A>>], support: &Pre
     }
 }
 
-// A fact was told of the cell, of which each session has a value of the fact's kind: those to which it is news know it.
+// A fact was told about the cell, and each session has a value of the fact's kind for the cell: the
+// sessions to which the fact is news are no longer known to be current.
 fn note_tell_in_each<A: Allocator>(sessions: &mut [Option<Session<A>>], cell: u32, fact: &Fact)
     requires { HaveValues cell (kind_of fact.now.info) sessions.old }
     ensures { EachBecomes (IsAfterTell cell fact.now) sessions.old sessions.new }
@@ -97,8 +101,8 @@ fn note_tell_in_each<A: Allocator>(sessions: &mut [Option<Session<A>>], cell: u3
 }
 
 impl<'d, 'r, A: Allocator + Copy> Workbench<'d, 'r, A> {
-    /// What is there before the first line, from a new network of the declaration: nothing was told of its cells, and each
-    /// user believes every premise. It fails only for want of memory.
+    /// The workbench before the first line, from a new network of the declaration: nothing was told
+    /// about its cells, and each user believes every premise. Fails only when out of memory.
     pub fn new(
         alloc: A,
         declaration: &'d Declaration<'r, A>,
@@ -125,7 +129,7 @@ impl<'d, 'r, A: Allocator + Copy> Workbench<'d, 'r, A> {
         })
     }
 
-    // What the user, who is there, believes now.
+    // The current beliefs of the user, who must exist.
     fn beliefs_of(&self, user: u8) -> PremiseSet
         requires { user < length (workbench_by self.now).beliefs }
         ensures { result ≡ beliefs_in (workbench_by self.now) user }
@@ -133,7 +137,7 @@ impl<'d, 'r, A: Allocator + Copy> Workbench<'d, 'r, A> {
         self.beliefs[usize::from(user)]
     }
 
-    // From now on the user, who is there, believes just these premises.
+    // From now on the user, who must exist, believes exactly these premises.
     fn set_beliefs(&mut self, user: u8, premises: PremiseSet)
         requires { user < length (workbench_by self.old).beliefs }
         ensures { workbench_by self.new ≡ record (workbench_by self.old) {
@@ -143,7 +147,8 @@ impl<'d, 'r, A: Allocator + Copy> Workbench<'d, 'r, A> {
         self.beliefs[usize::from(user)] = premises;
     }
 
-    // Something was attached under these premises, and the sessions that see it know it.
+    // Something was attached under these premises: the sessions that see it are no longer known to
+    // be current.
     fn note_entry(&mut self, support: &PremiseSet)
         ensures { workbench_by self.new ≡ record (workbench_by self.old) {
           sessions = map (option_map (after_entry support.now)) (workbench_by self.old).sessions;
@@ -152,7 +157,8 @@ impl<'d, 'r, A: Allocator + Copy> Workbench<'d, 'r, A> {
         note_in_each(&mut self.sessions, support);
     }
 
-    // Tells a fact of a declared cell, of its kind. It fails only for want of memory, and then nothing changes.
+    // Tells a fact about a declared cell, of the cell's kind. Fails only when out of memory; then
+    // nothing changes.
     fn tell(&mut self, cell: u32, fact: Fact) -> Result<(), AllocError>
         requires declared { cell < length (workbench_by self.old).network.declared.cells }
         requires there { cell < length (workbench_by self.old).store.cells }
@@ -166,8 +172,9 @@ impl<'d, 'r, A: Allocator + Copy> Workbench<'d, 'r, A> {
         Ok(())
     }
 
-    // Attaches a callable. It fails only for want of memory, and then nothing changes. Never inlined, as `why` and `conflicts`, so
-    // that commands that take few steps make no room for what these take.
+    // Attaches a callable. Fails only when out of memory; then nothing changes. Never inlined, like
+    // `why` and `conflicts`, so that commands with few steps make no room for the values that it
+    // needs.
     #[inline(never)]
     fn attach(
         &mut self,
@@ -196,7 +203,7 @@ impl<'d, 'r, A: Allocator + Copy> Workbench<'d, 'r, A> {
         Ok(())
     }
 
-    // Carries out a command at the line after the last, blank ones among them.
+    // Carries out a command at the line after the last one, counting blank lines.
     fn carry_out(&mut self, line: u32, command: &Command) -> Reply<A>
         requires can { CanCarryOut (workbench_by self.old) line command.now }
         requires calls { (workbench_by self.old).calls ≡ 0 }
@@ -244,23 +251,27 @@ impl<'d, 'r, A: Allocator + Copy> Workbench<'d, 'r, A> {
         }
     }
 
-    /// Carries out a command at a line, from 1 to 1,000,000, that comes after every line given before; the lines in between
-    /// count as blank. What it names is declared: its user, its cells, its callable, which takes them, and a fact is of the
-    /// kind of its cell.
+    /// Carries out a command at a line, from 1 to 1,000,000, that comes after every line given
+    /// before; the lines in between count as blank. Everything that it names is declared: its user,
+    /// its cells, and its callable, which takes them; and a fact is of the kind of its cell.
     ///
-    /// The reply is the answer to the command from what the lines before it left, or `Refused(Memory)` where memory is refused
-    /// to a tell, to an attach, to an ask of a cell that an instance writes whose premises are all believed, to a why, or to
-    /// conflicts; and then nothing changes that a reply shows. Commands on beliefs are never refused.
+    /// The reply is the answer to the command from what the lines before it left. It is
+    /// `Refused(Memory)` if memory is refused to a tell, to an attach, to an ask of a cell that is
+    /// written by an instance whose premises are all believed, to a why, or to conflicts; then
+    /// nothing changes that a reply shows. Commands on beliefs are never refused.
     ///
-    /// What a question derives is kept, each fact with the premises that it rests on, and serves the later questions of all
-    /// users. Nobody sees it: a reply is what it would be from scratch.
+    /// Derived facts are cached with their premises and reused for every user. Caching never
+    /// changes a reply: each is what it would be from scratch.
     ///
-    /// After an answered why or conflicts, or an answered ask of a cell that an instance writes whose premises are all believed,
-    /// its user is fresh: nothing is left to derive. A fresh user stays so until the user believes something else, or a line is
-    /// this user's own and refused, attaches something under premises that this user believes, or tells what does not follow
-    /// already under what this user believes. `last_calls` says what that saves.
+    /// After an answered why or conflicts, or an answered ask of a cell that is written by an
+    /// instance whose premises are all believed, its user is fresh: nothing is left to derive. A
+    /// fresh user stays fresh until the user believes something else, or a line of this user is
+    /// refused, or a line attaches something under premises that this user believes, or tells
+    /// something that does not follow already under this user's beliefs. `last_calls` says what
+    /// that saves.
     ///
-    /// After a why that is answered with a contradiction the reason is noted, and what was noted is never forgotten.
+    /// After a why that is answered with a contradiction the reason is noted, and what was noted is
+    /// never forgotten.
     pub fn command(&mut self, line: u32, command: &Command) -> Reply<A>
         requires { CanBeCarriedOut (workbench_by self.old) line command.now }
         ensures carried { CarriesOut (workbench_by self.old) line command.now (workbench_by self.new)
@@ -278,10 +289,11 @@ impl<'d, 'r, A: Allocator + Copy> Workbench<'d, 'r, A> {
         self.carry_out(line, command)
     }
 
-    /// How often the last command called procedures to settle: not at all where its user was fresh, and at most once for each
-    /// instance that is visible where a user of the same beliefs was fresh. 0 before the first command, and after one that
-    /// settled nothing or was refused in settling; a why or conflicts that was refused after it had settled counts these calls.
-    /// Calls made to find a reason are not counted.
+    /// The number of procedure calls made by the last command to settle: 0 if its user was fresh,
+    /// and at most one for each visible instance if a user of the same beliefs was fresh. It is 0
+    /// before the first command, and after a command that settled nothing or was refused while
+    /// settling. A why or conflicts that was refused after it had settled counts these calls. Calls
+    /// made to find a reason do not count.
     pub fn last_calls(&self) -> u128
         ensures { result ≡ (workbench_by self.now).calls }
     {

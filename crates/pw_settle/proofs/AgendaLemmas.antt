@@ -8,7 +8,7 @@ use Rattle.std.proofs.lemmas.List.Sums.{count_by-le-length, sum_by-set}
 use Rattle.pw_settle.specs.Agenda.{IsQueue, is_set, tally}
 use Rattle.pw_settle.proofs.TakenFlags.{taken_less}
 
--- one flag more
+-- one more flag
 pub tally_more : (flags : List Bool) (one : ℕ) → one < length flags → is_set flags one ≡ false → tally (set flags one true) ≡ tally flags + 1
 tally_more flags one below free =
     let sums = sum_by-set (λ b. cond b 1 0) flags one true false below in
@@ -17,7 +17,7 @@ tally_more flags one below free =
     let was : one_free ≡ none = ap (λ b. cond b 1 0) free in
     omega (arith, sums, was)
 
--- where a flag is not set there are fewer that are than flags
+-- if a flag is not set there are fewer that are than flags
 pub tally_room : (flags : List Bool) (one : ℕ) → one < length flags → is_set flags one ≡ false → tally flags < length flags
 tally_room flags one below free =
     omega (arith, tally_more flags one below free, count_by-le-length (λ (b : Bool). b) (set flags one true), length-set flags one true)
@@ -46,7 +46,7 @@ queue_more flags queue capacity one below free is = record {
   counted : length queue + length (one ∷ []) ≡ tally (set flags one true)
   counted = omega (arith, is.count, tally_more flags one below free)
 
--- what is queued first leaves, and its flag is let down
+-- the first number leaves the queue, and its flag is cleared
 pub queue_less : (flags : List Bool) (queue rest : List ℕ) (capacity one : ℕ) → queue ≡ one ∷ rest → IsQueue flags queue capacity →
     IsQueue (set flags one false) rest capacity
 queue_less flags queue rest capacity one is_first is_queue =

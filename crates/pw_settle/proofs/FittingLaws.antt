@@ -21,7 +21,7 @@ use Rattle.pw_settle.specs.Wider.{IsWider}
 use Rattle.pw_settle.proofs.FittingValues.{satisfied_still}
 use Rattle.pw_settle.proofs.SettledValues.{kinds_many}
 
--- where no less is kept
+-- if no less is kept
 pub fits_more : (network : Network) (old new : Store) (settled : Settled) →
     ((cell : ℕ) (w : Premises) → Implies (kept_in new cell w) (kept_in old cell w)) → IsFitting network old settled → IsFitting network new settled
 fits_more network old new settled more fits = record {
@@ -32,7 +32,7 @@ fits_more network old new settled more fits = record {
   satisfied = fits.satisfied;
 }
 
--- where cells are added
+-- if cells are added
 pub fits_added : (network : Network) (old new : Store) (settled : Settled) (own : List Kind) → new.cells ≡ old.cells ++ map new_cell own →
     cells_in network ≤ length old.cells → IsFitting network old settled → IsFitting network new settled
 fits_added network old new settled own are room fits = record {
@@ -46,7 +46,7 @@ fits_added network old new settled own are room fits = record {
   satisfied = fits.satisfied;
 }
 
--- the same is known of cells that are there
+-- the same is known about cells that exist
 same_there : (before now : ℕ → Info) (count : ℕ) → ((c : ℕ) → c < count → now c ≡ before c) → (inputs : List ℕ) → All (λ c. c < count) inputs →
     map now inputs ≡ map before inputs
 same_there before now count same [] all = refl
@@ -54,7 +54,7 @@ same_there before now count same (c ∷ inputs) all = λ i.
     same c (All-head (λ (d : ℕ). d < count) c inputs all) i
     ∷ same_there before now count same inputs (All-tail (λ (d : ℕ). d < count) c inputs all) i
 
--- where more is attached
+-- if more is attached
 pub fits_wider : (network wider : Network) (store : Store) (settled : Settled) → IsWellNetwork network → IsWider network wider →
     IsFitting network store settled → IsFitting wider store settled
 fits_wider network wider store settled well wide fits = record {

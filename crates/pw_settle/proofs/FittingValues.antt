@@ -34,7 +34,7 @@ use Rattle.pw_settle.proofs.KeptProgress.{reader_listed, visible_no}
 use Rattle.pw_settle.proofs.PlacedInstances.{accepted, all_sources, the_source}
 use Rattle.pw_settle.proofs.SettledValues.{all_placed, kinds_many}
 
--- what is known of all cells is said of each
+-- what is known about all cells is said about each
 said_known : (network : Network) (store : Store) (w : Premises) (settled : Settled) → kinds_of store ≡ kinds_in network →
     length settled.infos ≡ length store.cells → ((cell : ℕ) → info_at settled.infos cell ≡ kept_in store cell w) →
     (cell : ℕ) → said_of network settled cell ≡ kept_in store cell w
@@ -87,7 +87,8 @@ same_read before now (c ∷ inputs) same = λ i.
     itself : (n : ℕ) → nat_eq n n ≡ true
     itself n = grind (arith, nat_tests)
 
--- an instance that was satisfied by what was known is satisfied by what is known now, where of its inputs the same is known
+-- an instance that was satisfied by what was known is satisfied by what is known now, if of its
+-- inputs the same is known
 pub satisfied_still : (network : Network) (well : IsWellNetwork network) (a : Attached) → Contains network.attached a → (before now : ℕ → Info) →
     map now a.instance.inputs ≡ map before a.instance.inputs → Implies (now a.instance.output) (before a.instance.output) →
     IsSatisfied network before a → IsSatisfied network now a
@@ -110,7 +111,7 @@ module _ (network : Network) (well : IsWellNetwork network) (store : Store) (w :
   kind-now : (cell : ℕ) → kind_of (now cell) ≡ (numbered (kinds_in network)).kind cell
   kind-now cell = kind-kept store cell w ∙ kind_there network store same cell
 
-  -- what is said of a cell below the last is what was found, past it nothing
+  -- what is said about a cell below the last is what was found, past it nothing
   said_here : (cell : ℕ) → cell < length settled.infos → said_of network settled cell ≡ info_at settled.infos cell
   said_here cell below = get_or_default settled.infos cell (nothing ((numbered (kinds_in network)).kind cell)) (nothing kinds.Interval) below
 
@@ -139,12 +140,12 @@ module _ (network : Network) (well : IsWellNetwork network) (store : Store) (w :
             (implies_nothing (now cell) ((numbered (kinds_in network)).kind cell) (kind-now cell))
       ]
 
-  -- where what was said implies what is kept, they are one
+  -- if what was said implies what is kept, they are equal
   said_now : (cell : ℕ) → Implies (said_of network settled cell) (now cell) → now cell ≡ said_of network settled cell
   said_now cell implies =
       Implies-antisym (now cell) (said_of network settled cell) (kind-now cell ∙ sym (kind-said cell)) (says_more cell) implies
 
-  -- past the last cell they are
+  -- past the last cell they are equal
   same_past : (cell : ℕ) → length (kinds_in network) ≤ cell → now cell ≡ said_of network settled cell
   same_past cell past =
       let cells_past : length store.cells ≤ cell = omega (arith, past, length-map store.cells (λ (x : Cell). x.kind), ap length same) in
@@ -152,7 +153,7 @@ module _ (network : Network) (well : IsWellNetwork network) (store : Store) (w :
       ∙ ap nothing (sym (get_or_past (kinds_in network) cell kinds.Interval past))
       ∙ sym (said_past cell (omega (arith, past, fits.cells, kinds_many network well)))
 
-  -- what was found is what was said, where all is at hand that is kept
+  -- what was found is what was said, if all is at hand that is kept
   found_said : (infos : List Info) (supports : List Premises) → AreKept store w infos supports → (cell : ℕ) →
       found_of settled.infos infos cell ≡ said_of network settled cell
   found_said infos supports kept cell =
@@ -163,7 +164,8 @@ module _ (network : Network) (well : IsWellNetwork network) (store : Store) (w :
   kinds_found infos supports kept cell =
       ap kind_of (found_said infos supports kept cell) ∙ kind-said cell ∙ sym (ap kind_of (kept.infos_are cell) ∙ kind-now cell)
 
-  -- the flags of the new instances, with those of the readers of what has changed, are those of the due ones
+  -- the flags of the new instances, with those of the readers of what has changed, are those of the
+  -- due ones
   pub due_flags : (infos : List Info) (supports : List Premises) → AreKept store w infos supports → (visible flags queued : List Bool) →
       visible ≡ map (is_visible w) network.attached → length flags ≡ length visible →
       ((n : ℕ) → is_set flags n ≡ (is_set visible n && is_new network settled n)) →
@@ -175,7 +177,7 @@ module _ (network : Network) (well : IsWellNetwork network) (store : Store) (w :
     visible_is : (n : ℕ) → is_set visible n ≡ visible_at network w n
     visible_is n = ap (λ (l : List Bool). is_set l n) seen
 
-    -- what is not changed is one
+    -- what has not changed is equal
     changed : (cell : ℕ) → HasChanged settled.infos infos cell → now cell ≡ said_of network settled cell → ⊥
     changed cell has one =
         has (subst (λ (i : Info). Implies i (info_at infos cell)) (sym (found_said infos supports kept cell))

@@ -1,4 +1,5 @@
--- The fixpoint: it implies the sources, and whatever implies them implies it. All else that is known of it follows from these.
+-- The fixpoint: it implies the sources, and anything that implies them implies it. Everything else
+-- that is known about it follows from these.
 use Rattle.std.proofs.Common.{◌≡◌, ◌*◌, ◌≤◌, true, List, length, All, Contains, sum_by, sym, ◌∙◌, arith}
 use Rattle.std.proofs.lemmas.List.Elements.{All-contains, All-weaker}
 use Rattle.std.proofs.lemmas.List.Sums.{sum_by-le}
@@ -13,7 +14,7 @@ use Rattle.pw_settle.proofs.Membership.{each_member}
 use Rattle.pw_settle.proofs.RoundLemmas.{round_stays, stays_implied}
 use Rattle.pw_settle.proofs.RoundsFall.{kind-rounds, rounds_below, rounds_imply}
 
--- the sum of the ranks of so many cells is within the number of rounds that are made
+-- the sum of the ranks of these cells is within the number of rounds that are made
 ranks_most : {C : Type 0} (known : C → Info) (over : List C) → sum_by (λ c. rank_of (known c)) over ≤ length over * rounds_of_a_cell
 ranks_most known over =
     sum_by-le (λ c. rank_of (known c)) rounds_of_a_cell over
@@ -35,7 +36,7 @@ module _ {C : Type 0} (cells : Cells C) where
   fixpoint_says over sources are =
       rounds_imply cells sources over are (length over * rounds_of_a_cell) (nothing_known cells) kind-nothing_known (ranks_most (nothing_known cells) over)
 
-  -- whatever implies the sources implies the fixpoint
+  -- anything that implies the sources implies the fixpoint
   pub fixpoint_below : (over : List C) (sources : List (Source C)) → All (Fits cells) sources → (known : C → Info) → AreOfTheirKinds cells known →
       All (IsImplied known) sources → (c : C) → Implies (known c) (fixpoint cells over sources c)
   unfolding fixpoint
@@ -50,19 +51,20 @@ module _ {C : Type 0} (cells : Cells C) where
       Implies-antisym (known c) (fixpoint cells over sources c) (kinds c ∙ sym (kind-fixpoint over sources c))
       (fixpoint_below over sources fit known kinds implied c) (above c)
 
-  -- a round leaves the fixpoint as it is
+  -- a round leaves the fixpoint unchanged
   pub fixpoint_stays : (over : List C) (sources : List (Source C)) → AreOver cells over sources → (c : C) →
       round cells sources (fixpoint cells over sources) c ≡ fixpoint cells over sources c
   fixpoint_stays over sources are =
       round_stays cells sources are.fit (fixpoint cells over sources) (kind-fixpoint over sources) (fixpoint_says over sources are)
 
-  -- whatever a round leaves as it is implies the fixpoint
+  -- anything that a round leaves unchanged implies the fixpoint
   pub fixpoint_least : (over : List C) (sources : List (Source C)) → All (Fits cells) sources → (known : C → Info) → AreOfTheirKinds cells known →
       ((c : C) → round cells sources known c ≡ known c) → (c : C) → Implies (known c) (fixpoint cells over sources c)
   fixpoint_least over sources fit known kinds stays =
       fixpoint_below over sources fit known kinds (stays_implied cells sources fit known kinds stays)
 
-  -- where whatever implies the one sources implies the others, the fixpoint of the ones implies that of the others
+  -- if anything that implies the one sources implies the others, the fixpoint of the ones implies
+  -- that of the others
   pub fixpoint_above : (over wider : List C) (sources others : List (Source C)) → All (Fits cells) sources → AreOver cells wider others →
       ((known : C → Info) → AreOfTheirKinds cells known → All (IsImplied known) others → All (IsImplied known) sources) →
       (c : C) → Implies (fixpoint cells wider others c) (fixpoint cells over sources c)
@@ -70,7 +72,7 @@ module _ {C : Type 0} (cells : Cells C) where
       fixpoint_below over sources fit (fixpoint cells wider others) (kind-fixpoint wider others)
       (turns (fixpoint cells wider others) (kind-fixpoint wider others) (fixpoint_says wider others are))
 
-  -- where the same implies the one sources and the others, they have one fixpoint
+  -- if the same implies the one sources and the others, they have one fixpoint
   pub fixpoint_same : (over wider : List C) (sources others : List (Source C)) → AreOver cells over sources → AreOver cells wider others →
       ((known : C → Info) → AreOfTheirKinds cells known → All (IsImplied known) sources → All (IsImplied known) others) →
       ((known : C → Info) → AreOfTheirKinds cells known → All (IsImplied known) others → All (IsImplied known) sources) →
@@ -88,7 +90,7 @@ module _ {C : Type 0} (cells : Cells C) where
       fixpoint_above over wider sources more fit are (λ known kinds implied.
       All-weaker (Contains more) (IsImplied known) (λ source is. All-contains (IsImplied known) more source implied is) sources among)
 
-  -- over how many cells the fixpoint is does not matter
+  -- the number of cells that the fixpoint is over does not matter
   pub fixpoint_wider : (over wider : List C) (sources : List (Source C)) → AreOver cells over sources → AreOver cells wider sources →
       (c : C) → fixpoint cells over sources c ≡ fixpoint cells wider sources c
   fixpoint_wider over wider sources are also =

@@ -12,7 +12,7 @@ use Rattle.pw_settle.specs.Settled.{IsSettled, Settled, support_at}
 use Rattle.pw_settle.specs.Sources.{Told}
 use Rattle.pw_settle.specs.Values.{kinds_in, numbered, numbers_of, propagators_of, value_in, visible_instances}
 
--- the value of a cell is read off what is told
+-- the value of a cell depends only on what is told
 pub same_value : (network : Network) (old new : Store) → ((cell : ℕ) (w : Premises) → told_in new cell w ≡ told_in old cell w) →
     (w : Premises) (cell : ℕ) → value_in network new w cell ≡ value_in network old w cell
 same_value network old new told w cell =
@@ -20,7 +20,7 @@ same_value network old new told w cell =
     (map (λ c. Told c (tells c)) (range_with_len 0 (length (kinds_in network)))
     ++ propagators_of network.declared.procedures (visible_instances network.attached w)) cell) (fun_ext (λ c. told c w))
 
--- a store keeps more than itself
+-- a store keeps at least as much as itself
 pub keeps_more_same : (network : Network) (store : Store) → KeepsMore network store store
 keeps_more_same network store = record {
   kinds = refl;
@@ -29,7 +29,7 @@ keeps_more_same network store = record {
   sound = λ sound. sound;
 }
 
--- and more than what a store keeps that keeps more
+-- and keeping more is transitive
 pub keeps_more_then : (network : Network) (a b c : Store) → KeepsMore network a b → KeepsMore network b c → KeepsMore network a c
 keeps_more_then network a b c first then = record {
   kinds = then.kinds ∙ first.kinds;
@@ -38,7 +38,7 @@ keeps_more_then network a b c first then = record {
   sound = λ sound. then.sound (first.sound sound);
 }
 
--- what is settled is settled still where what is told stays
+-- settled values stay settled if the told facts stay
 pub settled_still : (network : Network) (old new : Store) (w : Premises) (settled : Settled) → KeepsMore network old new →
     IsSettled network old w settled → IsSettled network new settled.worldview settled
 settled_still network old new w settled grows is =

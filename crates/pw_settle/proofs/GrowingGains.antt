@@ -1,4 +1,4 @@
--- What is gained is no less where still more is kept afterwards.
+-- What is gained is no less if still more is kept afterwards.
 use Rattle.std.proofs.Common.{◌≡◌, ℕ, zero, suc, ◌+◌, ◌-◌, ◌*◌, ◌<◌, ◌≤◌, length, List, sym, ap, ◌∙◌, mul-le-mul_right, inl, inr, arith}
 use Rattle.std.specs.Prelude.{slice_index_or}
 use Rattle.pw_info.specs.declared.info.Info.{Info}
@@ -15,7 +15,7 @@ use Rattle.pw_settle.specs.Calls.{gains, reader_count, sum_below}
 use Rattle.pw_settle.specs.Growth.{KeepsMore}
 use Rattle.pw_settle.proofs.KeptFacts.{kind-kept}
 
--- where no value is more than another, nor is the sum
+-- if no value is more than another, nor is the sum
 sum_more : (n : ℕ) (f g : ℕ → ℕ) → ((i : ℕ) → f i ≤ g i) → sum_below n f ≤ sum_below n g
 sum_more zero f g less = omega arith
 sum_more (suc n) f g less = let rest = sum_more n f g less in let last = less n in omega (arith, rest, last)

@@ -11,14 +11,14 @@ use Rattle.pw_settle.specs.Settled.{support_at}
 use Rattle.pw_settle.proofs.Membership.{contains_first, contains_more}
 
 module _ (supports : List Premises) where
-  -- where each part is in a worldview, so are they joined
+  -- if each part is in a worldview, so are they joined
   pub joined_within : (w support : Premises) (inputs : List ℕ) → is_subset support w ≡ true → ((cell : ℕ) → is_subset (support_at supports cell) w ≡ true) →
       is_subset (joined supports support inputs) w ≡ true
   joined_within w support [] own each = own
   joined_within w support (input ∷ inputs) own each =
       joined_within w (union support (support_at supports input)) inputs (union_is_subset support (support_at supports input) w own (each input)) each
 
-  -- where they are in a worldview joined, so is each part
+  -- if they are in a worldview joined, so is each part
   pub joined_parts : (w support : Premises) (inputs : List ℕ) → is_subset (joined supports support inputs) w ≡ true →
       (is_subset support w ≡ true) × All (λ cell. is_subset (support_at supports cell) w ≡ true) inputs
   joined_parts w support [] all = (all, All-nil (λ cell. is_subset (support_at supports cell) w ≡ true))

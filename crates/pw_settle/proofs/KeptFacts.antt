@@ -44,7 +44,8 @@ also_implies info a b same implies v possible = implies v (subst (λ (i : Info).
 pub implies_merge : (info a b : Info) → kind_of a ≡ kind_of b → Implies info a → Implies info b → Implies info (meet a b)
 implies_merge info a b one_kind first second v possible = allows-meet a b one_kind v ∙ both_true _ _ (first v possible) (second v possible)
 
--- where an information says what a fact says in the worldviews that have its support, it says what the fact shows
+-- if an information says what a fact says in the worldviews that have its support, it says what the
+-- fact shows
 pub implies_shown : (info : Info) (fact : Fact) (w : Premises) → kind_of info ≡ kind_of fact.info →
     (is_subset fact.support w ≡ true → Implies info fact.info) → Implies info (shows w fact)
 implies_shown info fact w one_kind says =
@@ -89,7 +90,8 @@ module _ (network : Network) (old new : Store) (same : kinds_of old ≡ kinds_in
       (meet_first (kept_in old cell w) (shows w fact) (kind_both w)))
       (λ c other. also_implies (kept_in old c w) (kept_in old c w) (kept_in new c w) (sym (kept_elsewhere c other w)) (λ v possible. possible)) c
 
-  -- where the value says what the fact says in the worldviews that have its support, the store stays sound
+  -- if the value says what the fact says in the worldviews that have its support, the store stays
+  -- sound
   pub stays_sound : IsSound network old → ((w : Premises) → is_subset fact.support w ≡ true → Implies (value_in network old w cell) fact.info) →
       IsSound network new
   stays_sound sound follows w c =

@@ -21,7 +21,8 @@ use Rattle.pw_settle.specs.Settled.{info_at, support_at}
 use Rattle.pw_settle.specs.Sound.{LiesUpstream, RestsUpstream}
 use Rattle.pw_settle.proofs.KeptFacts.{kind-kept}
 
--- what is read of one cell: the information that is kept, and premises that are enough for it, each of them of a kept fact
+-- what is read of one cell: the information that is kept, and premises that are enough for it, each
+-- of them of a kept fact
 pub record IsRead (store : Store) (w : Premises) (cell : ℕ) (info : Info) (support : Premises) : Type 0 where
   pub info_is : info ≡ kept_in store cell w
   pub within : is_subset support w ≡ true
@@ -69,7 +70,7 @@ module _ (store : Store) (w : Premises) (infos : List Info) (supports : List Pre
   past_support : (cell : ℕ) → length store.cells ≤ cell → support_at supports cell ≡ empty
   past_support cell past = get_or_past supports cell empty (omega (arith, past, read.as_many))
 
-  -- what holds of a cell that is there and of one past the last holds of all
+  -- what holds of a cell that exists and of one past the last holds of all
   each : (P : ℕ → Type 0) → ((cell : ℕ) → cell < length store.cells → P cell) → ((cell : ℕ) → length store.cells ≤ cell → P cell) → (cell : ℕ) → P cell
   each P here past cell =
       elim (cases_Bool (nat_lt cell (length store.cells))) [

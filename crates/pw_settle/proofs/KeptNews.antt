@@ -27,7 +27,7 @@ use Rattle.pw_settle.proofs.SettledValues.{all_placed, says}
 use Rattle.pw_settle.proofs.SourceLists.{all_after}
 use Rattle.pw_settle.proofs.ValueGrows.{seen_source}
 
--- where of some cells one is more informed than the other, so are their informations one by one
+-- if of some cells one is more informed than the other, so are their informations one by one
 map_more : (better known : ℕ → Info) (cells : List ℕ) → All (λ c. Implies (better c) (known c)) cells → AllZip Implies (map better cells) (map known cells)
 map_more better known [] more = tt
 map_more better known (c ∷ cells) more =
@@ -39,7 +39,7 @@ kinds_mapped : (known : ℕ → Info) (store : Store) → ((c : ℕ) → kind_of
 kinds_mapped known store are [] = refl
 kinds_mapped known store are (c ∷ cells) = λ i. are c i ∷ kinds_mapped known store are cells i
 
--- a procedure says at least as much where of each input at least as much is known
+-- a procedure says at least as much if of each input at least as much is known
 value_more : (procedure : Procedure) (better known : ℕ → Info) (cells : List ℕ) → map kind_of (map better cells) ≡ map kind_of (map known cells) →
     All (λ c. Implies (better c) (known c)) cells → Implies (value_by procedure (map better cells)) (value_by procedure (map known cells))
 value_more procedure better known cells one_kind more =
@@ -62,7 +62,8 @@ module _ (network : Network) (well : IsWellNetwork network) (old : Store) (same 
   said : value_by procedure (map (info_at infos) a.instance.inputs) ≡ fact.info
   said = the_source procedures (kinds_in network) a.instance placed (λ source. said_by (info_at infos) source ≡ fact.info) is.says
 
-  -- in a worldview that has the fact's premises the instance is visible, and what is at hand of the inputs is kept there
+  -- in a worldview that has the fact's premises the instance is visible, and what is at hand of the
+  -- inputs is kept there
   parts : (s : Premises) → is_subset fact.support s ≡ true →
       (is_subset a.support s ≡ true) × All (λ c. is_subset (support_at supports c) s ≡ true) a.instance.inputs
   parts s within = joined_parts supports s a.support a.instance.inputs (subst (λ (p : Premises). is_subset p s ≡ true) is.rests within)

@@ -94,12 +94,13 @@ kinds_at_hand store w infos supports kept =
     many : length (map kind_of infos) ≡ length (kinds_of store)
     many = length-map infos kind_of ∙ kept.many ∙ sym (length-map store.cells (λ (x : Cell). x.kind))
 
--- where what is at hand of the cells is informed as what is kept, an instance is satisfied by both alike
+-- if what is at hand of the cells is informed as what is kept, an instance is satisfied by both
+-- alike
 pub satisfied_kept : (network : Network) (store : Store) (w : Premises) (infos : List Info) (supports : List Premises) → AreKept store w infos supports →
     (a : Attached) → IsSatisfied network (info_at infos) a → IsSatisfied network (λ c. kept_in store c w) a
 satisfied_kept network store w infos supports kept a = subst (λ (known : ℕ → Info). IsSatisfied network known a) (fun_ext kept.infos_are)
 
--- all are satisfied, where all others were and the one is
+-- all are satisfied, if all others were and the one is
 pub satisfied_all : (network : Network) (w : Premises) (known : ℕ → Info) (queued : List Bool) (number : ℕ) →
     AreOthersSatisfied network w known queued number → ((d : Attached) → IsSatisfied network known (attached_no network number d)) →
     AreSatisfied network w known queued
@@ -111,7 +112,7 @@ satisfied_all network w known queued number others one n d below seen free =
 
 -- ---- instances that do not read what changed
 
--- where no input is the cell, the inputs are informed as before
+-- if no input is the cell, the inputs are informed as before
 unread : (before now : ℕ → Info) (cell : ℕ) → ((c : ℕ) → c ≢ cell → now c ≡ before c) → (inputs : List ℕ) → list_any (nat_eq cell) inputs ≡ false →
     map now inputs ≡ map before inputs
 unread before now cell same [] none = refl
@@ -144,8 +145,8 @@ still_satisfied network well a there before now cell same more not_read satisfie
 
 -- ---- one call that made news
 
--- what there is after it: more is kept, what is at hand is what is kept, all rests upstream, what is not queued is satisfied, and less
--- may still be gained
+-- what there is after it: more is kept, what is at hand is what is kept, all rests upstream, what
+-- is not queued is satisfied, and less may still be gained
 pub record IsAfterNews (network : Network) (old new : Store) (w : Premises) (new_infos : List Info) (supports new_supports : List Premises)
     (number cell : ℕ) : Type 0 where
   pub grows : KeepsMore network old new
@@ -210,7 +211,7 @@ module _ (network : Network) (well : IsWellNetwork network) (old new : Store) (s
   in_supports : cell < length supports
   in_supports = omega (arith, below, kept.many, kept.as_many)
 
-  -- the premises at hand of another cell are as they were
+  -- the premises at hand for another cell are unchanged
   support_elsewhere : (c : ℕ) → c ≢ cell → support_at new_supports c ≡ support_at supports c
   support_elsewhere c other =
       ap (λ (l : List Premises). support_at l c) takes.supports_are
@@ -253,7 +254,7 @@ module _ (network : Network) (well : IsWellNetwork network) (old new : Store) (s
     info_elsewhere : (c : ℕ) → c ≢ cell → info_at new_infos c ≡ info_at infos c
     info_elsewhere c other = ap (λ (l : List Info). info_at l c) takes.infos_are ∙ get_or-set_other infos cell c after (nothing kinds.Interval) other
 
-  -- all rests on premises upstream, where it did
+  -- all rests on premises upstream, if it did
   upstream_news : (given : ℕ → ℕ → Bool) → AreUpstream network given old supports → AreUpstream network given new new_supports
   upstream_news given are = record {
     kept = by_cell (λ c. All (λ f. LiesUpstream network given c f.support) (kept_at new c)) cell

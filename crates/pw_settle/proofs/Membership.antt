@@ -30,7 +30,7 @@ all_mapped f (x ∷ xs) =
 pub contains_map : {X Y : Type 0} (f : X → Y) (xs : List X) (x : X) → Contains xs x → Contains (map f xs) (f x)
 contains_map f xs x has = All-contains (λ y. Contains (map f xs) (f y)) xs x (all_mapped f xs) has
 
--- a list to which a first is added where a test passes has it where it passes
+-- a list to which a first is added if a test passes has it if it passes
 first_kept : {X : Type 0} (b : Bool) (x : X) (rest : List X) → b ≡ true → Contains (cond b (x ∷ rest) rest) x
 first_kept true x rest passes = contains_first x rest
 first_kept false x rest passes = absurd (cc)
@@ -40,7 +40,7 @@ rest_kept : {X : Type 0} (b : Bool) (x y : X) (rest : List X) → Contains rest 
 rest_kept true x y rest has = contains_more x y rest has
 rest_kept false x y rest has = has
 
--- of each of a list: what a filter keeps has it where it passes
+-- of each of a list: what a filter keeps has it if it passes
 all_kept : {X : Type 0} (p : X → Bool) (xs : List X) → All (λ x. p x ≡ true → Contains (filter p xs) x) xs
 all_kept p [] = All-nil (λ x. p x ≡ true → Contains [] x)
 all_kept p (x ∷ xs) =

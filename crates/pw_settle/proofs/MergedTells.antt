@@ -1,4 +1,5 @@
--- What is told of cells: it implies each tell, whatever implies the sources implies it, and the sources may have it in one piece.
+-- The told information about cells: it implies each tell, anything that implies the sources implies
+-- it, and the sources may have it in one piece.
 use Rattle.std.proofs.Common.{◌≡◌, ℕ, zero, suc, ℤ, ◌*◌, List, Bool, true, not, map, filter, length, All, Contains, refl, sym, ◌∙◌, ap, subst}
 use Rattle.std.proofs.lemmas.List.Elements.{All-append, All-contains, All-contains_itself, All-filter, All-map, Contains-append_left, Contains-append_right}
 use Rattle.std.specs.Fn.{iterate}
@@ -16,18 +17,18 @@ abbrev is_tell : {C : Type 0} → Source C → Bool
 is_tell source = not (is_propagator source)
 
 module _ {C : Type 0} (cells : Cells C) (sources : List (Source C)) where
-  -- what is told of a cell is of its kind
+  -- the told information about a cell is of the cell's kind
   pub kind-told_of : (c : C) → kind_of (told_of cells sources c) ≡ cells.kind c
   kind-told_of c = kind-round cells (filter is_tell sources) (nothing_known cells) c ∙ kind-nothing_known cells c
 
 module _ {C : Type 0} (cells : Cells C) (sources : List (Source C)) (fit : All (Fits cells) sources) where
-  -- what is told of a cell says at least what was told of it at one time
+  -- the told information about a cell says at least what each tell about it says
   pub told_of_says : (cell : C) (info : Info) → Contains sources (Told cell info) → Implies (told_of cells sources cell) info
   told_of_says cell info is =
       round_says cells (filter is_tell sources) (All-filter is_tell (Fits cells) sources fit) (nothing_known cells) (kind-nothing_known cells)
       (Told cell info) (contains_filter is_tell sources (Told cell info) refl is)
 
-  -- whatever implies the sources implies what is told
+  -- anything that implies the sources implies the told information
   pub told_of_below : (known : C → Info) → AreOfTheirKinds cells known → All (IsImplied known) sources →
       (c : C) → Implies (known c) (told_of cells sources c)
   told_of_below known kinds implied =
@@ -37,7 +38,8 @@ module _ {C : Type 0} (cells : Cells C) (sources : List (Source C)) (fit : All (
   -- ---- a cell that no propagator writes
 
   module _ (c : C) (unwritten : All (λ source. cell_of source ≡ c → is_propagator source ≡ true → ⊥) sources) where
-    -- what is told of the cell leaves possible only what each source that informs it does
+    -- the told information about the cell leaves possible only what each source that informs it
+    -- does
     told_of_leaves : (known : C → Info) (v : ℤ) → allows (told_of cells sources c) v ≡ true → (source : Source C) → Contains sources source →
         Leaves cells known c v source
     told_of_leaves known v e (Told cell info) is = λ here.
@@ -45,7 +47,7 @@ module _ {C : Type 0} (cells : Cells C) (sources : List (Source C)) (fit : All (
     told_of_leaves known v e (Propagator procedure inputs output) is = λ here.
         absurd (All-contains (λ source. cell_of source ≡ c → is_propagator source ≡ true → ⊥) sources (Propagator procedure inputs output) unwritten is here refl)
 
-    -- so it implies what is known of the cell after rounds
+    -- so it implies what is known about the cell after rounds
     told_of_rounds : (n : ℕ) (known : C → Info) → AreOfTheirKinds cells known → Implies (told_of cells sources c) (known c) →
         Implies (told_of cells sources c) (iterate (round cells sources) n known c)
     told_of_rounds zero known kinds more = more
@@ -60,7 +62,7 @@ module _ {C : Type 0} (cells : Cells C) (sources : List (Source C)) (fit : All (
         told_of_rounds (length over * rounds_of_a_cell) (nothing_known cells) (kind-nothing_known cells)
         (implies_nothing (told_of cells sources c) (cells.kind c) (kind-told_of cells sources c))
 
-    -- what follows of the cell is what is told of it
+    -- what follows about the cell is what is told about it
     pub unwritten_told : (over : List C) → AreOver cells over sources → fixpoint cells over sources c ≡ told_of cells sources c
     unwritten_told over are =
         Implies-antisym (fixpoint cells over sources c) (told_of cells sources c)
@@ -68,15 +70,15 @@ module _ {C : Type 0} (cells : Cells C) (sources : List (Source C)) (fit : All (
         (told_of_below (fixpoint cells over sources) (kind-fixpoint cells over sources) (fixpoint_says cells over sources are) c)
         (told_of_above over)
 
--- ---- what is told, in one piece
+-- ---- the told facts, in one piece
 
 module _ {C : Type 0} (cells : Cells C) (over : List C) (sources : List (Source C)) (are : AreOver cells over sources)
     (told : C → Info) (same : (c : C) → Contains over c → told c ≡ told_of cells sources c) where
-  -- a cell is told this
+  -- this is told about a cell
   abbrev told_at : C → Source C
   told_at cell = Told cell (told cell)
 
-  -- the sources with what is told in one piece are over the same cells
+  -- the sources with the told facts in one piece are over the same cells
   pub told_in_one_over : AreOver cells over (told_in_one over told sources)
   told_in_one_over =
       record {
@@ -89,7 +91,7 @@ module _ {C : Type 0} (cells : Cells C) (over : List C) (sources : List (Source 
             (All-filter is_propagator (λ source. Contains over (cell_of source)) sources are.within);
       }
 
-  -- what implies the sources implies those with what is told in one piece
+  -- what implies the sources implies those with the told facts in one piece
   in_one_implied : (known : C → Info) → AreOfTheirKinds cells known → All (IsImplied known) sources →
       All (IsImplied known) (told_in_one over told sources)
   in_one_implied known kinds implied =

@@ -1,4 +1,5 @@
--- Instances that are new to settled values, and the agenda while readers of changed cells are queued.
+-- Instances that are new to settled values, and the agenda while readers of changed cells are
+-- queued.
 use Rattle.std.proofs.Common.{◌≡◌, ℕ, ◌+◌, ◌<◌, ◌≤◌, Bool, true, false, List, length, map, get_or, eqb, inl, inr, refl, sym, ap, ◌∙◌, subst, arith}
 use Rattle.std.specs.Prelude.{◌&&◌, nat_lt, not, IfOk, Result, Ok, Err}
 use Rattle.std.specs.FinSet.{is_subset}
@@ -33,7 +34,7 @@ module _ (network : Network) (settled : Settled) (visible : List Bool) (n : ℕ)
   pub new_later : settled.instances ≤ n → true ≡ (is_set visible n && is_new network settled n)
   new_later late = rw (seen, not_below n settled.instances late) refl
 
-  -- one that was there is new where it was not visible
+  -- one that existed is new if it was not visible
   pub new_hidden : n < settled.instances → (d : Attached) → n < length network.attached → (b : Bool) →
       b ≡ is_subset (attached_no network n d).support settled.worldview → not b ≡ (is_set visible n && is_new network settled n)
   new_hidden there d below b is =

@@ -57,7 +57,7 @@ module _ (network : Network) (well : IsWellNetwork network) (infos : List Info) 
       subst (λ (b : Attached). All (λ source. said_by (info_at infos) source ≡ info) (propagators_of network.declared.procedures (b.instance ∷ []))) (sym (is d))
       (subst (λ (ps : List Procedure). All (λ source. said_by (info_at infos) source ≡ info) (propagators_of ps (a.instance ∷ []))) same says)
 
-  -- where the output says it already, the instance is satisfied
+  -- if the output says it already, the instance is satisfied
   pub satisfied_here : (info : Info) → All (λ source. said_by (info_at infos) source ≡ info) (propagators_of procedures (a.instance ∷ [])) →
       Implies (info_at infos a.instance.output) info → (d : Attached) → IsSatisfied network (info_at infos) (attached_no network number d)
   satisfied_here info says implied d =

@@ -1,4 +1,5 @@
--- Instances whose cells are there, of kinds that their procedures accept: what they say, and what merging it makes of what is known.
+-- Instances whose cells are there, of kinds that their procedures accept: what they say, and what
+-- merging it makes of what is known.
 use Rattle.std.proofs.Common.{◌≡◌, ℕ, ◌+◌, ◌<◌, ◌≤◌, List, [], ◌∷◌, ◌++◌, Option, Some, length, map, get_or, set, refl, sym, ap, ◌∙◌, subst, arith, inl, inr}
 use Rattle.std.specs.Prelude.{All, slice_get, take}
 use Rattle.std.specs.List.{cons_option}
@@ -24,7 +25,7 @@ use Rattle.pw_settle.specs.Settled.{info_at}
 use Rattle.pw_settle.specs.Values.{numbered, propagators_of}
 use Rattle.pw_settle.specs.Placed.{IsPlaced}
 
--- what is known of a cell by its number is of the cell's kind
+-- what is known about a cell by its number is of the cell's kind
 pub kind-info_at : (infos : List Info) (cell : ℕ) → kind_of (info_at infos cell) ≡ (numbered (map kind_of infos)).kind cell
 kind-info_at infos cell = sym (get_or-map kind_of infos cell (nothing kinds.Interval))
 
@@ -66,7 +67,7 @@ module _ (procedures : List Procedure) (ks : List Kind) (instance : Instance ℕ
 
 -- ---- what an instance's procedure makes of its inputs
 
--- what is known of cells is of their kinds
+-- what is known about cells is of their kinds
 kinds_known : (known : List Info) (cells : List ℕ) → map kind_of (map (info_at known) cells) ≡ map (numbered (map kind_of known)).kind cells
 kinds_known known [] = refl
 kinds_known known (cell ∷ cells) = λ i. kind-info_at known cell i ∷ kinds_known known cells i
@@ -114,7 +115,7 @@ all_filled known inputs cells place done past within =
     let same : length cells ≡ place = omega arith in
     ap (λ (n : ℕ). take n inputs) same ∙ done ∙ ap (map (info_at known)) (take_all place cells past)
 
--- what is known of one cell, or of two, alone
+-- what is known about only one cell, or about only two
 pub one_given : (known : List Info) (cells : List ℕ) (x : Info) → 1 ≤ length cells → length cells < 2 → get_or cells 0 0 < length known
     → x ≡ get_or known (get_or cells 0 0) x → x ∷ [] ≡ map (info_at known) cells
 one_given known [] x some few there read = absurd (omega (arith, some))

@@ -1,4 +1,4 @@
--- Instances as sources: under other names, that they are propagators alone, that they fit, and what they name.
+-- Instances as sources: under other names; they are only propagators; they fit; and what they name.
 use Rattle.std.proofs.Common.{◌≡◌, List, [], ◌∷◌, ◌++◌, Option, Some, None, filter, map, refl, sym, ap, subst, ◌∙◌, All}
 use Rattle.std.proofs.Math.Logic.{∥∥₁_map}
 use Rattle.std.specs.Prelude.{slice_get}
@@ -15,7 +15,7 @@ use Rattle.pw_settle.specs.Values.{propagator_of, propagators_of}
 
 -- ---- as sources
 
--- sources with an instance before them, where a procedure is found for it
+-- sources with an instance before them, if a procedure is found for it
 abbrev with_instance : {C : Type 0} → Instance C → Option Procedure → List (Source C) → List (Source C)
 with_instance instance found rest =
     cons_option (option_map (λ procedure. Propagator procedure instance.inputs instance.output) found) rest
@@ -42,7 +42,7 @@ propagator_only : {C : Type 0} (instance : Instance C) (rest : List (Source C)) 
 propagator_only instance rest None only = only
 propagator_only instance rest (Some procedure) only = ap (λ l. Propagator procedure instance.inputs instance.output ∷ l) only
 
--- so what instances are is propagators alone
+-- so instances are only propagators
 pub propagators_only : {C : Type 0} (procedures : List Procedure) (instances : List (Instance C)) →
     filter is_propagator (propagators_of procedures instances) ≡ propagators_of procedures instances
 propagators_only procedures [] = refl
@@ -50,13 +50,13 @@ propagators_only procedures (instance ∷ instances) =
     propagator_only instance (propagators_of procedures instances) (slice_get procedures instance.procedure)
     (propagators_only procedures instances)
 
--- ---- sources fit where instances do, and name what these speak of
+-- ---- sources fit where instances do, and name what these mention
 
 -- the kinds of the cells of an instance, the output last
 abbrev kinds_of_cells : {C : Type 0} → (C → Kind) → Instance C → List Kind
 kinds_of_cells kind instance = map kind instance.inputs ++ kind instance.output ∷ []
 
--- where an instance fits the kinds of its cells, so does what it is as a source
+-- if an instance fits the kinds of its cells, so does what it is as a source
 propagator_fits : {C : Type 0} (cells : Cells C) (procedures : List Procedure) (instance : Instance C) (rest : List (Source C))
     (found : Option Procedure) → slice_get procedures instance.procedure ≡ found → ∥ FitsCells procedures cells.kind instance ∥₁ →
     All (Fits cells) rest →
@@ -76,7 +76,7 @@ propagators_fit cells procedures (instance ∷ instances) fit =
     (All-head (λ i. ∥ FitsCells procedures cells.kind i ∥₁) instance instances fit)
     (propagators_fit cells procedures instances (All-tail (λ i. ∥ FitsCells procedures cells.kind i ∥₁) instance instances fit))
 
--- what an instance is as a source names what it speaks of
+-- what an instance is as a source names what it mentions
 propagator_names : {C : Type 0} (IsHere : C → Type 0) (instance : Instance C) (rest : List (Source C)) (found : Option Procedure) →
     SpeaksOf IsHere instance → All (Names IsHere) rest →
     All (Names IsHere) (with_instance instance found rest)

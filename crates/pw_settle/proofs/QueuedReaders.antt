@@ -22,7 +22,7 @@ first_or_other : (x y : ℕ) (xs : List ℕ) → Contains (x ∷ xs) y → (x �
 first_or_other x y xs (zero, within, is) = inl is
 first_or_other x y xs (suc k, within, is) = inr (k, omega (arith, within), is)
 
--- so far those of the readers that are not left were queued, where they are visible
+-- so far the readers that are no longer left were queued, if they are visible
 pub record AreQueuedBut (visible old now : List Bool) (readers left : List ℕ) (count : ℕ) : Type 0 where
   pub queued : (n : ℕ) → Contains readers n → is_set visible n ≡ true → (is_set now n ≡ true) ⊎ Contains left n
   pub stay : (n : ℕ) → is_set old n ≡ true → is_set now n ≡ true
@@ -131,7 +131,7 @@ none_left visible old now readers left count so_far none n reader seen =
       | inr (k, within, is) ↦ let empty = ap length none in absurd (omega (arith, within, empty))
     ]
 
--- so then just these are queued that were, and the visible readers
+-- then exactly the numbers that were queued before and the visible readers are queued
 pub queues_readers : (network : Network) (cell : ℕ) (visible old now : List Bool) (left : List ℕ) (count : ℕ) →
     AreQueuedBut visible old now (readers_of network cell) left count → left ≡ [] → QueuesReaders network visible (λ c. c ≡ cell) old now
 queues_readers network cell visible old now left count so_far none = record {

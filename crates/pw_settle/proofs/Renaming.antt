@@ -1,4 +1,4 @@
--- Other names of cells: rounds, and so the fixpoint, know the same of a cell under either name.
+-- Other names of cells: rounds, and so the fixpoint, know the same for a cell under either name.
 use Rattle.std.proofs.Common.{◌≡◌, ℕ, zero, suc, ◌*◌, List, [], ◌∷◌, if◌then◌else◌, map, length, fold, All, refl, ◌∙◌, ap}
 use Rattle.std.proofs.lemmas.Bool.Decides.{same_from_decides}
 use Rattle.std.proofs.lemmas.List.{length-map}
@@ -15,35 +15,35 @@ cell_renamed : {C D : Type 0} (name : C → D) (source : Source C) → cell_of (
 cell_renamed name (Told cell info) = refl
 cell_renamed name (Propagator procedure inputs output) = refl
 
--- where each cell that a source names is here, so is the one that it informs
+-- if each cell that a source names is here, so is the one that it informs
 cell_here : {C : Type 0} (IsHere : C → Type 0) (source : Source C) → Names IsHere source → IsHere (cell_of source)
 cell_here IsHere (Told cell info) here = here
 cell_here IsHere (Propagator procedure inputs output) here = here.1
 
 module _ {C D : Type 0} (cells : Cells C) (others : Cells D) (IsHere : C → Type 0) (name : C → D) (are : AreNamesOf cells others IsHere name) where
-  -- two cells that are here are one just where their other names are
+  -- two cells that are here are one exactly if their other names are
   same_named : (c d : C) → IsHere c → IsHere d → others.same (name c) (name d) ≡ cells.same c d
   same_named c d first second =
       same_from_decides {P = c ≡ d} (others.same (name c) (name d)) (cells.same c d)
       (λ e. are.apart c d first second ((others.decides (name c) (name d)).0 e), λ e. (others.decides (name c) (name d)).1 (ap name e))
       (cells.decides c d)
 
-  -- the same is known of each cell that is here under either name
+  -- the same is known about each cell that is here under either name
   abbrev pub Agree : (C → Info) → (D → Info) → Type 0
   Agree known other = (c : C) → IsHere c → other (name c) ≡ known c
 
   module _ (known : C → Info) (other : D → Info) (agree : Agree known other) where
-    -- what is known of some cells that are here is known of them under their other names
+    -- what is known about some cells that are here is known about them under their other names
     map_agrees : (cs : List C) → All IsHere cs → map other (map name cs) ≡ map known cs
     map_agrees [] here = refl
     map_agrees (c ∷ cs) here = λ k. agree c (All-head IsHere c cs here) k ∷ map_agrees cs (All-tail IsHere c cs here) k
 
-    -- a source says the same of its cell under either name
+    -- a source says the same about its cell under either name
     said_renamed : (source : Source C) → Names IsHere source → said_by other (source_renamed name source) ≡ said_by known source
     said_renamed (Told cell info) here = refl
     said_renamed (Propagator procedure inputs output) here = ap (value_by procedure) (map_agrees inputs here.0)
 
-    -- and so do sources, merged with what was known of the cell
+    -- and so do sources, merged with what was known about the cell
     merged_renamed : (c : C) → IsHere c → (sources : List (Source C)) → All (Names IsHere) sources → (info : Info) →
         fold (with_source others other (name c)) info (map (source_renamed name) sources) ≡ fold (with_source cells known c) info sources
     merged_renamed c here [] named info = refl

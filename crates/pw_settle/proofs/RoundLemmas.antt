@@ -1,4 +1,5 @@
--- What a source says, and what a round leaves possible: just what each source that informs the cell leaves possible too.
+-- What a source says, and what a round leaves possible: exactly what each source that informs the
+-- cell leaves possible too.
 use Rattle.std.proofs.Common.{◌≡◌, ℤ, List, [], ◌∷◌, ◌++◌, Bool, true, false, if◌then◌else◌, map, fold, All, Contains, Decides, refl, sym, ◌∙◌, ap, subst}
 use Rattle.std.proofs.Math.Logic.{∥∥₁_elim}
 use Rattle.std.proofs.lemmas.List.Elements.{All-cons, All-contains, All-head, All-nil, All-tail, All-weaker}
@@ -20,7 +21,8 @@ use Rattle.pw_settle.proofs.Membership.{each_member}
 
 -- ---- one merge
 
--- what a merge that is made where P holds leaves possible: what was, and, where P holds, what is merged
+-- what a merge that is made where P holds leaves possible: what was, and, where P holds, what is
+-- merged
 merge_allows : (b : Bool) (P : Type 0) → Decides b P → (info said : Info) → (P → kind_of info ≡ kind_of said) → (v : ℤ) →
     allows (if b then meet info said else info) v ≡ true → (allows info v ≡ true) × (P → allows said v ≡ true)
 merge_allows true P decides info said kinds v e =
@@ -28,28 +30,28 @@ merge_allows true P decides info said kinds v e =
     (both.0, λ p. both.1)
 merge_allows false P decides info said kinds v e = (e, λ p. let wrong : false ≡ true = decides.1 p in absurd (cc))
 
--- and whatever both leave possible, it does
+-- and it leaves possible everything that both leave possible
 allows_merge : (b : Bool) (P : Type 0) → Decides b P → (info said : Info) → (P → kind_of info ≡ kind_of said) → (v : ℤ) →
     allows info v ≡ true → (P → allows said v ≡ true) → allows (if b then meet info said else info) v ≡ true
 allows_merge true P decides info said kinds v e more =
     allows-meet info said (kinds (decides.0 refl)) v ∙ both_true _ _ e (more (decides.0 refl))
 allows_merge false P decides info said kinds v e more = e
 
--- such a merge is of the kind of what was
+-- a merge like this is of the kind of what was known before
 kind-merge : (b : Bool) (info said : Info) → kind_of (if b then meet info said else info) ≡ kind_of info
 kind-merge true info said = kind-meet info said
 kind-merge false info said = refl
 
 -- ---- what sources say
 
--- where what is known of each cell is more informed, so is what is known of some, one by one
+-- if what is known about each cell is more informed, so is what is known about some, one by one
 map_implied : {C : Type 0} (better known : C → Info) → ((c : C) → Implies (better c) (known c)) → (cs : List C) →
     AllZip Implies (map better cs) (map known cs)
 map_implied better known more [] = tt
 map_implied better known more (c ∷ cs) = (more c, map_implied better known more cs)
 
 module _ {C : Type 0} (cells : Cells C) where
-  -- what is known of some cells is of their kinds
+  -- what is known about some cells is of their kinds
   kinds_known : (known : C → Info) → AreOfTheirKinds cells known → (cs : List C) → map kind_of (map known cs) ≡ map cells.kind cs
   kinds_known known kinds cs = map-map kind_of known cs ∙ (λ k. map (λ c. kinds c k) cs)
 
@@ -70,7 +72,7 @@ module _ {C : Type 0} (cells : Cells C) where
       All (IsOfItsKind known) sources
   kinds-said known kinds sources fit = All-weaker (Fits cells) (IsOfItsKind known) (kind-said known kinds) sources fit
 
-  -- where more is known of each cell, a source says at least as much
+  -- if more is known about each cell, a source says at least as much
   pub said_mono : (better known : C → Info) → AreOfTheirKinds cells better → AreOfTheirKinds cells known →
       ((c : C) → Implies (better c) (known c)) → (source : Source C) → Implies (said_by better source) (said_by known source)
   said_mono better known better_kinds known_kinds more (Told cell info) = λ v e. e
@@ -80,7 +82,7 @@ module _ {C : Type 0} (cells : Cells C) where
 
   -- ---- what a round leaves possible
 
-  -- an information of a cell merged with what sources say of the cell is of its kind
+  -- an information of a cell merged with what sources say about the cell is of its kind
   kind-merged : (known : C → Info) (cell : C) (info : Info) (sources : List (Source C)) →
       kind_of (fold (with_source cells known cell) info sources) ≡ kind_of info
   kind-merged known cell info [] = refl
@@ -92,16 +94,18 @@ module _ {C : Type 0} (cells : Cells C) where
   pub kind-round : (sources : List (Source C)) (known : C → Info) (c : C) → kind_of (round cells sources known c) ≡ kind_of (known c)
   kind-round sources known c = kind-merged known c (known c) sources
 
-  -- an information of the kind of a cell is of the kind of what a source says that informs this cell
+  -- an information of the kind of a cell is of the kind of what a source says that informs this
+  -- cell
   merged_kind : (known : C → Info) (cell : C) (info : Info) (source : Source C) → kind_of info ≡ cells.kind cell → IsOfItsKind known source →
       cell_of source ≡ cell → kind_of info ≡ kind_of (said_by known source)
   merged_kind known cell info source kind says is = kind ∙ sym (says ∙ ap cells.kind is)
 
-  -- what the source says leaves the value possible, where it informs the cell
+  -- what the source says leaves the value possible, if it informs the cell
   abbrev pub Leaves : (C → Info) → C → ℤ → Source C → Type 0
   Leaves known cell v source = cell_of source ≡ cell → allows (said_by known source) v ≡ true
 
-  -- an information merged with what sources say of a cell leaves possible only what it did and what each of them does
+  -- an information merged with what sources say about a cell leaves possible only what it did and
+  -- what each of them does
   merged_allows : (known : C → Info) (cell : C) (sources : List (Source C)) (info : Info) → kind_of info ≡ cells.kind cell →
       All (IsOfItsKind known) sources → (v : ℤ) → allows (fold (with_source cells known cell) info sources) v ≡ true →
       (allows info v ≡ true) × All (Leaves known cell v) sources
@@ -113,7 +117,8 @@ module _ {C : Type 0} (cells : Cells C) where
       (merged_kind known cell info source kind (All-head (IsOfItsKind known) source sources says)) v rest.0 in
       (first.0, All-cons (Leaves known cell v) source sources first.1 rest.1)
 
-  -- and whatever it did and each of them does
+  -- and it leaves possible everything that was possible before and that each of them leaves
+  -- possible
   allows_merged : (known : C → Info) (cell : C) (sources : List (Source C)) (info : Info) → kind_of info ≡ cells.kind cell →
       All (IsOfItsKind known) sources → (v : ℤ) → allows info v ≡ true → All (Leaves known cell v) sources →
       allows (fold (with_source cells known cell) info sources) v ≡ true
@@ -127,7 +132,8 @@ module _ {C : Type 0} (cells : Cells C) where
       (All-tail (Leaves known cell v) source sources leave)
 
   module _ (sources : List (Source C)) (fit : All (Fits cells) sources) (known : C → Info) (kinds : AreOfTheirKinds cells known) where
-    -- what is possible of a cell after a round was possible before it, and is possible by what each source says that informs the cell
+    -- what is possible of a cell after a round was possible before it, and is possible by what each
+    -- source says that informs the cell
     pub round_allows : (c : C) (v : ℤ) → allows (round cells sources known c) v ≡ true →
         (allows (known c) v ≡ true) × All (Leaves known c v) sources
     round_allows c v e = merged_allows known c sources (known c) (kinds c) (kinds-said known kinds sources fit) v e
@@ -137,7 +143,7 @@ module _ {C : Type 0} (cells : Cells C) where
         allows (round cells sources known c) v ≡ true
     allows_round c v e leave = allows_merged known c sources (known c) (kinds c) (kinds-said known kinds sources fit) v e leave
 
-    -- after a round at least as much is known of each cell
+    -- after a round at least as much is known about each cell
     pub round_gains : (c : C) → Implies (round cells sources known c) (known c)
     round_gains c v e = (round_allows c v e).0
 
@@ -146,24 +152,24 @@ module _ {C : Type 0} (cells : Cells C) where
     round_says source is v e =
         All-contains (Leaves known (cell_of source) v) sources source (round_allows (cell_of source) v e).1 is refl
 
-    -- of a cell that is left as it is, is known what the sources say that inform it
+    -- if a cell is left unchanged, what is known about it says what the sources that inform it say
     pub left_implied : (source : Source C) → Contains sources source →
         round cells sources known (cell_of source) ≡ known (cell_of source) → IsImplied known source
     left_implied source is left =
         subst (λ (i : Info). Implies i (said_by known source)) left (round_says source is)
 
-    -- what a round leaves as it is implies the sources
+    -- what a round leaves unchanged implies the sources
     pub stays_implied : ((c : C) → round cells sources known c ≡ known c) → All (IsImplied known) sources
     stays_implied stays = each_member (IsImplied known) sources (λ source is. left_implied source is (stays (cell_of source)))
 
-    -- where the sources are implied a round leaves all as it is
+    -- if the sources are implied, a round leaves everything unchanged
     pub round_stays : All (IsImplied known) sources → (c : C) → round cells sources known c ≡ known c
     round_stays implied c =
         Implies-antisym (round cells sources known c) (known c) (kind-round sources known c) (round_gains c)
         (λ v e. allows_round c v e (All-weaker (IsImplied known) (Leaves known c v)
         (λ source implies is. implies v (subst (λ (d : C). allows (known d) v ≡ true) (sym is) e)) sources implied))
 
-    -- whatever implies the sources, and what is known, implies what is known after a round
+    -- anything that implies the sources, and what is known, implies what is known after a round
     pub round_below : (last : C → Info) → AreOfTheirKinds cells last → All (IsImplied last) sources →
         ((c : C) → Implies (last c) (known c)) → (c : C) → Implies (last c) (round cells sources known c)
     round_below last last_kinds implied more c v e =

@@ -13,8 +13,8 @@ use Rattle.pw_settle.specs.Fixpoint.{AreOver, round}
 use Rattle.pw_settle.proofs.Membership.{each_member}
 use Rattle.pw_settle.proofs.RoundLemmas.{kind-round, left_implied, round_below, round_gains, round_stays}
 
--- where of each thing something holds or one number is below another, and never above it, that holds of all of a list, or the
--- sum of the ones is below that of the others
+-- if for each thing a property holds or one number is below another, and never above it, then the
+-- property holds for all of a list, or the sum of the ones is below the sum of the others
 pub all_or_falls : {X : Type 0} (P : X → Type 0) (f g : X → ℕ) → ((x : X) → P x ⊎ (f x < g x)) → ((x : X) → f x ≤ g x) →
     (xs : List X) → All P xs ⊎ (sum_by f xs < sum_by g xs)
 all_or_falls P f g either most [] = inl (All-nil P)
@@ -38,13 +38,13 @@ module _ {C : Type 0} (cells : Cells C) (sources : List (Source C)) where
   kind-rounds zero known kinds = kinds
   kind-rounds (suc n) known kinds = kind-rounds n (round cells sources known) (λ c. kind-round cells sources known c ∙ kinds c)
 
-  -- what one round leaves as it is, rounds leave as it is
+  -- what one round leaves unchanged, rounds leave unchanged
   pub rounds_stay : (known : C → Info) → ((c : C) → round cells sources known c ≡ known c) → (n : ℕ) → iterate (round cells sources) n known ≡ known
   rounds_stay known stays zero = refl
   rounds_stay known stays (suc n) = ap (iterate (round cells sources) n) (fun_ext stays) ∙ rounds_stay known stays n
 
   module _ (fit : All (Fits cells) sources) where
-    -- whatever implies the sources, and what is known, implies what is known after rounds
+    -- anything that implies the sources, and what is known, implies what is known after rounds
     pub rounds_below : (last : C → Info) → AreOfTheirKinds cells last → All (IsImplied last) sources → (n : ℕ) (known : C → Info) →
         AreOfTheirKinds cells known → ((c : C) → Implies (last c) (known c)) → (c : C) → Implies (last c) (iterate (round cells sources) n known c)
     rounds_below last last_kinds implied zero known kinds more = more
@@ -52,7 +52,7 @@ module _ {C : Type 0} (cells : Cells C) (sources : List (Source C)) where
         rounds_below last last_kinds implied n (round cells sources known) (λ c. kind-round cells sources known c ∙ kinds c)
         (round_below cells sources fit known kinds last last_kinds implied more)
 
-    -- a round leaves a cell as it is, or lowers its rank
+    -- a round leaves a cell unchanged, or lowers its rank
     left_or_lower : (known : C → Info) → AreOfTheirKinds cells known → (c : C) →
         (round cells sources known c ≡ known c) ⊎ (rank_of (round cells sources known c) < rank_of (known c))
     left_or_lower known kinds c =
@@ -66,7 +66,8 @@ module _ {C : Type 0} (cells : Cells C) (sources : List (Source C)) where
     ]
 
   module _ (over : List C) (are : AreOver cells over sources) where
-    -- what is known implies the sources, or a round lowers the sum of the ranks of the cells that they inform
+    -- what is known implies the sources, or a round lowers the sum of the ranks of the cells that
+    -- they inform
     implied_or_falls : (known : C → Info) → AreOfTheirKinds cells known →
         All (IsImplied known) sources ⊎ (sum_by (λ c. rank_of (round cells sources known c)) over < sum_by (λ c. rank_of (known c)) over)
     implied_or_falls known kinds =

@@ -1,4 +1,5 @@
--- What a store keeps in a worldview once every visible instance is satisfied, and how many calls that took.
+-- What a store keeps in a worldview after every visible instance is satisfied, and how many calls
+-- that took.
 use Rattle.std.proofs.Common.{◌≡◌, ℕ, ◌+◌, ◌-◌, ◌*◌, ◌<◌, ◌≤◌, ◌^◌, Bool, true, false, List, [], ◌∷◌, All, length, map, cond, refl, sym, ap, ◌∙◌, subst, arith, mul-le-mul_right}
 use Rattle.std.specs.Prelude.{slice_index_or}
 use Rattle.std.specs.List.{count_by, range_with_len}
@@ -36,7 +37,7 @@ use Rattle.pw_settle.proofs.ValueGrows.{all_seen, value_grows}
 
 -- ---- the values
 
--- what is told stays said as more is kept
+-- the told facts are still said after more is kept
 told_still : (network : Network) (old new : Store) (w : Premises) → KeepsMore network old new → SaysTold old w → (cell : ℕ) → cell < length old.cells →
     Implies (kept_in new cell w) (told_in new cell w)
 told_still network old new w grows told cell below v possible =

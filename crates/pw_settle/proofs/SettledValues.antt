@@ -1,4 +1,4 @@
--- What a network and a store say of cells, and that what follows says it.
+-- What a network and a store say about cells, and that what follows says it.
 use Rattle.std.proofs.Common.{◌≡◌, ℕ, ◌+◌, ◌<◌, Bool, true, false, List, [], ◌∷◌, ◌++◌, length, map, refl, sym, ap, ◌∙◌, subst, arith, length-append, append-nil}
 use Rattle.std.specs.Prelude.{All, Contains, slice_index_or, filter}
 use Rattle.std.specs.FinSet.{is_subset}
@@ -23,7 +23,7 @@ use Rattle.pw_settle.specs.Placed.{IsPlaced}
 use Rattle.pw_settle.proofs.FixpointLemmas.{kind-fixpoint, fixpoint_says}
 use Rattle.pw_settle.proofs.Propagators.{names_cell, propagators_fit, propagators_name}
 
--- ---- one instance more
+-- ---- one more instance
 
 abbrev is_seen : Premises → Attached → Bool
 is_seen w a = is_subset a.support w
@@ -60,7 +60,7 @@ propagators_more procedures instances instance = filter_map-append _ instances (
 abbrev seen_sources : List Procedure → Premises → List Attached → List (Source ℕ)
 seen_sources procedures w attached = propagators_of procedures (visible_instances attached w)
 
--- ---- what a network and a store say of cells
+-- ---- what a network and a store say about cells
 
 -- each number below is in the row from 0
 pub contains_number : (n cell : ℕ) → cell < n → Contains (range_with_len 0 n) cell
@@ -94,7 +94,7 @@ all_placed network well i d within =
       well.fits i d within,
     )
 
--- so they are, whatever they are called
+-- the same, under any other names
 pub placed_by : (network : Network) → IsWellNetwork network → (procedures : List Procedure) (attached : List Attached) (ks : List Kind) →
     procedures ≡ network.declared.procedures → attached ≡ network.attached → ks ≡ kinds_in network → All (λ a. IsPlaced procedures ks (instance_in a)) attached
 placed_by network well procedures attached ks same_procedures same_attached same_kinds =
@@ -116,7 +116,7 @@ module _ (network : Network) (store : Store) (w : Premises) (same : kinds_of sto
   seen_placed : All (IsPlaced network.declared.procedures ks) seen
   seen_placed = seen_have (IsPlaced network.declared.procedures ks) network.attached w placed
 
-  -- what is told of a cell is of its kind
+  -- the told information about a cell is of the cell's kind
   pub kind-told : (cell : ℕ) → kind_of (told_in store cell w) ≡ (numbered ks).kind cell
   kind-told cell =
       kind-shown_by (cell_at store cell).kind w (cell_at store cell).told ∙ kind-listed store.cells cell
@@ -126,7 +126,7 @@ module _ (network : Network) (store : Store) (w : Premises) (same : kinds_of sto
   told_fit [] = All-nil (Fits (numbered ks))
   told_fit (cell ∷ cells) = All-cons (Fits (numbered ks)) (Told cell (told_in store cell w)) (map (λ cell. Told cell (told_in store cell w)) cells) (kind-told cell) (told_fit cells)
 
-  -- what a network and a store say fits the kinds of the cells, and informs cells that are there
+  -- what a network and a store say fits the kinds of the cells, and informs cells that exist
   pub are_over : AreOver (numbered ks) (numbers_of ks) (sources_in network store w)
   are_over = record {
     fit = All-append (Fits (numbered ks)) (told_sources store w (length ks)) propagators (told_fit (range_with_len 0 (length ks)))

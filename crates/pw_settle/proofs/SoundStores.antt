@@ -28,14 +28,14 @@ use Rattle.pw_settle.proofs.WiderNetworks.{still_attached, value_says_told, valu
 
 -- ---- what is kept follows
 
--- where a cell is new, nothing is kept of it, and that follows
+-- if a cell is new, nothing is kept of it, and that follows
 keeps_nothing : (network : Network) (store : Store) → kinds_of store ≡ kinds_in network → (w : Premises) (c : ℕ) (k : Kind) → cell_at store c ≡ new_cell k →
     Implies (value_in network store w c) (kept_in store c w)
 keeps_nothing network store same w c k none =
     implies_also (value_in network store w c) (nothing k) (kept_in store c w) (sym (ap (λ (x : Cell). kept_of x w) none))
     (implies_nothing (value_in network store w c) k (kind-in_value network store same w c ∙ ap (λ (x : Cell). x.kind) none))
 
--- a store is sound where what is kept of the cells that are there follows
+-- a store is sound where what is kept of the cells that exist follows
 sound_there : (network : Network) (store : Store) → kinds_of store ≡ kinds_in network →
     ((w : Premises) (c : ℕ) → c < length (kinds_in network) → Implies (value_in network store w c) (kept_in store c w)) → IsSound network store
 sound_there network store same there w c =
@@ -48,7 +48,7 @@ sound_there network store same there w c =
           (get_or_past store.cells c (new_cell kinds.Interval) (omega (arith, past, many, ap length same)))
     ]
 
--- the cells of new ones are new, whatever their number
+-- the cells of new stores are new, for any number of cells
 all_new : (store : Store) (ks : List Kind) → store.cells ≡ map new_cell ks → (c : ℕ) → cell_at store c ≡ new_cell (get_or ks c kinds.Interval)
 all_new store ks new c = ap (λ (l : List Cell). get_or l c (new_cell kinds.Interval)) new ∙ get_or-map new_cell ks c kinds.Interval
 
@@ -56,7 +56,7 @@ all_new store ks new c = ap (λ (l : List Cell). get_or l c (new_cell kinds.Inte
 pub sound_new : (network : Network) (store : Store) (ks : List Kind) → kinds_of store ≡ kinds_in network → store.cells ≡ map new_cell ks → IsSound network store
 sound_new network store ks same new w c = keeps_nothing network store same w c (get_or ks c kinds.Interval) (all_new store ks new c)
 
--- soundness is of the cells alone
+-- soundness depends only on the cells
 pub sound_same : (network : Network) (old new : Store) → new.cells ≡ old.cells → IsSound network old → IsSound network new
 sound_same network old new same sound =
     subst (λ (cs : List Cell). IsSound network (record { cells = cs; room = 0 })) (sym same) sound
@@ -71,12 +71,12 @@ cell_added old new own are c past =
     ∙ get_or-append-add old.cells (map new_cell own) (c - length old.cells) (new_cell kinds.Interval)
     ∙ get_or-map new_cell own (c - length old.cells) kinds.Interval
 
--- and a cell that was there is as it was
+-- and a cell that existed is unchanged
 pub cell_stays : (old new : Store) (own : List Kind) → new.cells ≡ old.cells ++ map new_cell own → (c : ℕ) → c < length old.cells → cell_at new c ≡ cell_at old c
 cell_stays old new own are c there =
     ap (λ (l : List Cell). get_or l c (new_cell kinds.Interval)) are ∙ get_or_append_left old.cells (map new_cell own) (new_cell kinds.Interval) c there
 
--- a store stays sound where more is attached, and new cells are added
+-- a store stays sound if more is attached, and new cells are added
 pub sound_attached : (network wider : Network) → IsWider network wider → IsWellNetwork network → IsWellNetwork wider → (old new : Store) (own : List Kind) →
     kinds_of old ≡ kinds_in network → kinds_of new ≡ kinds_in wider → new.cells ≡ old.cells ++ map new_cell own → IsSound network old → IsSound wider new
 sound_attached network wider wide well also old new own same fits are sound w c =
@@ -122,7 +122,7 @@ more_told network old new same cell fact kind gained others c w =
     (λ c other. also_implies (told_in old c w) (told_in old c w) (told_in new c w) (sym (ap (λ (x : Cell). told_of x w) (others c other)))
     (λ v possible. possible)) c
 
--- a store stays sound where a fact is told
+-- a store stays sound if a fact is told
 pub sound_told : (network : Network) → IsWellNetwork network → (old new : Store) (cell : ℕ) (fact : Fact) → kinds_of old ≡ kinds_in network →
     kind_of fact.info ≡ kind_in_store old cell → GainsTold cell fact old new → GainsKept cell fact old new → LeavesOthers cell old new →
     kinds_of new ≡ kinds_of old → IsSound network old → IsSound network new
@@ -154,7 +154,7 @@ sound_told network well old new cell fact same kind gained gains others still so
 
 -- ---- what is kept rests on premises upstream
 
--- premises that lie upstream do so where more is attached and more was given
+-- premises that lie upstream do so if more is attached and more was given
 lie_still : (network wider : Network) → IsWider network wider → (given more : ℕ → ℕ → Bool) → ((c p : ℕ) → given c p ≡ true → more c p ≡ true) →
     (cell : ℕ) (premises : Premises) → LiesUpstream network given cell premises → LiesUpstream wider more cell premises
 lie_still network wider wide given more all cell premises lies cells upstream has p one =
@@ -173,14 +173,14 @@ rests_new network given store ks new cell =
     subst (All (λ (f : Fact). LiesUpstream network given cell f.support)) (sym (ap (λ (x : Cell). x.kept) (all_new store ks new cell)))
     (All-nil (λ (f : Fact). LiesUpstream network given cell f.support))
 
--- it is a matter of the cells alone, and of what was given
+-- it depends only on the cells and on what was given
 pub rests_same : (network : Network) (given more : ℕ → ℕ → Bool) (old new : Store) → new.cells ≡ old.cells → ((c p : ℕ) → given c p ≡ true → more c p ≡ true) →
     RestsUpstream network given old → RestsUpstream network more new
 rests_same network given more old new same all rests cell =
     subst (λ (cs : List Cell). All (λ (f : Fact). LiesUpstream network more cell f.support) (kept_at (record { cells = cs; room = 0 }) cell)) (sym same)
     (λ k d within. lie_still network network (wide_self network) given more all cell (get_or (kept_at old cell) k d).support (rests cell k d within))
 
--- where more is attached, and new cells are added
+-- if more is attached, and new cells are added
 pub rests_attached : (network wider : Network) → IsWider network wider → (given more : ℕ → ℕ → Bool) → ((c p : ℕ) → given c p ≡ true → more c p ≡ true) →
     (old new : Store) (own : List Kind) → new.cells ≡ old.cells ++ map new_cell own → RestsUpstream network given old → RestsUpstream wider more new
 rests_attached network wider wide given more all old new own are rests cell =
@@ -195,7 +195,7 @@ rests_attached network wider wide given more all old new own are rests cell =
           (All-nil (λ (f : Fact). LiesUpstream wider more cell f.support))
     ]
 
--- where a fact is told, whose premises are given with its cell
+-- if a fact is told, whose premises are given with its cell
 pub rests_told : (network : Network) (given more : ℕ → ℕ → Bool) → ((c p : ℕ) → given c p ≡ true → more c p ≡ true) → (old new : Store) (cell : ℕ) (fact : Fact) →
     ((p : ℕ) → contains fact.support p ≡ true → more cell p ≡ true) → AssimilatesAt cell fact old new → LeavesOthers cell old new →
     RestsUpstream network given old → RestsUpstream network more new

@@ -4,7 +4,7 @@ use Rattle.std.specs.Prelude.{All}
 use Rattle.std.proofs.lemmas.List.{drop_all, get_or_append_left, take_all}
 use Rattle.std.proofs.lemmas.List.Elements.{All-tail}
 
--- of what holds of the elements of two lists in a row, the part that speaks of the first
+-- of what holds of the elements of two lists in a row, the part that mentions the first
 pub all_before : {X : Type 0} (P : X → Type 0) (xs ys : List X) → All P (xs ++ ys) → All P xs
 all_before P xs ys all i d within =
     subst P (get_or_append_left xs ys d i within) (all i d (omega (arith, length-append xs ys)))

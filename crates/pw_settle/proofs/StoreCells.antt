@@ -18,7 +18,7 @@ pub kinds_added : (cs : List Cell) (ks : List Kind) → map (λ (c : Cell). c.ki
 kinds_added cs ks =
     map-append (λ (c : Cell). c.kind) cs (map new_cell ks) ∙ ap (λ (l : List Kind). map (λ (c : Cell). c.kind) cs ++ l) (kinds_again ks)
 
--- where the store has the kinds of a network, it has its cells
+-- if the store has the kinds of a network, it has its cells
 pub cells_kept : (network : Network) (store : Store) → IsWellNetwork network → kinds_of store ≡ kinds_in network → length store.cells ≡ cells_in network
 cells_kept network store well fits =
     let kept = length-map store.cells (λ (c : Cell). c.kind) in

@@ -1,4 +1,4 @@
--- Flags of which one is let down.
+-- Flags of which one is cleared.
 use Rattle.std.proofs.Common.{◌≡◌, ◌≢◌, ℕ, ◌+◌, ◌<◌, suc, Bool, true, false, cond, eqb, inl, inr, List, [], ◌∷◌, length, set, get_or, refl, sym, ap, ◌∙◌, arith}
 use Rattle.std.specs.Prelude.{nat_lt}
 use Rattle.std.proofs.lemmas.Bool.{cases_Bool, eqb-false, eqb-true, ltb-true, ltb-false}
@@ -14,7 +14,7 @@ set_below flags number flag =
       | inr past ↦ let none = get_or_past flags number false (ltb-false number (length flags) past) in absurd (cc)
     ]
 
--- the others stay as they were
+-- the others are unchanged
 pub taken_others : (flags taken : List Bool) (one number : ℕ) → taken ≡ set flags one false → number ≢ one → is_set taken number ≡ false →
     is_set flags number ≡ false
 taken_others flags taken one number is other free =
@@ -41,7 +41,7 @@ taken_less flags taken one is flag =
     let now = ap tally is in
     omega (arith, sums, was, now)
 
--- where none is set there is none to count
+-- if none is set there is none to count
 pub tally_none : (flags : List Bool) → ((number : ℕ) → is_set flags number ≡ false) → tally flags ≡ 0
 tally_none [] none = refl
 tally_none (flag ∷ flags) none =

@@ -1,4 +1,4 @@
--- The value of a cell grows with what is believed: more is told, and more instances are visible.
+-- The value of a cell grows with the beliefs: more is told, and more instances are visible.
 use Rattle.std.proofs.Common.{◌≡◌, ℕ, Bool, true, false, cond, List, [], ◌∷◌, ◌++◌, length, map, filter, All, Contains, refl, sym, subst}
 use Rattle.std.specs.List.{range_with_len}
 use Rattle.std.specs.FinSet.{is_subset}
@@ -25,14 +25,14 @@ use Rattle.pw_facts.specs.Worldviews.{IsMonotone}
 abbrev instance_in : Attached → Instance ℕ
 instance_in a = a.instance
 
--- the sources of one instance more
+-- the sources of one more instance
 one_more : (procedures : List Procedure) (instance : Instance ℕ) (others : List (Instance ℕ)) →
     propagators_of procedures (instance ∷ others) ≡ propagators_of procedures (instance ∷ []) ++ propagators_of procedures others
 one_more procedures instance others = filter_map-append (propagator_of procedures) (instance ∷ []) others
 
 module _ (procedures : List Procedure) (P : Source ℕ → Type 0) (a : Attached) where
-  -- what holds of the sources of instances, of which the first is there if a test passes, holds of the first's if it passes,
-  -- and of those of the others
+  -- what holds of the sources of instances, of which the first is there if a test passes, holds of
+  -- the first's if it passes, and of those of the others
   parted : (b : Bool) (others : List Attached) → All P (propagators_of procedures (map instance_in (cond b (a ∷ others) others))) →
       (b ≡ true → All P (propagators_of procedures (a.instance ∷ []))) × All P (propagators_of procedures (map instance_in others))
   parted true others all =
@@ -42,7 +42,7 @@ module _ (procedures : List Procedure) (P : Source ℕ → Type 0) (a : Attached
       )
   parted false others all = (λ e. absurd (cc), all)
 
-  -- and the other way round
+  -- and conversely
   joined : (b : Bool) (others : List Attached) → (b ≡ true → All P (propagators_of procedures (a.instance ∷ []))) →
       All P (propagators_of procedures (map instance_in others)) →
       All P (propagators_of procedures (map instance_in (cond b (a ∷ others) others)))
@@ -51,7 +51,8 @@ module _ (procedures : List Procedure) (P : Source ℕ → Type 0) (a : Attached
       (All-append P (propagators_of procedures (a.instance ∷ [])) (propagators_of procedures (map instance_in others)) (first refl) rest)
   joined false others first rest = rest
 
--- what holds of the sources of all instances that are visible in a worldview holds of those that are in a part of it
+-- what holds of the sources of all instances that are visible in a worldview holds of those that
+-- are in a part of it
 fewer_seen : (procedures : List Procedure) (P : Source ℕ → Type 0) (part w : Premises) → is_subset part w ≡ true →
     (attached : List Attached) → All P (propagators_of procedures (visible_instances attached w)) →
     All P (propagators_of procedures (visible_instances attached part))
@@ -76,7 +77,7 @@ seen_source procedures P w a attached all there seen =
         let parts = parted procedures P x (is_subset x.support w) (filter (λ (b : Attached). is_subset b.support w) l) all in
         All-cons (λ (b : Attached). is_subset b.support w ≡ true → All P (propagators_of procedures (b.instance ∷ []))) x l parts.0 (each_seen l parts.1)
 
--- and the other way round
+-- and conversely
 pub all_seen : (procedures : List Procedure) (P : Source ℕ → Type 0) (w : Premises) (attached : List Attached) →
     All (λ (b : Attached). is_subset b.support w ≡ true → All P (propagators_of procedures (b.instance ∷ []))) attached →
     All P (propagators_of procedures (visible_instances attached w))
@@ -86,9 +87,9 @@ all_seen procedures P w (x ∷ l) each =
     (All-head (λ (b : Attached). is_subset b.support w ≡ true → All P (propagators_of procedures (b.instance ∷ []))) x l each)
     (all_seen procedures P w l (All-tail (λ (b : Attached). is_subset b.support w ≡ true → All P (propagators_of procedures (b.instance ∷ []))) x l each))
 
--- ---- what is told
+-- ---- the told facts
 
--- what implies what is told in a worldview implies what is told in a part of it
+-- what implies the told information in a worldview implies the told information in a part of it
 less_told : (store : Store) (known : ℕ → Info) (part w : Premises) → is_subset part w ≡ true → (cells : List ℕ) →
     All (IsImplied known) (map (λ cell. Told cell (told_in store cell w)) cells) →
     All (IsImplied known) (map (λ cell. Told cell (told_in store cell part)) cells)
@@ -117,7 +118,7 @@ module _ (network : Network) (store : Store) (well : IsWellNetwork network) (sam
   are : (w : Premises) → AreOver cells over (sources_in network store w)
   are w = are_over network store w same (all_placed network well)
 
-  -- whatever implies what is said in a worldview implies what is said in a part of it
+  -- anything that implies what is said in a worldview implies what is said in a part of it
   less_said : (known : ℕ → Info) (part w : Premises) → is_subset part w ≡ true → All (IsImplied known) (sources_in network store w) →
       All (IsImplied known) (sources_in network store part)
   less_said known part w within implied =

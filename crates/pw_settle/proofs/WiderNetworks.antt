@@ -1,4 +1,4 @@
--- What follows in a network follows where no less is told and more is attached.
+-- What follows in a network still follows if no less is told and more is attached.
 use Rattle.std.proofs.Common.{◌≡◌, ℕ, ◌+◌, ◌<◌, ◌≤◌, true, cond, List, [], ◌∷◌, ◌++◌, All, Contains, length, map, get_or, refl, sym, ap, ◌∙◌, subst, arith, inl, inr, append-nil, append_assoc, length-append}
 use Rattle.std.specs.Prelude.{nat_lt}
 use Rattle.std.specs.FinSet.{is_subset}
@@ -95,7 +95,7 @@ pub still_attached : (network wider : Network) → IsWider network wider → (a 
 still_attached network wider wide a there =
     subst (λ (l : List Attached). Contains l a) (sym wide.attached_are) (Contains-append_left network.attached wide.more a there)
 
--- the value of a cell that is there says what is told of it
+-- the value of an existing cell says what is told about it
 pub value_says_told : (network : Network) (store : Store) (w : Premises) → IsWellNetwork network → kinds_of store ≡ kinds_in network →
     (c : ℕ) → c < length (kinds_in network) → Implies (value_in network store w c) (told_in store c w)
 value_says_told network store w well same c below =
@@ -116,7 +116,7 @@ module _ (network wider : Network) (wide : IsWider network wider) (well : IsWell
   abbrev value : ℕ → Info
   value = value_in wider new w
 
-  -- the values of the cells that were there, and past them nothing
+  -- the values of the cells that existed, and past them nothing
   abbrev clipped : ℕ → Info
   clipped c = cond (nat_lt c count) (value c) (nothing kinds.Interval)
 
@@ -169,7 +169,7 @@ module _ (network wider : Network) (wide : IsWider network wider) (well : IsWell
       subst (λ (l : List Info). allows (value_by (accepted procedures (kinds_in network) a.instance placed).0 l) v ≡ true) (sym inputs)
       (said v (subst (λ (i : Info). allows i v ≡ true) (clipped_here a.instance.output placed.0.1) possible)))
 
-  -- so no less is known of the cells that were there
+  -- so no less is known about the cells that existed
   pub value_wider : (c : ℕ) → c < count → Implies (value_in wider new w c) (value_in network old w c)
   value_wider c below v possible =
       fixpoint_below (numbered (kinds_in network)) (numbers_of (kinds_in network)) (sources_in network old w)

@@ -1,4 +1,4 @@
--- How often a settling calls procedures.
+-- The number of procedure calls of a settling.
 use Rattle.std.specs.Prelude.{ℕ, zero, suc, ◌+◌, ◌-◌, ◌*◌, ◌^◌, Bool, false, length, map, slice_index_or}
 use Rattle.std.specs.FinSet.{is_subset}
 use Rattle.std.specs.List.{count_by}
@@ -8,7 +8,7 @@ use Rattle.pw_cells.specs.Cells.{Store, kept_in}
 use Rattle.pw_network.specs.Network.{Attached, Network}
 use Rattle.pw_network.specs.Readers.{readers_of}
 
--- a count of calls stays below this: what a network can gain is less by far
+-- a count of calls stays below this: a network can gain far less
 abbrev pub most_calls : ℕ
 most_calls = 2 ^ 127
 
@@ -16,15 +16,15 @@ most_calls = 2 ^ 127
 abbrev pub is_visible : Premises → Attached → Bool
 is_visible w attached = is_subset attached.support w
 
--- the same of the instance of this number
+-- the same for the instance of this number
 abbrev pub visible_at : Network → Premises → ℕ → Bool
 visible_at network w number = slice_index_or (map (is_visible w) network.attached) number false
 
--- how many instances are visible in the worldview
+-- the number of instances that are visible in the worldview
 abbrev pub visible_count : Network → Premises → ℕ
 visible_count network w = count_by (is_visible w) network.attached
 
--- how many visible instances read the cell
+-- the number of visible instances that read the cell
 abbrev pub reader_count : Network → Premises → ℕ → ℕ
 reader_count network w cell = count_by (visible_at network w) (readers_of network cell)
 
@@ -33,7 +33,8 @@ abbrev pub sum_below : ℕ → (ℕ → ℕ) → ℕ
 sum_below zero f = 0
 sum_below (suc n) f = sum_below n f + f n
 
--- what is gained from one store to another: over the cells, the rank that what is kept has lost, times the visible readers
+-- the gains from one store to another: the sum over the cells of the rank that the kept information
+-- has lost, times the visible readers
 abbrev pub gains : Network → Store → Store → Premises → ℕ
 gains network old new w =
     sum_below (length old.cells) (λ cell. (rank_of (kept_in old cell w) - rank_of (kept_in new cell w)) * reader_count network w cell)

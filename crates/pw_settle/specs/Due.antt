@@ -1,4 +1,4 @@
--- Which instances a settling has to call that goes on from the values of an earlier one.
+-- The instances that a settling has to call if it continues from the values of an earlier one.
 use Rattle.std.specs.Prelude.{◌≡◌, ◌≢◌, ◌⊎◌, ◌↔◌, ℕ, Bool, true, ◌&&◌, not, List, Contains, length, nat_lt, slice_index_or}
 use Rattle.pw_info.specs.declared.info.Info.{Info}
 use Rattle.pw_info.specs.Information.{kind_of, nothing, Implies}
@@ -11,32 +11,34 @@ use Rattle.pw_settle.specs.Calls.{visible_at}
 use Rattle.pw_settle.specs.Fitting.{said_of}
 use Rattle.pw_settle.specs.Settled.{Settled, info_at}
 
--- the instance of this number is new to the settled values: it was not there when they were found, or is not visible in their
--- worldview
+-- the instance of this number is new to the settled values: it did not exist when they were found,
+-- or is not visible in their worldview
 abbrev pub is_new : Network → Settled → ℕ → Bool
 is_new network settled number = not (nat_lt number settled.instances && visible_at network settled.worldview number)
 
--- it is due: it is visible, and it is new, or reads a cell of which not that is kept which the settled values say
+-- it is due: it is visible, and it is new, or reads a cell whose kept information is not what the
+-- settled values say
 abbrev pub IsDue : Network → Store → Premises → Settled → ℕ → Type 0
 IsDue network store w settled number =
     (visible_at network w number ≡ true)
     × ((is_new network settled number ≡ true)
     ⊎ ((cell : ℕ) × Contains (readers_of network cell) number × (kept_in store cell w ≢ said_of network settled cell)))
 
--- of each instance the flag is set where it is due
+-- the flag of each instance is set exactly if it is due
 pub record AreDue (network : Network) (store : Store) (w : Premises) (settled : Settled) (due : List Bool) : Type 0 where
   pub many : length due ≡ length network.attached
   pub are : (number : ℕ) → (is_set due number ≡ true) ↔ IsDue network store w settled number
 
--- what was found of a cell, where this is kept of the cells now; of one that was not there, nothing
+-- what was found about a cell, given what is kept of the cells now; nothing about a cell that did
+-- not exist
 abbrev pub found_of : List Info → List Info → ℕ → Info
 found_of before now cell = slice_index_or before cell (nothing (kind_of (info_at now cell)))
 
--- what is kept of the cell now is not implied by what was found of it
+-- what is kept of the cell now is not implied by what was found about it
 abbrev pub HasChanged : List Info → List Info → ℕ → Type 0
 HasChanged before now cell = Implies (found_of before now cell) (info_at now cell) → ⊥
 
--- of these cells the visible readers are queued, and nothing else
+-- the visible readers of these cells are queued, and nothing else
 pub record QueuesReaders (network : Network) (visible : List Bool) (IsOne : ℕ → Type 0) (old new : List Bool) : Type 0 where
   pub flags : length new ≡ length old
   pub stay : (number : ℕ) → is_set old number ≡ true → is_set new number ≡ true

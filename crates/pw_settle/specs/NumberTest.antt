@@ -1,4 +1,4 @@
--- The test of two numbers for being one.
+-- The test whether two numbers are equal.
 use Rattle.std.specs.Prelude.{◌≡◌, ℕ, nat_eq}
 use Rattle.std.specs.Bool.{Decides}
 use Rattle.std.proofs.Common.{arith}

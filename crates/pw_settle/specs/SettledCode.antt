@@ -1,11 +1,11 @@
--- The code of what is settled, by which a proof tells its values apart.
+-- The code of settled values. Proofs use it to tell them apart.
 use Rattle.std.specs.Prelude.{refl}
 use Rattle.std.specs.FinSet.{code}
 use Rattle.std.specs.Coded.{Coded, code_by, coded×, coded_ℕ, coded_list}
 use Rattle.pw_info.specs.declared.info.Info.{Info}
 use Rattle.pw_settle.specs.Settled.{Settled}
 
--- it is stored as the list of informations, that of premises, the worldview and the two counts
+-- it is stored as the list of informations, the list of premises, the worldview and the two counts
 abbrev pub settled_code : Coded Info → Coded Settled
 settled_code info =
     code_by _ (coded× (coded_list info) (coded× (coded_list (code coded_ℕ)) (coded× (code coded_ℕ) (coded× coded_ℕ coded_ℕ))))

@@ -1,4 +1,4 @@
--- What it is for a store to be sound: it keeps nothing that does not follow, and what it keeps rests on no premise that has
+-- Soundness of a store: it keeps only what follows, and what it keeps rests on no premise that has
 -- no say there.
 use Rattle.std.specs.Prelude.{◌≡◌, ◌⊎◌, ℕ, Bool, true, All, Contains}
 use Rattle.std.specs.FinSet.{contains}
@@ -8,28 +8,32 @@ use Rattle.pw_cells.specs.Cells.{Store, kept_at, kept_in}
 use Rattle.pw_network.specs.Network.{Attached, Network}
 use Rattle.pw_settle.specs.Values.{value_in}
 
--- nothing is kept that does not follow: in every worldview the value of a cell says at least what is kept of it there
+-- only what follows is kept: in every worldview the value of a cell says at least what is kept of
+-- it there
 abbrev pub IsSound : Network → Store → Type 0
 IsSound network store = (w : Premises) (cell : ℕ) → Implies (value_in network store w cell) (kept_in store cell w)
 
--- a set of cells, as a test: with each cell that an instance writes it has all that the instance reads
+-- a set of cells, as a test: with each cell that an instance writes, it has every cell that the
+-- instance reads
 abbrev pub IsUpstream : Network → (ℕ → Bool) → Type 0
 IsUpstream network cells =
     All (λ (a : Attached). cells a.instance.output ≡ true → All (λ input. cells input ≡ true) a.instance.inputs) network.attached
 
--- the premise is one of a fact that was told of one of these cells, or of an instance that writes one of them. Which premises
--- were given with which cell is for a history to say: a store merges what it is told
+-- the premise belongs to a fact that was told about one of these cells, or to an instance that
+-- writes one of them. Only a history says which premises were given with which cell: a store merges
+-- what it is told
 abbrev pub IsGivenTo : Network → (ℕ → ℕ → Bool) → (ℕ → Bool) → ℕ → Type 0
 IsGivenTo network given cells premise =
     ((cell : ℕ) × (cells cell ≡ true) × (given cell premise ≡ true))
     ⊎ ((a : Attached) × Contains network.attached a × (cells a.instance.output ≡ true) × (contains a.support premise ≡ true))
 
--- the premises lie upstream of the cell: each was given to each such set of cells that has the cell
+-- the premises lie upstream of the cell: each was given to each set of cells of this form that has
+-- the cell
 abbrev pub LiesUpstream : Network → (ℕ → ℕ → Bool) → ℕ → Premises → Type 0
 LiesUpstream network given cell premises =
     (cells : ℕ → Bool) → IsUpstream network cells → cells cell ≡ true →
     (premise : ℕ) → contains premises premise ≡ true → IsGivenTo network given cells premise
 
--- each fact that is kept of a cell rests on premises upstream of it alone
+-- each fact that is kept of a cell rests only on premises upstream of it
 abbrev pub RestsUpstream : Network → (ℕ → ℕ → Bool) → Store → Type 0
 RestsUpstream network given store = (cell : ℕ) → All (λ fact. LiesUpstream network given cell fact.support) (kept_at store cell)

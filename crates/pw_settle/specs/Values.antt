@@ -1,5 +1,5 @@
--- The value of a cell of a network in a worldview: what follows from what a store is told there and from the instances that
--- are visible there.
+-- The value of a cell of a network in a worldview: what follows from what a store is told there and
+-- from the instances that are visible there.
 use Rattle.std.specs.Prelude.{ℕ, List, ◌++◌, Option, nat_eq, filter, length, map, slice_get, slice_index_or}
 use Rattle.std.specs.List.{filter_map, range_with_len}
 use Rattle.std.specs.FinSet.{is_subset}
@@ -16,7 +16,7 @@ use Rattle.pw_settle.specs.NumberTest.{nat_eq_decides}
 use Rattle.pw_settle.specs.Sources.{Cells, Source, Told, Propagator}
 use Rattle.pw_settle.specs.Fixpoint.{fixpoint}
 
--- cells by their numbers, of these kinds; past the last there are only intervals
+-- cells by their numbers, of these kinds; past the last there are only interval cells
 abbrev pub numbered : List Kind → Cells ℕ
 numbered list = record { same = nat_eq; decides = nat_eq_decides; kind = λ cell. slice_index_or list cell kinds.Interval }
 
@@ -28,7 +28,7 @@ numbers_of list = range_with_len 0 (length list)
 abbrev pub kinds_in : Network → List Kind
 kinds_in network = network.declared.kinds ++ map (λ inner. inner.kind) network.inner
 
--- an instance as a source, where there is a procedure of its number
+-- an instance as a source, if there is a procedure of its number
 abbrev pub propagator_of : {C : Type 0} → List Procedure → Instance C → Option (Source C)
 propagator_of procedures instance =
     option_map (λ procedure. Propagator procedure instance.inputs instance.output) (slice_get procedures instance.procedure)
@@ -37,16 +37,17 @@ propagator_of procedures instance =
 abbrev pub propagators_of : {C : Type 0} → List Procedure → List (Instance C) → List (Source C)
 propagators_of procedures instances = filter_map (propagator_of procedures) instances
 
--- the instances that are visible in a worldview: all premises under which each was attached are in it
+-- the instances that are visible in a worldview: all premises under which each was attached are in
+-- it
 abbrev pub visible_instances : List Attached → Premises → List (Instance ℕ)
 visible_instances attached worldview =
     map (λ (a : Attached). a.instance) (filter (λ (a : Attached). is_subset a.support worldview) attached)
 
--- what the store is told of each of its cells in a worldview
+-- what the store is told about each of its cells in a worldview
 abbrev pub told_infos : Store → Premises → List Info
 told_infos store worldview = map (λ cell. told_in store cell worldview) (range_with_len 0 (length store.cells))
 
--- the cells below this number with what the store is told of each in a worldview
+-- the cells below this number, with what the store is told about each in a worldview
 abbrev pub told_sources : Store → Premises → ℕ → List (Source ℕ)
 told_sources store worldview count = map (λ cell. Told cell (told_in store cell worldview)) (range_with_len 0 count)
 

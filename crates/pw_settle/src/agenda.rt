@@ -6,8 +6,9 @@ use std::alloc::{AllocError, Allocator, Global};
 use std::collections::VecDeque;
 use std::marker::Model;
 
-// Numbers of instances, each at most once, in the order in which they came. Which one is taken next is free: no contract
-// speaks of it. (First in, first out calls an instance once for the news of several of its inputs.)
+// Numbers of instances, each at most once, in the order in which they came. Which one is taken next
+// is free: no contract depends on it. (First in, first out calls an instance once for the news of
+// several of its inputs.)
 #[derive(Drop)]
 pub(crate) struct Agenda<A: Allocator = Global> {
     queued: Vec<bool, A>,
@@ -27,7 +28,8 @@ impl<A: Allocator> Model for Agenda<A> {
 }
 
 impl<A: Allocator + Copy> Agenda<A> {
-    // An empty one for so many instances, with room for all of them. It fails only for want of memory.
+    // An empty agenda for `count` instances, with room for all of them. Fails only when out of
+    // memory.
     pub(crate) fn new(alloc: A, count: usize) -> Result<Agenda<A>, AllocError>
         ensures { IfOk result (λ agenda. agenda ≡ replicate count false) }
     {
@@ -37,7 +39,7 @@ impl<A: Allocator + Copy> Agenda<A> {
         })
     }
 
-    // Queues an instance, unless it is queued.
+    // Queues an instance, unless it is queued already.
     pub(crate) fn add(&mut self, number: usize)
         requires { number < length self.old }
         ensures { self.new ≡ slice_set self.old number true }
@@ -48,7 +50,7 @@ impl<A: Allocator + Copy> Agenda<A> {
         }
     }
 
-    // Takes one that is queued, if there is one.
+    // Takes a queued instance, if there is one.
     pub(crate) fn take(&mut self) -> Option<usize>
         ensures some { IfSome result (λ number. (is_set self.old number ≡ true)
             × (self.new ≡ slice_set self.old number false)) }

@@ -1,4 +1,4 @@
-//! What is kept of each cell in a worldview, as a settling has it at hand.
+//! The kept information about each cell in a worldview, as a settling has it at hand.
 ghost use Rattle.std.specs.Prelude.{◌≡◌, ◌<◌, All, Bool, ℕ, IfOk, length};
 ghost use Rattle.pw_info.specs.Information.{kind_of};
 ghost use Rattle.pw_network.specs.Kept.{attached_of};
@@ -14,15 +14,16 @@ use pw_network::Instance;
 use pw_premises::PremiseSet;
 use std::alloc::{AllocError, Allocator, Global};
 
-// Of each cell the information that is kept, and premises of the worldview that it rests on. So what is kept is found at once,
-// without a walk over the facts of a cell.
+// For each cell, the information that is kept, and premises of the worldview that it rests on. So
+// the kept information is found at once, without a walk over the facts of a cell.
 #[derive(Drop)]
 pub(crate) struct Known<A: Allocator = Global> {
     pub(crate) infos: Vec<Info, A>,
     pub(crate) supports: Vec<PremiseSet, A>,
 }
 
-// What is kept of the cells of the store in the worldview. It fails only for want of memory.
+// The kept information about the cells of the store in the worldview. Fails only when out of
+// memory.
 pub(crate) fn read_kept<A: Allocator + Copy>(
     alloc: A,
     store: &mut CellStore<A>,
@@ -45,7 +46,7 @@ pub(crate) fn read_kept<A: Allocator + Copy>(
     Ok(Known { infos, supports })
 }
 
-// The premises of an instance, and those that what is known of its inputs rests on.
+// The premises of an instance, and those of what is known about its inputs.
 pub(crate) fn joined_support(instance: &Instance, supports: &[PremiseSet]) -> PremiseSet
     requires { All (λ input. input < length supports.now) (attached_of instance.now).instance.inputs }
     ensures { result ≡ joined supports.now instance.now.support
@@ -58,7 +59,7 @@ pub(crate) fn joined_support(instance: &Instance, supports: &[PremiseSet]) -> Pr
     joined
 }
 
-// Takes a fact into what is known of a cell.
+// Merges a fact into what is known about a cell.
 pub(crate) fn take_in(infos: &mut [Info], supports: &mut [PremiseSet], cell: u32, fact: &Fact)
     requires there { cell < length infos.old }
     requires as_many { length supports.old ≡ length infos.old }

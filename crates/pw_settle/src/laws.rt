@@ -1,8 +1,9 @@
-//! Laws of the fixpoint, over cells of any type, and of the values of a settling, each the contract of a function that does
-//! nothing.
+//! Laws of the fixpoint, over cells of any type, and of the values of a settling. Each is the
+//! contract of a function that does nothing.
 //!
-//! The first two say what the fixpoint is: the least informed of all that a round leaves as it is. How many rounds the definition
-//! makes, and over how many cells, does not matter.
+//! The first two say what the fixpoint is: the least informed of all that a round leaves unchanged.
+//! The number of rounds that the definition makes, and the number of cells that it goes over, do
+//! not matter.
 ghost use Rattle.std.specs.Prelude.{◌≡◌, ◌≤◌, ◌++◌, ℕ, List, All, Contains, IsTrue, Bool, true, length, map};
 ghost use Rattle.pw_info.specs.declared.kind.Kind.{Kind};
 ghost use Rattle.pw_info.specs.declared.info.Info.{Info};
@@ -20,7 +21,7 @@ ghost use Rattle.pw_settle.specs.Sources.{Cells, Source, AreOfTheirKinds, Fits, 
 ghost use Rattle.pw_settle.specs.Fixpoint.{AreOver, AreNamesOf, fixpoint, round, told_in_one, told_of};
 ghost use Rattle.pw_settle.specs.Values.{kinds_in, numbered, numbers_of, sources_in};
 
-/// A round leaves the fixpoint as it is: nothing more follows.
+/// A round leaves the fixpoint unchanged: nothing more follows.
 pub fn round_leaves_the_fixpoint<C>()
     ensures stays { (cells : Cells C) (over : List C) (sources : List (Source C))
         → AreOver cells over sources
@@ -30,7 +31,8 @@ pub fn round_leaves_the_fixpoint<C>()
         → AreOfTheirKinds cells (fixpoint cells over sources) }
 {}
 
-/// It is the least informed such: whatever a round leaves as it is says at each cell at least as much.
+/// It is the least informed of these: anything that a round leaves unchanged says at each cell at
+/// least as much.
 pub fn fixpoint_is_least_informed<C>()
     ensures { (cells : Cells C) (over : List C) (sources : List (Source C))
         → All (Fits cells) sources
@@ -39,8 +41,8 @@ pub fn fixpoint_is_least_informed<C>()
         → (c : C) → Implies (known c) (fixpoint cells over sources c) }
 {}
 
-/// The same without rounds: the fixpoint says of each cell what each source says of it, and whatever does so says at each cell
-/// at least what the fixpoint says.
+/// The same without rounds: the fixpoint says about each cell what each source says about it, and
+/// anything that does so says at each cell at least what the fixpoint says.
 pub fn fixpoint_says_what_sources_say<C>()
     ensures says { (cells : Cells C) (over : List C) (sources : List (Source C))
         → AreOver cells over sources
@@ -59,7 +61,7 @@ pub fn more_sources_say_more<C>()
         → (c : C) → Implies (fixpoint cells wider more c) (fixpoint cells over sources c) }
 {}
 
-/// Over how many cells the sources are does not matter, where these are all that they inform.
+/// The number of cells that the sources are over does not matter, if the sources inform only these.
 pub fn further_cells_change_nothing<C>()
     ensures { (cells : Cells C) (over wider : List C) (sources : List (Source C))
         → AreOver cells over sources
@@ -67,7 +69,7 @@ pub fn further_cells_change_nothing<C>()
         → fixpoint cells over sources c ≡ fixpoint cells wider sources c }
 {}
 
-/// Names of cells do not matter: what follows from the sources over other names is what follows from them, by other names.
+/// Names of cells do not matter: renaming the sources renames what follows from them.
 pub fn names_do_not_matter<C, D>()
     ensures { (cells : Cells C) (others : Cells D) (here : C → Bool) (name : C → D) (over : List C)
         (sources : List (Source C)) → AreNamesOf cells others (λ c. IsTrue (here c)) name
@@ -76,7 +78,7 @@ pub fn names_do_not_matter<C, D>()
         ≡ fixpoint cells over sources c }
 {}
 
-/// What was told of a cell may be merged beforehand.
+/// The facts told about a cell may be merged beforehand.
 pub fn tells_may_be_merged<C>()
     ensures { (cells : Cells C) (over : List C) (sources : List (Source C))
         → AreOver cells over sources
@@ -85,7 +87,7 @@ pub fn tells_may_be_merged<C>()
         → fixpoint cells over (told_in_one over told sources) c ≡ fixpoint cells over sources c }
 {}
 
-/// Of a cell that no propagator writes, what follows is what is told.
+/// If no propagator writes a cell, what follows about it is what was told about it.
 pub fn unwritten_cells_have_what_is_told<C>()
     ensures { (cells : Cells C) (over : List C) (sources : List (Source C))
         → AreOver cells over sources
@@ -93,28 +95,30 @@ pub fn unwritten_cells_have_what_is_told<C>()
         → fixpoint cells over sources c ≡ told_of cells sources c }
 {}
 
-/// What a network says of its cells in a worldview, with what its store was told, meets what these laws ask: so they hold of the
-/// values of its cells.
+/// What a network says about its cells in a worldview, with what its store was told, meets the
+/// conditions of these laws. So they hold of the values of its cells.
 pub fn networks_meet_the_laws()
     ensures { (network : Networks) (store : Store) (w : Premises) → IsWellNetwork network
         → kinds_of store ≡ kinds_in network
         → AreOver (numbered (kinds_in network)) (numbers_of (kinds_in network)) (sources_in network store w) }
 {}
 
-/// A network in which something more is attached is wider: it has all cells and instances that it had, by the same numbers.
+/// A network in which something more is attached is wider: it has all cells and instances that it
+/// had, by the same numbers.
 pub fn attaching_widens()
     ensures { (network : Networks) (line : ℕ) (callable : Callable) (cells : List ℕ) (support : Premises)
         → IsWider network (with_attached network line callable cells support) }
 {}
 
-/// No less was gained where still more is kept afterwards.
+/// If still more is kept afterwards, no less was gained.
 pub fn gains_grow()
     ensures { (network : Networks) (old new newer : Store) (w : Premises)
         → KeepsMore network new newer → gains network old new w ≤ gains network old newer w }
 {}
 
-/// Values of a settling that fit still fit, whatever comes: where more is attached, where cells are added, and where no less is
-/// kept of any cell in any worldview, as after a tell and after a settling of anyone.
+/// Values of a settling that fit still fit afterwards: if more is attached, if cells are added, and
+/// if no less is kept of any cell in any worldview, as after a tell and after a settling of any
+/// user.
 pub fn fitting_values_still_fit()
     ensures attached { (network wider : Networks) (store : Store) (settled : Settled) → IsWellNetwork network
         → IsWider network wider → IsFitting network store settled → IsFitting wider store settled }

@@ -1,4 +1,4 @@
-//! What follows from what is told and from the propagators that are attached: the least informed fixpoint.
+//! What follows from the told facts and from the attached propagators: the least informed fixpoint.
 #![tactic(auto)]
 
 mod agenda;

@@ -1,4 +1,4 @@
-//! Calls of procedures on what is known of the inputs of their instances.
+//! Calls of procedures on what is known about the inputs of their instances.
 ghost use Rattle.std.specs.Prelude.{◌≡◌, ◌<◌, ◌+◌, ◌∷◌, [], All, IfNone, IfSome, length, map};
 ghost use Rattle.pw_info.specs.Information.{kind_of};
 ghost use Rattle.pw_network.specs.Fields.{network_by};
@@ -19,11 +19,11 @@ use pw_premises::PremiseSet;
 use pw_procs::Registry;
 use std::alloc::Allocator;
 
-// The most inputs that a procedure has.
+// The greatest number of inputs of a procedure.
 const MOST_INPUTS: usize = 8;
 
-// What the instance's procedure makes of informations, which are what is known of its inputs. Nothing else calls procedures, and
-// each call is counted here.
+// The value of the instance's procedure on informations, which are what is known about its inputs.
+// Nothing else calls procedures, and each call is counted here.
 fn procedure_value(
     registry: &Registry,
     instance: &Instance,
@@ -44,8 +44,8 @@ fn procedure_value(
     registry.get(instance.procedure).call(given)
 }
 
-// What the instance's procedure makes of what is known of its inputs, however many there are. Never inlined, so that other calls make
-// no room for so many.
+// The value of the instance's procedure on what is known about its inputs, for any number of
+// inputs. Never inlined, so that other calls make no room for so many inputs.
 #[inline(never)]
 fn answer_on_many(
     registry: &Registry,
@@ -69,7 +69,8 @@ fn answer_on_many(
     procedure_value(registry, instance, known, &inputs[..cells.len()], calls)
 }
 
-// What the instance's procedure makes of what is known of its inputs. Most have one or two.
+// The value of the instance's procedure on what is known about its inputs. Most procedures have one
+// or two.
 fn answer(registry: &Registry, instance: &Instance, known: &[Info], calls: &mut u128) -> Info
     requires room { calls.old < most_calls }
     requires placed { IsPlaced (procedures_in registry.now) (map kind_of known.now)
@@ -89,7 +90,8 @@ fn answer(registry: &Registry, instance: &Instance, known: &[Info], calls: &mut 
     }
 }
 
-// What an instance makes of what is known of its inputs, as a fact about its output, where it is news there.
+// The value of an instance on what is known about its inputs, as a fact about its output, if it is
+// news there.
 pub(crate) fn news<A: Allocator + Copy>(
     network: &Network<'_, '_, A>,
     infos: &[Info],

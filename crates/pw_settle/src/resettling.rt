@@ -1,4 +1,4 @@
-//! Settling that goes on from the values of an earlier one.
+//! Settling that continues from the values of an earlier settling.
 ghost use Rattle.std.specs.Prelude.{◌≡◌, ◌+◌, ◌<◌, ◌≤◌, ◌↔◌, ◌&&◌, ℕ, Bool, List, IsTrue, IfOk, OnOk, true, false, length, map};
 ghost use Rattle.std.specs.FinSet.{is_subset};
 ghost use Rattle.pw_info.specs.Information.{kind_of};
@@ -43,7 +43,8 @@ fn is_newly_visible<A: Allocator + Copy>(
                 .is_subset(&before.worldview))
 }
 
-// An agenda of the visible instances that are new to the settled values. It fails only for want of memory.
+// An agenda of the visible instances that are new to the settled values. Fails only when out of
+// memory.
 fn new_instances<A: Allocator + Copy>(
     alloc: A,
     network: &Network<'_, '_, A>,
@@ -64,7 +65,7 @@ fn new_instances<A: Allocator + Copy>(
     Ok(agenda)
 }
 
-// Whether what is kept of the cell now is more than was found of it.
+// Whether more is kept of the cell now than was found before.
 fn has_changed(before: &[Info], now: &[Info], cell: usize) -> bool
     requires there { cell < length now.now }
     requires kind { kind_of (found_of before.now now.now cell) ≡ kind_of (info_at now.now cell) }
@@ -77,7 +78,7 @@ fn has_changed(before: &[Info], now: &[Info], cell: usize) -> bool
     !found.implies(&now[cell])
 }
 
-// Queues the visible readers of the cells of which more is kept now than was found of them.
+// Queues the visible readers of the cells of which more is kept now than was found before.
 fn queue_changed<A: Allocator + Copy>(
     network: &Network<'_, '_, A>,
     visible: &[bool],
@@ -100,8 +101,8 @@ fn queue_changed<A: Allocator + Copy>(
     }
 }
 
-// What is kept of the cells in a worldview that the settled values' is within, and an agenda of the instances that are due. It
-// fails only for want of memory.
+// What is kept of the cells in a worldview that includes the worldview of the settled values, and
+// an agenda of the instances that are due. Fails only when out of memory.
 fn due_instances<A: Allocator + Copy>(
     alloc: A,
     before: &Settled<A>,
@@ -136,11 +137,13 @@ fn due_instances<A: Allocator + Copy>(
     Ok((known, agenda))
 }
 
-/// The values of the cells of a network in a worldview, as `settle` answers them, found from those of an earlier settling that
-/// still fit. All that `settle` promises holds.
+/// The values of the cells of a network in a worldview, as `settle` answers them, found from the
+/// values of an earlier settling that still fit. All that `settle` promises holds.
 ///
-/// Where the earlier worldview is within this one, only those visible instances are called at first that came since or were
-/// not visible then, and the readers of cells of which more is kept now than was found then; otherwise all, as by `settle`.
+/// If the earlier worldview is within this one, the instances called at first are only the visible
+/// instances that came since or were not visible then, and the readers of cells of which more is
+/// kept now than was found then. Otherwise all visible instances are called at first, as in
+/// `settle`.
 pub fn resettle<A: Allocator + Copy>(
     alloc: A,
     before: Settled<A>,

@@ -13,7 +13,7 @@ use std::marker::Model;
 pub struct Settled<A: Allocator = Global> {
     pub(crate) known: Known<A>,
     pub(crate) worldview: PremiseSet,
-    // How many instances the network had then.
+    // The number of instances that the network had then.
     pub(crate) instances: usize,
     pub(crate) calls: u128,
 }
@@ -59,7 +59,7 @@ impl<A: Allocator> Settled<A> {
         &self.worldview
     }
 
-    /// How often procedures were called to find them.
+    /// The number of procedure calls made to find them.
     pub fn calls(&self) -> u128
         ensures { result ≡ self.now.calls }
     {

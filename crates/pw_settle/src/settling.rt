@@ -26,7 +26,7 @@ use pw_network::{Instance, Network};
 use pw_premises::PremiseSet;
 use std::alloc::{AllocError, Allocator};
 
-// Which instances are visible in the worldview, by their numbers. It fails only for want of memory.
+// Which instances are visible in the worldview, by number. Fails only when out of memory.
 pub(crate) fn seen<A: Allocator + Copy>(
     alloc: A,
     instances: &[Instance],
@@ -42,7 +42,7 @@ pub(crate) fn seen<A: Allocator + Copy>(
     Ok(visible)
 }
 
-// An agenda of the instances whose flags are set. It fails only for want of memory.
+// An agenda of the instances whose flags are set. Fails only when out of memory.
 fn agenda_of<A: Allocator + Copy>(alloc: A, visible: &[bool]) -> Result<Agenda<A>, AllocError>
     ensures { IfOk result (λ agenda. agenda ≡ visible.now) }
 {
@@ -77,8 +77,8 @@ pub(crate) fn queue_readers<A: Allocator + Copy>(
     }
 }
 
-// Calls the procedure of an instance, which is visible and not queued. Where what it answers is news, the store keeps it, and the
-// visible readers of the output are queued. It fails only for want of memory.
+// Calls the procedure of an instance, which is visible and not queued. If the value is news, the
+// store keeps it, and the visible readers of the output are queued. Fails only when out of memory.
 fn call<A: Allocator + Copy>(
     network: &Network<'_, '_, A>,
     store: &mut CellStore<A>,
@@ -120,7 +120,8 @@ fn call<A: Allocator + Copy>(
     Ok(())
 }
 
-// Calls what is queued until nothing is, and answers how often. It fails only for want of memory.
+// Calls queued instances until none is left, and answers the number of calls. Fails only when out
+// of memory.
 fn work<A: Allocator + Copy>(
     network: &Network<'_, '_, A>,
     store: &mut CellStore<A>,
@@ -148,7 +149,7 @@ fn work<A: Allocator + Copy>(
     ensures most { IfOk result (λ calls. calls + weight (network_by network.now) store.new worldview.now
         ≤ tally agenda.old + weight (network_by network.now) store.old worldview.now) }
 {
-    // These bound the count.
+    // These lengths bound the count.
     let _cells = store.cells();
     let _instances = visible.len();
     let mut calls = 0;
@@ -160,8 +161,9 @@ fn work<A: Allocator + Copy>(
     Ok(calls)
 }
 
-// The values, once what is queued was called until nothing is: from what is known of the cells, which is what is kept of them
-// and says what is told, and which satisfies each visible instance that is not queued. It fails only for want of memory.
+// The values, after calling queued instances until none is left. It starts from what is known about
+// the cells: this is what is kept of them, it says what is told, and it satisfies each visible
+// instance that is not queued. Fails only when out of memory.
 pub(crate) fn settle_from<A: Allocator + Copy>(
     network: &Network<'_, '_, A>,
     store: &mut CellStore<A>,
@@ -204,16 +206,18 @@ pub(crate) fn settle_from<A: Allocator + Copy>(
     })
 }
 
-/// The values of the cells of a network in a worldview: what follows, at each cell, from what the store is told there and
-/// from the instances that are visible there, with premises of the worldview that it rests on. The store has the network's
-/// cells, with their kinds. It fails only for want of memory.
+/// The values of the cells of a network in a worldview: what follows, at each cell, from what the
+/// store is told there and from the instances that are visible there, with premises of the
+/// worldview that it rests on. The store has the network's cells, with their kinds. Fails only when
+/// out of memory.
 ///
-/// What follows is kept in the store, each fact with its premises, so that whoever settles later starts from it, in whatever
-/// worldview. What was told stays as it was, and the store stays sound: after a failure too, with perhaps more kept. A later
-/// settling may go on from the values (`resettle`).
+/// Derived facts are cached in the store with their premises, so later settlings start from them,
+/// in any worldview. The told facts are unchanged, and the store stays sound: after a failure too,
+/// with perhaps more kept. A later settling may continue from the values (`resettle`).
 ///
-/// An instance is called once, and again where what is kept of one of its inputs has changed. (Radul and Sussman, *The Art of
-/// the Propagator*, on schedulers of propagators; Radul, *Propagation Networks*, on dependencies and worldviews.)
+/// An instance is called once, and again if what is kept of one of its inputs has changed. (Radul
+/// and Sussman, *The Art of the Propagator*, on schedulers of propagators; Radul, *Propagation
+/// Networks*, on dependencies and worldviews.)
 pub fn settle<A: Allocator + Copy>(
     alloc: A,
     network: &Network<'_, '_, A>,

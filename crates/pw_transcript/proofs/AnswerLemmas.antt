@@ -1,4 +1,4 @@
--- What a line that is held, or too long to be held, comes to.
+-- The result of a line that is held, or too long to be held.
 use Rattle.std.proofs.Common.{◌≡◌, ℕ, ◌+◌, ◌<◌, ◌≤◌, nat_le, Bool, true, false, List, [], ◌∷◌, ◌++◌, length, Option, Some, None, refl, sym, ap, ◌∙◌, subst, inl, inr, append-nil, length-append, arith}
 use Rattle.std.specs.Prelude.{All, filter, is_some}
 use Rattle.std.specs.List.{range_with_len}
@@ -58,7 +58,7 @@ listed_below keeps most =
     let below : k < most = omega (arith, within, length-range_with_len 0 most) in
     omega (arith, below, get_or-range_with_len 0 most k d below))
 
--- with one line more the next number is the next line's
+-- with one more line the next number is the next line's
 one_more : (before : List LineReading) (reading : LineReading) (number : ℕ) → length before + 1 ≡ number → length (before ++ reading ∷ []) + 1 ≡ number + 1
 one_more before reading number next = omega (arith, length-append before (reading ∷ []), next)
 
@@ -69,7 +69,7 @@ at_once : (d : Declared) (before : List LineReading) (old : Workbench) (line : �
 at_once d before old line command new answer done left next named =
     subst (λ (l : List LineReading). IsCarriedOut d l command new answer) (append-nil before) (done d before 0 left (omega (arith, next)) named)
 
--- ---- what a line comes to
+-- ---- the result of a line
 
 module _ (d : Declared) (well : IsWellDeclared d) where
   -- a reading that is blank or refused leaves what was there
@@ -141,7 +141,7 @@ module _ (d : Declared) (well : IsWellDeclared d) where
         (sym (kind-fixpoint (named_cells d entries) (names_after d entries) (sources_after d entries) (DeclaredCell cell)))
         (well.known cell kinds.Interval (omega (arith, below, well.kinds)))
 
-    -- what the command is answered with has its names
+    -- the answer to the command has its names
     named_answer : (entries : List Entry) (beliefs : Premises) (command : Command) → IsDeclared d (Says command) →
         IsReplyNamed d (answer_to d entries beliefs command)
     named_answer entries beliefs (commands.Ask user cell) named = named_value (visible_in entries beliefs) cell named.1

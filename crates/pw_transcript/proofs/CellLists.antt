@@ -27,7 +27,7 @@ use Rattle.pw_transcript.specs.Steps.Resolving.{IsRefusedFor}
 
 -- ---- arguments
 
--- any two proofs that numbers are so many cells are equal
+-- any two proofs that numbers are this many cells are equal
 arguments_prop : (held : List ℕ) (count : ℕ) → IsProp (AreArguments held count)
 arguments_prop held count = hlevel props
 
@@ -92,9 +92,9 @@ pub too_many : (d : Declared) (callable : Callable) (words : List (List ℕ)) �
 too_many d callable words well all many takes =
     omega (arith, kinds_found d.cells d.kinds words (sym well.kinds) all, few_taken d callable (kinds_at d.kinds (cells_named d words)) well takes)
 
--- ---- what is told of an attach
+-- ---- what is answered to an attach
 
--- where its words name cells and a callable, which does not take the cells, its arguments are wrong
+-- if its words name cells and a callable, which does not take the cells, its arguments are wrong
 pub wrong_arguments : (d : Declared) (user : ℕ) (word : List ℕ) (cells premises : List (List ℕ)) (callable : Callable) → callable_named d word ≡ Some callable →
     list_all (is_cell d) cells ≡ true → (Takes d callable (kinds_at d.kinds (cells_named d cells)) → ⊥) →
     IsRefusedFor d user (Attach word cells premises) refusal.WrongArguments

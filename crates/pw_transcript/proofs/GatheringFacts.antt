@@ -23,11 +23,11 @@ module _ {S : Type 0} (passes : S → List ℕ → S → Type 0) where
   pub Gathers-kept : (s t : S) (held : List ℕ) → passes s [] t → Gathers passes s t held held []
   Gathers-kept s t held p = record { on = []; whole = append-nil held; passed = p }
 
-  -- where nothing was held and nothing is, the bytes were passed on
+  -- if nothing was held and nothing is, the bytes were passed on
   pub Gathers-whole : (s t : S) (xs : List ℕ) → Gathers passes s t [] [] xs → passes s xs t
   Gathers-whole s t xs p = subst (λ l. passes s l t) (sym (p.whole ∙ append-nil p.on)) p.passed
 
-  -- where nothing was held, a front of the bytes was passed on
+  -- if nothing was held, a front of the bytes was passed on
   pub Gathers-part : (s t : S) (held xs : List ℕ) → Gathers passes s t [] held xs → PassesPart passes s t xs
   Gathers-part s t held xs p =
       record {
@@ -37,7 +37,8 @@ module _ {S : Type 0} (passes : S → List ℕ → S → Type 0) where
       }
 
 module _ {O : Type 0} (passes : O → List ℕ → O → Type 0) where
-  -- where nothing was held at first and nothing is at last, what was passed to a gathering output was passed to its output, which is `last` once the borrow is over
+  -- if nothing was held at first and nothing is at last, what was passed to a gathering output was
+  -- passed to its output, which is `last` after the borrow is over
   pub gathered_whole : (name : GName) (first last : O) (s t : Gathered O) (text : List ℕ)
       → (output_of s).ghost_name ≡ name → (output_of s).now ≡ first → held_of s ≡ [] → held_of t ≡ []
       → GatheredPasses passes s text t → (name ≡ (output_of t).ghost_name → last ≡ (output_of t).now) → passes first text last
@@ -48,7 +49,8 @@ module _ {O : Type 0} (passes : O → List ℕ → O → Type 0) where
       (subst (λ l. Gathers passes (output_of s).now (output_of t).now (held_of s) l text) left p.1)) in
       subst (λ o. passes first text o) (sym e) (Gathers-whole passes first (output_of t).now text q)
 
-  -- where nothing was held at first, of a front that was passed to a gathering output a front was passed to its output
+  -- if nothing was held at first, of a front that was passed to a gathering output a front was
+  -- passed to its output
   pub gathered_part : (name : GName) (first last : O) (s t : Gathered O) (text : List ℕ)
       → (output_of s).ghost_name ≡ name → (output_of s).now ≡ first → held_of s ≡ []
       → PassesPart (GatheredPasses passes) s t text → (name ≡ (output_of t).ghost_name → last ≡ (output_of t).now) → PassesPart passes first last text

@@ -16,7 +16,7 @@ held-put_mid start end n k xs ys e le within =
 pub held-none : (start end : ℕ) (xs : List ℕ) → start ≡ end → drop start (take end xs) ≡ []
 held-none start end xs e = grind (arith, common_steps)
 
--- and where nothing lies between two places, they are one
+-- and if nothing lies between two places, they are equal
 pub held-empty : (start end : ℕ) (xs : List ℕ) → start ≤ end → end ≤ length xs → drop start (take end xs) ≡ [] → start ≡ end
 held-empty start end xs le within e =
     omega (arith, ap length e, length-drop start (take end xs), length-take-le end xs within, le)

@@ -1,4 +1,5 @@
--- The reply to a line is that to the same line of a text in which all is empty that it does not rest on.
+-- The reply to a line is the reply to the same line of a text in which every line is empty that it
+-- does not rest on.
 use Rattle.std.proofs.Common.{◌≡◌, ℕ, zero, suc, ◌+◌, Bool, true, false, List, [], ◌∷◌, ◌++◌, length, take, drop, map, Option, Some, slice_get, Contains, refl, sym, ap, ◌∙◌, subst, append-nil, append_assoc, arith}
 use Rattle.std.specs.Prelude.{if◌then◌else◌}
 use Rattle.std.proofs.Math.Seq.{drop-append_seam, take-append_seam}
@@ -19,7 +20,7 @@ use Rattle.pw_transcript.proofs.ReadingLemmas.{one_reading}
 
 -- ---- lists in two parts
 
--- a list is cut after so many elements in one way
+-- there is only one way to cut a list after a number of elements
 same_front : (xs ys zs ws : List (List ℕ)) → length xs ≡ length zs → xs ++ ys ≡ zs ++ ws → xs ≡ zs
 same_front xs ys zs ws long same =
     sym (take-append_seam xs ys) ∙ ap (λ n. take n (xs ++ ys)) long ∙ ap (take (length zs)) same ∙ take-append_seam zs ws
@@ -201,7 +202,7 @@ place_found d before (line ∷ lines) (reading ∷ readings) (suc at) answer rea
       is = rest.is ∙ ap (λ (rs : List LineReading). reply_to d rs rest.reading) (append_assoc before (reading ∷ []) rest.readings);
     }
 
--- a line that came to be refused for want of memory gets that reply
+-- a line that came to be refused because memory ran out gets that reply
 memory_told : (d : Declared) (before : List LineReading) (readings : List LineReading) → Contains readings (Refused refusal.Memory) →
     Contains (replies_after d before readings) (Some (reply.Refused refusal.Memory))
 memory_told d before [] (at, within, is) = absurd (omega arith)
@@ -210,7 +211,7 @@ memory_told d before (reading ∷ readings) (suc at, within, is) =
     let (place, inside, same) = memory_told d (before ++ reading ∷ []) readings (at, omega arith, is) in
     (suc place, omega arith, same)
 
--- where none was, the replies of a run are those from scratch
+-- if none was, the replies of a run are those from scratch
 pub replies_are : (d : Declared) (text : List ℕ) (replies : List (Option Reply)) (at : ℕ) (answer : Option Reply) → GetReplies d (lines_of text) replies →
     (Contains replies (Some (reply.Refused refusal.Memory)) → ⊥) → slice_get replies at ≡ Some answer → IsReplyAt d text (at + 1) answer
 replies_are d text replies at answer get none here =

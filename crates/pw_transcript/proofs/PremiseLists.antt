@@ -51,7 +51,7 @@ and_assoc : (a b c : Bool) → (a && (b && c)) ≡ ((a && b) && c)
 and_assoc true b c = refl
 and_assoc false b c = refl
 
--- what holds of all words so far and of those that are left, with one word more
+-- what holds of all words so far and of the remaining ones, with one more word
 pub one_more_word : (test : List ℕ → Bool) (all words rest : List (List ℕ)) (word : List ℕ) (so_far here : Bool) → list_all test all ≡ (so_far && list_all test words)
     → words ≡ word ∷ rest → here ≡ test word → list_all test all ≡ ((so_far && here) && list_all test rest)
 one_more_word test all words rest word so_far here before parts is =

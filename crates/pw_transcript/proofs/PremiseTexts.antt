@@ -48,18 +48,18 @@ some_with : (names : List (List ℕ)) (name : List ℕ) → has_some (names ++ n
 some_with [] name = refl
 some_with (first ∷ names) name = refl
 
--- where there is one, names are written in a row
+-- if there is one, names are written in a row
 pub text_of_some : (names : List (List ℕ)) → has_some names ≡ true → text_of_names names ≡ flat_map after_space names
 text_of_some [] some = absurd (cc)
 text_of_some (first ∷ names) some = refl
 
--- where there is none, that is written
+-- if there is none, that is written
 pub text_of_none : (names : List (List ℕ)) → has_some names ≡ false → (names ≡ []) × (text_of_names names ≡ text_of_names [])
 text_of_none [] none = (refl, refl)
 text_of_none (first ∷ names) none = absurd (cc)
 
 module _ (d : Declared) (premises : Premises) (number : ℕ) where
-  -- one number more
+  -- one more number
   below_more : names_below d premises (number + 1) ≡ names_below d premises number ++ map (name_at d.premises) (cond (contains premises number) (number ∷ []) [])
   below_more =
       ap (λ row. map (name_at d.premises) (filter (contains premises) row)) (first_parts number 1)

@@ -117,7 +117,7 @@ module _ (d : Declared) (s : Sentence) (user : ℕ) (at : place_of_name d.users 
   to_sentence refusal.LineTooLong h = h
   to_sentence refusal.Memory h = h
 
-  -- and one that applies to the sentence, where its user is known, applies to what is said
+  -- and one that applies to the sentence, if its user is known, applies to what is said
   from_sentence : (r : Refusal) → RefusalAppliesTo d s r → RefusalAppliesToSaid d user s.said r
   from_sentence refusal.Syntax h = h
   from_sentence refusal.UnknownUser h = absurd (known_user h)

@@ -1,4 +1,4 @@
--- Texts and readings of one line more, and the names that a line says.
+-- Texts and readings of one more line, and the names that a line says.
 use Rattle.std.proofs.Common.{◌≡◌, ℕ, suc, ◌+◌, ◌<◌, ◌≤◌, List, [], ◌∷◌, ◌++◌, length, Option, Some, None, Contains, refl, sym, ap, ◌∙◌, subst, inl, inr, append-nil, append_assoc, arith}
 use Rattle.std.specs.Prelude.{All, if◌then◌else◌, is_some}
 use Rattle.pw_sessions.specs.declared.command.Command.{Command}
@@ -69,7 +69,7 @@ count_of_replies_of-le d readings = omega (arith, count_le_length (replies_of d 
 
 -- ---- lines and readings
 
--- one more line and what it comes to
+-- one more line and the reading that it gets
 FurtherLinesComeTo-snoc : (d : Declared) (before : List LineReading) (lines : List (List ℕ)) (readings : List LineReading) (line : List ℕ) (reading : LineReading) →
     FurtherLinesComeTo d before lines readings → ComesTo d (before ++ readings) line reading → FurtherLinesComeTo d before (lines ++ line ∷ []) (readings ++ reading ∷ [])
 FurtherLinesComeTo-snoc d before [] [] line reading all one = (subst (λ (rs : List LineReading). ComesTo d rs line reading) (append-nil before) one, tt)
@@ -85,7 +85,7 @@ pub LinesComeTo-snoc : (d : Declared) (lines : List (List ℕ)) (readings : List
     LinesComeTo d lines readings → ComesTo d readings line reading → LinesComeTo d (lines ++ line ∷ []) (readings ++ reading ∷ [])
 LinesComeTo-snoc d lines readings line reading all one = FurtherLinesComeTo-snoc d [] lines readings line reading all one
 
--- each line comes to one reading
+-- each line gets one reading
 length-FurtherLinesComeTo : (d : Declared) (before : List LineReading) (lines : List (List ℕ)) (readings : List LineReading) →
     FurtherLinesComeTo d before lines readings → length lines ≡ length readings
 length-FurtherLinesComeTo d before [] [] all = refl
@@ -96,13 +96,13 @@ length-FurtherLinesComeTo d before (line ∷ lines) [] all = absurd all
 pub length-LinesComeTo : (d : Declared) (lines : List (List ℕ)) (readings : List LineReading) → LinesComeTo d lines readings → length lines ≡ length readings
 length-LinesComeTo d lines readings all = length-FurtherLinesComeTo d [] lines readings all
 
--- a line comes to what it reads as, unless it is refused for want of memory
+-- a line gets its own reading, unless it is refused because memory ran out
 Reads-from_ComesTo : (d : Declared) (before : List LineReading) (line : List ℕ) (reading : LineReading) → ComesTo d before line reading →
     (reading ≡ Refused refusal.Memory → ⊥) → Reads d line reading
 Reads-from_ComesTo d before line reading (inl reads) plain = reads
 Reads-from_ComesTo d before line reading (inr refused) plain = absurd (plain refused.0)
 
--- lines of which none is refused for want of memory read as what they come to
+-- lines get their own readings, if none is refused because memory ran out
 ReadAs-from_FurtherLinesComeTo : (d : Declared) (before : List LineReading) (lines : List (List ℕ)) (readings : List LineReading) →
     FurtherLinesComeTo d before lines readings → (Contains readings (Refused refusal.Memory) → ⊥) → ReadAs d lines readings
 ReadAs-from_FurtherLinesComeTo d before [] [] all plain = tt

@@ -12,14 +12,14 @@ use Rattle.pw_transcript.specs.ReplyText.{after_space, conflict_names, text_of_n
 use Rattle.pw_transcript.proofs.PremiseTexts.{with_name}
 
 module _ (name : ℕ → List ℕ) (numbers : List ℕ) (at : ℕ) (within : at < length numbers) where
-  -- one name more
+  -- one more name
   pub row_more : flat_map after_space (map name (take (at + 1) numbers)) ≡ flat_map after_space (map name (take at numbers)) ++ after_space (name (get_or numbers at 0))
   row_more =
       ap (λ l. flat_map after_space (map name l)) (take_more numbers at 0 within)
       ∙ ap (flat_map after_space) (map-append name (take at numbers) (get_or numbers at 0 ∷ []))
       ∙ with_name (map name (take at numbers)) (name (get_or numbers at 0))
 
-  -- what is written with one name more is a front of the whole
+  -- what is written with one more name is a front of the whole
   pub row_whole : flat_map after_space (map name numbers)
       ≡ (flat_map after_space (map name (take at numbers)) ++ after_space (name (get_or numbers at 0))) ++ flat_map after_space (map name (drop (at + 1) numbers))
   row_whole =
@@ -35,7 +35,8 @@ two_rows [] [] some = absurd (omega arith)
 two_rows [] (y ∷ ys) some = refl
 two_rows (x ∷ xs) ys some = flat_map-append after_space (x ∷ xs) ys
 
--- where a list that the code found to hold something is of cells or of lines, something is contradictory
+-- if a list that the code found to hold something is of cells or of lines, something is
+-- contradictory
 pub some_cell : (conflicts : Conflicts) (cells : List ℕ) → cells ≡ conflicts.cells → false ≡ (length cells == 0) →
     0 < length conflicts.cells + length conflicts.lines
 some_cell conflicts [] same some = absurd (cc)
@@ -46,7 +47,7 @@ pub some_line : (conflicts : Conflicts) (lines : List ℕ) → lines ≡ conflic
 some_line conflicts [] same some = absurd (cc)
 some_line conflicts (line ∷ lines) same some = omega (arith, ap length same)
 
--- where something is contradictory, the names of the cells are written, and then those of the lines
+-- if something is contradictory, the names of the cells are written, and then those of the lines
 pub conflicts_text : (d : Declared) (conflicts : Conflicts) → 0 < length conflicts.cells + length conflicts.lines →
     text_of_names (conflict_names d conflicts)
     ≡ flat_map after_space (map (name_at d.cells) conflicts.cells) ++ flat_map after_space (map (λ line. codes "line " ++ decimal line) conflicts.lines)

@@ -32,7 +32,7 @@ use Rattle.pw_transcript.proofs.ReplyLemmas.{text_of_replies_of-snoc, count_of_r
 
 -- ---- readings
 
--- lines get the replies that follow from what they come to
+-- lines get the replies that follow from the readings that they get
 pub get_replies : (d : Declared) (lines : List (List ℕ)) (readings : List LineReading) → LinesComeTo d lines readings → GetReplies d lines (replies_of d readings)
 get_replies d lines readings come = record { readings = readings; come = come; plain = ReadAs-from_ComeTo d lines readings come; replies_are = refl }
 
@@ -45,7 +45,8 @@ held_nothing line same = elim (cases_Bool (nat_le (length line) 1024)) [
   | inr long ↦ let e = rw long at same in cc
 ]
 
--- a piece that is no longer than a line that is read is held as it is, where nothing was held before it
+-- a piece that is no longer than a line that is read is held as it is, if nothing was held before
+-- it
 pub held_whole : (line piece : List ℕ) (held : Option (List ℕ)) → held ≡ held_line [] → length piece ≤ 1024 → held ≡ held_line line → Some piece ≡ held_line (line ++ piece)
 held_whole line piece held none short is =
     let empty : line ≡ [] = held_nothing line (sym is ∙ none) in
@@ -78,7 +79,7 @@ pub on_err_then : {T E P Q : Type 0} (r : Result T E) → OnErr r P → (P → Q
 on_err_then (Ok x) p f = tt
 on_err_then (Err e) p f = f p
 
--- ---- where the bytes stand
+-- ---- the parts of the bytes
 
 -- what came before, what is done, and the rest
 pub before_rest : (before bytes done rest : List ℕ) → bytes ≡ done ++ rest → (before ++ done) ++ rest ≡ before ++ bytes
@@ -127,7 +128,7 @@ length_last_line : (line : List ℕ) → length (last_line line) ≤ 1
 length_last_line [] = omega arith
 length_last_line (byte ∷ line) = omega arith
 
--- where the last piece counts as no line, it is empty
+-- if the last piece counts as no line, it is empty
 no_last_line : (line : List ℕ) → length (last_line line) ≡ 0 → line ≡ []
 no_last_line [] none = refl
 no_last_line (byte ∷ line) none = absurd (omega (arith, none))
@@ -137,7 +138,7 @@ all_lines : (text : List ℕ) (ended : List (List ℕ)) (last : List ℕ) → te
     lines_of text ≡ ended ++ last_line last
 all_lines text ended last whole no_end unended = ap lines_of whole ∙ lines_of_text ended last no_end unended
 
--- where fewer lines have ended than a run answers, there are no more than it answers
+-- if fewer lines have ended than a run answers, there are no more than it answers
 few_lines : (text : List ℕ) (ended : List (List ℕ)) (last : List ℕ) → text ≡ text_of_lines ended last → AllByRecursion HasNoEnd ended → HasNoEnd last →
     length ended < most_lines → length (lines_of text) ≤ most_lines
 few_lines text ended last whole no_end unended more =
@@ -154,7 +155,8 @@ few_ended text ended last whole no_end unended few =
 cut_at_last : (bytes : List ℕ) (lines : List (List ℕ)) → AreLines bytes lines → (ended : List (List ℕ)) × (rest : List ℕ) × EndIn bytes ended rest
 cut_at_last bytes lines (ended, rest, whole, no_end, unended, all) = (ended, rest, record { whole = whole; no_end = no_end; unended = unended })
 
--- some lines end in any bytes, perhaps none, and a piece comes after the last of them, perhaps an empty one
+-- some lines end in any bytes, perhaps none, and a piece comes after the last of them, perhaps an
+-- empty one
 some_end : (bytes : List ℕ) → (ended : List (List ℕ)) × (rest : List ℕ) × EndIn bytes ended rest
 some_end bytes = cut_at_last bytes (lines_of bytes) (found_at bytes (lines_of bytes) refl)
 
@@ -197,7 +199,7 @@ last_line-some [] some = absurd (omega arith)
 last_line-some (byte ∷ line) some = refl
 
 module _ {O : Type 0} (passes : O → List ℕ → O → Type 0) (d : Declared) where
-  -- what was passed stays so, whatever comes
+  -- what was passed stays passed, for any bytes that come
   pub FrontSoFar-more : (first now : O) (bytes more : List ℕ) → FrontSoFar passes d first now bytes → FrontSoFar passes d first now (bytes ++ more)
   FrontSoFar-more first now bytes more p =
       record {
@@ -211,7 +213,8 @@ module _ {O : Type 0} (passes : O → List ℕ → O → Type 0) (d : Declared) 
         front = p.front;
       }
 
-  -- all lines of a text are answered, also with a last line that is not ended, where they are with a line feed after it
+  -- all lines of a text are answered, also with a last line that is not ended, if they are with a
+  -- line feed after it
   PassesAll-unended : (first now : O) (counts : Lines) (bytes : List ℕ) → lines_of (bytes ++ 10 ∷ []) ≡ lines_of bytes →
       PassesAll passes d first now counts (bytes ++ 10 ∷ []) → PassesAll passes d first now counts bytes
   PassesAll-unended first now counts bytes same a =
@@ -454,7 +457,7 @@ module _ {O : Type 0} (passes : O → List ℕ → O → Type 0) (d : Declared) 
       ∙ ap (λ (ls : List (List ℕ)). s.ended ++ ls) (sym (last_line-some s.last some))
       ∙ sym (all_lines bytes s.ended s.last s.whole s.no_end s.unended)
 
-  -- where nothing has come of a line, all lines are answered
+  -- if nothing has come of a line, all lines are answered
   pub SoFar-empty : (first now : O) (p : Progress) (bytes : List ℕ) (test : Bool) →
       ((line : List ℕ) → p.line ≡ held_line line → test ≡ eqb (length line) 0) → test ≡ true →
       SoFar passes d first now p bytes → PassesAll passes d first now p.counts bytes
@@ -468,7 +471,7 @@ module _ {O : Type 0} (passes : O → List ℕ → O → Type 0) (d : Declared) 
   unended_same first now p bytes test tests more s =
       lines_and_end first now p bytes s (some_line s.last (sym (tests s.last s.held) ∙ more))
 
-  -- where the last line is answered as one that has ended, all lines are answered
+  -- if the last line is answered as one that has ended, all lines are answered
   pub SoFar-last : (first now next : O) (p p' : Progress) (bytes : List ℕ) (test : Bool) →
       ((line : List ℕ) → p.line ≡ held_line line → test ≡ eqb (length line) 0) → test ≡ false →
       SoFar passes d first now p bytes → SoFar passes d first next p' (bytes ++ 10 ∷ []) → p'.line ≡ held_line [] →
@@ -543,7 +546,8 @@ module _ {O : Type 0} (passes : O → List ℕ → O → Type 0) (d : Declared) 
 
 -- ---- the limits
 
--- where nothing has come after the last line that a run answers, and something has come, fewer lines have ended
+-- if nothing has come after the last line that a run answers, and something has come, fewer lines
+-- have ended
 pub not_full : (lines : ℕ) (test : Bool) → lines ≤ most_lines → (lines ≡ most_lines → test ≡ true) → test ≡ false → lines < most_lines
 not_full lines test below full some = elim (cases_Bool (eqb lines most_lines)) [
   | inl same ↦ let both : true ≡ false = sym (full (eqb-true lines most_lines same)) ∙ some in absurd (cc)
@@ -575,7 +579,7 @@ past_last_line bytes ended past no_end count some short whole most =
       in_all = omega (arith, ap length split, ap length whole, most);
     }
 
--- one byte more than a run answers
+-- one more byte than a run answers
 pub past_last_byte : (within past : List ℕ) → length (lines_of within) ≤ most_lines → length within ≡ most_bytes → length past ≡ 1 → GoesPastLimits within past
 past_last_byte within past few full one =
     record {
@@ -602,7 +606,7 @@ module _ {I O : Type 0} (takes : I → List ℕ → I → Type 0) (passes : O �
         passed = front.3;
       }
 
-  -- where the input has ended, all lines of the bytes taken are answered in part
+  -- if the input has ended, all lines of the bytes taken are answered in part
   pub replies_in_part_at_end : (has_ended : I → Bool) (i i' : I) (o o' : O) (bytes : List ℕ) → takes i bytes i' → length bytes ≤ most_bytes + 1 →
       has_ended i' ≡ true → PassesFront passes d o o' (lines_of bytes) → RepliesInPart takes passes d has_ended i i' o o'
   replies_in_part_at_end has_ended i i' o o' bytes taken most ended p =
@@ -632,7 +636,7 @@ module _ {I O : Type 0} (takes : I → List ℕ → I → Type 0) (passes : O �
         };
       }
 
-  -- there is one byte more than a run answers
+  -- there is one more byte than a run answers
   pub replies_up_to_byte : (i i' : I) (o o' : O) (p : Progress) (bytes more all : List ℕ) →
       takes i all i' → bytes ++ more ≡ all → length bytes ≡ most_bytes → length all ≡ most_bytes + 1 → SoFar passes d o o' p bytes →
       RepliesUpToLimit takes passes d i i' o o'
@@ -648,7 +652,7 @@ module _ {I O : Type 0} (takes : I → List ℕ → I → Type 0) (passes : O �
 -- ---- what was passed to a gathering output
 
 module _ {O : Type 0} (passes : O → List ℕ → O → Type 0) (d : Declared) (name : GName) (first last : O) (s t : Gathered O) where
-  -- where nothing was held at first and nothing is at last, it was passed to its output
+  -- if nothing was held at first and nothing is at last, it was passed to its output
   gathered_ended : (bytes : List ℕ) → (output_of s).ghost_name ≡ name → (output_of s).now ≡ first → held_of s ≡ [] → held_of t ≡ [] →
       PassesEnded (GatheredPasses passes) d s t bytes → (name ≡ (output_of t).ghost_name → last ≡ (output_of t).now) →
       PassesEnded passes d first last bytes
@@ -675,7 +679,7 @@ module _ {O : Type 0} (passes : O → List ℕ → O → Type 0) (d : Declared) 
         reply_count = a.reply_count;
       }
 
-  -- where nothing was held at first, of a front that was passed to it a front was passed to its output
+  -- if nothing was held at first, of a front that was passed to it a front was passed to its output
   gathered_front : (all : List (List ℕ)) → (output_of s).ghost_name ≡ name → (output_of s).now ≡ first → held_of s ≡ [] →
       PassesFront (GatheredPasses passes) d s t all → (name ≡ (output_of t).ghost_name → last ≡ (output_of t).now) →
       PassesFront passes d first last all
@@ -690,7 +694,7 @@ module _ {O : Type 0} (passes : O → List ℕ → O → Type 0) (d : Declared) 
         front = gathered_part passes name first last s t _ named at none p.front ends;
       }
 
-  -- the same of a whole run
+  -- the same for a whole run
   module _ {I : Type 0} (takes : I → List ℕ → I → Type 0) (i i' : I) where
     pub gathered_to_all : (counts : Lines) → (output_of s).ghost_name ≡ name → (output_of s).now ≡ first → held_of s ≡ [] → held_of t ≡ [] →
         RepliesToAll takes (GatheredPasses passes) d i i' s t counts → (name ≡ (output_of t).ghost_name → last ≡ (output_of t).now) →
@@ -698,13 +702,13 @@ module _ {O : Type 0} (passes : O → List ℕ → O → Type 0) (d : Declared) 
     gathered_to_all counts named at none left a ends =
         record { bytes = a.bytes; taken = a.taken; within = a.within; passed = gathered_all counts a.bytes named at none left a.passed ends }
 
-    -- where nothing has failed of the output that it passed to, nothing has failed of its output
+    -- if nothing has failed of the output that it passed to, nothing has failed of its output
     pub gathered_works : (failed : O → Bool) (counts : Lines) → (output_of s).ghost_name ≡ name →
         RepliesToAll takes (GatheredPasses passes) d i i' s t counts → failed (output_of t).now ≡ false →
         (name ≡ (output_of t).ghost_name → last ≡ (output_of t).now) → failed last ≡ false
     gathered_works failed counts named a works ends = ap failed (ends (sym named ∙ sym a.passed.passed.0)) ∙ works
 
-    -- where something has failed of the output that it passed to, something has failed of its output
+    -- if something has failed of the output that it passed to, something has failed of its output
     pub gathered_failed : (failed : O → Bool) (has_ended : I → Bool) → (output_of s).ghost_name ≡ name →
         RepliesInPart takes (GatheredPasses passes) d has_ended i i' s t → failed (output_of t).now ≡ true →
         (name ≡ (output_of t).ghost_name → last ≡ (output_of t).now) → failed last ≡ true
@@ -735,7 +739,7 @@ module _ {O : Type 0} (passes : O → List ℕ → O → Type 0) (d : Declared) 
           passed = gathered_front p.lines named at none p.passed ends;
         }
 
--- where nothing was taken and nothing was passed, a front of no replies was
+-- if nothing was taken and nothing was passed, a front of no replies was
 pub nothing_in_part : {I O : Type 0} (takes : I → List ℕ → I → Type 0) (passes : O → List ℕ → O → Type 0) (d : Declared) (has_ended : I → Bool) (i : I) (o : O) →
     takes i [] i → passes o [] o → RepliesInPart takes passes d has_ended i i o o
 nothing_in_part takes passes d has_ended i o taken none = record {

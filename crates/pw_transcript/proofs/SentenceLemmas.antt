@@ -19,14 +19,14 @@ differ a b apart = elim (cases_Bool (bytes_eq a b)) [
 apart : (a b : List ℕ) → bytes_eq a b ≡ false → a ≢ b
 apart a b other same = false≢true (sym other ∙ (bytes_eq-Decides a b).1 same)
 
--- a word that is found to differ from all of these is none of them
+-- a word that is found to differ from all of these is not one of them
 none_of : (word : List ℕ) (names : List (List ℕ)) → AllByRecursion (λ name. bytes_eq word name ≡ false) names → AllByRecursion (λ name. word ≢ name) names
 none_of word [] none = tt
 none_of word (name ∷ names) none = (apart word name none.0, none_of word names none.1)
 
 -- ---- the cells of an attach, and what comes after them
 
--- what stands before the first `under`, and what stands from it on, are all the words
+-- the words before the first `under` and the words from it on are all the words
 parts : (words : List (List ℕ)) → words ≡ before_under words ++ from_under words
 parts [] = refl
 parts (word ∷ words) = elim (cases_Bool (bytes_eq word (codes "under"))) [
@@ -47,7 +47,7 @@ no_cell : (tail premises : List (List ℕ)) → IsUnder tail premises → (befor
 no_cell tail [] is = rw is (refl, refl)
 no_cell tail (premise ∷ premises) is = rw is (refl, refl)
 
--- words of which none is `under` stand before it
+-- words of which none is `under` come before it
 cells_first : (cells tail premises : List (List ℕ)) → AreNoUnder cells → IsUnder tail premises →
     (before_under (cells ++ tail) ≡ cells) × (from_under (cells ++ tail) ≡ tail)
 cells_first [] tail premises none under = no_cell tail premises under
@@ -59,11 +59,11 @@ cells_first (cell ∷ cells) tail premises none under =
 given_under : (tail premises : List (List ℕ)) → IsUnder tail premises → under_form tail ≡ Some premises
 given_under tail premises is = search rules
 
--- and what gives premises is such an end
+-- and anything that gives premises is an end of this form
 found_under : (tail premises : List (List ℕ)) → under_form tail ≡ Some premises → IsUnder tail premises
 found_under tail premises is = search rules
 
--- a callable, cells and such an end give an attach
+-- a callable, cells and an end of this form give an attach
 given_attach : (callable : List ℕ) (cells tail premises : List (List ℕ)) → 0 < length cells → AreNoUnder cells → IsUnder tail premises →
     attach_form (callable ∷ cells ++ tail) ≡ Some (Attach callable cells premises)
 given_attach callable [] tail premises some none under = absurd (omega arith)
@@ -74,7 +74,7 @@ given_attach callable (cell ∷ cells) tail premises some none under =
     ∙ ap (λ (l : List (List ℕ)). option_map (Attach callable (cell ∷ cells)) (under_form l)) rest.1
     ∙ ap (option_map (Attach callable (cell ∷ cells))) (given_under tail premises under))
 
--- what stands after the user, as one list
+-- what comes after the user, as one list
 abbrev after_user : List (List ℕ) → Option Said
 after_user [] = None
 after_user (name ∷ rest) = said_form name rest
@@ -115,7 +115,7 @@ given words sentence (rest, is, said) =
 found_tell : (rest : List (List ℕ)) (said : Said) → tell_form rest ≡ Some said → IsSaid (codes "tell" ∷ rest) said
 found_tell rest said is = search rules
 
--- where there are premises, or none is wanted, the cells and the premises make an attach
+-- if there are premises, or none is wanted, the cells and the premises make an attach
 attached : (callable cell : List ℕ) (words : List (List ℕ)) (o : Option (List (List ℕ))) (said : Said) → bytes_eq cell (codes "under") ≡ false →
     under_form (from_under words) ≡ o → option_map (Attach callable (cell ∷ before_under words)) o ≡ Some said → IsSaid (codes "attach" ∷ callable ∷ cell ∷ words) said
 attached callable cell words None said more under is = absurd (cc)
@@ -124,7 +124,7 @@ attached callable cell words (Some premises) said more under is =
     subst (IsSaid (codes "attach" ∷ callable ∷ cell ∷ words)) same
     (from_under words, ap (λ (l : List (List ℕ)). codes "attach" ∷ callable ∷ cell ∷ l) (parts words), omega arith, (apart cell (codes "under") more, no_under words), found_under (from_under words) premises under)
 
--- and what gives an attach is a callable, cells and such an end
+-- and anything that gives an attach is a callable, cells and an end of this form
 found_attach : (rest : List (List ℕ)) (said : Said) → attach_form rest ≡ Some said → IsSaid (codes "attach" ∷ rest) said
 found_attach [] said is = absurd (cc)
 found_attach (callable ∷ []) said is = absurd (cc)
@@ -191,7 +191,7 @@ found_said name rest said is = elim (cases_Bool (bytes_eq name (codes "tell"))) 
   ]
 ]
 
--- what stands after a user makes one sentence
+-- what comes after a user makes one sentence
 made : (user : List ℕ) (o : Option Said) (sentence : Sentence) → option_map (sentence_by user) o ≡ Some sentence →
     (said : Said) × (o ≡ Some said) × (sentence ≡ sentence_by user said)
 made user None sentence is = absurd (cc)
@@ -205,6 +205,6 @@ found (user ∷ name ∷ rest) sentence is =
     let step = made user (said_form name rest) sentence is in
     subst (IsSentence (user ∷ name ∷ rest)) (sym step.2) (name ∷ rest, refl, found_said name rest step.0 step.1)
 
--- so the words form one sentence at most
+-- so the words form at most one sentence
 pub one_sentence : (words : List (List ℕ)) (s t : Sentence) → IsSentence words s → IsSentence words t → s ≡ t
 one_sentence words s t is other = let same = sym (given words s is) ∙ given words t other in cc

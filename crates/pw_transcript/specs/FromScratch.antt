@@ -1,4 +1,4 @@
--- The theorem of a run: what is written is, line by line, the reply that each line gets from scratch.
+-- The theorem of a run: the output is, line by line, the reply that each line gets from scratch.
 use Rattle.std.specs.Prelude.{◌≡◌, ℕ, ◌+◌, ◌≤◌, Bool, true, List, [], ◌∷◌, ◌++◌, length, Option, Some, None, ◌⊎◌, Contains}
 use Rattle.std.specs.List.{AllByRecursion}
 use Rattle.pw_info.specs.Passing.{PassesPart}
@@ -15,41 +15,41 @@ use Rattle.pw_sessions.specs.Answer.{replies_of}
 use Rattle.pw_sessions.specs.TakesMemory.{TakesMemory}
 use Rattle.pw_transcript.specs.ReplyText.{text_of_replies}
 
--- ---- which replies lines get
+-- ---- the replies to lines
 
--- each line reads so
+-- each line has its reading
 abbrev pub ReadAs : Declared → List (List ℕ) → List LineReading → Type 0
 ReadAs d [] [] = Unit {0}
 ReadAs d (line ∷ lines) (reading ∷ readings) = Reads d line reading × ReadAs d lines readings
 ReadAs d lines readings = ⊥
 
--- what a line comes to, after lines that came to these readings: it reads so; or it says a command that takes memory there,
--- and is refused for want of it
+-- the reading that a line gets, after lines that got these readings: its own reading; or a refusal,
+-- if it says a command that takes memory there, and memory runs out
 abbrev pub ComesTo : Declared → List LineReading → List ℕ → LineReading → Type 0
 ComesTo d before line reading =
     Reads d line reading
     ⊎ ((reading ≡ Refused refusal.Memory) × (command : Command) × TakesMemory d before command × Reads d line (Says command))
 
--- what further lines come to, after lines that came to these readings
+-- the readings that further lines get, after lines that got these readings
 abbrev pub FurtherLinesComeTo : Declared → List LineReading → List (List ℕ) → List LineReading → Type 0
 FurtherLinesComeTo d before [] [] = Unit {0}
 FurtherLinesComeTo d before (line ∷ lines) (reading ∷ readings) =
     ComesTo d before line reading × FurtherLinesComeTo d (before ++ reading ∷ []) lines readings
 FurtherLinesComeTo d before lines readings = ⊥
 
--- what the lines of a transcript come to, one after another
+-- the readings that the lines of a transcript get, one after another
 abbrev pub LinesComeTo : Declared → List (List ℕ) → List LineReading → Type 0
 LinesComeTo d lines readings = FurtherLinesComeTo d [] lines readings
 
--- These lines get these replies, from scratch. A line that was refused for want of memory counts as blank for the lines
--- after it; where there is none, each line comes to what it reads as.
+-- These lines get these replies, from scratch. A line that was refused because memory ran out
+-- counts as blank for the lines after it; if there is no such line, each line gets its own reading.
 pub record GetReplies (d : Declared) (lines : List (List ℕ)) (replies : List (Option Reply)) : Type 0 where
   pub readings : List LineReading
   pub come : LinesComeTo d lines readings
   pub plain : (Contains readings (Refused refusal.Memory) → ⊥) → ReadAs d lines readings
   pub replies_are : replies ≡ replies_of d readings
 
--- how many replies there are
+-- the number of replies
 abbrev pub count_of_replies : List (Option Reply) → ℕ
 count_of_replies [] = 0
 count_of_replies (None ∷ replies) = count_of_replies replies
@@ -61,15 +61,16 @@ pub record EndIn (bytes : List ℕ) (ended : List (List ℕ)) (rest : List ℕ) 
   pub no_end : AllByRecursion HasNoEnd ended
   pub unended : HasNoEnd rest
 
--- the lines of the bytes that a run answers: those that end in them; and, once the input has ended, what came after the last of
--- these too
+-- the lines of the bytes that a run answers: those that end in them; and, once the input has ended,
+-- also the bytes after the last of these
 abbrev pub AreToAnswer : Bool → List ℕ → List (List ℕ) → Type 0
 AreToAnswer has_ended bytes lines = ((has_ended ≡ true) × (lines ≡ lines_of bytes)) ⊎ ((rest : List ℕ) × EndIn bytes lines rest)
 
--- ---- what is passed for bytes, between two moments of an output
+-- ---- the output for bytes, between two moments of an output
 
 module _ {O : Type 0} (passes : O → List ℕ → O → Type 0) (d : Declared) where
-  -- the replies to all lines of the bytes, and nothing else; so many lines and so many replies
+  -- the replies to all lines of the bytes, and nothing else; with the numbers of lines and of
+  -- replies
   pub record PassesAll (o o' : O) (counts : Lines) (bytes : List ℕ) : Type 0 where
     pub replies : List (Option Reply)
     pub get : GetReplies d (lines_of bytes) replies
@@ -99,21 +100,24 @@ module _ {O : Type 0} (passes : O → List ℕ → O → Type 0) (d : Declared) 
 -- ---- a run, between two moments of its input and its output
 
 module _ {I O : Type 0} (takes : I → List ℕ → I → Type 0) (passes : O → List ℕ → O → Type 0) (d : Declared) where
-  -- bytes within the limits were taken, and the replies to all their lines were passed, and nothing else
+  -- bytes within the limits were taken, and the replies to all their lines were passed, and nothing
+  -- else
   pub record RepliesToAll (i i' : I) (o o' : O) (counts : Lines) : Type 0 where
     pub bytes : List ℕ
     pub taken : takes i bytes i'
     pub within : IsWithinLimits bytes
     pub passed : PassesAll passes d o o' counts bytes
 
-  -- bytes within the limits were taken, and the replies to the lines that end in them were passed, and nothing else
+  -- bytes within the limits were taken, and the replies to the lines that end in them were passed,
+  -- and nothing else
   pub record RepliesToEnded (i i' : I) (o o' : O) : Type 0 where
     pub bytes : List ℕ
     pub taken : takes i bytes i'
     pub within : IsWithinLimits bytes
     pub passed : PassesEnded passes d o o' bytes
 
-  -- bytes past the limits were taken, and the replies to the lines that end within them were passed, and nothing else
+  -- bytes past the limits were taken, and the replies to the lines that end within them were
+  -- passed, and nothing else
   pub record RepliesUpToLimit (i i' : I) (o o' : O) : Type 0 where
     pub within : List ℕ
     pub past : List ℕ
@@ -121,8 +125,9 @@ module _ {I O : Type 0} (takes : I → List ℕ → I → Type 0) (passes : O �
     pub goes_past : GoesPastLimits within past
     pub passed : PassesEnded passes d o o' within
 
-  -- bytes were taken, at most one more than a run answers, and a front of the replies to those of their lines that a run
-  -- answers was passed. A last piece that no line feed ends is such a line only where the input has ended.
+  -- bytes were taken, at most one more than a run answers, and a front of the replies to those of
+  -- their lines that a run answers was passed. A last piece without a line feed is a line like that
+  -- only if the input has ended.
   pub record RepliesInPart (has_ended : I → Bool) (i i' : I) (o o' : O) : Type 0 where
     pub bytes : List ℕ
     pub taken : takes i bytes i'

@@ -1,20 +1,20 @@
--- What a run answers at most, and where a transcript goes past it.
+-- The limits of a run, and where a transcript exceeds them.
 use Rattle.std.specs.Prelude.{ℕ, ◌+◌, ◌<◌, ◌≤◌, List, ◌++◌, length, take, ◌⊎◌}
 use Rattle.pw_info.specs.Lines.{lines_of}
 
--- how many lines of a transcript a run answers at most
+-- the greatest number of lines of a transcript that a run answers
 abbrev pub most_lines : ℕ
 most_lines = 1000000
 
--- how many bytes of a transcript a run answers at most
+-- the greatest number of bytes of a transcript that a run answers
 abbrev pub most_bytes : ℕ
 most_bytes = 67108864
 
--- how many bytes a line has at most that is not refused for its length
+-- the greatest number of bytes of a line that is not refused for its length
 abbrev pub most_line_bytes : ℕ
 most_line_bytes = 1024
 
--- how many bytes a run takes at once at most
+-- the greatest number of bytes that a run takes at once
 abbrev pub most_at_once : ℕ
 most_at_once = 65536
 
@@ -27,8 +27,8 @@ pub record IsWithinLimits (transcript : List ℕ) : Type 0 where
 abbrev pub IsPastLimits : List ℕ → Type 0
 IsPastLimits transcript = (most_lines < length (lines_of transcript)) ⊎ (most_bytes < length transcript)
 
--- `within` is within the limits, and with the first byte of `past` it is no longer. What is past them came with that
--- byte: it is no more than a run takes at once.
+-- `within` is within the limits, and with the first byte of `past` it no longer is. The bytes past
+-- the limits came with that byte: they are no more than a run takes at once.
 pub record GoesPastLimits (within past : List ℕ) : Type 0 where
   pub is_within : IsWithinLimits within
   pub first_past : IsPastLimits (within ++ take 1 past)

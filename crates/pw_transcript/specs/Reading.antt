@@ -1,4 +1,4 @@
--- How a line of a transcript reads: it is blank, it is refused, or it says a command.
+-- The reading of a line of a transcript: it is blank, it is refused, or it says a command.
 use Rattle.std.specs.Prelude.{◌≡◌, ℕ, ◌<◌, ◌≤◌, ◌==◌, Bool, true, false, List, [], ◌∷◌, length, Option, Some, None, is_some, Result, Ok, Err}
 use Rattle.std.specs.List.{list_all, filter_map}
 use Rattle.std.specs.FinSet.{from_list}
@@ -22,7 +22,7 @@ use Rattle.pw_transcript.specs.Limits.{most_line_bytes}
 use Rattle.pw_transcript.specs.Sentence.{Said, Tell, Attach, Believe, Doubt, Beliefs, Ask, Why, Conflicts, Other, Sentence, IsSentence}
 use Rattle.pw_info.specs.Words.{words_of, is_idle, is_allowed}
 
--- ---- what the declaration says of names
+-- ---- names in the declaration
 
 -- the word names a premise
 abbrev pub is_known : Declared → List ℕ → Bool
@@ -36,7 +36,8 @@ abbrev pub may_use_at : Declared → ℕ → Option ℕ → Bool
 may_use_at d user None = true
 may_use_at d user (Some premise) = is_owner user (owner_of d premise)
 
--- the user may tell or attach under the premise that the word names: it belongs to no user, or to this one
+-- the user may tell or attach under the premise that the word names: it belongs to no user, or to
+-- this one
 abbrev pub may_use : Declared → ℕ → List ℕ → Bool
 may_use d user word = may_use_at d user (place_of_name d.premises word)
 
@@ -52,14 +53,14 @@ is_cell d word = is_some (place_of_name d.cells word)
 abbrev pub cells_named : Declared → List (List ℕ) → List ℕ
 cells_named d words = filter_map (place_of_name d.cells) words
 
--- the arguments are these cells. That the numbers are held in nine places is true of all arguments in the code: so there are
--- no others with the same cells
+-- the arguments are these cells. The second part, that nine places hold the numbers, is true of all
+-- arguments in the code: so no others have the same cells
 abbrev pub HoldsCells : Arguments → List ℕ → Type 0
 HoldsCells arguments cells = (cells_of arguments ≡ cells) × (length arguments.held ≡ most_cells)
 
 -- ---- sentences
 
--- what is said by this user means the command: each word names what the command has there
+-- the words of this user mean the command: each word names what the command has there
 abbrev pub MeansFor : Declared → ℕ → Said → Command → Type 0
 MeansFor d user (Tell cell_word info_word words) command =
     (cell : ℕ) × (info : Info) × (place_of_name d.cells cell_word ≡ Some cell) × SpellsInfo (members_of d) info_word (kind_at d cell) info
@@ -79,7 +80,8 @@ MeansFor d user (Why cell_word) command =
 MeansFor d user Conflicts command = command ≡ commands.Conflicts user
 MeansFor d user Other command = ⊥
 
--- the sentence means the command: its first word names the user, and what is said means the command for this user
+-- the sentence means the command: its first word names the user, and the other words mean the
+-- command for this user
 abbrev pub Means : Declared → Sentence → Command → Type 0
 Means d sentence command = (user : ℕ) × (place_of_name d.users sentence.user ≡ Some user) × MeansFor d user sentence.said command
 
@@ -113,7 +115,7 @@ HasWrongInformation d (Tell cell_word info_word premises) =
     × ((info : Info) → SpellsInfo (members_of d) info_word (kind_at d cell) info → ⊥)
 HasWrongInformation d said = ⊥
 
--- the callable does not take cells of these kinds, or so many
+-- the callable does not take cells of these kinds, or this number of cells
 abbrev pub HasWrongArguments : Declared → Said → Type 0
 HasWrongArguments d (Attach callable_word cells premises) =
     (callable : Callable) × (callable_named d callable_word ≡ Some callable)
@@ -174,12 +176,13 @@ RefusalApplies d line refusal.LineTooLong = most_line_bytes < length line
 RefusalApplies d line refusal.Syntax = (is_idle line ≡ false) × ((sentence : Sentence) → SaysSentence line sentence → ⊥)
 RefusalApplies d line refusal = RefusalAppliesToLine d line refusal
 
--- the refusals of a line, in the order in which they are tried; want of memory is none of the line's own
+-- the refusals of a line, in the order in which they are tried; out of memory is not a refusal of
+-- the line itself
 abbrev pub line_refusals : List Refusal
 line_refusals = refusal.LineTooLong ∷ refusal.Syntax ∷ sentence_refusals
 
--- blank lines and comments of at most 1,024 bytes are blank; a line that some refusal applies to is refused for the first;
--- any other line says what its sentence means
+-- blank lines and comments of at most 1,024 bytes are blank; a line to which some refusal applies
+-- is refused for the first of them; any other line says what its sentence means
 abbrev pub Reads : Declared → List ℕ → LineReading → Type 0
 Reads d line Blank = (length line ≤ most_line_bytes) × (is_idle line ≡ true)
 Reads d line (Refused refusal) = IsFirstIn (RefusalApplies d line) line_refusals refusal
@@ -187,7 +190,7 @@ Reads d line (Says command) =
     HoldsOfNone (RefusalApplies d line) line_refusals
     × ((sentence : Sentence) × SaysSentence line sentence × Means d sentence command)
 
--- what `read_command` answers, as a reading
+-- the answer of `read_command`, as a reading
 abbrev pub reading_of : Result (Option Command) Refusal → LineReading
 reading_of (Ok None) = Blank
 reading_of (Ok (Some command)) = Says command

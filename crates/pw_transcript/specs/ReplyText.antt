@@ -1,4 +1,4 @@
--- How replies are written.
+-- The text of replies.
 use Rattle.std.specs.Prelude.{ℕ, ◌+◌, ◌<◌, All, List, [], ◌∷◌, ◌++◌, Option, Some, None, codes, filter, length, map}
 use Rattle.std.specs.FinSet.{contains}
 use Rattle.std.specs.Fmt.{decimal}
@@ -37,23 +37,25 @@ premise_names d premises = map (name_at d.premises) (filter (contains premises) 
 abbrev pub after_space : List ℕ → List ℕ
 after_space name = space ∷ name
 
--- names, each after a space; where there are none, `none` after a space
+-- names, each after a space; if there are none, `none` after a space
 abbrev pub text_of_names : List (List ℕ) → List ℕ
 text_of_names [] = codes " none"
 text_of_names (name ∷ names) = flat_map after_space (name ∷ names)
 
--- the names of what is contradictory: of each cell its own, and of the attachment of line N `line N`
+-- the names of what is contradictory: for each cell its own name, and for the attachment of line N
+-- `line N`
 abbrev pub conflict_names : Declared → Conflicts → List (List ℕ)
 conflict_names d conflicts = map (name_at d.cells) conflicts.cells ++ map (λ line. codes "line " ++ decimal line) conflicts.lines
 
--- what the reply tells has names: every member of the kind of a value, and each cell that is listed
+-- everything in the reply has names: every member of the kind of a value, and each cell that is
+-- listed
 abbrev pub IsReplyNamed : Declared → Reply → Type 0
 IsReplyNamed d (reply.Value info) = IsNamed (members_of d) (kind_of info)
 IsReplyNamed d (reply.Because info premises) = IsNamed (members_of d) (kind_of info)
 IsReplyNamed d (reply.Listed conflicts) = All (λ cell. cell < length d.cells) conflicts.cells
 IsReplyNamed d reply = Unit {0}
 
--- what a reply says
+-- the content of a reply
 abbrev pub text_of_answer : Declared → Reply → List ℕ
 text_of_answer d reply.Done = codes "ok"
 text_of_answer d (reply.Value info) = text_of_info (members_of d) info
@@ -63,7 +65,8 @@ text_of_answer d (reply.Listed conflicts) = codes "conflicts" ++ text_of_names (
 text_of_answer d (reply.Believes premises) = codes "believes" ++ text_of_names (premise_names d premises)
 text_of_answer d (reply.Refused refusal) = codes "refused " ++ text_of_refusal refusal
 
--- a reply as it is written: the number of its line, a colon and a space, what it says, and a line feed
+-- a reply as it is written: the number of its line, a colon and a space, its content, and a line
+-- feed
 abbrev pub text_of_reply : Declared → ℕ → Reply → List ℕ
 text_of_reply d number reply = (decimal number ++ codes ": ") ++ (text_of_answer d reply ++ codes "\n")
 

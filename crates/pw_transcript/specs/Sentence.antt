@@ -1,8 +1,9 @@
--- The form of a command line: who speaks, and the words of the command by what they are there for. No name is looked up.
+-- The form of a command line: the user, and the words of the command by their roles. No names are
+-- looked up.
 use Rattle.std.specs.Prelude.{◌≡◌, ◌≢◌, ℕ, ◌<◌, List, [], ◌∷◌, ◌++◌, length, codes}
 use Rattle.std.specs.List.{AllByRecursion}
 
--- what is said: the words of a command, by what they are there for
+-- the words of a command, by their roles
 pub data Said : Type 0 where
   Tell : (cell info : List ℕ) (premises : List (List ℕ)) → Said
   Attach : (callable : List ℕ) (cells premises : List (List ℕ)) → Said
@@ -14,7 +15,7 @@ pub data Said : Type 0 where
   Conflicts : Said
   Other : Said
 
--- what a line says: who speaks, and what is said
+-- the content of a line: the user, and the command
 pub record Sentence : Type 0 where
   pub user : List ℕ
   pub said : Said
@@ -29,16 +30,18 @@ command_names =
 abbrev pub NamesNoCommand : List ℕ → Type 0
 NamesNoCommand word = AllByRecursion (λ name. word ≢ name) command_names
 
--- the end of a tell or of an attach: nothing where it has no premise, else the word `under` and the premises
+-- the end of a tell or of an attach: nothing if it has no premise, and otherwise the word `under`
+-- and the premises
 abbrev pub IsUnder : List (List ℕ) → List (List ℕ) → Type 0
 IsUnder tail [] = tail ≡ []
 IsUnder tail (premise ∷ premises) = tail ≡ codes "under" ∷ premise ∷ premises
 
--- none of the words is `under`: the first that is one, after the callable, ends the cells of an attach
+-- none of the words is `under`: the first `under` after the callable ends the cells of an attach
 abbrev pub AreNoUnder : List (List ℕ) → Type 0
 AreNoUnder words = AllByRecursion (λ word. word ≢ codes "under") words
 
--- this is said by the words after the user; where the first of them names no command it is `Other`, whatever follows
+-- the command given by the words after the user; if the first of them names no command it is
+-- `Other`, with any words after it
 abbrev pub IsSaid : List (List ℕ) → Said → Type 0
 IsSaid words (Tell cell info premises) =
     (tail : List (List ℕ)) × (words ≡ codes "tell" ∷ cell ∷ info ∷ tail) × IsUnder tail premises
@@ -53,6 +56,6 @@ IsSaid words (Why cell) = words ≡ codes "why" ∷ cell ∷ []
 IsSaid words Conflicts = words ≡ codes "conflicts" ∷ []
 IsSaid words Other = (word : List ℕ) × (rest : List (List ℕ)) × (words ≡ word ∷ rest) × NamesNoCommand word
 
--- the words are the sentence: its user first, and then what is said
+-- the words are the sentence: first its user, and then the command
 abbrev pub IsSentence : List (List ℕ) → Sentence → Type 0
 IsSentence words sentence = (rest : List (List ℕ)) × (words ≡ sentence.user ∷ rest) × IsSaid rest sentence.said

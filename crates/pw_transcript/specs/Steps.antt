@@ -1,4 +1,4 @@
--- What only the steps of the code and their proofs speak of.
+-- Definitions that only the steps of the code and their proofs mention.
 pub mod Answering
 pub mod Fields
 pub mod Forms

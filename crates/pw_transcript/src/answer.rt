@@ -16,7 +16,8 @@ use pw_info::{Failed, Output};
 use pw_sessions::{Refusal, Reply, Workbench};
 use std::alloc::Allocator;
 
-// The reply to the line of this number, None where it gets none. The line is handed in where it has at most 1,024 bytes.
+// The reply to the line of this number. None if it gets no reply. The line is passed in if it has
+// at most 1,024 bytes.
 fn reply_to_line<A: Allocator + Copy>(
     declaration: &Declaration<'_, A>,
     number: u32,
@@ -31,7 +32,7 @@ fn reply_to_line<A: Allocator + Copy>(
         (workbench_by workbench.old) (workbench_by workbench.new) (option_map reply_by result) }
     ensures left { IsLeft (declared_by declaration.now) (number + 1) (workbench_by workbench.new) }
 {
-    // Cells have kinds whose members are named.
+    // Cells have kinds whose members have names.
     declaration.limits();
     let Some(line) = line else {
         return Some(Reply::Refused(Refusal::LineTooLong));
@@ -43,9 +44,9 @@ fn reply_to_line<A: Allocator + Copy>(
     }
 }
 
-/// Answers a line of this number: its reply, if it gets one, is passed to the output. The line is handed in where it
-/// has at most 1,024 bytes. The answer is whether there was a reply; `Failed` where the output failed, and a front of
-/// the reply was passed then.
+/// Answers the line of this number: its reply, if it gets one, is passed to the output. The line is
+/// passed in if it has at most 1,024 bytes. The result is whether there was a reply. On `Failed`
+/// the output failed, and a front of the reply was passed.
 pub(crate) fn answer_line<A: Allocator + Copy, O: Output>(
     d: &Declaration<'_, A>,
     number: u32,
@@ -65,7 +66,7 @@ pub(crate) fn answer_line<A: Allocator + Copy, O: Output>(
         → O.has_failed output.new ≡ false) }
     ensures left { IsLeft (declared_by d.now) (number + 1) (workbench_by workbench.new) }
 {
-    // The reply is written where it stands: to move it out costs more than to look into it.
+    // The reply is written in place: moving it out costs more than looking into it.
     let reply = reply_to_line(d, number, line, workbench);
     let Some(reply) = &reply else {
         return Ok(false);

@@ -1,4 +1,4 @@
-//! Reading a line of a transcript: its form first, then its names, in the order in which refusals are tried.
+//! Reading a line of a transcript: its form first, then its names, in the order of the refusals.
 
 ghost use Rattle.std.specs.Prelude.{◌≡◌, ◌<◌, length, true, false, None, Some, IfOk, IfErr, IfNone, IfSome, OnOk, OnErr};
 ghost use Rattle.std.specs.List.{list_all};
@@ -21,13 +21,13 @@ use pw_procs::Arguments;
 use pw_sessions::{Command, Refusal};
 use std::alloc::Allocator;
 
-/// How many bytes a line may have.
+/// The greatest number of bytes in a line.
 pub const MOST_LINE_BYTES: usize = 1024;
 
-// How many cells a callable takes at most.
+// The greatest number of cells that a callable takes.
 const MOST_CELLS: usize = 9;
 
-// The premises that the words name, or the refusal of a word that names none.
+// The premises that the words name, or the refusal of a word that names no premise.
 fn premise_set<A: Allocator + Copy>(
     declaration: &Declaration<'_, A>,
     mut words: Words<'_>,
@@ -61,8 +61,9 @@ fn may_use<A: Allocator + Copy>(declaration: &Declaration<'_, A>, user: u8, prem
     owner == user
 }
 
-// The premises that the words name, and whether the user may tell or attach under each; or the refusal of a word that
-// names none, whoever the premises before it belong to. Inlined, so that what it answers need not be stored.
+// The premises that the words name, and whether the user may tell or attach under each; or the
+// refusal of a word that names no premise, no matter who owns the premises before it. Inlined, so
+// that the answer need not be stored.
 #[inline(always)]
 fn support_of<A: Allocator + Copy>(
     declaration: &Declaration<'_, A>,
@@ -91,7 +92,7 @@ fn support_of<A: Allocator + Copy>(
     Ok((set, may_use_all))
 }
 
-// What a user tells.
+// The tell of a user.
 fn resolve_tell<A: Allocator + Copy>(
     declaration: &Declaration<'_, A>,
     user: u8,
@@ -135,7 +136,8 @@ fn are_cells<A: Allocator + Copy>(declaration: &Declaration<'_, A>, mut words: W
     true
 }
 
-// The cells that the words before `under` name, each of which names one; None where there are more than nine.
+// The cells that the words before `under` name. Each of these words names a cell. None if there are
+// more than nine.
 fn named_cells<A: Allocator + Copy>(
     declaration: &Declaration<'_, A>,
     mut words: Words<'_>,
@@ -162,8 +164,9 @@ fn named_cells<A: Allocator + Copy>(
     Arguments::of(&cells[..count])
 }
 
-// What a user attaches: a callable to the cells that the words before `under` name, under the premises of those after it. Never
-// inlined, so that other lines make no room for its cells.
+// The attachment of a user: a callable to the cells that the words before `under` name, under the
+// premises that the words after it name. Never inlined, so that other lines make no room for its
+// cells.
 #[inline(never)]
 fn resolve_attach<A: Allocator + Copy>(
     declaration: &Declaration<'_, A>,
@@ -180,7 +183,7 @@ fn resolve_attach<A: Allocator + Copy>(
     ensures err { IfErr result (λ refusal. IsRefusedFor (declared_by declaration.now) user
         (Attach callable.now (before_under cells.entry) under.entry) refusal) }
 {
-    // A callable takes nine cells at most.
+    // A callable takes at most nine cells.
     declaration.limits();
     if !are_cells(declaration, cells.again()) {
         return Err(Refusal::UnknownCell);
@@ -208,7 +211,7 @@ fn resolve_attach<A: Allocator + Copy>(
     })
 }
 
-// The cell that a user asks about, or the refusal of a word that names none.
+// The cell that a user asks about, or the refusal of a word that names no cell.
 fn asked_cell<A: Allocator + Copy>(
     declaration: &Declaration<'_, A>,
     word: &[u8],
@@ -225,7 +228,7 @@ fn asked_cell<A: Allocator + Copy>(
     }
 }
 
-// The command that is meant by what a user says, or its first refusal.
+// The command that a user's words mean, or its first refusal.
 fn resolve_said<A: Allocator + Copy>(
     declaration: &Declaration<'_, A>,
     user: u8,
@@ -290,10 +293,10 @@ fn resolve<A: Allocator + Copy>(
     }
 }
 
-/// Reads one line without its line end. It takes no memory.
+/// Reads one line without its line end. Takes no memory.
 ///
-/// The command that the line says; None for a blank line or a comment of at most 1,024 bytes; else the first refusal
-/// that applies to the line, which is never `Memory`.
+/// The result is the command that the line says; None for a blank line or a comment of at most
+/// 1,024 bytes; and otherwise the first refusal that applies to the line, which is never `Memory`.
 pub fn read_command<A: Allocator + Copy>(
     line: &[u8],
     declaration: &Declaration<'_, A>,

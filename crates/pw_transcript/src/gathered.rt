@@ -1,10 +1,10 @@
-// An output that gathers what is put into it, and passes it on in large pieces.
+// An output that gathers the bytes put into it, and passes them on in large pieces.
 ghost use Rattle.std.specs.Prelude.{◌≡◌, ◌≤◌, ◌<◌, ℕ, List, [], ◌++◌, length, take, drop, true, false, is_err, OnOk, Some};
 
 use pw_info::{Failed, Output};
 use std::marker::Model;
 
-// How many bytes are held at most.
+// The greatest number of bytes held.
 const ROOM: usize = 16384;
 
 // Bytes that wait to be passed on.
@@ -20,7 +20,7 @@ impl Model for Held {
 
     ghost view = { λ h. drop h.start (take h.end h.bytes) };
 
-    // Where nothing is held, there is room for all that it can hold.
+    // If nothing is held, there is room for as much as it can hold.
     ghost invariant = { λ h. (h.start ≤ h.end) × (h.end ≤ 16384) × (h.start ≡ h.end → h.end ≡ 0) };
 }
 
@@ -52,14 +52,14 @@ impl Held {
         if bytes.len() > ROOM - self.end {
             return self.fill(bytes);
         }
-        // How many bytes there are is mostly known where this is called, so that a few are written at once.
+        // The number of bytes is mostly known to the caller, so that a few are written at once.
         let end = self.end + bytes.len();
         self.bytes[self.end..end].copy_from_slice(bytes);
         self.end = end;
         bytes.len()
     }
 
-    // The same, where there may be no room for all of them.
+    // The same, if there may be no room for all of them.
     #[inline(never)]
     fn fill(&mut self, bytes: &[u8]) -> usize
         ensures bound { result ≤ length bytes.now }
@@ -72,7 +72,7 @@ impl Held {
         count
     }
 
-    // Lets the first bytes go.
+    // Drops the first bytes.
     fn release(&mut self, count: usize)
         requires { count ≤ length self.old }
         ensures { self.new ≡ drop count self.old }
@@ -87,10 +87,10 @@ impl Held {
     }
 }
 
-/// An output that gathers what is put into it, and passes it on to another output when it is full
-/// and when it is flushed.
+/// An output that gathers the bytes put into it. It passes them on to another output when it is
+/// full and when it is flushed.
 ///
-/// Bytes that it holds when it is dropped are lost: flush it before.
+/// Bytes that it holds when it is dropped are lost: flush it first.
 #[derive(Drop)]
 pub struct Gathered<'a, O> {
     output: &'a mut O,
@@ -100,7 +100,7 @@ pub struct Gathered<'a, O> {
 impl<'a, O: Output> Gathered<'a, O> {
     ghost use Rattle.pw_transcript.specs.Steps.Gatherers.{output_of, held_of, GatheredPasses};
 
-    /// A gathering output over the output, which holds nothing.
+    /// A gathering output over the output, holding nothing.
     pub fn new(output: &'a mut O) -> Gathered<'a, O>
         ensures same_reference { (output_of result).ghost_name ≡ output.entry.ghost_name }
         ensures unchanged { (output_of result).now ≡ output.old }
@@ -112,9 +112,9 @@ impl<'a, O: Output> Gathered<'a, O> {
         }
     }
 
-    /// Passes on all that is held.
+    /// Passes on everything held.
     ///
-    /// A failure of the output ends it with `Failed`: what was not passed on is still held then.
+    /// A failure of the output ends it with `Failed`; what was not passed on is then still held.
     pub fn flush(&mut self) -> Result<(), Failed>
         ensures passed { GatheredPasses O.passes self.old [] self.new }
         ensures ok { OnOk result (held_of self.new ≡ []) }

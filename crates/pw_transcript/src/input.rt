@@ -1,4 +1,4 @@
-// The end that gives bytes: what was taken from it, when it has failed, and when it has ended.
+// An end that gives bytes: what was taken from it, when it has failed, and when it has ended.
 ghost use Rattle.std.specs.Prelude.{◌≡◌, ◌<◌, ℕ, List, [], ◌++◌, length, Bool, true, false, is_err, IsErr, IfOk, OnErr};
 ghost use Rattle.std.proofs.KnownBytes.{Consumes-nil, Consumes-trans};
 ghost use Rattle.pw_transcript.specs.Readers.{ReaderTakes, NothingRemains};
@@ -9,8 +9,9 @@ use std::io::Read;
 
 /// An end that gives bytes.
 ///
-/// Contracts see what was taken from it as a relation between two moments: `takes old bytes new`
-/// says that these bytes, in this order, were taken between the moment `old` and the moment `new`.
+/// Contracts describe what was taken from it as a relation between two moments:
+/// `takes old bytes new` says that these bytes, in this order, were taken between the moment `old`
+/// and the moment `new`.
 pub trait Input {
     // The bytes were taken between the first moment and the second.
     ghost takes: { Self → List ℕ → Self → Type 0 };
@@ -21,11 +22,11 @@ pub trait Input {
     // Nothing is left to take, as far as can be known.
     ghost nothing_left: { Self → Type 0 };
 
-    /// Takes bytes into the front of the buffer, and answers how many: never more than it holds.
-    /// For a buffer that is not empty, 0 is the end: nothing is left to take then.
+    /// Takes bytes into the front of the buffer, and answers how many: never more than the buffer
+    /// holds. For a buffer that is not empty, 0 means the end: nothing is left to take then.
     ///
-    /// A take that fails answers `Failed` and takes nothing. Each take after it does the same.
-    /// After the end a take answers 0 again only if there is still nothing to give.
+    /// A take that fails answers `Failed` and takes nothing. Every later take does the same. After
+    /// the end a take answers 0 again only if there is still nothing to give.
     fn take(&mut self, buffer: &mut [u8]) -> Result<usize, Failed>
         ensures taken { TakeFills takes self.old self.new result buffer.new }
         ensures failed { has_failed self.new ≡ is_err result }
@@ -55,7 +56,7 @@ pub trait Input {
 
 /// An input that reads from a reader.
 ///
-/// An error of the reader of any kind is a failure.
+/// Any error of the reader is a failure.
 #[derive(Drop)]
 pub struct Reading<R> {
     inner: R,

@@ -1,15 +1,15 @@
-// What has come of a line that has not ended.
+// The part that has come of a line that has not ended.
 
 ghost use Rattle.std.specs.Prelude.{◌≡◌, ◌==◌, ℕ, List, [], ◌++◌, length, option_copied, IsTrue};
 ghost use Rattle.pw_transcript.specs.Steps.Answering.{held_line};
 
 use std::marker::Model;
 
-// How many bytes of a line are held at most.
+// The greatest number of bytes of a line that are held.
 const ROOM: usize = 1024;
 
-/// What has come of a line that has not ended: at most 1,024 bytes are held.
-/// Of a longer line only that more came is kept.
+/// The part that has come of a line that has not ended. At most 1,024 bytes are held. For a longer
+/// line, only the fact that more came is kept.
 #[derive(Drop)]
 pub struct LineBuffer {
     bytes: [u8; ROOM],
@@ -57,7 +57,7 @@ impl LineBuffer {
         self.length = end;
     }
 
-    /// The bytes that came, or `None` where more than 1,024 did.
+    /// The bytes that came, or `None` if more than 1,024 came.
     pub fn line(&self) -> Option<&[u8]>
         ensures { option_copied result ≡ self.now }
     {
@@ -68,7 +68,7 @@ impl LineBuffer {
         }
     }
 
-    /// Nothing has come any more.
+    /// Forgets what has come.
     pub fn clear(&mut self)
         ensures { self.new ≡ held_line [] }
     {

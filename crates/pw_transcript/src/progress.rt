@@ -1,4 +1,4 @@
-//! How far a run has come between two takes, and the steps by which it goes on.
+//! How far a run has come between two takes, and the steps by which it continues.
 
 ghost use Rattle.std.specs.Prelude.{◌≡◌, ◌+◌, ◌<◌, ◌≤◌, [], ◌∷◌, ◌++◌, length, true, false, IfOk, OnOk, OnErr, if◌then◌else◌};
 ghost use Rattle.pw_info.specs.Bytes.{line_feed};
@@ -19,20 +19,20 @@ use pw_info::{Failed, Output, next_line};
 use pw_sessions::Workbench;
 use std::alloc::Allocator;
 
-// How many ended lines a run answers at most.
+// The greatest number of ended lines that a run answers.
 const MOST_LINES: u32 = 1_000_000;
 
-/// How far the bytes that a run was fed were answered.
+/// How much of the bytes fed to a run was answered.
 #[derive(Clone, Copy)]
 pub(crate) enum Fed {
-    /// All lines that end in them were.
+    /// All lines that end in the bytes were answered.
     Whole,
-    /// The last line that a run answers ended, and there is a byte after it.
+    /// The last line that a run answers ended, and a byte comes after it.
     PastLimit,
 }
 
 impl Lines {
-    // One line more, with a reply or with none.
+    // One more line, with or without a reply.
     fn and_one(self, replied: bool) -> Lines
         requires lines { self.lines < most_lines }
         requires replies { self.replies ≤ self.lines }
@@ -50,7 +50,8 @@ impl Lines {
     }
 }
 
-/// What stands between two takes: what the lines so far left, how many there were, and what came of the next one.
+/// The state between two takes: what the lines so far left, the number of lines, and the part of
+/// the next line that has come.
 #[derive(Drop)]
 pub(crate) struct Progress<'d, 'r, A: Allocator> {
     workbench: Workbench<'d, 'r, A>,
@@ -76,7 +77,7 @@ impl<'d, 'r, A: Allocator + Copy> Progress<'d, 'r, A> {
         }
     }
 
-    // Answers the line that has come, as one that has ended.
+    // Answers the line that has come, as a line that has ended.
     fn end_line<O: Output>(&mut self, d: &Declaration<'_, A>, output: &mut O) -> Result<(), Failed>
         requires running { IsRunning (declared_by d.now) (progress_by self.old) }
         requires more { (progress_by self.old).counts.lines < most_lines }
@@ -95,7 +96,7 @@ impl<'d, 'r, A: Allocator + Copy> Progress<'d, 'r, A> {
         Ok(())
     }
 
-    // Answers a line that has come as a whole, where nothing of it is held, and has ended.
+    // Answers a line that has come as a whole and has ended. No part of it is held.
     fn end_whole_line<O: Output>(
         &mut self,
         d: &Declaration<'_, A>,
@@ -120,7 +121,8 @@ impl<'d, 'r, A: Allocator + Copy> Progress<'d, 'r, A> {
         Ok(())
     }
 
-    // Answers the line that ends with this piece. One that lies whole in the piece is read there.
+    // Answers the line that ends with this piece. A line that lies whole in the piece is read
+    // there.
     fn end_with<O: Output>(
         &mut self,
         d: &Declaration<'_, A>,
@@ -179,7 +181,7 @@ impl<'d, 'r, A: Allocator + Copy> Progress<'d, 'r, A> {
         Ok(Fed::Whole)
     }
 
-    /// Answers the last line, which has no line feed after it, if one has come.
+    /// Answers the last line, which has no line feed after it, if there is one.
     pub(crate) fn end<O: Output>(
         &mut self,
         d: &Declaration<'_, A>,

@@ -40,7 +40,7 @@ fn refusal_text(refusal: Refusal) -> &'static [u8]
     }
 }
 
-// Writes `refused` and why.
+// Writes `refused` and the refusal.
 #[tactic(auto, using(pw_info::proofs::PassingFacts::first_fails, pw_info::proofs::PassingFacts::second_writes))]
 fn write_refusal<O: Output>(refusal: Refusal, output: &mut O) -> Result<(), Failed>
     ensures { Writes O.passes O.has_failed output.old output.new result
@@ -150,7 +150,7 @@ fn write_lines<O: Output>(lines: &[u32], output: &mut O) -> Result<(), Failed>
     Ok(())
 }
 
-// Writes the names of what is contradictory, or that nothing is.
+// Writes the names of the contradictory cells and attachments, or that there are none.
 fn write_conflict_names<A: Allocator + Copy, O: Output>(
     conflicts: &Conflicts<A>,
     declaration: &Declaration<'_, A>,
@@ -181,7 +181,7 @@ fn write_conflicts<A: Allocator + Copy, O: Output>(
     write_conflict_names(conflicts, declaration, output)
 }
 
-// Writes what a reply says.
+// Writes the content of a reply.
 fn write_answer<A: Allocator + Copy, O: Output>(
     reply: &Reply<A>,
     declaration: &Declaration<'_, A>,
@@ -214,7 +214,7 @@ fn write_line_number<O: Output>(line: u32, output: &mut O) -> Result<(), Failed>
     put_all(output, b": ")
 }
 
-// Writes what a reply says, and a line feed.
+// Writes the content of a reply, and a line feed.
 #[tactic(auto, using(pw_info::proofs::PassingFacts::first_fails, pw_info::proofs::PassingFacts::second_writes))]
 fn write_answer_line<A: Allocator + Copy, O: Output>(
     reply: &Reply<A>,
@@ -225,7 +225,7 @@ fn write_answer_line<A: Allocator + Copy, O: Output>(
     ensures { Writes O.passes O.has_failed output.old output.new result (text_of_answer
         (declared_by declaration.now) (reply_by reply.now) ++ codes "\n") }
 {
-    // Most replies: it is put at once.
+    // Most replies are this one: it is put at once.
     if let Reply::Done = reply {
         return put_all(output, b"ok\n");
     }
@@ -233,8 +233,9 @@ fn write_answer_line<A: Allocator + Copy, O: Output>(
     put_all(output, b"\n")
 }
 
-/// Writes the reply to a line: the number of the line, a colon and a space, what the reply says, and a line feed.
-/// It takes no memory. On `Failed` a front of the text was passed. The kind of a value is one of the declaration.
+/// Writes the reply to a line: the number of the line, a colon and a space, the content of the
+/// reply, and a line feed. Takes no memory. On `Failed` a front of the text was passed. The kind of
+/// a value is one of the declaration.
 #[tactic(auto, using(pw_info::proofs::PassingFacts::first_fails, pw_info::proofs::PassingFacts::second_writes))]
 pub fn write_reply<A: Allocator + Copy, O: Output>(
     line: u32,

@@ -1,4 +1,4 @@
-//! The form of a command line: who speaks, and what the words of the command are there for.
+//! The form of a command line: the user, and the role of each word of the command.
 
 ghost use Rattle.std.specs.Prelude.{◌≡◌, ◌<◌, ℕ, [], List, None, Some, codes, length, MatchOption, option_map};
 ghost use Rattle.std.specs.Option.{option_copied};
@@ -11,20 +11,20 @@ ghost use Rattle.pw_transcript.specs.Steps.Forms.{said_in, sentence_in};
 
 use pw_info::Words;
 
-/// What is said, by the words of the command. No name is looked up.
+/// The command, by its words. No names are looked up.
 #[derive(Drop)]
 pub enum Said<'a> {
-    /// `tell CELL INFO [under P..]`; with no `under` there is no premise.
+    /// `tell CELL INFO [under P..]`; without `under` there are no premises.
     Tell {
         cell: &'a [u8],
         info: &'a [u8],
         premises: Words<'a>,
     },
-    /// `attach CALLABLE CELL.. [under P..]`: the first `under` after the callable ends the cells, of which there is one at
-    /// least; with no `under` there is no premise.
+    /// `attach CALLABLE CELL.. [under P..]`: the first `under` after the callable ends the cells,
+    /// of which there is at least one; without `under` there are no premises.
     Attach {
         callable: &'a [u8],
-        // They stand at the first cell: `next_cell` stops at `under`.
+        // The words from the first cell on. `next_cell` stops at `under`.
         cells: Words<'a>,
         premises: Words<'a>,
     },
@@ -48,20 +48,21 @@ pub enum Said<'a> {
     },
     /// `conflicts`
     Conflicts,
-    /// A word that names no command, whatever follows it.
+    /// A word that names no command, with any words after it.
     Other,
 }
 
-/// What a line says: who speaks, and what is said.
+/// The content of a line: the user, and the command.
 #[derive(Drop)]
 pub struct Sentence<'a> {
     /// The first word.
     pub user: &'a [u8],
-    /// What the words after it say.
+    /// The command in the words after it.
     pub said: Said<'a>,
 }
 
-// Whether the word is `tell`. Words that many lines have are told apart byte by byte, which takes less than a call.
+// Whether the word is `tell`. Words that many lines have are compared byte by byte, which costs
+// less than a call.
 #[inline(always)]
 fn is_tell(word: &[u8]) -> bool
     ensures { result ≡ bytes_eq word.now (codes "tell") }
@@ -85,7 +86,8 @@ fn is_under(word: &[u8]) -> bool
     matches!(word, [b'u', b'n', b'd', b'e', b'r'])
 }
 
-// The premises at the end of a tell or of an attach. Inlined, as `read_cell` is: a call costs as much as what it does.
+// The premises at the end of a tell or of an attach. Inlined, like `read_cell`: a call costs as
+// much as the work.
 #[inline(always)]
 fn read_under<'a>(mut tail: Words<'a>) -> Option<Words<'a>>
     ensures { MatchOption result (under_form tail.entry ≡ None) (λ premises.
@@ -114,7 +116,7 @@ fn read_tell<'a>(mut rest: Words<'a>) -> Option<Said<'a>>
     })
 }
 
-/// Takes the next word, if one comes before `under`.
+/// Takes the next word, if there is one before `under`.
 pub fn next_cell<'a>(words: &mut Words<'a>) -> Option<&'a [u8]>
     ensures { MatchOption result
         ((before_under words.old ≡ []) × (words.new ≡ from_under words.old))
@@ -156,8 +158,8 @@ fn read_attach<'a>(mut rest: Words<'a>) -> Option<Said<'a>>
     })
 }
 
-// What a word says that nothing may follow, as `beliefs` and `conflicts`. Inlined, so that no other command makes room for
-// what it takes.
+// A command whose word nothing may follow, like `beliefs` and `conflicts`. Inlined, so that no
+// other command makes room for its values.
 #[inline(always)]
 fn read_bare<'a>(said: Said<'a>, rest: Words<'a>) -> Option<Said<'a>>
     ensures { option_map said_in result ≡ bare_form (said_in said.entry) rest.entry }
@@ -168,7 +170,7 @@ fn read_bare<'a>(said: Said<'a>, rest: Words<'a>) -> Option<Said<'a>>
     Some(said)
 }
 
-// The cell that follows `ask` and `why`, alone.
+// The cell that follows `ask` or `why`, and no other word.
 #[inline(always)]
 fn read_cell<'a>(mut rest: Words<'a>) -> Option<&'a [u8]>
     ensures { (says : List ℕ → spec.Said) →
@@ -178,7 +180,7 @@ fn read_cell<'a>(mut rest: Words<'a>) -> Option<&'a [u8]>
     rest.is_empty().then_some(cell)
 }
 
-// What is said by a word, and the words after it.
+// The command given by a word, and the words after it.
 fn read_said<'a>(name: &[u8], rest: Words<'a>) -> Option<Said<'a>>
     ensures { option_map said_in result ≡ said_form name.now rest.entry }
 {
@@ -211,8 +213,8 @@ fn read_said<'a>(name: &[u8], rest: Words<'a>) -> Option<Said<'a>>
     }
 }
 
-/// Sorts the words of a line by the form of its command. None where there are fewer than two words, and where the words do
-/// not fit the form of the command that the second names.
+/// Sorts the words of a line by the form of its command. None if there are fewer than two words, or
+/// if the words do not fit the form of the command that the second word names.
 pub fn read_sentence(line: &[u8]) -> Option<Sentence<'_>>
     ensures { option_map sentence_in result ≡ sentence_form (words_of line.now) }
 {

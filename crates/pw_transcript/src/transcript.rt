@@ -17,18 +17,18 @@ use pw_sessions::Workbench;
 use std::alloc::Allocator;
 use thiserror::Error;
 
-// How many bytes a run answers at most.
+// The greatest number of bytes that a run answers.
 const MOST_BYTES: u32 = 67_108_864;
 
-// How many bytes are taken at once at most.
+// The greatest number of bytes that are taken at once.
 const CHUNK: usize = 65_536;
 
-/// How many lines there were, and how many replies.
+/// The number of lines, and the number of replies.
 #[derive(Clone, Copy, Debug, PartialEq, Eq)]
 pub struct Lines {
     /// The number of lines.
     pub lines: u32,
-    /// The number of replies: blank lines and comments get none.
+    /// The number of replies. Blank lines and comments get none.
     pub replies: u32,
 }
 
@@ -49,7 +49,8 @@ pub enum RunFault {
     Limit,
 }
 
-// Answers all lines of the input. It is taken chunk by chunk, and each chunk is answered before the next is taken.
+// Answers all lines of the input. Takes it chunk by chunk, and answers each chunk before it takes
+// the next.
 fn answer_all<A: Allocator + Copy, I: Input, O: Output>(
     workbench: Workbench<'_, '_, A>,
     d: &Declaration<'_, A>,
@@ -119,17 +120,20 @@ fn answer_all<A: Allocator + Copy, I: Input, O: Output>(
     }
 }
 
-/// Answers the lines of the input, one after another, until its end, and writes the replies to the output.
+/// Answers the lines of the input, one after another, until its end, and writes the replies to the
+/// output.
 ///
-/// What is taken is answered before more is taken, and what was written is passed on then. A line ends at a line feed;
-/// the last one needs none. There are at most 1,000,000 lines and 67,108,864 bytes. At most 67,108,865 bytes are taken,
-/// and at most 65,536 past the limits. A failure ends it with
-/// - `Memory`, if there is no memory for the cells and the users' beliefs: neither the input nor the output is touched,
+/// What is taken is answered before more is taken, and the replies written are passed on then. A
+/// line ends at a line feed; the last line needs none. There are at most 1,000,000 lines and
+/// 67,108,864 bytes. At most 67,108,865 bytes are taken, and at most 65,536 past the limits. A
+/// failure ends the run with
+/// - `Memory`, if there is no memory for the cells and the users' beliefs: neither the input nor
+///   the output is touched,
 /// - `Read`, if the input failed: the replies to all lines that ended are written then,
-/// - `Write`, if the output failed, or had failed before: a front of the replies is written then, to lines that
-///   ended, and to a last one without a line feed only where the input has ended,
-/// - `Limit`, at a byte after 1,000,000 ended lines, or at the 67,108,865th byte: the replies to all lines that end
-///   before it are written then.
+/// - `Write`, if the output failed, or had failed before: a front of the replies is written then,
+///   to lines that ended, and to a last line without a line feed only if the input has ended,
+/// - `Limit`, at a byte after 1,000,000 ended lines, or at the 67,108,865th byte: the replies to
+///   all lines that end before it are written then.
 pub fn run<A: Allocator + Copy, I: Input, O: Output>(
     alloc: A,
     d: &Declaration<'_, A>,

@@ -1,4 +1,4 @@
--- What `check` tells of the text of a declaration.
+-- What `check` reports about the text of a declaration.
 use Rattle.std.specs.Prelude.{ℕ, List}
 use Rattle.pw_procs.specs.Procedure.{Procedure}
 use Rattle.pw_decl.specs.Declaration.{Declared}
@@ -10,7 +10,8 @@ use Rattle.workbench.specs.declared.fault.Fault.TheVariants as faults
 abbrev pub IsDeclaration : List Procedure → List ℕ → Type 0
 IsDeclaration procedures text = (d : Declared) × SpellsDeclaration procedures text d
 
--- a fault that is told of the text: its own, or that memory is wanting for the line about a declaration that has none
+-- a fault that is reported for the text: its own, or out of memory for the line about a declaration
+-- without fault
 abbrev pub IsToldOfText : List Procedure → List ℕ → Fault → Type 0
 IsToldOfText procedures text (faults.Declaration fault) = IsTold procedures text fault
 IsToldOfText procedures text faults.Memory = IsDeclaration procedures text

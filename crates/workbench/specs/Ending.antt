@@ -11,7 +11,7 @@ use Rattle.workbench.specs.declared.fault.Fault.TheVariants as fault
 abbrev pub IsMistake : Error → Type 0
 IsMistake error = (kind_of error ≢ kind.DisplayHelp) × (kind_of error ≢ kind.DisplayVersion)
 
--- want of memory is a fault, and no bad command line; any other error stays what it is
+-- out of memory is a fault, and not a bad command line; any other error stays what it is
 pub record IsStopAt (error : Error) (why : Stop) : Type 0 where
   pub memory : kind_of error ≡ kind.OutOfMemory → why ≡ stop.Fault fault.Memory
   pub other : kind_of error ≢ kind.OutOfMemory → why ≡ stop.CommandLine error

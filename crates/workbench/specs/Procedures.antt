@@ -18,7 +18,7 @@ named_table =
     ∷ (codes "disjoiner", meanings.Disjoiner) ∷ (codes "switch", meanings.Switch) ∷ (codes "copy", meanings.Copy)
     ∷ (codes "point", meanings.Point) ∷ (codes "fixed", meanings.Fixed) ∷ []
 
--- a procedure of this name that is given by rules, from an interval to a member of set 1, the three signs
+-- a procedure named `sign`, given by rules, from an interval to a member of set 1, the three signs
 pub record IsSign (procedure : Procedure) : Type 0 where
   pub name : procedure.name ≡ codes "sign"
   pub rules : is_given_by_rules procedure.meaning ≡ true

@@ -1,4 +1,5 @@
-//! The jobs: over a registry of procedures a declaration is read, and then a transcript answered, or told how much is declared.
+//! The jobs: a declaration is read over a registry of procedures; then a transcript is answered, or
+//! the size of the declaration is reported.
 
 use crate::checking::check_line;
 use crate::fault::Fault;
@@ -53,7 +54,7 @@ fn answer_transcript<'a, R: Files + Input + Print + AllocGlobal>(
     answer_over(rt, &declaration, transcript)
 }
 
-// Reads the declaration, and says on standard output how much it declares.
+// Reads the declaration, and reports on standard output how much it declares.
 fn check<'a, R: Files + Print + AllocGlobal>(
     rt: &R,
     registry: &Registry,
@@ -67,7 +68,7 @@ fn check<'a, R: Files + Print + AllocGlobal>(
     }
 }
 
-// A job that is to be done.
+// A job to be done.
 #[derive(Drop)]
 struct Doing<'r, 'a, R> {
     rt: &'r R,
@@ -88,7 +89,7 @@ impl<'a, R: Files + Input + Print + AllocGlobal> OverProcedures for Doing<'_, 'a
     }
 }
 
-/// Does the job over the program's procedures. The memory for them may be wanting.
+/// Does the job over the program's procedures. There may be no memory for these.
 pub fn do_job<'a, R: Files + Input + Print + AllocGlobal>(
     rt: &R,
     job: &Job<'a>,

@@ -21,7 +21,8 @@ fn count_line<A: Allocator + Copy>(
     )
 }
 
-/// The line that says how much a declaration of this text declares, without its line end; or the fault.
+/// The line that says how much a declaration of this text declares, without its line end; or the
+/// fault.
 pub fn check_line<A: Allocator + Copy>(
     alloc: A,
     text: &[u8],

@@ -1,4 +1,4 @@
-//! How the program ends: what it tells, and its status.
+//! How the program ends: what it reports, and its status.
 ghost use Rattle.std.specs.Prelude.{◌≡◌, ◌≤◌, IsErrOf, OnOk};
 ghost use Rattle.std.specs.Process.{exit_status};
 ghost use Rattle.workbench.specs.Ending.{IsMistake, IsStopAt};
@@ -19,7 +19,7 @@ pub enum Stop<'a> {
 }
 
 impl<'a> From<clap::Error> for Stop<'a> {
-    // Want of memory is a fault, and no bad command line.
+    // Out of memory is a fault, and not a bad command line.
     ghost from_gives = { λ error why. IsStopAt error why };
 
     fn from(error: clap::Error) -> Stop<'a> {
@@ -37,11 +37,11 @@ impl<'a> From<Fault<'a>> for Stop<'a> {
     }
 }
 
-// Tells a fault on standard error, and answers the status of a fault.
+// Reports a fault on standard error, and answers the status of a fault.
 fn tell_fault<R: Eprint + AllocGlobal>(rt: &R, fault: &Fault<'_>) -> ExitCode
     ensures { exit_status result ≡ 1 }
 {
-    // Nobody is left to be told that standard error fails.
+    // If standard error fails, there is nobody left to report to.
     let _ = match fault_line(rt.alloc(), fault) {
         Ok(line) => rt.eprintln(line),
         Err(AllocError) => rt.eprintln(Fault::Memory),
@@ -49,9 +49,10 @@ fn tell_fault<R: Eprint + AllocGlobal>(rt: &R, fault: &Fault<'_>) -> ExitCode
     ExitCode::FAILURE
 }
 
-/// Tells why the program stops, if it does, and answers its status: 0, or 1 for a fault, or 2 for a bad command line.
+/// Reports why the program stops, if it does, and answers its status: 0, or 1 for a fault, or 2 for
+/// a bad command line.
 ///
-/// Help and the version go to standard output. Where that fails it is a fault as for replies.
+/// Help and the version go to standard output. If that fails, it is a fault, as for replies.
 pub fn conclude<R: Print + Eprint + AllocGlobal>(rt: &R, ended: Result<(), Stop<'_>>) -> ExitCode
     ensures ok { OnOk ended.entry (exit_status result ≡ 0) }
     ensures fault { (fault : _) → IsErrOf ended.entry (Stop.Fault fault) → exit_status result ≡ 1 }

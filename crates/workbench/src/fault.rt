@@ -8,7 +8,7 @@ use thiserror::Error;
 /// A fault that ends the program with status 1. Its text is its line on standard error.
 #[derive(Clone, Copy, Debug, PartialEq, Eq, Error)]
 pub enum Fault<'a> {
-    /// The file of this name was not opened, or a read of the declaration failed.
+    /// The file of this name could not be opened, or a read of the declaration failed.
     #[error("cannot read {0}")]
     CannotRead(&'a str),
     /// The declaration is at fault.
@@ -17,7 +17,7 @@ pub enum Fault<'a> {
     /// The run over the transcript ended before the transcript did.
     #[error(transparent)]
     Run(#[from] RunFault),
-    /// The memory did not suffice, elsewhere than in the declaration and the run.
+    /// Out of memory, elsewhere than in the declaration and the run.
     #[error("memory")]
     Memory,
 }

@@ -7,10 +7,10 @@ use std::io::{ErrorKind, Read};
 use std::rt::Files;
 use std::{fs, io};
 
-// One byte more than a declaration may have: enough for the fault of a text that is too long.
+// One byte more than a declaration may have, which is enough to find that a text is too long.
 const MOST_BYTES: u64 = 1_048_577;
 
-// The bytes that a reader gives up to its end, but no more than 1,048,577.
+// The bytes that a reader gives up to its end, but at most 1,048,577.
 fn read_front<A: Allocator, R: Read + Drop>(alloc: A, reader: R) -> io::Result<Vec<u8, A>>
     ensures { IfOk result (λ bytes. IfSome (R.remaining reader) (λ all.
         bytes.items ≡ take 1048577 all)) }
@@ -20,9 +20,10 @@ fn read_front<A: Allocator, R: Read + Drop>(alloc: A, reader: R) -> io::Result<V
     Ok(bytes)
 }
 
-/// The text of the declaration in the file of this name, or the first 1,048,577 bytes of a longer one.
+/// The text of the declaration in the file of this name, or the first 1,048,577 bytes of a longer
+/// one.
 ///
-/// The file may not be opened, and a read of it may fail.
+/// Opening the file may fail, and so may reading it.
 pub fn declaration_text<'a, R: Files + AllocGlobal>(
     rt: &R,
     name: &'a str,

@@ -1,4 +1,5 @@
-//! The program: it reads its command line, does the job that is asked for, tells how that ended, and ends with a status.
+//! The program: it reads its command line, does the job that this asks for, reports how that ended,
+//! and ends with a status.
 #![tactic(auto)]
 
 mod answering;

@@ -1,4 +1,5 @@
-//! The procedures that the program has: one for each meaning of the table, and the sign of a number by rules.
+//! The procedures of the program: one for each meaning of the table, and the sign of a number by
+//! rules.
 ghost use Rattle.std.specs.Prelude.{◌≡◌, ◌∷◌, [], List, map, IfOk};
 ghost use Rattle.pw_info.specs.Information.{kind_of};
 ghost use Rattle.pw_info.specs.declared.info.Info.{Info as Information};
@@ -32,14 +33,14 @@ fn sign_set() -> SetKind
     SetKind { number: 1, size: 3 }
 }
 
-// The numbers from one to another; the contradiction where there are none.
+// The numbers from one to another; the contradiction if there are none.
 fn from_to(lo: i64, hi: i64) -> Info
     ensures { kind_of result ≡ Kind.Interval }
 {
     Info::of_interval(Interval::new(lo, hi).unwrap_or(Interval::empty()))
 }
 
-// What the sign of a number is known to be, by what is known of the number.
+// What is known about the sign of a number, given what is known about the number.
 fn sign_rules(alloc: Global, sign: SetKind) -> Result<Vec<Rule>, AllocError>
     ensures { IfOk result (λ rules. AreRules (Kind.Interval ∷ []) (Kind.Members sign) rules.items) }
 {
@@ -88,8 +89,8 @@ fn table_of(alloc: Global, rules: &[Rule], output: Kind) -> Result<Vec<Rule>, Al
     Ok(table)
 }
 
-// Puts the fourteen procedures of the table at the end of a list, each boxed where this stands: what holds a boxed
-// closure may not leave the function that made it.
+// Puts the fourteen procedures of the table at the end of a list, each boxed here: a value that
+// holds a boxed closure may not leave the function that made it.
 macro_rules! add_table {
     (each $alloc:expr, $list:expr, $($name:literal $meaning:ident $body:ident,)*) => {
         $(
@@ -117,7 +118,7 @@ macro_rules! add_table {
     };
 }
 
-// Memory is all that can be wanting where the names are good.
+// If the names are good, the only possible fault is out of memory.
 fn want_of_memory<'a>(fault: RegistryFault) -> Fault<'a>
     requires { fault ≡ RegistryFault.Memory }
 {
@@ -125,7 +126,7 @@ fn want_of_memory<'a>(fault: RegistryFault) -> Fault<'a>
     Fault::Memory
 }
 
-// The registry of the program's procedures. The memory for it may be wanting.
+// The registry of the program's procedures. There may be no memory for it.
 fn registry_of<'a>(alloc: Global, list: Vec<Stored>) -> Result<Registry, Fault<'a>>
     requires { AreOfProgram (procedures_of list.items) }
     ensures { IfOk result (λ registry. AreOfProgram (procedures_in registry)) }
@@ -136,16 +137,18 @@ fn registry_of<'a>(alloc: Global, list: Vec<Stored>) -> Result<Registry, Fault<'
     }
 }
 
-/// What is done over the registry of the program's procedures.
+/// A task over the registry of the program's procedures.
 pub trait OverProcedures {
     type Answer;
 
-    /// What the task answers. The registry that it is handed holds the fifteen procedures of the program, and no others.
+    /// The answer of the task. The registry passed to it holds the fifteen procedures of the
+    /// program, and no others.
     fn over(self, registry: &Registry) -> Self::Answer
         requires { AreOfProgram (procedures_in registry.now) };
 }
 
-// Makes a registry of the program's procedures, which it lends to a task; what the task answers. It may be out of memory.
+// Makes a registry of the program's procedures, lends it to a task, and answers what the task
+// answers. Fails if there is no memory for the registry.
 fn lend<'a, T: OverProcedures + Drop>(
     alloc: Global,
     list: Vec<Stored>,
@@ -157,9 +160,10 @@ fn lend<'a, T: OverProcedures + Drop>(
     Ok(task.over(&registry))
 }
 
-/// Makes the procedures and a registry of them, which it lends to a task; what the task answers.
+/// Makes the procedures and a registry of them, lends it to a task, and answers what the task
+/// answers.
 ///
-/// The memory for them may be wanting. What holds a boxed closure stays inside this function.
+/// There may be no memory for them. A value that holds a boxed closure stays inside this function.
 pub fn over_procedures<'a, T: OverProcedures + Drop>(
     alloc: Global,
     task: T,

@@ -1,4 +1,4 @@
--- The flattening of an open compound, line by line, as the code does it.
+-- Flattening an open compound, line by line, as the code does it.
 use Rattle.std.specs.Prelude.{◌≡◌, ℕ, ◌+◌, ◌≤◌, List, [], ◌∷◌, ◌++◌, length}
 use Rattle.std.specs.List.{range_with_len}
 use Rattle.pw_info.specs.declared.kind.Kind.{Kind}
@@ -11,31 +11,33 @@ use Rattle.pw_decl.specs.Expansion.{inner_of_callable, inner_of_steps, inner_aft
 use Rattle.pw_decl.specs.Flat.{instances_of}
 use Rattle.pw_decl.specs.Limits.{most_parameters, most_inner_cells}
 
--- the callable takes so many cells, of some kinds
+-- the callable takes this many cells, of some kinds
 abbrev pub TakesSoMany : Declared → Callable → ℕ → Type 0
 TakesSoMany d callable count = (kinds : List Kind) × (length kinds ≡ count) × Takes d callable kinds
 
--- what is kept has gained what a callable becomes on these cells, where its inner cells are those from this one on
+-- the stored calls and kinds have gained the expansion of a callable on these cells. Its inner
+-- cells are those from this one on
 pub record GainsCallable {A : Type 0} (compounds : List Compound) (callable : Callable) (cells : List ℕ) (first : ℕ) (old new : Flattened A) : Type 0 where
   pub calls : instances_of new.calls.items
       ≡ instances_of old.calls.items ++ expand_callable (expand_after [] [] compounds) callable cells (λ j. first + j)
   pub inner : new.inner.items ≡ old.inner.items ++ inner_of_callable (inner_after [] compounds) callable
 
--- the cells of a compound after lines, where these were its cells and the next inner cells are those
+-- the cells of a compound after lines, given its cells and the next inner cells before them
 abbrev pub cells_after : {C : Type 0} → List (List Kind) → List Step → List C → (ℕ → C) → List C
 cells_after kinds [] cells inner = cells
 cells_after kinds (NewCell kind ∷ steps) cells inner = cells_after kinds steps (cells ++ inner 0 ∷ []) (λ j. inner (1 + j))
 cells_after kinds (CallOn callable places ∷ steps) cells inner =
     cells_after kinds steps cells (λ j. inner (length (inner_of_callable kinds callable) + j))
 
--- of a compound with so many parameters these lines are flattened
+-- these lines of a compound with this many parameters are flattened
 pub record IsFlatSoFar {A : Type 0} (compounds : List Compound) (parameters : ℕ) (done : List Step) (so_far : Flattening A) : Type 0 where
   pub calls : instances_of so_far.flattened.calls.items
       ≡ on_places (expand_steps (inner_after [] compounds) (expand_after [] [] compounds) done) parameters
   pub inner : so_far.flattened.inner.items ≡ inner_of_steps (inner_after [] compounds) done
   pub places : so_far.places.items ≡ cells_after (inner_after [] compounds) done (range_with_len 0 parameters) (λ j. parameters + j)
 
--- the line may be the next: it names only what stands before it, there are few cells so far, and there is room for its inner cells
+-- the line may be next: it names only earlier things, there are few cells so far, and there is room
+-- for its inner cells
 pub record IsNextStep {A : Type 0} (d : Declared) (so_far : Flattening A) (step : Step) : Type 0 where
   pub kinds : List Kind
   pub many : length kinds ≡ length so_far.places.items

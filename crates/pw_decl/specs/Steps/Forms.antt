@@ -14,35 +14,35 @@ abbrev pub is_header : List (List ℕ) → Bool
 is_header (verb ∷ version ∷ []) = bytes_eq verb (codes "workbench") && bytes_eq version (codes "1")
 is_header words = false
 
--- what stands after `user`
+-- the words after `user`
 abbrev pub user_form : List (List ℕ) → Option DeclarationSentence
 user_form (name ∷ []) = if is_name name then Some (User name) else None
 user_form rest = None
 
--- what stands after `premise`
+-- the words after `premise`
 abbrev pub premise_form : List (List ℕ) → Option DeclarationSentence
 premise_form (name ∷ []) = if is_name name then Some (Premise name) else None
 premise_form (name ∷ between ∷ user ∷ []) =
     if is_name name then (if bytes_eq between (codes "of") then Some (PremiseOf name user) else None) else None
 premise_form rest = None
 
--- what stands after `set`
+-- the words after `set`
 abbrev pub set_form : List (List ℕ) → Option DeclarationSentence
 set_form [] = None
 set_form (name ∷ members) = if is_name name then (if list_all is_name members then Some (Set name members) else None) else None
 
--- what stands after `cell`
+-- the words after `cell`
 abbrev pub cell_form : List (List ℕ) → Option DeclarationSentence
 cell_form (name ∷ kind ∷ []) = if is_name name then Some (Cell name kind) else None
 cell_form rest = None
 
--- names and kinds in turn
+-- alternating names and kinds
 abbrev pub are_parameters : List (List ℕ) → Bool
 are_parameters [] = true
 are_parameters (name ∷ []) = false
 are_parameters (name ∷ kind ∷ words) = is_name name && are_parameters words
 
--- what stands after `compound`
+-- the words after `compound`
 abbrev pub compound_form : List (List ℕ) → Option DeclarationSentence
 compound_form [] = None
 compound_form (name ∷ parameters) = if is_name name then (if are_parameters parameters then Some (Begin name parameters) else None) else None
@@ -58,17 +58,17 @@ outer_sentence_of (verb ∷ rest) =
     else (if bytes_eq verb (codes "compound") then compound_form rest
     else None))))
 
--- what stands after `local`
+-- the words after `local`
 abbrev pub local_form : List (List ℕ) → Option DeclarationSentence
 local_form (name ∷ kind ∷ []) = if is_name name then Some (Local name kind) else None
 local_form rest = None
 
--- what stands after `end`
+-- the words after `end`
 abbrev pub end_form : List (List ℕ) → Option DeclarationSentence
 end_form [] = Some End
 end_form rest = None
 
--- what stands after the name of a callable
+-- the words after the name of a callable
 abbrev pub call_form : List ℕ → List (List ℕ) → Option DeclarationSentence
 call_form callable [] = None
 call_form callable (word ∷ words) = Some (Call callable (word ∷ words))
@@ -81,7 +81,7 @@ inner_sentence_of (verb ∷ rest) =
     else (if bytes_eq verb (codes "end") then end_form rest
     else call_form verb rest)
 
--- the sentence that the words form, where the line stands
+-- the sentence that the words form, at this place
 abbrev pub sentence_at : SoFar → List (List ℕ) → Option DeclarationSentence
 sentence_at (BeforeHeader d) words = if is_header words then Some Header else None
 sentence_at (Outside d) words = outer_sentence_of words

@@ -1,4 +1,4 @@
--- The open compound, as the code keeps it.
+-- The open compound, as the code stores it.
 use Rattle.std.specs.Prelude.{◌≡◌, ℕ, List}
 use Rattle.std.specs.String.{string_bytes}
 use Rattle.pw_decl.specs.declared.compound.OpenCompound.{OpenCompound as OpenCompoundKept}
@@ -13,26 +13,28 @@ use Rattle.pw_decl.specs.WellDeclared.{IsWellOpen}
 abbrev pub open_of : {A : Type 0} → OpenCompoundKept A → OpenCompound
 open_of opened = record { name = string_bytes opened.name; names = opened.names; compound = compound_of opened.compound }
 
--- the open compound keeps the kinds of its cells and its size, after this declaration
+-- the stored kinds of the open compound's cells and its stored size are right, after this
+-- declaration
 pub record IsOpen {A : Type 0} (d : Declared) (opened : OpenCompoundKept A) : Type 0 where
   pub well : IsWellOpen d (open_of opened)
   pub kinds : opened.kinds.items ≡ cell_kinds (compound_of opened.compound)
   pub size : size_of opened.compound.size ≡ size_of_steps (sizes_of d.compounds) (steps_of opened.compound.steps.items)
 
--- a compound of this name is begun with these parameters, and keeps the kinds of its cells
+-- a compound of this name has begun with these parameters, and the stored kinds of its cells are
+-- right
 pub record IsBegun {A : Type 0} (d : Declared) (name : List ℕ) (parameters : List (List ℕ)) (opened : OpenCompoundKept A) : Type 0 where
   pub is : open_of opened ≡ begun name (parameter_names parameters) opened.compound.parameters.items
   pub named : NameKinds d (parameter_kinds parameters) opened.compound.parameters.items
   pub kinds : opened.kinds.items ≡ opened.compound.parameters.items
   pub size : size_of opened.compound.size ≡ no_size
 
--- from one open compound to the next: it has become this, and is larger by so much
+-- from one open compound to the next: it has become this one, and has grown by this size
 pub record IsGrown {A : Type 0} (old : OpenCompoundKept A) (opened : OpenCompound) (more : Size) (new : OpenCompoundKept A) : Type 0 where
   pub is : open_of new ≡ opened
   pub kinds : old.kinds.items ≡ cell_kinds (compound_of old.compound) → new.kinds.items ≡ cell_kinds opened.compound
   pub size : size_of new.compound.size ≡ sum_of_sizes (size_of old.compound.size) more
 
--- where the line stands is well kept
+-- the place of the line is stored correctly
 abbrev pub IsWellPlaced : {A : Type 0} → Declared → Place A → Type 0
 IsWellPlaced d places.BeforeHeader = Unit {0}
 IsWellPlaced d places.Outside = Unit {0}

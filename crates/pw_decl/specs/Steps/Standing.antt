@@ -1,4 +1,4 @@
--- What was declared so far, as the code keeps it.
+-- What was declared so far, as the code stores it.
 use Rattle.pw_decl.specs.declared.compound.OpenCompound.{OpenCompound as OpenCompoundKept}
 use Rattle.pw_decl.specs.declared.declaration.Declaration.{Declaration}
 use Rattle.pw_decl.specs.declared.place.Place.{Place}
@@ -7,7 +7,7 @@ use Rattle.pw_decl.specs.Declaration.{Declared, SoFar, BeforeHeader, Outside, In
 use Rattle.pw_decl.specs.Fields.{declared_by}
 use Rattle.pw_decl.specs.Steps.Opened.{open_of}
 
--- what was declared so far, by what is declared and where the line stands
+-- what was declared so far, by the declaration and the place of the line
 abbrev pub placed : {A : Type 0} → Declared → Place A → SoFar
 placed d places.BeforeHeader = BeforeHeader d
 placed d places.Outside = Outside d

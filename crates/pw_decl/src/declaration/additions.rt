@@ -1,4 +1,4 @@
-//! What the reader of a text asks of a declaration so far, and what it adds to it.
+//! Questions that the reader of a text asks of a declaration so far, and additions that it makes.
 ghost use Rattle.std.specs.Prelude.{◌≡◌, ◌↔◌, ◌+◌, ◌++◌, ◌∷◌, [], None, Some, ◌<◌, ◌≤◌, IsTrue};
 ghost use Rattle.std.specs.Prelude.{length, vec_len, vec_capacity, is_some, IfSome, IfNone, OnOk, OnErr};
 ghost use Rattle.pw_kinds.specs.Places.{IsSize};
@@ -27,7 +27,8 @@ use std::alloc::{AllocError, Allocator};
 
 const MOST_COMPOUNDS: usize = 64;
 
-// Adds the name of a compound, and makes room for the compound and for what it becomes. Where it fails, no name is added.
+// Adds the name of a compound, and makes room for the compound and its flattened form. If it fails,
+// no name is added.
 fn add_compound_name<A: Allocator + Copy>(
     names: &mut NameTable<A>,
     name: &str,
@@ -51,7 +52,7 @@ fn add_compound_name<A: Allocator + Copy>(
 impl<A: Allocator + Copy> Declaration<'_, A> {
     ghost use Rattle.pw_decl.specs.Fields.{declared_by};
 
-    /// What the callable, which is there, expands to.
+    /// The size of what the callable, which must exist, expands to.
     pub(crate) fn size(&self, callable: Callable) -> Size
         requires { IsCallable (declared_by self.now) callable }
         ensures size { size_of result ≡ size_of_callable (sizes_of
@@ -67,7 +68,7 @@ impl<A: Allocator + Copy> Declaration<'_, A> {
         }
     }
 
-    /// Whether there may be no compound more.
+    /// Whether no further compound may be added.
     pub(crate) fn is_full(&self) -> bool
         ensures { IsTrue result
             ↔ (prelude_compounds + most_compounds ≤ length (declared_by self.now).compounds) }
@@ -75,7 +76,8 @@ impl<A: Allocator + Copy> Declaration<'_, A> {
         self.compounds.len() >= PRELUDE_COMPOUNDS + MOST_COMPOUNDS
     }
 
-    /// The kind of this name, if there is one: `interval`, `exact`, `bool`, `sign` or a declared set kind.
+    /// The kind of this name, if there is one: `interval`, `exact`, `bool`, `sign` or a declared
+    /// set kind.
     pub(crate) fn kind(&self, name: &[u8]) -> Option<Kind>
         ensures some { IfSome result (λ kind. NamesKind (declared_by self.now) name.now kind) }
         ensures known { IfSome result (λ kind. IsNamed (members_of (declared_by self.now)) kind) }
@@ -99,7 +101,7 @@ impl<A: Allocator + Copy> Declaration<'_, A> {
         built_in_kind(name).is_some() || self.set_names.find(name).is_some()
     }
 
-    /// Adds a user. It fails only for want of memory, and then nothing changes.
+    /// Adds a user. Fails only when out of memory; then nothing changes.
     pub(crate) fn add_user(&mut self, name: &str) -> Result<(), AllocError>
         requires fresh { place_of_name (declared_by self.old).users name.now ≡ None }
         requires room { length (declared_by self.old).users < most_users }
@@ -111,7 +113,8 @@ impl<A: Allocator + Copy> Declaration<'_, A> {
         Ok(())
     }
 
-    /// Adds a premise, which belongs to this user, if any. It fails only for want of memory, and then nothing changes.
+    /// Adds a premise that belongs to this user, if any. Fails only when out of memory; then
+    /// nothing changes.
     pub(crate) fn add_premise(&mut self, name: &str, owner: Option<u8>) -> Result<(), AllocError>
         requires fresh { place_of_name (declared_by self.old).premises name.now ≡ None }
         requires room { length (declared_by self.old).premises < most_premises }
@@ -126,7 +129,7 @@ impl<A: Allocator + Copy> Declaration<'_, A> {
         Ok(())
     }
 
-    /// Adds a cell of this kind. It fails only for want of memory, and then nothing changes.
+    /// Adds a cell of this kind. Fails only when out of memory; then nothing changes.
     pub(crate) fn add_cell(&mut self, name: &str, kind: Kind) -> Result<(), AllocError>
         requires fresh { place_of_name (declared_by self.old).cells name.now ≡ None }
         requires room { length (declared_by self.old).cells < most_cells }
@@ -141,7 +144,8 @@ impl<A: Allocator + Copy> Declaration<'_, A> {
         Ok(())
     }
 
-    /// Adds a set kind with these members, 2 to 64. It fails only for want of memory, and then nothing changes.
+    /// Adds a set kind with these members, 2 to 64. Fails only when out of memory; then nothing
+    /// changes.
     pub(crate) fn add_set(&mut self, name: &str, members: NameTable<A>) -> Result<(), AllocError>
         requires fresh { place_of_name (kind_names (declared_by self.old)) name.now ≡ None }
         requires room { length (declared_by self.old).sets < most_sets }
@@ -157,7 +161,8 @@ impl<A: Allocator + Copy> Declaration<'_, A> {
         Ok(())
     }
 
-    /// Adds an open compound, which ends, with what it becomes. It fails only for want of memory, and then nothing changes.
+    /// Adds an open compound, which ends here, with its flattened form. Fails only when out of
+    /// memory; then nothing changes.
     pub(crate) fn add_compound(
         &mut self,
         opened: OpenCompound<A>,

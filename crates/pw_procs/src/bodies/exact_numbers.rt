@@ -5,7 +5,7 @@ ghost use Rattle.pw_procs.specs.Meaning.{point_of, fixed_of};
 
 use pw_kinds::{Exact, Interval};
 
-/// The interval of an exact number alone.
+/// The interval of only an exact number.
 pub(crate) fn point_interval(k: Exact) -> Interval
     ensures { info.Interval result ≡ point_of (info.Exact k) }
 {
@@ -18,7 +18,7 @@ pub(crate) fn point_interval(k: Exact) -> Interval
     }
 }
 
-/// The number of an interval that has just one.
+/// The number of an interval that has exactly one.
 pub(crate) fn fixed_number(x: Interval) -> Exact
     ensures { info.Exact result ≡ fixed_of (info.Interval x) }
 {

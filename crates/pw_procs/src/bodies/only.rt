@@ -1,4 +1,4 @@
-//! The one value of an information that has just one.
+//! The one value of an information that has exactly one.
 ghost use Rattle.std.specs.Prelude.{◌≡◌, ◌↔◌, ℤ, pos, true, Some, IsTrue, IfSome, IfNone};
 ghost use Rattle.pw_info.specs.Information.{allows};
 ghost use Rattle.pw_kinds.specs.Interval as interval;
@@ -8,7 +8,7 @@ ghost use Rattle.pw_procs.specs.Values.{PassesAlone};
 use pw_info::Info;
 use pw_kinds::{Interval, Members};
 
-// The number where exactly one is possible.
+// The number, if exactly one is possible.
 fn only_number(part: Interval) -> Option<i64>
     ensures { (v : ℤ) → (result ≡ Some v) ↔ PassesAlone (interval.allows part) v }
 {
@@ -35,7 +35,7 @@ fn first_place(part: Members) -> Option<u8>
     None
 }
 
-// Whether this place, which is possible, is the only one that is.
+// Whether this place, which is possible, is the only possible one.
 fn is_only(part: Members, place: u8) -> bool
     requires { members.allows part (pos place) ≡ true }
     ensures { IsTrue result ↔ ((w : ℤ) → members.allows part w ≡ true → w ≡ pos place) }
@@ -43,7 +43,7 @@ fn is_only(part: Members, place: u8) -> bool
     part.within(Members::empty(part.size()).with(place))
 }
 
-// The place where exactly one is possible.
+// The place, if exactly one is possible.
 fn only_place(part: Members) -> Option<i64>
     ensures { (v : ℤ) → (result ≡ Some v) ↔ PassesAlone (members.allows part) v }
 {
@@ -56,7 +56,7 @@ fn only_place(part: Members) -> Option<i64>
     Some(i64::from(place))
 }
 
-/// The value where exactly one is possible: a number, or the place of a member.
+/// The value, if exactly one is possible: a number, or the place of a member.
 pub(crate) fn only_value(info: &Info) -> Option<i64>
     ensures { (v : ℤ) → (result ≡ Some v) ↔ PassesAlone (allows info.now) v }
 {

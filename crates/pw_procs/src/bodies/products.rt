@@ -28,7 +28,7 @@ fn spanning(a: i64, b: i64, c: i64, d: i64) -> Interval
     from_to(a.min(b).min(c.min(d)), a.max(b).max(c.max(d)))
 }
 
-/// The hull of all products of a number of the one and a number of the other.
+/// The hull of all products of a number of one interval and a number of the other.
 pub(crate) fn product(x: Interval, y: Interval) -> Interval
     ensures { info.Interval result ≡ product_of (info.Interval x) (info.Interval y) }
 {

@@ -40,7 +40,8 @@ pub(crate) fn quotient(t: Interval, x: Interval) -> Interval
     possible_quotient(t, x)
 }
 
-// The quotient of intervals that both leave some number possible. Negating both changes no quotient.
+// The quotient of intervals that both leave some number possible. Negating both changes no
+// quotient.
 fn possible_quotient(t: Interval, x: Interval) -> Interval
     requires dividend { IsEmpty t → ⊥ }
     requires divisor { IsEmpty x → ⊥ }
@@ -57,8 +58,8 @@ fn possible_quotient(t: Interval, x: Interval) -> Interval
     Interval::whole()
 }
 
-// From the least quotient of a number from `t_lo` to `t_hi` by one from `x_lo` to `x_hi`, rounded up, to the greatest,
-// rounded down. Both are reached at an end of the divisor.
+// From the least quotient of a number from `t_lo` to `t_hi` by one from `x_lo` to `x_hi`, rounded
+// up, to the greatest, rounded down. Both are reached at an end of the divisor.
 fn between(t_lo: i64, t_hi: i64, x_lo: i64, x_hi: i64) -> Interval
     requires t_lo { IsInIntervalRange t_lo }
     requires t_hi { IsInIntervalRange t_hi }

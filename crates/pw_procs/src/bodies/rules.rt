@@ -1,4 +1,4 @@
-//! Procedures that are given by rules.
+//! Procedures given by rules.
 ghost use Rattle.std.specs.Prelude.{◌≡◌, map};
 ghost use Rattle.std.specs.List.{list_all};
 ghost use Rattle.pw_info.specs.Information.{kind_of};
@@ -21,7 +21,7 @@ fn applies(guards: &[Info], inputs: &[Info]) -> bool
     true
 }
 
-// Whether some value is possible of each input.
+// Whether each input leaves some value possible.
 fn are_possible(inputs: &[Info]) -> bool
     ensures { result ≡ list_all is_possible inputs.now }
 {
@@ -33,8 +33,9 @@ fn are_possible(inputs: &[Info]) -> bool
     true
 }
 
-/// The value of rules on inputs of the kinds of their guards: what the results of all rules of which each guard includes
-/// its input have in common, or the contradiction where an input is contradictory. `output` is the kind of the results.
+/// The value of rules on inputs of the kinds of their guards: the common part of the results of all
+/// rules whose guards all include their inputs, or the contradiction if an input is contradictory.
+/// `output` is the kind of the results.
 pub fn by_rules(output: Kind, rules: &[Rule], inputs: &[Info]) -> Info
     requires { AreRules (map kind_of inputs.now) output rules.now }
     ensures { result ≡ value_of_rules output rules.now inputs.now }

@@ -18,7 +18,7 @@ pub(crate) fn from_to(lo: i64, hi: i64) -> Interval
     }
 }
 
-/// The least and the greatest number that is possible.
+/// The least and the greatest possible number.
 pub(crate) fn ends(x: Interval) -> (i64, i64)
     requires { IsEmpty x → ⊥ }
     ensures least { IsLeastOf x result.0 }
@@ -30,7 +30,7 @@ pub(crate) fn ends(x: Interval) -> (i64, i64)
     (x.lo(), x.hi())
 }
 
-/// The hull of all sums of a number of the one and a number of the other.
+/// The hull of all sums of a number of one interval and a number of the other.
 pub(crate) fn sum(x: Interval, y: Interval) -> Interval
     ensures { info.Interval result ≡ sum_of (info.Interval x) (info.Interval y) }
 {
@@ -45,7 +45,7 @@ pub(crate) fn sum(x: Interval, y: Interval) -> Interval
     from_to(low + left, high + right)
 }
 
-/// The hull of all differences, a number of `t` less a number of `x`.
+/// The hull of all differences, a number of `t` minus a number of `x`.
 pub(crate) fn difference(t: Interval, x: Interval) -> Interval
     ensures { info.Interval result ≡ difference_of (info.Interval t) (info.Interval x) }
 {

@@ -1,4 +1,4 @@
-//! Truths that are told of numbers and of truths.
+//! Truths about numbers and about truths.
 ghost use Rattle.std.specs.Prelude.{◌≡◌, ℤ, pos, ◌<◌, true, false, not, ◌&&◌, ◌||◌};
 ghost use Rattle.std.specs.Ordering.{int_eq};
 ghost use Rattle.pw_kinds.specs.Members as members;
@@ -16,7 +16,7 @@ const FALSE: u8 = 0;
 
 const TRUE: u8 = 1;
 
-// The same, with the member at this place possible too where it may be.
+// The same members, and the member at this place too if `may_be`.
 fn with_if(part: Members, place: u8, may_be: bool) -> Members
     requires { place < size_of part }
     ensures size { size_of result ≡ size_of part }
@@ -29,7 +29,7 @@ fn with_if(part: Members, place: u8, may_be: bool) -> Members
     part
 }
 
-// The truths that may be: of a set of truths that has `false`, and `true`, where these say so.
+// A set of truths: it has `false` if `may_be_false`, and `true` if `may_be_true`.
 fn truths(may_be_false: bool, may_be_true: bool) -> Info
     ensures { HasTruths may_be_false may_be_true result }
 {

@@ -1,4 +1,5 @@
-//! Questions of users: what settles under what a user believes, from what the user's last question found.
+//! Questions of users: what settles under a user's beliefs, starting from what the user's last
+//! question found.
 ghost use Rattle.std.specs.Prelude.{◌≡◌, ◌<◌, ◌≤◌, true, List, length, map, slice_set, IfOk, IfSome, None, OnErr, Some};
 ghost use Rattle.pw_cells.specs.Cells.{kinds_of};
 ghost use Rattle.pw_decl.specs.Declaration.{Declared};
@@ -39,7 +40,8 @@ fn is_written_by(instances: &[Instance], cell: u32, worldview: &PremiseSet) -> b
         && instance.support.is_subset(worldview))
 }
 
-// Settles in a worldview, from the values of a session where there is one, which are given up. It fails only for want of memory.
+// Settles in a worldview, starting from the values of a session if there is one. The session is
+// given up. Fails only when out of memory.
 fn settle_after<A: Allocator + Copy>(
     alloc: A,
     last: Option<Session<A>>,
@@ -70,8 +72,8 @@ fn settle_after<A: Allocator + Copy>(
 }
 
 impl<'d, 'r, A: Allocator + Copy> Workbench<'d, 'r, A> {
-    // Settles under what the user, who is there, believes, from the user's last session, which is given up. It fails only for want
-    // of memory.
+    // Settles under the beliefs of the user, who must exist, starting from the user's last session,
+    // which is given up. Fails only when out of memory.
     fn settle_for(&mut self, user: u8) -> Result<Settled<A>, AllocError>
         requires fits { StoreFits (workbench_by self.old) }
         requires user { user < length (workbench_by self.old).beliefs }
@@ -96,7 +98,7 @@ impl<'d, 'r, A: Allocator + Copy> Workbench<'d, 'r, A> {
         Ok(settled)
     }
 
-    // From now on these are the last values of the user, who is there, and current.
+    // From now on these are the last values of the user, who must exist, and they are current.
     fn remember(&mut self, user: u8, settled: Settled<A>)
         requires { user < length (workbench_by self.old).sessions }
         ensures { workbench_by self.new ≡ record (workbench_by self.old) {
@@ -110,7 +112,8 @@ impl<'d, 'r, A: Allocator + Copy> Workbench<'d, 'r, A> {
         });
     }
 
-    // The value of the declared cell under what the user, who is there, believes, where the user's last session is known to have it.
+    // The value of the declared cell under the beliefs of the user, who must exist, if the user's
+    // last session is known to have it.
     fn known_to(&self, user: u8, cell: u32) -> Option<Info>
         requires fits { StoreFits (workbench_by self.now) }
         requires user { user < length (workbench_by self.now).beliefs }
@@ -127,7 +130,7 @@ impl<'d, 'r, A: Allocator + Copy> Workbench<'d, 'r, A> {
         Some(session.values.value(cell).info)
     }
 
-    // What is known of the declared cell under what the user, who is there, believes.
+    // What is known about the declared cell under the beliefs of the user, who must exist.
     pub(super) fn ask(&mut self, user: u8, cell: u32) -> Reply<A>
         requires fits { StoreFits (workbench_by self.old) }
         requires user { user < length (workbench_by self.old).beliefs }
@@ -159,7 +162,7 @@ impl<'d, 'r, A: Allocator + Copy> Workbench<'d, 'r, A> {
         Reply::Value(info)
     }
 
-    // What is known of the declared cell under what the user, who is there, believes, and why.
+    // What is known about the declared cell under the beliefs of the user, who must exist, and why.
     #[inline(never)]
     pub(super) fn why(&mut self, user: u8, cell: u32) -> Reply<A>
         requires fits { StoreFits (workbench_by self.old) }
@@ -193,7 +196,7 @@ impl<'d, 'r, A: Allocator + Copy> Workbench<'d, 'r, A> {
         Reply::Because(info, reason)
     }
 
-    // What is contradictory under what the user, who is there, believes.
+    // What is contradictory under the beliefs of the user, who must exist.
     #[inline(never)]
     pub(super) fn conflicts(&mut self, user: u8) -> Reply<A>
         requires fits { StoreFits (workbench_by self.old) }

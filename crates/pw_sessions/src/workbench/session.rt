@@ -1,4 +1,4 @@
-//! What is kept of a user's last question.
+//! The stored results of a user's last question.
 ghost use Rattle.std.specs.Prelude.{◌≡◌, ◌<◌, ◌↔◌, IsTrue, length};
 ghost use Rattle.pw_info.specs.Information.{kind_of};
 ghost use Rattle.pw_settle.specs.Settled.{info_at};
@@ -10,7 +10,7 @@ use pw_settle::Settled;
 use std::alloc::{Allocator, Global};
 use std::marker::Model;
 
-// The values that a user's last question settled, and whether they are known to be those of now.
+// The values that a user's last question settled, and whether they are known to be current.
 #[derive(Drop)]
 pub(crate) struct Session<A: Allocator = Global> {
     pub(super) values: Settled<A>,
@@ -31,8 +31,8 @@ impl<A: Allocator> Model for Session<A> {
 }
 
 impl<A: Allocator> Session<A> {
-    // Something was attached under these premises: where that is visible in the worldview of the values, they may not be those of
-    // now.
+    // Something was attached under these premises. If it is visible in the worldview of the values,
+    // they may not be current.
     pub(super) fn note_entry(&mut self, support: &PremiseSet)
         ensures { self.new ≡ after_entry support.now self.old }
     {
@@ -41,7 +41,8 @@ impl<A: Allocator> Session<A> {
         }
     }
 
-    // Whether the values say already what the fact, which is of the cell's kind, shows of it in their worldview.
+    // Whether the values already say what the fact, which is of the cell's kind, shows about the
+    // cell in their worldview.
     fn say_already(&self, cell: u32, fact: &Fact) -> bool
         requires there { cell < length self.now.values.infos }
         requires kind { kind_of (info_at self.now.values.infos cell) ≡ kind_of fact.now.info }
@@ -51,7 +52,8 @@ impl<A: Allocator> Session<A> {
             || self.values.value(cell).info.implies(&fact.info)
     }
 
-    // A fact of the cell's kind was told of it: where the values say less than it shows, they may not be those of now.
+    // A fact of the cell's kind was told about the cell. If the values say less than it shows, they
+    // may not be current.
     pub(super) fn note_tell(&mut self, cell: u32, fact: &Fact)
         requires there { cell < length self.old.values.infos }
         requires kind { kind_of (info_at self.old.values.infos cell) ≡ kind_of fact.now.info }

@@ -12,7 +12,7 @@ under_form [] = Some []
 under_form (word ∷ []) = None
 under_form (word ∷ premise ∷ premises) = if bytes_eq word (codes "under") then Some (premise ∷ premises) else None
 
--- what stands after `tell`
+-- the words after `tell`
 abbrev pub tell_form : List (List ℕ) → Option Said
 tell_form (cell ∷ info ∷ tail) = option_map (Tell cell info) (under_form tail)
 tell_form rest = None
@@ -27,36 +27,36 @@ abbrev pub from_under : List (List ℕ) → List (List ℕ)
 from_under [] = []
 from_under (word ∷ words) = if bytes_eq word (codes "under") then word ∷ words else from_under words
 
--- the first of the words is a cell of an attach, and these are left: both what comes before the first `under` and what comes
--- from it on are found in them
+-- the first of the words is a cell of an attach, and these words are left: both the words before
+-- the first `under` and the words from it on are found in them
 pub record TakesCell (words : List (List ℕ)) (cell : List ℕ) (left : List (List ℕ)) : Type 0 where
   pub first : words ≡ cell ∷ left
   pub cells : before_under words ≡ cell ∷ before_under left
   pub rest : from_under words ≡ from_under left
 
--- what stands after `attach`: a cell at least before the first `under`
+-- the words after `attach`: at least one cell before the first `under`
 abbrev pub attach_form : List (List ℕ) → Option Said
 attach_form (callable ∷ cell ∷ rest) =
     if bytes_eq cell (codes "under") then None
     else option_map (Attach callable (cell ∷ before_under rest)) (under_form (from_under rest))
 attach_form rest = None
 
--- what stands after `believe` and after `doubt`: a premise at least
+-- the words after `believe` and after `doubt`: at least one premise
 abbrev pub premises_form : (List (List ℕ) → Said) → List (List ℕ) → Option Said
 premises_form says [] = None
 premises_form says (premise ∷ premises) = Some (says (premise ∷ premises))
 
--- what stands after `beliefs` and after `conflicts`: nothing
+-- the words after `beliefs` and after `conflicts`: none
 abbrev pub bare_form : Said → List (List ℕ) → Option Said
 bare_form says [] = Some says
 bare_form says rest = None
 
--- what stands after `ask` and after `why`: a cell
+-- the words after `ask` and after `why`: a cell
 abbrev pub cell_form : (List ℕ → Said) → List (List ℕ) → Option Said
 cell_form says (cell ∷ []) = Some (says cell)
 cell_form says rest = None
 
--- what is said by a word, and the words after it
+-- the command given by a word, and the words after it
 abbrev pub said_form : List ℕ → List (List ℕ) → Option Said
 said_form name rest =
     if bytes_eq name (codes "tell") then tell_form rest
@@ -89,7 +89,7 @@ said_in (spelled.Why cell) = Why cell.now
 said_in spelled.Conflicts = Conflicts
 said_in spelled.Other = Other
 
--- an attach is of a cell at least
+-- an attach has at least one cell
 abbrev pub HasCells : Said → Type 0
 HasCells (Attach callable cells premises) = 0 < length cells
 HasCells said = Unit {0}

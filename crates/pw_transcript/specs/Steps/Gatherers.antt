@@ -1,4 +1,4 @@
--- What a clause reads of a gathering output, and what was passed to it between two moments.
+-- What contracts use of a gathering output, and what was passed to it between two moments.
 use Rattle.std.specs.Prelude.{◌≡◌, ℕ, List, [], ◌++◌, refl}
 use Rattle.std.proofs.Common.{◌∙◌}
 use Rattle.std.specs.Borrow.{MutBor}
@@ -13,8 +13,8 @@ output_of g = g.output
 abbrev pub held_of : {O : Type 0} → Gathered O → List ℕ
 held_of g = g.held
 
--- it still passes to the same output, and what it held before, followed by these bytes, is what it passed on to that
--- output in between, followed by what it holds now
+-- it still passes to the same output, and what it held before, followed by these bytes, is what it
+-- passed on to that output in between, followed by what it holds now
 abbrev pub GatheredPasses : {O : Type 0} → (O → List ℕ → O → Type 0) → Gathered O → List ℕ → Gathered O → Type 0
 GatheredPasses passes s bytes t =
     ((output_of t).ghost_name ≡ (output_of s).ghost_name)

@@ -1,8 +1,9 @@
--- What a gathering output was passed, against what it passed on and what it holds.
+-- What a gathering output was passed, compared with what it passed on and what it holds.
 use Rattle.std.specs.Prelude.{◌≡◌, ℕ, List, [], ◌++◌}
 use Rattle.std.proofs.Common.{sym, ap, ◌∙◌, append_assoc, append-nil}
 
--- what was held before, followed by these bytes, is what was passed on in between, followed by what is held now
+-- what was held before, followed by these bytes, is what was passed on in between, followed by what
+-- is held now
 pub record Gathers {S : Type 0} (passes : S → List ℕ → S → Type 0) (old new : S) (held held' bytes : List ℕ) : Type 0 where
   pub on : List ℕ
   pub whole : held ++ bytes ≡ on ++ held'

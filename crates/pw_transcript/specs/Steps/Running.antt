@@ -1,4 +1,4 @@
--- How far the lines of a transcript are answered, when bytes come piece by piece.
+-- The progress of answering the lines of a transcript, when bytes come piece by piece.
 use Rattle.std.specs.Prelude.{◌≡◌, ℕ, ◌+◌, ◌<◌, ◌≤◌, List, [], ◌++◌, length, Option}
 use Rattle.std.specs.List.{AllByRecursion}
 use Rattle.pw_info.specs.Passing.{PassesPart}
@@ -13,15 +13,15 @@ use Rattle.pw_sessions.specs.Workbench.{Workbench, IsLeftBy}
 use Rattle.pw_transcript.specs.ReplyText.{text_of_replies}
 use Rattle.pw_transcript.specs.FromScratch.{LinesComeTo, count_of_replies, PassesAll, PassesFront}
 
--- what stands between two steps: what the lines so far left, how many lines and replies there were, and what is held of the
--- next line
+-- the state between two steps: what the lines so far left, the numbers of lines and of replies, and
+-- the held part of the next line
 pub record Progress : Type 0 where
   pub workbench : Workbench
   pub counts : Lines
   pub line : Option (List ℕ)
 
--- What is true between two steps, whatever came: some lines left what is there, and after the last line that a run
--- answers nothing has come.
+-- What holds between two steps, for any input: some lines left the workbench, and after the last
+-- line that a run answers nothing has come.
 pub record IsRunning (d : Declared) (p : Progress) : Type 0 where
   pub left : IsLeft d (p.counts.lines + 1) p.workbench
   pub lines : p.counts.lines ≤ most_lines
@@ -29,7 +29,7 @@ pub record IsRunning (d : Declared) (p : Progress) : Type 0 where
   pub last : p.counts.lines ≡ most_lines → p.line ≡ held_line []
 
 module _ {O : Type 0} (passes : O → List ℕ → O → Type 0) (d : Declared) where
-  -- these bytes came, and of the replies to their first lines, which have ended, a front was passed
+  -- these bytes came, and a front of the replies to their first lines, which have ended, was passed
   pub record FrontSoFar (first now : O) (bytes : List ℕ) : Type 0 where
     pub ended : List (List ℕ)
     pub rest : List ℕ
@@ -40,8 +40,8 @@ module _ {O : Type 0} (passes : O → List ℕ → O → Type 0) (d : Declared) 
     pub come : LinesComeTo d ended readings
     pub front : PassesPart passes first now (text_of_replies d (replies_of d readings))
 
-  -- After some bytes these came: the last line that a run answers ended, and `past` came after it. The replies to all
-  -- lines up to that one were passed, and nothing else.
+  -- After some bytes these came: the last line that a run answers ended, and `past` came after it.
+  -- The replies to all lines up to that one were passed, and nothing else.
   pub record LimitSoFar (first now : O) (before bytes : List ℕ) : Type 0 where
     pub ended : List (List ℕ)
     pub past : List ℕ
@@ -54,10 +54,10 @@ module _ {O : Type 0} (passes : O → List ℕ → O → Type 0) (d : Declared) 
     pub come : LinesComeTo d ended readings
     pub passed : passes first (text_of_replies d (replies_of d readings)) now
 
-  -- ---- how far it has come, from the first byte on
+  -- ---- the progress from the first byte on
 
-  -- These bytes came, and the replies to the lines that ended in them were passed, and nothing else. What those lines
-  -- leave is kept, and what came of the next one is held.
+  -- These bytes came, and the replies to the lines that ended in them were passed, and nothing
+  -- else. What those lines leave is stored, and the part of the next line that came is held.
   pub record SoFar (first now : O) (p : Progress) (bytes : List ℕ) : Type 0 where
     pub ended : List (List ℕ)
     pub last : List ℕ
@@ -73,7 +73,7 @@ module _ {O : Type 0} (passes : O → List ℕ → O → Type 0) (d : Declared) 
     pub line_count : p.counts.lines ≡ length ended
     pub reply_count : p.counts.replies ≡ count_of_replies (replies_of d readings)
 
-  -- ---- one step, whatever came before it
+  -- ---- one step, after any input
 
   -- these bytes take the run from one state to another
   abbrev pub GoesOn : Progress → O → List ℕ → Progress → O → Type 0

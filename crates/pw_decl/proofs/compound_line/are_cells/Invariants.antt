@@ -3,7 +3,7 @@ use Rattle.std.specs.List.{list_all}
 use Rattle.pw_procs.specs.Place.{place_of_name}
 use Rattle.pw_decl.proofs.compound_line.are_cells.Given as goal
 
--- all name cells where those that are left do
+-- all name cells where the remaining ones do
 abbrev pub invariant-loop-word : goal.invariant-loop-word
 invariant-loop-word g l =
     list_all (λ word. is_some (place_of_name l.names word)) l.fn.words ≡ list_all (λ word. is_some (place_of_name l.names word)) l.words

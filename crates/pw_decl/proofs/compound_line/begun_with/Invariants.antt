@@ -8,7 +8,7 @@ use Rattle.pw_decl.specs.Kept.{size_of}
 use Rattle.pw_decl.specs.Steps.Forms.{are_parameters}
 use Rattle.pw_decl.proofs.compound_line.begun_with.Given as goal
 
--- those that were added and those that are left are all, in order
+-- those that were added and the remaining ones are all, in order
 abbrev pub invariant-loop-word : goal.invariant-loop-word
 invariant-loop-word g l = record {
   named : are_parameters l.parameters ≡ true;

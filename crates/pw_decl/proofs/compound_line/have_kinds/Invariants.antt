@@ -4,7 +4,7 @@ use Rattle.pw_decl.specs.Declaration.{NameKinds, parameter_kinds}
 use Rattle.pw_decl.specs.Fields.{declared_by}
 use Rattle.pw_decl.proofs.compound_line.have_kinds.Given as goal
 
--- all kinds are there where those that are left are
+-- all kinds are there where the remaining ones are
 abbrev pub invariant-loop-parameters : goal.invariant-loop-parameters
 invariant-loop-parameters g l =
     ((kinds : List Kind) × NameKinds (declared_by l.declaration) (parameter_kinds l.fn.parameters) kinds)

@@ -4,7 +4,7 @@ use Rattle.pw_procs.specs.Place.{place_of_name}
 use Rattle.pw_procs.specs.Shapes.{most_cells}
 use Rattle.pw_decl.proofs.compound_line.place_arguments.Given as goal
 
--- the places so far and those of the words that are left are the places of all words
+-- the places so far and those of the remaining words are the places of all words
 abbrev pub invariant-loop-word : goal.invariant-loop-word
 invariant-loop-word g l = record {
   room : length l.places ≡ most_cells;

@@ -3,7 +3,7 @@ use Rattle.pw_procs.specs.Shapes.{most_cells}
 use Rattle.pw_decl.specs.Expansion.{at_place}
 use Rattle.pw_decl.proofs.flat_call.place_cells.Given as goal
 
--- the cells at the places so far are put down
+-- the cells at the places so far are recorded
 abbrev pub invariant-loop-number : goal.invariant-loop-number
 invariant-loop-number l = record {
   room : length l.placed ≡ most_cells;

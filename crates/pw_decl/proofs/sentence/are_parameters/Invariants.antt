@@ -2,7 +2,7 @@ use Rattle.std.proofs.Common.{◌≡◌, length}
 use Rattle.pw_decl.specs.Steps.Forms.{are_parameters}
 use Rattle.pw_decl.proofs.sentence.are_parameters.Given as goal
 
--- all are parameters where those that are left are
+-- all are parameters where the remaining ones are
 abbrev pub invariant-loop-name : goal.invariant-loop-name
 invariant-loop-name l = are_parameters l.fn.words ≡ are_parameters l.words
 

@@ -2,7 +2,8 @@ use Rattle.std.proofs.Common.{◌≡◌, ◌+◌, ◌≤◌, length}
 use Rattle.pw_kinds.specs.Limits.{most_members}
 use Rattle.pw_decl.proofs.set_line.count.Given as goal
 
--- those that were counted and those that are left are all, and no more are counted than to one too many
+-- those that were counted and the remaining ones are all, and no more are counted than to one too
+-- many
 abbrev pub invariant-loop-count : goal.invariant-loop-count
 invariant-loop-count l = record {
   all : l.count + length l.words ≡ length l.fn.words;

@@ -3,7 +3,7 @@ use Rattle.std.specs.List.{list_all}
 use Rattle.pw_info.specs.Name.{is_name}
 use Rattle.pw_decl.proofs.set_line.name_members.Given as goal
 
--- those that were added and those that are left are all, in order
+-- those that were added and the remaining ones are all, in order
 abbrev pub invariant-loop-word : goal.invariant-loop-word
 invariant-loop-word g l = record {
   all : l.fn.members ≡ l.table ++ l.members;

@@ -8,7 +8,7 @@ use Rattle.pw_decl.proofs.DeclarationSteps.{given_back, over, told_only, told_fi
 use Rattle.pw_decl.proofs.PreludeLaw.{spelled_prelude}
 use Rattle.pw_decl.proofs.text.read_declaration.Goals as goal
 
--- a fault is told
+-- a fault is reported
 
 pub returns-in_err-read_text-clause-err : goal.returns-in_err-read_text-clause-err
 returns-in_err-read_text-clause-err g c =

@@ -16,7 +16,7 @@ bad_back = search rules
 worse_back : (back : List ℕ) (hi : ℤ) → codes ".2..3" ≡ 46 ∷ back → SpellsNumber back hi → ⊥
 worse_back = search rules
 
--- behind the first dot stands the rest of the dots, which no number begins with
+-- after the first dot comes the rest of the dots, and no number begins with a dot
 pub returns-clause-three_dots : goal.returns-clause-three_dots
 returns-clause-three_dots c = λ lo hi spelled.
     let (back, is, least, greatest, order) = cut (codes "1...2") (codes "1") (codes "..2") lo hi refl (search rules) spelled in

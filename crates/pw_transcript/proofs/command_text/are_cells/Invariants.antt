@@ -5,7 +5,7 @@ use Rattle.pw_transcript.specs.Reading.{is_cell}
 use Rattle.pw_transcript.specs.Steps.Forms.{before_under}
 use Rattle.pw_transcript.proofs.command_text.are_cells.Given as goal
 
--- all name cells where those that are left do
+-- all name cells if the remaining ones do
 abbrev pub invariant-loop-word : goal.invariant-loop-word
 invariant-loop-word g l =
     list_all (is_cell (declared_by l.declaration)) (before_under l.fn.words) ≡ list_all (is_cell (declared_by l.declaration)) (before_under l.words)

@@ -6,7 +6,7 @@ use Rattle.pw_transcript.specs.Reading.{is_cell, cells_named}
 use Rattle.pw_transcript.specs.Steps.Forms.{before_under}
 use Rattle.pw_transcript.proofs.command_text.named_cells.Given as goal
 
--- the cells so far and those of the words that are left are the cells of all words
+-- the cells so far and those of the remaining words are the cells of all words
 abbrev pub invariant-loop-word : goal.invariant-loop-word
 invariant-loop-word g l = record {
   room : length l.cells ≡ most_cells;

@@ -5,7 +5,7 @@ use Rattle.pw_decl.specs.Fields.{declared_by}
 use Rattle.pw_transcript.specs.Reading.{is_known, premises_of}
 use Rattle.pw_transcript.proofs.command_text.premise_set.Given as goal
 
--- the premises so far and those of the words that are left are those of all
+-- the premises so far and those of the remaining words are those of all
 abbrev pub invariant-loop-word : goal.invariant-loop-word
 invariant-loop-word g l = record {
   known : list_all (is_known (declared_by l.declaration)) l.fn.words ≡ list_all (is_known (declared_by l.declaration)) l.words;

@@ -3,7 +3,7 @@ use Rattle.pw_procs.specs.Shapes.{most_cells}
 use Rattle.pw_decl.specs.Compound.{kinds_at}
 use Rattle.pw_decl.proofs.declaration.Declaration.accepts_at.Given as goal
 
--- the kinds at the places so far are put down
+-- the kinds at the places so far are recorded
 abbrev pub invariant-loop-number : goal.invariant-loop-number
 invariant-loop-number g l = record {
   room : length l.given ≡ most_cells;

@@ -7,7 +7,7 @@ use Rattle.pw_kinds.proofs.Order.{is_false}
 use Rattle.pw_kinds.proofs.Intervals.{within_ends, ends_within, crossed_none}
 use Rattle.pw_kinds.proofs.interval.Interval.within.Goals as goal
 
--- where some number is possible, the ends are in order
+-- if some number is possible, the ends are in order
 ordered : (i : Interval) (b : Bool) → (IsTrue b ↔ IsEmpty i) → b ≡ false → i.lo ≤ℤ i.hi
 ordered i b h e = by_lt_z i.hi i.lo (λ l. let none : IsTrue b = h.1 (λ v. is_false _ (crossed_none i v l)) in absurd (grind arith)) (λ l. l)
 

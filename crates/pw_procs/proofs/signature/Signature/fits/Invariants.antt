@@ -2,7 +2,7 @@ use Rattle.std.proofs.Common.{◌≡◌, length, take, map}
 use Rattle.pw_info.specs.Information.{kind_of}
 use Rattle.pw_procs.proofs.signature.Signature.fits.Given as goal
 
--- the kinds of the inputs so far are put down
+-- the kinds of the inputs so far are recorded
 abbrev pub invariant-loop-place : goal.invariant-loop-place
 invariant-loop-place l = record {
   room : length l.kinds ≡ 8;

@@ -31,7 +31,7 @@ returns-in-Some-clause-asked g c =
 pub returns-in-Some-clause-grows : goal.returns-in-Some-clause-grows
 returns-in-Some-clause-grows g c = only_keeps_itself (workbench_by c.args.self.now) c.args.user
 
--- ---- what is told
+-- ---- the told facts
 
 pub returns-then-not-is_written_by-clause-answer : goal.returns-then-not-is_written_by-clause-answer
 returns-then-not-is_written_by-clause-answer g c = λ d before left.

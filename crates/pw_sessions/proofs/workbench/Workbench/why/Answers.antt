@@ -74,7 +74,7 @@ returns-clause-answer g c =
     (c.in-Ok.ensures.settled.worldview_is i)) in
     inl (λ i. reply.Because (value i) (reason i))
 
--- the values are current still once the reason was found
+-- the values are still current after the reason was found
 pub returns-clause-asked : goal.returns-clause-asked
 returns-clause-asked g c =
     let found : Workbench = workbench_by c.settle_for.new.self in

@@ -2,7 +2,8 @@ use Rattle.std.proofs.Common.{◌≡◌, [], false, length}
 use Rattle.pw_transcript.specs.Steps.Gathering.{Gathers}
 use Rattle.pw_transcript.proofs.gathered.Gathered.flush.Given as goal
 
--- the output is the same one, which has not failed, and what it was passed so far stood in front of what was held
+-- the output is the same one, which has not failed, and what it was passed so far came before what
+-- was held
 abbrev pub invariant-loop-self : goal.invariant-loop-self
 invariant-loop-self g l = record {
   same : l.self.output.ghost_name ≡ l.fn.self.output.ghost_name;

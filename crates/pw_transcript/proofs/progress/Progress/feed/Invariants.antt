@@ -4,7 +4,7 @@ use Rattle.pw_transcript.specs.Steps.Fields.{progress_by}
 use Rattle.pw_transcript.specs.Steps.Running.{IsRunning, GoesOn}
 use Rattle.pw_transcript.proofs.progress.Progress.feed.Given as goal
 
--- what lies in front of the rest is answered
+-- the bytes before the rest are answered
 abbrev pub invariant-loop-rest : goal.invariant-loop-rest
 invariant-loop-rest g l = record {
   done : List ℕ;
