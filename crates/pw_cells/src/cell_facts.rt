@@ -1,4 +1,4 @@
-// The facts of one cell.
+//! The facts of one cell.
 
 ghost use Rattle.std.specs.Prelude.{◌≡◌, ◌+◌, ◌<◌, ◌≤◌, ◌↔◌, ◌++◌, ◌∷◌, [], true, false, if◌then◌else◌, None};
 ghost use Rattle.std.specs.Prelude.{map, reverse, vec_len, vec_capacity, IsTrue, IfOk, OnOk, OnErr};

@@ -1,4 +1,4 @@
-// The store: cells by number, each with the facts told about it and the facts kept of it.
+//! The store: cells by number, each with the facts told about it and the facts kept of it.
 
 ghost use Rattle.std.specs.Prelude.{◌≡◌, ◌+◌, ◌≤◌, ◌<◌, ◌++◌, [], true, false, length, map, IsOk, IfOk, vec_len, vec_capacity, OnOk, OnErr};
 ghost use Rattle.std.specs.FinSet.{is_subset};

@@ -1,4 +1,4 @@
-// The last answers on told facts. Facts told since are merged into them.
+//! The last answers on told facts. Facts told since are merged into them.
 
 ghost use Rattle.std.specs.Prelude.{◌≡◌, None, List, All, IfSome, map};
 ghost use Rattle.std.specs.Option.{option_map};

@@ -1,4 +1,4 @@
-// The supports of the facts told about a cell, each once, in the order in which they came.
+//! The supports of the facts told about a cell, each once, in the order in which they came.
 
 ghost use Rattle.std.specs.Prelude.{◌≡◌, [], ◌<◌, length, position, IfSome, OnOk, OnErr};
 ghost use Rattle.pw_premises.specs.PremiseSubsets.{has_same_numbers};

@@ -1,4 +1,4 @@
-// Facts, their merge, and which subsumes which.
+//! Facts, their merge, and which subsumes which.
 
 ghost use Rattle.std.specs.Prelude.{◌≡◌, ◌↔◌, true, IsTrue};
 ghost use Rattle.std.specs.FinSet.{is_subset, union};

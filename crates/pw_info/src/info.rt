@@ -1,4 +1,4 @@
-// One type of information over all kinds of values.
+//! One type of information over all kinds of values.
 ghost use Rattle.std.specs.Prelude.{◌≡◌, ◌≢◌, ◌↔◌, ◌&&◌, ℤ, Bool, true, IsTrue, IfSome, IfNone};
 ghost use Rattle.pw_kinds.specs.Interval as interval;
 ghost use Rattle.pw_kinds.specs.Members as members;

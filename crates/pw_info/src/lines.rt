@@ -1,4 +1,4 @@
-// The lines of a text.
+//! The lines of a text.
 
 ghost use Rattle.std.specs.Prelude.{◌≡◌, ℕ, ◌∷◌, ◌++◌, ◌↔◌, ◌≤◌, List, length, IfSome, IfNone};
 ghost use Rattle.std.specs.List.{prefix_len};

@@ -1,4 +1,4 @@
-// The texts of members of a set: `{`, their names joined by `,`, `}`.
+//! The texts of members of a set: `{`, their names joined by `,`, `}`.
 ghost use Rattle.std.specs.Prelude.{◌≡◌, ◌++◌, codes, length, IfSome, IfNone};
 ghost use Rattle.pw_kinds.specs.Members.{size_of, IsEmpty};
 ghost use Rattle.pw_info.specs.declared.kind.Kind.TheVariants as kinds;

@@ -1,4 +1,4 @@
-// The test of a name of a user, a premise, a set kind, a member, a cell.
+//! The test of a name of a user, a premise, a set kind, a member, a cell.
 ghost use Rattle.std.specs.Prelude.{◌≡◌};
 ghost use Rattle.std.specs.List.{list_all};
 ghost use Rattle.pw_info.specs.Name as spec;

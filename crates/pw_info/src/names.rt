@@ -1,4 +1,4 @@
-// Looking up the names of the members of sets.
+//! Looking up the names of the members of sets.
 ghost use Rattle.std.specs.Prelude.{◌≡◌, ◌<◌, ℕ, List, length, Some, IfSome, IfNone, slice_get, Contains};
 ghost use Rattle.pw_info.specs.SetNames.{AreNames};
 

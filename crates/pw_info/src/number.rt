@@ -1,4 +1,4 @@
-// Reading numbers.
+//! Reading numbers.
 ghost use Rattle.std.specs.Prelude.{ℕ, ℤ, ◌≤◌, IfSome, IfNone};
 ghost use Rattle.pw_info.specs.Number.{IsUpTo, SpellsNumber, SpellsPositive, greatest_number};
 

@@ -1,4 +1,4 @@
-// An end that takes bytes: what it was passed, and when it has failed.
+//! An end that takes bytes: what it was passed, and when it has failed.
 ghost use Rattle.std.specs.Prelude.{◌≡◌, ℕ, List, [], ◌++◌, Bool, true, false, is_err, IsErr, Some};
 ghost use Rattle.std.specs.Io.KnownBytes.{Appends};
 ghost use Rattle.std.proofs.KnownBytes.{Appends-nil, Appends-trans};

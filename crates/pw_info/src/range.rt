@@ -1,4 +1,4 @@
-// Reading ranges.
+//! Reading ranges.
 ghost use Rattle.std.specs.Prelude.{◌≡◌, ◌≤◌, ◌++◌, codes, IfSome, IfNone};
 ghost use Rattle.pw_info.specs.Number.{IsUpTo, HoldsOfNoneUpTo, greatest_number};
 ghost use Rattle.pw_info.specs.Cut.{HasNoDot, SpellsCut};

@@ -1,4 +1,4 @@
-// The texts of informations: reading and writing them.
+//! The texts of informations: reading and writing them.
 ghost use Rattle.std.specs.Prelude.{◌≡◌, ◌++◌, codes, IfSome, IfNone};
 ghost use Rattle.std.specs.Fmt.{signed_decimal};
 ghost use Rattle.pw_info.specs.Information.{kind_of};

@@ -1,4 +1,4 @@
-// The words of a line, and the lines that say nothing.
+//! The words of a line, and the lines that say nothing.
 
 ghost use Rattle.std.specs.Prelude.{◌≡◌, ℕ, ◌∷◌, ◌↔◌, ◌≤◌, [], List, length, drop, MatchOption};
 ghost use Rattle.std.specs.List.{prefix_len, list_all};

@@ -1,4 +1,4 @@
-// Exact values: a whole number that is known exactly or not at all.
+//! Exact values: a whole number that is known exactly or not at all.
 ghost use Rattle.std.specs.Prelude.{◌≤ℤ◌};
 ghost use Rattle.pw_kinds.specs.Ranges.{exact_lowest, exact_highest};
 

@@ -1,4 +1,4 @@
-// Intervals: a whole number that is known by its least and greatest possible values.
+//! Intervals: a whole number that is known by its least and greatest possible values.
 ghost use Rattle.pw_kinds.specs.Span.{IsSpan};
 
 /// What is known about a whole number between -1,000,000 and 1,000,000: which numbers are still

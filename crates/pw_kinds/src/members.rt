@@ -1,4 +1,4 @@
-// Members of a set: which of them are still possible.
+//! Members of a set: which of them are still possible.
 ghost use Rattle.std.specs.Prelude.{◌≡◌, ◌+◌, ◌^◌};
 ghost use Rattle.pw_kinds.specs.Places.{IsMask, IsSize};
 

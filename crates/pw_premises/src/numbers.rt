@@ -1,4 +1,4 @@
-// The numbers of a set of premises, one after another.
+//! The numbers of a set of premises, one after another.
 
 ghost use Rattle.std.specs.Iterator.{YieldsFirst, YieldsLast, item_count};
 

@@ -1,4 +1,4 @@
-// Sets of premises, each a word with a bit for each premise.
+//! Sets of premises, each a word with a bit for each premise.
 
 ghost use Rattle.std.specs.Prelude.{◌≡◌, ◌<◌, ◌≤◌, ◌↔◌, ℕ, true, IsTrue, Contains, length};
 ghost use Rattle.std.specs.List.{range_with_len};

@@ -1,3 +1,4 @@
+//! The cells that a procedure is put between.
 ghost use Rattle.pw_procs.specs.Shapes.{AreArguments};
 
 const MOST_CELLS: usize = 9;

@@ -1,3 +1,4 @@
+//! What a procedure means: one of a fixed list of operations, or a table of rules.
 use crate::rule::Rule;
 
 /// What a propagator says about its output: the value of a meaning is taken over all possible

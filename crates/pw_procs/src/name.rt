@@ -1,4 +1,4 @@
-// A name in a table, or a word that is looked up in it.
+//! A name in a table, or a word that is looked up in it.
 ghost use Rattle.std.specs.Prelude.{◌≡◌, ◌∷◌, []};
 ghost use Rattle.std.specs.Cmp.{on_equiv, on_per, partial_equiv_from_equiv};
 ghost use Rattle.std.specs.Cmp.Lexicographic.{nat_list_eq_equiv};

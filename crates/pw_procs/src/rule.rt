@@ -1,3 +1,4 @@
+//! Rules: what a procedure that is given by a table says of some inputs.
 ghost use Rattle.std.specs.Prelude.{◌≡◌};
 
 use pw_info::Info;

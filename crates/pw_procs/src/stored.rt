@@ -1,3 +1,4 @@
+//! Procedures as a registry holds them: a name, a signature, a meaning and a body.
 ghost use Rattle.std.specs.Prelude.{◌≡◌};
 ghost use Rattle.std.specs.String.{string_bytes};
 ghost use Rattle.pw_procs.specs.Signature.{FitSignature, IsSignatureOf, IsOfOutputKind, IsValueUnder, value_under};

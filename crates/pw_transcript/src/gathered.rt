@@ -1,4 +1,4 @@
-// An output that gathers the bytes put into it, and passes them on in large pieces.
+//! An output that gathers the bytes put into it, and passes them on in large pieces.
 ghost use Rattle.std.specs.Prelude.{◌≡◌, ◌≤◌, ◌<◌, ℕ, List, [], ◌++◌, length, take, drop, true, false, is_err, OnOk, Some};
 
 use pw_info::{Failed, Output};

@@ -1,4 +1,4 @@
-// An end that gives bytes: what was taken from it, when it has failed, and when it has ended.
+//! An end that gives bytes: what was taken from it, when it has failed, and when it has ended.
 ghost use Rattle.std.specs.Prelude.{◌≡◌, ◌<◌, ℕ, List, [], ◌++◌, length, Bool, true, false, is_err, IsErr, IfOk, OnErr};
 ghost use Rattle.std.proofs.KnownBytes.{Consumes-nil, Consumes-trans};
 ghost use Rattle.pw_transcript.specs.Readers.{ReaderTakes, NothingRemains};

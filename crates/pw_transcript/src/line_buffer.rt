@@ -1,4 +1,4 @@
-// The part that has come of a line that has not ended.
+//! The part that has come of a line that has not ended.
 
 ghost use Rattle.std.specs.Prelude.{◌≡◌, ◌==◌, ℕ, List, [], ◌++◌, length, option_copied, IsTrue};
 ghost use Rattle.pw_transcript.specs.Steps.Answering.{held_line};
