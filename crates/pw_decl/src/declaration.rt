@@ -312,6 +312,7 @@ impl<'r, A: Allocator + Copy> Declaration<'r, A> {
 }
 
 impl<A: Allocator + Copy> KindNames for Declaration<'_, A> {
+    ghost use Rattle.pw_decl.specs.Fields.{declared_by};
 
     ghost members = { λ d. members_of (declared_by d) };
 
