@@ -1,5 +1,5 @@
 -- What a declaration is, and what each of its lines adds.
-use Rattle.std.specs.Prelude.{◌≡◌, ◌≢◌, ℕ, ◌+◌, List, [], ◌∷◌, ◌++◌, All, length, Option, Some, None, codes, slice_index_or}
+use Rattle.std.specs.Prelude.{◌≡◌, ◌≢◌, ℕ, ◌+◌, List, [], ◌∷◌, ◌++◌, All, length, map, Option, Some, None, codes, slice_index_or}
 use Rattle.std.specs.List.{filter_map}
 use Rattle.std.specs.Option.{option_map, option_or}
 use Rattle.pw_info.specs.declared.kind.Kind.{Kind}
@@ -7,7 +7,7 @@ use Rattle.pw_info.specs.declared.kind.Kind.TheVariants as kinds
 use Rattle.pw_info.specs.Name.{IsName}
 use Rattle.pw_info.specs.SetNames.{SetNames}
 use Rattle.pw_procs.specs.Place.{place_of_name}
-use Rattle.pw_procs.specs.Procedure.{Procedure, names_of}
+use Rattle.pw_procs.specs.Procedure.{Procedure}
 use Rattle.pw_decl.specs.declared.step.Callable.{Callable}
 use Rattle.pw_decl.specs.declared.step.Callable.TheVariants as callables
 use Rattle.pw_decl.specs.Compound.{Compound, NewCell, CallOn, AcceptsKinds, IsThere, with_step}
@@ -88,7 +88,7 @@ NameKinds d words kinds = ⊥
 -- the callable of this name, if there is one: a procedure, or a compound that has ended
 abbrev pub callable_named : Declared → List ℕ → Option Callable
 callable_named d word =
-    option_or (option_map callables.Stored (place_of_name (names_of d.procedures) word))
+    option_or (option_map callables.Stored (place_of_name (map (λ procedure. procedure.name) d.procedures) word))
     (option_map callables.Compound (place_of_name d.compound_names word))
 
 -- the callable exists

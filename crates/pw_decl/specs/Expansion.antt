@@ -78,7 +78,7 @@ expand_steps kinds known [] cells inner = []
 expand_steps kinds known (NewCell kind ∷ steps) cells inner =
     expand_steps kinds known steps (cells ++ inner 0 ∷ []) (λ j. inner (1 + j))
 expand_steps kinds known (CallOn callable places ∷ steps) cells inner =
-    expand_callable known callable (cells_at cells places) inner
+    expand_callable known callable (filter_map (slice_get cells) places) inner
     ++ expand_steps kinds known steps cells (λ j. inner (length (inner_of_callable kinds callable) + j))
 
 -- the expansions of compounds, each from the expansions of the compounds before it: first the known

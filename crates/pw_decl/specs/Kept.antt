@@ -25,7 +25,7 @@ size_of size = record { instances = size.instances; inner_cells = size.inner_cel
 
 -- a compound
 abbrev pub compound_of : {A : Type 0} → CompoundKept A → Compound
-compound_of c = record { parameters = c.parameters.items; steps = steps_of c.steps.items }
+compound_of c = record { parameters = c.parameters.items; steps = map step_of c.steps.items }
 
 -- compounds, without the sizes stored with them
 abbrev pub compounds_of : {A : Type 0} → List (CompoundKept A) → List Compound

@@ -21,7 +21,8 @@ set_kind number part =
 -- the kind of an information
 abbrev pub kind_of : Info → Kind
 kind_of (info.Interval part) = kinds.Interval
-kind_of (info.Members number part) = set_kind number part
+kind_of (info.Members number part) =
+    kinds.Members (record { number = number; size = members.size_of part; sized = (part.places.fewest, part.places.most) })
 kind_of (info.Exact part) = kinds.Exact
 
 -- the information is given by these members, of the set of some number

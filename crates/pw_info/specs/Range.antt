@@ -4,14 +4,11 @@ use Rattle.std.specs.Fmt.{signed_decimal}
 use Rattle.std.specs.Ordering.{int_eq}
 use Rattle.pw_info.specs.Number.{SpellsNumber}
 
--- a word spells two numbers in order: LO..HI, with LO at most HI
-abbrev pub SpellsEnds : List ℕ → ℤ → ℤ → Type 0
-SpellsEnds word lo hi = (front : List ℕ) × (back : List ℕ) × (word ≡ front ++ (codes ".." ++ back))
-    × SpellsNumber front lo × SpellsNumber back hi × (lo ≤ℤ hi)
-
--- a word spells the range from lo to hi: it is one number, which is both, or it is LO..HI
+-- a word spells the range from lo to hi: it is one number, which is both, or it is LO..HI, with LO at most HI
 abbrev pub SpellsRange : List ℕ → ℤ → ℤ → Type 0
-SpellsRange word lo hi = (SpellsNumber word lo × (lo ≡ hi)) ⊎ SpellsEnds word lo hi
+SpellsRange word lo hi = (SpellsNumber word lo × (lo ≡ hi))
+    ⊎ ((front : List ℕ) × (back : List ℕ) × (word ≡ front ++ (codes ".." ++ back))
+    × SpellsNumber front lo × SpellsNumber back hi × (lo ≤ℤ hi))
 
 -- a word spells no range
 abbrev pub SpellsNoRange : List ℕ → Type 0

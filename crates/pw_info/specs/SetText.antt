@@ -19,6 +19,6 @@ is_one_of places v = list_any (λ place. int_eq (pos place) v) places
 abbrev pub row_of : List (List ℕ) → List ℕ → List ℕ
 row_of names places = join_with_byte comma (map (name_at names) places)
 
--- `{`, the names at these places, `}`
+-- `{`, the names at these places with ',' between each two, `}`
 abbrev pub text_of_set : List (List ℕ) → List ℕ → List ℕ
-text_of_set names places = codes "{" ++ (row_of names places ++ codes "}")
+text_of_set names places = codes "{" ++ (join_with_byte comma (map (name_at names) places) ++ codes "}")

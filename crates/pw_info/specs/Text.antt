@@ -44,8 +44,8 @@ text_of_exact Any = codes "nothing"
 text_of_exact (One number) = signed_decimal number.value
 text_of_exact Empty = codes "contradiction"
 
--- the text of an information
+-- the text of an information: of an interval by its ends, of members by their places
 abbrev pub text_of_info : SetNames → Info → List ℕ
-text_of_info sets (info.Interval part) = text_of_interval part
-text_of_info sets (info.Members number part) = text_of_members (sets number) part
+text_of_info sets (info.Interval part) = text_of_ends (least_of part) (greatest_of part)
+text_of_info sets (info.Members number part) = text_of_places (sets number) (size_of part) (places_of part)
 text_of_info sets (info.Exact part) = text_of_exact part

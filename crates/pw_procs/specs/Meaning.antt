@@ -110,22 +110,27 @@ AreSlotsOf (meanings.Rules rules) inputs output =
     (kinds : List Kind) × (kind : Kind) × (inputs ≡ map slots.Fixed kinds) × (output ≡ slots.Fixed kind) × AreRules kinds kind rules.items
 AreSlotsOf meaning inputs output = (inputs ≡ inputs_of_meaning meaning) × (output ≡ output_of_meaning meaning)
 
--- the value of a meaning whose output has this slot; for rules the slot is of a fixed kind
+-- the value of a meaning whose output has this slot: the hull of all sums, of all differences, of
+-- all products, of all squares, of all quotients; everything that `at most`, `equal`, `not`, `and`
+-- and `or` give; what passes a switch; the input itself; the interval of an exact number; the exact
+-- number of an interval that allows just one. For rules the slot is of a fixed kind.
 abbrev pub value_of_meaning : Slot → Meaning → List Info → Info
-value_of_meaning output meanings.Adder inputs = sum_of (input inputs 0) (input inputs 1)
-value_of_meaning output meanings.Subtractor inputs = difference_of (input inputs 0) (input inputs 1)
-value_of_meaning output meanings.Multiplier inputs = product_of (input inputs 0) (input inputs 1)
-value_of_meaning output meanings.Squarer inputs = square_of (input inputs 0)
+value_of_meaning output meanings.Adder inputs = hull_of (image_of_two (λ a b. a +ℤ b) (input inputs 0) (input inputs 1))
+value_of_meaning output meanings.Subtractor inputs = hull_of (image_of_two (λ a b. a -ℤ b) (input inputs 0) (input inputs 1))
+value_of_meaning output meanings.Multiplier inputs = hull_of (image_of_two (λ a b. a *ℤ b) (input inputs 0) (input inputs 1))
+value_of_meaning output meanings.Squarer inputs = hull_of (image_of_one (λ a. a *ℤ a) (input inputs 0))
 value_of_meaning output meanings.Divider inputs = quotient_of (input inputs 0) (input inputs 1)
-value_of_meaning output meanings.AtMost inputs = at_most_of (input inputs 0) (input inputs 1)
-value_of_meaning output meanings.Equal inputs = equality_of (input inputs 0) (input inputs 1)
-value_of_meaning output meanings.Inverter inputs = negation_of (input inputs 0)
-value_of_meaning output meanings.Conjoiner inputs = conjunction_of (input inputs 0) (input inputs 1)
-value_of_meaning output meanings.Disjoiner inputs = disjunction_of (input inputs 0) (input inputs 1)
+value_of_meaning output meanings.AtMost inputs = truths_of (image_of_two (λ a b. truth (le_z a b)) (input inputs 0) (input inputs 1))
+value_of_meaning output meanings.Equal inputs = truths_of (image_of_two (λ a b. truth (int_eq a b)) (input inputs 0) (input inputs 1))
+value_of_meaning output meanings.Inverter inputs = truths_of (image_of_one (λ a. truth (not (is_true a))) (input inputs 0))
+value_of_meaning output meanings.Conjoiner inputs =
+    truths_of (image_of_two (λ a b. truth (is_true a && is_true b)) (input inputs 0) (input inputs 1))
+value_of_meaning output meanings.Disjoiner inputs =
+    truths_of (image_of_two (λ a b. truth (is_true a || is_true b)) (input inputs 0) (input inputs 1))
 value_of_meaning output meanings.Switch inputs = switched (input inputs 0) (input inputs 1)
 value_of_meaning output meanings.Copy inputs = input inputs 0
-value_of_meaning output meanings.Point inputs = point_of (input inputs 0)
-value_of_meaning output meanings.Fixed inputs = fixed_of (input inputs 0)
+value_of_meaning output meanings.Point inputs = hull_of (some (input inputs 0))
+value_of_meaning output meanings.Fixed inputs = closest kinds.Exact (allows (input inputs 0))
 value_of_meaning output (meanings.Rules rules) inputs = value_of_rules (kind_in kinds.Interval output) rules.items inputs
 
 -- the value of a meaning of the table, on inputs that fit it

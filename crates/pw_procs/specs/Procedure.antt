@@ -9,8 +9,8 @@ use Rattle.pw_procs.specs.declared.slot.Slot.{Slot}
 use Rattle.pw_procs.specs.declared.signature.Signature.{Signature}
 use Rattle.pw_procs.specs.declared.meaning.Meaning.{Meaning}
 use Rattle.pw_procs.specs.declared.stored.Stored.{Stored}
-use Rattle.pw_procs.specs.Meaning.{inputs_of_meaning, output_of_meaning}
-use Rattle.pw_procs.specs.Signature.{input_slots_of, output_slot_of, FitSignature, Accepts, IsSignatureOf, value_under}
+use Rattle.pw_procs.specs.Meaning.{inputs_of_meaning, output_of_meaning, value_of_meaning}
+use Rattle.pw_procs.specs.Signature.{input_slots_of, output_slot_of, FitSignature, Accepts, IsSignatureOf}
 
 -- a name, and a meaning with a signature of it
 pub record Procedure : Type 0 where
@@ -35,9 +35,9 @@ names_of procedures = map (λ procedure. procedure.name) procedures
 abbrev pub stored_names : {X : Type 0} {F : X → Type 0} {C : _} → List (Stored X F C) → List (List ℕ)
 stored_names list = names_of (procedures_of list)
 
--- the value of a procedure on inputs that fit
+-- the value of a procedure on inputs that fit: that of its meaning, whose output has the slot of its signature
 abbrev pub value_by : Procedure → List Info → Info
-value_by procedure inputs = value_under procedure.signature procedure.meaning inputs
+value_by procedure inputs = value_of_meaning procedure.signature.output procedure.meaning inputs
 
 -- if a procedure accepts the kinds of the inputs and then a kind, the inputs fit, and its value is
 -- of that kind

@@ -1,11 +1,11 @@
 -- The procedures of a registry.
-use Rattle.std.specs.Prelude.{ℕ, List}
+use Rattle.std.specs.Prelude.{ℕ, List, map}
 use Rattle.pw_procs.specs.declared.registry.Registry.{Registry}
-use Rattle.pw_procs.specs.Procedure.{Procedure, procedures_of, names_of}
+use Rattle.pw_procs.specs.Procedure.{Procedure, procedure_of, names_of}
 
 -- the procedures, in the order of their numbers
 abbrev pub procedures_in : {A : _} {X : Type 0} {F : X → Type 0} {C : _} → Registry A X F C → List Procedure
-procedures_in registry = procedures_of registry.entries.items
+procedures_in registry = map procedure_of registry.entries.items
 
 -- their names, in that order
 abbrev pub names_in : {A : _} {X : Type 0} {F : X → Type 0} {C : _} → Registry A X F C → List (List ℕ)

@@ -6,7 +6,7 @@ use Rattle.pw_info.specs.Information.{kind_of}
 use Rattle.pw_procs.specs.declared.slot.Slot.{Slot}
 use Rattle.pw_procs.specs.declared.signature.Signature.{Signature}
 use Rattle.pw_procs.specs.declared.meaning.Meaning.{Meaning}
-use Rattle.pw_procs.specs.Slots.{kind_in, KindsFit, FitSlots}
+use Rattle.pw_procs.specs.Slots.{kind_in, FitSlots}
 use Rattle.pw_procs.specs.Meaning as meanings
 
 -- the slots of the inputs, in order
@@ -21,9 +21,9 @@ output_slot_of signature = signature.output
 abbrev pub FitSignature : Signature → List Info → Type 0
 FitSignature signature inputs = FitSlots (input_slots_of signature) inputs
 
--- kinds fit the inputs and the output, which is last
+-- kinds fit the inputs and the output, which is last: they are those in the slots, for some kind of the slots that take any
 abbrev pub Accepts : Signature → List Kind → Type 0
-Accepts signature kinds = KindsFit (input_slots_of signature ++ output_slot_of signature ∷ []) kinds
+Accepts signature kinds = (same : Kind) × (kinds ≡ map (kind_in same) (input_slots_of signature ++ signature.output ∷ []))
 
 -- the same with the inputs and the output apart
 abbrev pub AcceptsApart : Signature → List Kind → Kind → Type 0
@@ -32,7 +32,7 @@ AcceptsApart signature inputs output =
 
 -- the signature is one of the meaning
 abbrev pub IsSignatureOf : Meaning → Signature → Type 0
-IsSignatureOf meaning signature = meanings.AreSlotsOf meaning (input_slots_of signature) (output_slot_of signature)
+IsSignatureOf meaning signature = meanings.AreSlotsOf meaning (input_slots_of signature) signature.output
 
 -- the value of a meaning under a signature of it
 abbrev pub value_under : Signature → Meaning → List Info → Info

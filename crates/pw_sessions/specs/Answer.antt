@@ -30,7 +30,7 @@ is_visible beliefs entry = is_subset (support_of entry) beliefs
 
 -- the entries whose premises are all believed
 abbrev pub visible_in : List Entry → Premises → List Entry
-visible_in entries beliefs = filter (is_visible beliefs) entries
+visible_in entries beliefs = filter (λ entry. is_subset (support_of entry) beliefs) entries
 
 -- what an entry says about cells: a fact is told about its cell; a callable becomes instances on
 -- its cells and on inner cells that are named by the line

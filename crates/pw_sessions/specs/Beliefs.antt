@@ -24,4 +24,4 @@ believed_after user beliefs reading = beliefs
 
 -- a user's beliefs after the lines of a transcript so far; at the start every declared premise
 abbrev pub beliefs_at : Declared → ℕ → List LineReading → Premises
-beliefs_at d user readings = fold (believed_after user) (all_premises d) readings
+beliefs_at d user readings = fold (believed_after user) (from_list (range_with_len 0 (length d.premises))) readings

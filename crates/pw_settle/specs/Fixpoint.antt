@@ -18,7 +18,8 @@ module _ {C : Type 0} (cells : Cells C) where
 
   -- a round: what is known about a cell is merged with everything that the sources say about it
   abbrev pub round : List (Source C) → (C → Info) → C → Info
-  round sources known cell = fold (with_source known cell) (known cell) sources
+  round sources known cell =
+      fold (λ info source. if cells.same (cell_of source) cell then meet info (said_by known source) else info) (known cell) sources
 
   -- nothing is known about any cell
   abbrev pub nothing_known : C → Info
@@ -28,7 +29,7 @@ module _ {C : Type 0} (cells : Cells C) where
   -- rounds; a further round changes nothing. It is never computed: the laws of this crate describe
   -- it
   unfoldable pub fixpoint : List C → List (Source C) → C → Info
-  fixpoint over sources = iterate (round sources) (length over * rounds_of_a_cell) nothing_known
+  fixpoint over sources = iterate (round sources) (length over * rounds_of_a_cell) (λ cell. nothing (cells.kind cell))
 
   -- the told information about a cell: everything told about it, merged
   abbrev pub told_of : List (Source C) → C → Info

@@ -33,9 +33,12 @@ abbrev pub propagator_of : {C : Type 0} → List Procedure → Instance C → Op
 propagator_of procedures instance =
     option_map (λ procedure. Propagator procedure instance.inputs instance.output) (slice_get procedures instance.procedure)
 
--- instances as sources
+-- instances as sources, each where there is a procedure of its number
 abbrev pub propagators_of : {C : Type 0} → List Procedure → List (Instance C) → List (Source C)
-propagators_of procedures instances = filter_map (propagator_of procedures) instances
+propagators_of procedures instances =
+    filter_map
+    (λ instance. option_map (λ procedure. Propagator procedure instance.inputs instance.output) (slice_get procedures instance.procedure))
+    instances
 
 -- the instances that are visible in a worldview: all premises under which each was attached are in
 -- it

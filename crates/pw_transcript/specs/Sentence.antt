@@ -41,20 +41,22 @@ abbrev pub AreNoUnder : List (List ℕ) → Type 0
 AreNoUnder words = AllByRecursion (λ word. word ≢ codes "under") words
 
 -- the command given by the words after the user; if the first of them names no command it is
--- `Other`, with any words after it
+-- `Other`, with any words after it. The first `under` after the callable ends the cells of an
+-- attach, so none of them is that word
 abbrev pub IsSaid : List (List ℕ) → Said → Type 0
 IsSaid words (Tell cell info premises) =
     (tail : List (List ℕ)) × (words ≡ codes "tell" ∷ cell ∷ info ∷ tail) × IsUnder tail premises
 IsSaid words (Attach callable cells premises) =
-    (tail : List (List ℕ)) × (words ≡ codes "attach" ∷ callable ∷ cells ++ tail) × (0 < length cells) × AreNoUnder cells
-    × IsUnder tail premises
+    (tail : List (List ℕ)) × (words ≡ codes "attach" ∷ callable ∷ cells ++ tail) × (0 < length cells)
+    × AllByRecursion (λ word. word ≢ codes "under") cells × IsUnder tail premises
 IsSaid words (Believe premises) = (words ≡ codes "believe" ∷ premises) × (0 < length premises)
 IsSaid words (Doubt premises) = (words ≡ codes "doubt" ∷ premises) × (0 < length premises)
 IsSaid words Beliefs = words ≡ codes "beliefs" ∷ []
 IsSaid words (Ask cell) = words ≡ codes "ask" ∷ cell ∷ []
 IsSaid words (Why cell) = words ≡ codes "why" ∷ cell ∷ []
 IsSaid words Conflicts = words ≡ codes "conflicts" ∷ []
-IsSaid words Other = (word : List ℕ) × (rest : List (List ℕ)) × (words ≡ word ∷ rest) × NamesNoCommand word
+IsSaid words Other =
+    (word : List ℕ) × (rest : List (List ℕ)) × (words ≡ word ∷ rest) × AllByRecursion (λ name. word ≢ name) command_names
 
 -- the words are the sentence: first its user, and then the command
 abbrev pub IsSentence : List (List ℕ) → Sentence → Type 0
