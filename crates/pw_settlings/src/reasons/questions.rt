@@ -1,5 +1,5 @@
-//! Questions over one store: in one worldview after another, why each cell has its value, and what is contradictory. A question that
-//! is refused for want of memory is put again.
+//! Questions over one store, in one worldview after another: why each cell has its value, and what is contradictory. A question
+//! that runs out of memory is put again.
 
 ghost use Rattle.std.specs.Prelude.{◌<◌, IfOk, OnOk};
 ghost use Rattle.pw_network.specs.Fields.{network_by};
@@ -27,15 +27,15 @@ pub struct Asked {
     pub reasons: Vec<Vec<PremiseSet>>,
     /// In each worldview, the contradictory declared cells, and the lines of the attachments with a contradictory inner cell.
     pub conflicts: Vec<(Vec<u32>, Vec<u32>)>,
-    /// Of each of the sets asked for, whether it is covered in the end.
+    /// Whether each of the sets asked for is covered in the end.
     pub covered: Vec<bool>,
     /// How many questions were refused, and then put again.
     pub refused: u32,
-    /// Whether what was told stayed as it was.
+    /// Whether the told facts stayed as they were.
     pub is_told_the_same: bool,
 }
 
-// The reason of a cell in the worldview. Where memory is refused once, it is asked for again, which is counted.
+// The reason of a cell in the worldview. Asks again if memory is refused once, and counts the refusal.
 fn reason_again<A: Allocator + Copy>(
     memory: A,
     network: &Network<'_, '_, A>,
@@ -98,7 +98,7 @@ fn conflicts_once<A: Allocator + Copy>(
     list_conflicts(memory, network, &settled)
 }
 
-// The same, and once more where memory is refused, which is counted.
+// The same, and once more if memory is refused. Counts the refusal.
 fn conflicts_again<A: Allocator + Copy>(
     memory: A,
     network: &Network<'_, '_, A>,
@@ -119,7 +119,7 @@ fn conflicts_again<A: Allocator + Copy>(
     }
 }
 
-// Questions in some worldviews, and which sets are asked for afterwards. The growths of the declaration and the network are those of
+// Questions in some worldviews, and the sets asked for afterwards. The growths of the declaration and the network are those of
 // `ample`, and those of the store, of the settlings and of what is noted are those of `memory`.
 #[derive(Drop)]
 struct Questions<'a, A: Allocator> {

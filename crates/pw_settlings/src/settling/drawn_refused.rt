@@ -1,5 +1,5 @@
-//! Pseudo-random networks, settled where a growth of memory is refused: what was told stays as it was, and once there is memory the
-//! values are those by rounds, of worldviews one after another and of stages that go on.
+//! Pseudo-random networks, settled where a growth of memory is refused. The told facts stay as they were. Once there is memory
+//! the values are those by rounds: of worldviews one after another, and of stages that go on.
 
 use super::drawing::{Random, WORLD, draw_attachments, draw_tells};
 use super::going_on::{draw_parts, stages_of};
@@ -13,14 +13,14 @@ use pw_refusals::Refusing;
 use std::process::Abort;
 use std::test::Fail;
 
-// How many networks are compared, at least, of how many that are drawn, and how many settlings are refused, at least.
+// The least number of networks to compare, the number drawn, and the least number of refused settlings.
 const COMPARED: u32 = 40;
 
 const DRAWN: u64 = 60;
 
 const REFUSED: u32 = 30;
 
-// That what was told stays as it was, and the values are those by rounds.
+// Checks that the told facts stay as they were, and that the values are those by rounds.
 fn is_known<R: Abort>(rt: &R, seed: u64, at: u64, shown: &Shown, wanted: &[Option<Vec<Info>>]) {
     assert!(rt; shown.is_told_the_same, "seed {seed}, at {at}");
     assert_eq!(rt; shown.answers.len(), wanted.len(), "seed {seed}, at {at}");
@@ -35,8 +35,8 @@ fn is_known<R: Abort>(rt: &R, seed: u64, at: u64, shown: &Shown, wanted: &[Optio
     }
 }
 
-// Settles the worldviews where the growth of this number is refused, or none at 0: how many growths were asked for, and how many
-// settlings were refused.
+// Settles the worldviews while the growth of this number is refused, or none at 0. Answers how many growths were asked for, and
+// how many settlings were refused.
 fn settle_at<R: Abort + AllocGlobal>(
     rt: &R,
     seed: u64,
@@ -70,8 +70,8 @@ fn go_on_at<R: Abort + AllocGlobal>(
     Ok((refusing.calls(), shown.refused))
 }
 
-// Settles worldviews one after another, where one growth is refused or another; how many settlings were refused, and nothing where
-// the values take too many rounds.
+// Settles worldviews one after another, three times with a random growth refused. Answers how many settlings were refused, or
+// nothing if the values take too many rounds.
 fn settle_refused<R: Abort + AllocGlobal>(
     rt: &R,
     seed: u64,
@@ -93,8 +93,8 @@ fn settle_refused<R: Abort + AllocGlobal>(
     Ok(Some(refused))
 }
 
-// Goes on through stages, where one growth is refused or another; how many settlings that go on were refused, and nothing where the
-// values take too many rounds.
+// Goes on through stages, three times with a random growth refused. Answers how many settlings that go on were refused, or
+// nothing if the values take too many rounds.
 fn go_on_refused<R: Abort + AllocGlobal>(
     rt: &R,
     seed: u64,
@@ -118,7 +118,7 @@ fn go_on_refused<R: Abort + AllocGlobal>(
     Ok(Some(refused))
 }
 
-// Draws a network, and settles it both ways; nothing where the values take too many rounds.
+// Draws a network, and settles it both ways. Answers nothing if the values take too many rounds.
 fn compare_drawn<R: Abort + AllocGlobal>(rt: &R, seed: u64) -> Result<Option<(u32, u32)>, Fail> {
     let mut random = Random::new(seed);
     let drawn = draw_attachments(&mut random);
