@@ -1,4 +1,4 @@
-//! When replies are passed on: before the next line is waited for, and however few bytes are taken at once.
+//! When a run passes replies on: before it waits for the next line, even if it takes few bytes at once.
 
 use crate::ends::{Asking, Counting, Drip};
 use crate::sessions::{answered, answers, run_over, said};

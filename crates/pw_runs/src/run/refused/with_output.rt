@@ -1,5 +1,4 @@
-//! A growth refused and an output that fails, in one run: what is written is a front of what is written where the growth alone is
-//! refused.
+//! A refused growth and a failing output in one run. The run writes a front of what it writes where the growth alone is refused.
 
 use super::super::worked::{COPYING, Session};
 use super::{Outcome, growths_of, run_with};
@@ -11,7 +10,7 @@ use pw_transcript::{Reading, RunFault};
 use std::process::Abort;
 use std::test::Fail;
 
-// A growth that is refused, the byte at which the output fails, and how often it does.
+// The growth to refuse, the byte at which the output fails, and how often it does.
 #[derive(Clone, Copy)]
 struct Fault {
     growth: u64,
@@ -19,7 +18,7 @@ struct Fault {
     failing: Failing,
 }
 
-// That a run over the session with this fault writes what the growth alone leaves to write, up to the byte.
+// Checks that a run over the session with this fault writes what it writes where the growth alone is refused, up to the byte.
 fn writes_a_front<R: Abort + AllocGlobal>(
     rt: &R,
     session: Session<'_>,
@@ -68,7 +67,7 @@ fn writes_a_front<R: Abort + AllocGlobal>(
     Ok(())
 }
 
-// That it is so wherever the output fails, until it does not.
+// Checks this at each byte at which the output may fail, and once where it does not fail.
 fn writes_each_front<R: Abort + AllocGlobal>(
     rt: &R,
     session: Session<'_>,
@@ -87,7 +86,7 @@ fn writes_each_front<R: Abort + AllocGlobal>(
     Ok(())
 }
 
-// That it is so whichever growth is refused.
+// Checks this for each growth of the run.
 fn writes_fronts_whichever_growth<R: Abort + AllocGlobal>(
     rt: &R,
     session: Session<'_>,
