@@ -103,6 +103,20 @@ pub fn named_in<A: Allocator + Copy>(
     Some((callable, cells))
 }
 
+/// Attaches callables to declared cells, by their names, one after another.
+pub fn attach_named<A: Allocator + Copy>(
+    network: &mut Network<'_, '_, A>,
+    attachments: &[Attachment<'_>],
+) -> Result<(), Fail> {
+    for attachment in attachments {
+        let (callable, cells) = named_in(network, attachment).ok_or("wrong names")?;
+        let Ok(()) = network.attach(attachment.line, callable, cells, attachment.support) else {
+            return Err("not attached".into());
+        };
+    }
+    Ok(())
+}
+
 // Adds the cell to the text: a declared one by its name, an inner one by its line and its number there.
 fn show_cell<A: Allocator + Copy>(
     text: &mut String,

@@ -13,7 +13,7 @@ ghost use Rattle.pw_network.specs.Network.{cells_in};
 ghost use Rattle.pw_reasons.specs.Nogood.{AreNogoods};
 ghost use Rattle.pw_settlings.specs.Settling.{IsReady};
 
-use crate::networks::named_in;
+use crate::networks::attach_named;
 use crate::settling::{Matter, all_told, store_of, tell_fact};
 use pw_cells::CellStore;
 use pw_decl::Declaration;
@@ -141,12 +141,7 @@ fn ask_over<A: Allocator + Copy>(
     declaration: &Declaration<'_, A>,
 ) -> Result<Answer, Fail> {
     let mut network = Network::new(task.ample, declaration)?;
-    for attachment in task.matter.attachments {
-        let (callable, cells) = named_in(&network, attachment).ok_or("wrong names")?;
-        let Ok(()) = network.attach(attachment.line, callable, cells, attachment.support) else {
-            return Err("not attached".into());
-        };
-    }
+    attach_named(&mut network, task.matter.attachments)?;
     task.ask(&network)
 }
 

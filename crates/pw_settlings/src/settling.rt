@@ -18,7 +18,7 @@ ghost use Rattle.pw_network.specs.Network.{cells_in};
 ghost use Rattle.pw_settle.specs.Fitting.{IsFitting};
 ghost use Rattle.pw_settlings.specs.Settling.{IsReady, LeavesFitting};
 
-use crate::networks::{Attachment, kinds_of, named_in};
+use crate::networks::{Attachment, attach_named, kinds_of};
 use pw_cells::CellStore;
 use pw_decl::Declaration;
 use pw_facts::Fact;
@@ -301,12 +301,7 @@ fn settle_over<A: Allocator + Copy>(
     declaration: &Declaration<'_, A>,
 ) -> Result<Shown, Fail> {
     let mut network = Network::new(task.ample, declaration)?;
-    for attachment in task.matter.attachments {
-        let (callable, cells) = named_in(&network, attachment).ok_or("wrong names")?;
-        let Ok(()) = network.attach(attachment.line, callable, cells, attachment.support) else {
-            return Err("not attached".into());
-        };
-    }
+    attach_named(&mut network, task.matter.attachments)?;
     task.settle_all(&network)
 }
 

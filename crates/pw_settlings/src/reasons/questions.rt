@@ -8,7 +8,7 @@ ghost use Rattle.pw_reasons.specs.Nogood.{AreNogoods};
 ghost use Rattle.pw_settlings.specs.Settling.{IsReady};
 
 use super::{all_covered, reason_once};
-use crate::networks::named_in;
+use crate::networks::attach_named;
 use crate::settling::{Matter, all_told, store_of, tell_fact};
 use pw_cells::CellStore;
 use pw_decl::Declaration;
@@ -219,12 +219,7 @@ fn ask_over<A: Allocator + Copy>(
     declaration: &Declaration<'_, A>,
 ) -> Result<Asked, Fail> {
     let mut network = Network::new(task.ample, declaration)?;
-    for attachment in task.matter.attachments {
-        let (callable, cells) = named_in(&network, attachment).ok_or("wrong names")?;
-        let Ok(()) = network.attach(attachment.line, callable, cells, attachment.support) else {
-            return Err("not attached".into());
-        };
-    }
+    attach_named(&mut network, task.matter.attachments)?;
     task.ask(&network)
 }
 

@@ -4,7 +4,7 @@
 
 use super::stages::Stage;
 use super::{Matter, Tell};
-use crate::networks::named_in;
+use crate::networks::attach_named;
 use pw_decl::Declaration;
 use pw_info::{Info, Kind};
 use pw_network::{Instance, Network};
@@ -134,12 +134,7 @@ fn values_over(
     declaration: &Declaration<'_>,
 ) -> Result<Vec<Option<Vec<Info>>>, Fail> {
     let mut network = Network::new(task.alloc, declaration)?;
-    for attachment in task.matter.attachments {
-        let (callable, cells) = named_in(&network, attachment).ok_or("wrong names")?;
-        let Ok(()) = network.attach(attachment.line, callable, cells, attachment.support) else {
-            return Err("not attached".into());
-        };
-    }
+    attach_named(&mut network, task.matter.attachments)?;
     task.values(&network)
 }
 
