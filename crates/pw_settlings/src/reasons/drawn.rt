@@ -5,7 +5,7 @@ use super::questions::{Asked, asked_in};
 use crate::networks::Attachment;
 use crate::settling::drawing::{Random, WORLD, draw_attachments, draw_tells};
 use crate::settling::growing::in_lines;
-use crate::settling::rounds::by_rounds;
+use crate::settling::rounds::{by_rounds, took_too_long};
 use crate::settling::{Matter, Tell, told};
 use pw_info::Info;
 use pw_premises::PremiseSet;
@@ -110,7 +110,7 @@ fn values_of(
     sets: &[PremiseSet],
 ) -> Result<Option<Values>, Fail> {
     let by_place = by_rounds(alloc, matter, sets)?;
-    if by_place.iter().any(|known| known.is_none()) {
+    if took_too_long(&by_place) {
         return Ok(None);
     }
     Ok(Some(Values { by_place }))

@@ -4,7 +4,7 @@
 use super::drawing::{Random, WORLD, draw_attachments, draw_tells};
 use super::going_on::{draw_parts, stages_of};
 use super::growing::in_lines;
-use super::rounds::{by_rounds, by_rounds_at};
+use super::rounds::{by_rounds, by_rounds_at, took_too_long};
 use super::stages::{Stage, settled_in_stages_in};
 use super::{Matter, Shown, settled_in};
 use pw_info::Info;
@@ -80,7 +80,7 @@ fn settle_refused<R: Abort + AllocGlobal>(
 ) -> Result<Option<u32>, Fail> {
     let worldviews = [random.premises(2), PremiseSet::first(5), random.premises(2)];
     let wanted = by_rounds(rt.alloc(), matter, &worldviews)?;
-    if wanted.iter().any(|known| known.is_none()) {
+    if took_too_long(&wanted) {
         return Ok(None);
     }
     let (growths, _) = settle_at(rt, seed, 0, matter, &worldviews, &wanted)?;
@@ -105,7 +105,7 @@ fn go_on_refused<R: Abort + AllocGlobal>(
     let (first, [_, larger, _]) = random.worldviews();
     let stages = stages_of(first, larger, &parts);
     let wanted = by_rounds_at(rt.alloc(), matter, &stages)?;
-    if wanted.iter().any(|known| known.is_none()) {
+    if took_too_long(&wanted) {
         return Ok(None);
     }
     let (growths, _) = go_on_at(rt, seed, 0, matter, &stages, &wanted)?;

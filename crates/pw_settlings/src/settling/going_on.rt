@@ -5,7 +5,7 @@
 use super::Matter;
 use super::drawing::{Random, WORLD, draw_attachments, draw_tells};
 use super::growing::{in_lines, is_by_rounds};
-use super::rounds::by_rounds_at;
+use super::rounds::{by_rounds_at, took_too_long};
 use super::stages::{Stage, settled_in_stages};
 use pw_premises::PremiseSet;
 use std::process::Abort;
@@ -25,7 +25,7 @@ fn compare<R: Abort + AllocGlobal>(
     stages: &[Stage],
 ) -> Result<Option<u32>, Fail> {
     let wanted = by_rounds_at(rt.alloc(), matter, stages)?;
-    if wanted.iter().any(|known| known.is_none()) {
+    if took_too_long(&wanted) {
         return Ok(None);
     }
     let shown = settled_in_stages(rt.alloc(), matter, stages)?;

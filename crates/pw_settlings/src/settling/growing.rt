@@ -2,7 +2,7 @@
 //! is also the value by rounds under just the premises that it rests on.
 
 use super::drawing::{Drawn, Random, WORLD, draw_attachments, draw_tells};
-use super::rounds::by_rounds;
+use super::rounds::{by_rounds, took_too_long};
 use super::{Answer, Matter, settled};
 use crate::networks::Attachment;
 use pw_facts::Fact;
@@ -90,7 +90,7 @@ fn compare<R: Abort + AllocGlobal>(
     worldviews: &[PremiseSet],
 ) -> Result<Option<u32>, Fail> {
     let wanted = by_rounds(rt.alloc(), matter, worldviews)?;
-    if wanted.iter().any(|known| known.is_none()) {
+    if took_too_long(&wanted) {
         return Ok(None);
     }
     let shown = settled(rt.alloc(), matter, worldviews, &[])?;

@@ -120,6 +120,11 @@ fn known_at_last(
     Ok(None)
 }
 
+/// Whether some of the values took too many rounds.
+pub fn took_too_long(values: &[Option<Vec<Info>>]) -> bool {
+    values.iter().any(|known| known.is_none())
+}
+
 // The values in some worldviews.
 #[derive(Drop)]
 struct ByRounds<'a> {
