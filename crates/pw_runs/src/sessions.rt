@@ -51,6 +51,16 @@ pub fn run_over<A: Allocator + Copy, I: Input, O: Output>(
     over_text(alloc, reading, declaration, running)?
 }
 
+/// The same with ample memory.
+pub fn run_amply<I: Input, O: Output>(
+    alloc: Global,
+    declaration: &str,
+    input: &mut I,
+    output: &mut O,
+) -> Result<Result<Lines, RunFault>, Fail> {
+    run_over(alloc, alloc, alloc, declaration, input, output)
+}
+
 /// What a run over the declaration of this text came to, and what it wrote. Its own growths are those of `memory`, and those
 /// of the declaration are those of `reading`.
 pub fn outcome<A: Allocator + Copy>(

@@ -2,7 +2,7 @@
 
 use super::worked::SWITCHING;
 use crate::ends::{Drip, Failing, Sink};
-use crate::sessions::{answered, run_over, said, whole};
+use crate::sessions::{answered, run_amply, said, whole};
 use pw_info::{Output, Writing};
 use pw_refusals::worlds::{GENERAL, WORLD};
 use pw_transcript::{Input, Lines, Reading, RunFault};
@@ -16,14 +16,7 @@ fn a_failing_input_leaves_the_replies_to_ended_lines(rt: HostRuntime) -> Result<
     // It fails within the second line, and would give the rest of it afterwards.
     let mut input = Reading::new(Drip::new(transcript.as_str(), 16));
     let mut output = Writing::new(Vec::new(rt.alloc()));
-    let answer = run_over(
-        rt.alloc(),
-        rt.alloc(),
-        rt.alloc(),
-        GENERAL,
-        &mut input,
-        &mut output,
-    )?;
+    let answer = run_amply(rt.alloc(), GENERAL, &mut input, &mut output)?;
     assert_eq!(rt; answer, Err(RunFault::Read));
     assert!(rt; input.failed() && !output.failed());
     assert_eq!(rt; input.reader().given, 16);
@@ -41,7 +34,7 @@ fn taken_until(
 ) -> Result<(bool, bool, Vec<u8>), Fail> {
     let mut input = Reading::new(transcript.as_bytes());
     let mut output = Writing::new(Sink::new(alloc, breaks_at, Failing::Once));
-    let answer = run_over(alloc, alloc, alloc, WORLD, &mut input, &mut output)?;
+    let answer = run_amply(alloc, WORLD, &mut input, &mut output)?;
     let failed = output.failed();
     Ok((answer.is_ok(), failed, output.into_writer().text))
 }
@@ -100,7 +93,7 @@ fn drip(
 ) -> Result<Dripped, Fail> {
     let mut input = Reading::new(Drip::failing(transcript, input_breaks_at, failing));
     let mut output = Writing::new(Sink::new(alloc, output_breaks_at, failing));
-    let answer = run_over(alloc, alloc, alloc, GENERAL, &mut input, &mut output)?;
+    let answer = run_amply(alloc, GENERAL, &mut input, &mut output)?;
     Ok(Dripped {
         answer,
         given: input.reader().given,
