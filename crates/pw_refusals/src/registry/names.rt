@@ -1,5 +1,6 @@
 //! Lists of procedures under several names.
 
+use super::NAMES;
 use pw_info::{Info, Kind};
 use pw_procs::{Body, Meaning, Registry, RegistryFault, Signature, Slot, Stored, bodies};
 use std::alloc::Global;
@@ -66,25 +67,6 @@ fn register(alloc: Global, names: &[&str]) -> Result<Outcome, Fail> {
     Ok(observe(Registry::new(alloc, list), names))
 }
 
-// The names of the program's procedures.
-const OF_THE_PROGRAM: [&str; 15] = [
-    "adder",
-    "subtractor",
-    "multiplier",
-    "squarer",
-    "divider",
-    "at_most",
-    "equal",
-    "inverter",
-    "conjoiner",
-    "disjoiner",
-    "switch",
-    "copy",
-    "point",
-    "fixed",
-    "sign",
-];
-
 #[test]
 fn names_of_procedures(rt: HostRuntime) -> Result<(), Fail> {
     for (names, fault) in [
@@ -105,7 +87,7 @@ fn names_of_procedures(rt: HostRuntime) -> Result<(), Fail> {
     for (names, last) in [
         ([].as_slice(), None),
         (["adder", "summer"].as_slice(), Some(1)),
-        (OF_THE_PROGRAM.as_slice(), Some(14)),
+        (NAMES.as_slice(), Some(14)),
     ] {
         let found = Outcome {
             fault: None,

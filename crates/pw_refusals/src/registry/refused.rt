@@ -5,6 +5,7 @@ ghost use Rattle.std.specs.Prelude.{◌≡◌, ◌∷◌, [], map, IfOk};
 ghost use Rattle.pw_info.specs.Information.{kind_of};
 ghost use Rattle.pw_procs.specs.Rules.{AreRules, value_of_rules};
 
+use super::NAMES;
 use crate::Refusing;
 use crate::procedures::{from_to, table_of};
 use pw_info::{Info, Kind, SetKind};
@@ -16,24 +17,6 @@ use pw_procs::{
 use std::alloc::{AllocError, Allocator, Global};
 use std::process::Abort;
 use std::test::Fail;
-
-const NAMES: [&str; 15] = [
-    "sign",
-    "adder",
-    "subtractor",
-    "multiplier",
-    "squarer",
-    "divider",
-    "at_most",
-    "equal",
-    "inverter",
-    "conjoiner",
-    "disjoiner",
-    "switch",
-    "copy",
-    "point",
-    "fixed",
-];
 
 // Adds procedures of the table at the end of a list. It boxes each body where the macro is used.
 macro_rules! add_table {
