@@ -1,4 +1,4 @@
--- The names of the set that tests use are names, and differ.
+-- The names of the set that tests use are valid names, and differ.
 use Rattle.std.proofs.Common.{[], ◌∷◌, codes, refl, arith}
 use Rattle.std.proofs.lemmas.List.Elements.{All-cons, All-nil}
 use Rattle.std.specs.List.{IsDistinct}

@@ -1,4 +1,4 @@
--- `Growths::grants_next` and `Growths::take_back` at a call: what each is handed, and what a caller has of it. Assumes `Logic`.
+-- `Growths::grants_next` and `Growths::take_back` at a call: what each gets, and what a caller gets back. Assumes `Logic`.
 use Rattle.std.proofs.Common.{◌≡◌, ℕ, ◌<◌, ◌^◌, w64, Bool, List, [], ◌∷◌, refl, ap}
 use seplogic.Ra.Ura.{Ura}
 use mir.Val.{Val, vunit, vbool, vint, vptr}

@@ -9,7 +9,7 @@ use pw_decl::{DeclFault, Declaration};
 use std::alloc::{Allocator, Global};
 use std::test::Fail;
 
-/// How much is declared.
+/// How many of each thing are declared.
 #[derive(Clone, Copy, PartialEq, Eq)]
 pub struct Counts {
     pub users: u8,
@@ -19,7 +19,7 @@ pub struct Counts {
     pub compounds: u8,
 }
 
-// What a declaration declares is counted.
+// Counts what a declaration declares.
 #[derive(Drop)]
 struct Counting;
 
@@ -37,7 +37,7 @@ impl<A: Allocator + Copy> OverDeclaration<A> for Counting {
     }
 }
 
-/// How much the text declares, or its first fault, over procedures of which two have these names. The growths of the
+/// Counts what the text declares, or answers its first fault. Two of the procedures have these names. The growths of the
 /// declaration are those of `memory`.
 pub fn counted<A: Allocator + Copy>(
     alloc: Global,

@@ -1,7 +1,6 @@
-//! For tests alone: an allocator that refuses the growths that a test chooses, and all tests of what stands below networks: a
-//! crate with tests of its own would be proved twice.
-//! Helpers come first (`texts`, `procedures`, `worlds` and `facts`, which the tests of `pw_settlings` and `pw_runs` use too), then a
-//! folder for each thing tested.
+//! For tests alone: an allocator that refuses the growths that a test chooses, and all tests of the crates below networks. (A
+//! crate with tests of its own would be proved twice.) Helpers come first: `texts`, `procedures`, `worlds` and `facts`, which the
+//! tests of `pw_settlings` and `pw_runs` use too. Then each thing tested has a folder.
 #![tactic(auto)]
 
 ghost use Rattle.std.specs.Prelude.{◌≡◌, ℕ, ◌<◌, ◌≤◌, ◌^◌, ◌↔◌, IsTrue};
@@ -15,12 +14,12 @@ pub mod procedures;
 pub mod texts;
 pub mod worlds;
 
-/// An allocator that passes each call on to the one it holds, but refuses some growths. It counts the bytes that it grants and
-/// those that it gets back.
+/// An allocator that passes each call to the one it holds, but refuses some growths. It counts the bytes that it grants and the
+/// bytes that it gets back.
 ///
-/// A growth is a request for memory, granted or not: a first allocation, each time a list, a text or a map outgrows
-/// what it has, and a shrinking to fit, which asks for a smaller block. Growths are counted from 1. Lend it out as
-/// `&refusing`, an allocator that is `Copy`.
+/// A growth is a request for memory, granted or not: a first allocation, a larger block for a list, a text or a map, and a
+/// smaller block that shrinks one to fit. Growths count from 1. Lend the allocator as `&refusing`, which is an allocator and
+/// `Copy`.
 #[derive(Drop)]
 pub struct Refusing<B: Allocator> {
     inner: B,
@@ -47,26 +46,26 @@ impl<B: Allocator> Refusing<B> {
         Refusing { inner, growths }
     }
 
-    /// How many growths were asked for so far, the refused ones included.
+    /// The number of growths asked for so far, refused ones included.
     ///
-    /// Below `at` no growth was refused, so a loop that raises `at` from 1 can stop there.
+    /// If it is below `at`, no growth was refused: a loop that raises `at` from 1 can stop there.
     pub fn calls(&self) -> u64 {
         self.growths.asked.get()
     }
 
-    /// How many bytes were granted so far.
+    /// The number of bytes granted so far.
     pub fn taken(&self) -> u64 {
         self.growths.taken.get()
     }
 
-    /// How many bytes came back so far. Once all that was made with this allocator is dropped, they are as many as were granted.
+    /// The number of bytes that came back so far. It equals `taken()` once everything made with this allocator is dropped.
     pub fn given_back(&self) -> u64 {
         self.growths.given_back.get()
     }
 }
 
-/// How many growths were asked for, the first and the last number that are refused, how many bytes were granted, and how many of
-/// these came back.
+/// The number of growths asked for, the first and the last number that is refused, the bytes granted, and the bytes that came
+/// back.
 #[derive(Drop)]
 struct Growths {
     asked: Cell<u64>,
@@ -77,7 +76,7 @@ struct Growths {
 }
 
 impl Growths {
-    /// None asked for yet.
+    /// No growth asked for yet.
     fn refused(first: u64, last: u64) -> Growths
         ensures first { result.first ≡ first }
         ensures last { result.last ≡ last }
@@ -91,7 +90,7 @@ impl Growths {
         }
     }
 
-    /// Counts one growth more, by so many bytes, and says whether it is granted.
+    /// Counts one more growth, of `size` bytes, and answers whether it is granted.
     fn grants_next(&self, size: usize) -> bool {
         let number = self.asked.get().saturating_add(1);
         self.asked.set(number);
@@ -102,7 +101,7 @@ impl Growths {
         true
     }
 
-    /// So many bytes came back.
+    /// Counts `size` bytes that came back.
     fn take_back(&self, size: usize) {
         let before = self.given_back.get();
         self.given_back.set(before.saturating_add(size as u64));

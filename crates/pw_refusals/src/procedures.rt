@@ -1,5 +1,5 @@
-//! A registry of procedures for tests. It is made in one function, which what holds a boxed closure may not leave, and
-//! lent to what a test does with it.
+//! A registry of procedures for tests. One function makes it and lends it to the task of a test: what holds a boxed closure may
+//! not leave the function that makes it.
 
 ghost use Rattle.std.specs.Prelude.{◌≡◌, ◌∷◌, [], List, map, IfOk};
 ghost use Rattle.pw_info.specs.Information.{kind_of};
@@ -22,10 +22,10 @@ pub trait OverRegistry {
     fn over(self, registry: &Registry) -> Self::Answer;
 }
 
-/// The names of the adder and of `at_most` where nothing is wrong with them.
+/// The right names of the adder and of `at_most`.
 pub const SOUND: [&str; 2] = ["adder", "at_most"];
 
-// Puts procedures of the table at the end of a list, each boxed where this stands.
+// Adds procedures of the table at the end of a list. It boxes each body where the macro is used.
 macro_rules! add_procedures {
     ($alloc:expr, $list:expr, $($name:expr, $meaning:ident $body:ident;)*) => {
         $(
@@ -34,7 +34,7 @@ macro_rules! add_procedures {
     };
 }
 
-// The set that `light` answers in: the first that a declaration declares, with three members.
+// The set that `light` answers in: the first set that a declaration declares, with three members.
 fn light_set() -> SetKind
     ensures number { result.number ≡ 2 }
     ensures size { result.size ≡ 3 }
@@ -42,7 +42,7 @@ fn light_set() -> SetKind
     SetKind { number: 2, size: 3 }
 }
 
-/// The numbers from one to another; the contradiction where there are none.
+/// The numbers from `lo` to `hi`; the contradiction if there are none.
 pub(crate) fn from_to(lo: i64, hi: i64) -> Info
     ensures { kind_of result ≡ Kind.Interval }
 {
@@ -80,8 +80,8 @@ pub(crate) fn table_of(alloc: Global, rules: &[Rule], output: Kind) -> Result<Ve
     Ok(table)
 }
 
-/// What comes of it over the procedures that each declaration calls, `copy`, `at_most` and a procedure of the test's own,
-/// `light`. The adder has the first of the names, and `at_most` the second.
+/// Runs the task over the procedures that each declaration calls, `copy`, `at_most`, and `light`, a procedure of the tests' own.
+/// The first name is that of the adder, the second that of `at_most`.
 pub fn over_procedures<T: OverRegistry + Drop>(
     alloc: Global,
     names: [&str; 2],

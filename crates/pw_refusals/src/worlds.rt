@@ -1,4 +1,4 @@
-//! Declarations for tests: texts that several tests share, and what is done over a declaration once its text is read.
+//! Declarations for tests: texts that several tests share, and tasks that run over a declaration once its text is read.
 
 use crate::procedures::{OverRegistry, SOUND, over_procedures};
 use pw_decl::{DeclFault, Declaration, read_declaration};
@@ -6,7 +6,7 @@ use pw_procs::Registry;
 use std::alloc::{Allocator, Global};
 use std::test::Fail;
 
-// The lines that declare two users and what they may tell under, and then these.
+// The lines that declare two users and the premises that they may tell under, and then these lines.
 macro_rules! world {
     ($($line:literal)*) => {
         concat!(
@@ -45,7 +45,7 @@ pub trait OverDeclaration<A: Allocator> {
     fn over(self, declaration: &Declaration<'_, A>) -> Self::Answer;
 }
 
-// A declaration is read, and then used.
+// Reads a declaration, and then runs the task over it.
 #[derive(Drop)]
 struct Reading<'a, A: Allocator, T> {
     memory: A,
@@ -63,7 +63,7 @@ impl<A: Allocator + Copy, T: OverDeclaration<A> + Drop> OverRegistry for Reading
     }
 }
 
-/// What comes of it over the declaration of this text, or the first fault of the text, over procedures of which two have these
+/// Runs the task over the declaration of this text, or answers the first fault of the text. Two of the procedures have these
 /// names. The growths of the declaration are those of `memory`.
 pub fn over_declaration<A: Allocator + Copy, T: OverDeclaration<A> + Drop>(
     alloc: Global,
@@ -75,7 +75,7 @@ pub fn over_declaration<A: Allocator + Copy, T: OverDeclaration<A> + Drop>(
     over_procedures(alloc, names, Reading { memory, text, task })
 }
 
-/// What comes of it over the declaration of this text, which has no fault.
+/// Runs the task over the declaration of this text, which has no fault.
 pub fn over_text<A: Allocator + Copy, T: OverDeclaration<A> + Drop>(
     alloc: Global,
     memory: A,

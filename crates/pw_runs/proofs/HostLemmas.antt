@@ -101,7 +101,7 @@ module _ (d : Declared) (matter : Matter) (of : IsOfDeclared d matter) (support 
     can_ask_too left =
         next_can d (said ++ Says (commands.Ask 0 matter.asked) ∷ []) old (commands.Ask 1 matter.asked) left (ask_named 1 (omega arith)) 5 refl (omega arith)
 
-    -- what the one is answered who doubts
+    -- the answer to the user who doubts
     first_asked : (new : Workbench) (info : Info) → IsLeftBy d said old → CarriesOut old 4 (commands.Ask 0 matter.asked) new (reply.Value info) →
         IsAnswered d said (commands.Ask 0 matter.asked) new (reply.Value info)
     first_asked new info left out =
@@ -120,7 +120,7 @@ module _ (d : Declared) (matter : Matter) (of : IsOfDeclared d matter) (support 
         (visible_in (Attached 1 matter.callable (cells_of matter.cells) s ∷ Told 2 matter.told matter.fact ∷ []) (difference (all_premises d) matter.doubted))
         matter.asked)) none
 
-    -- what the other is answered
+    -- the answer to the other user
     pub trusting : (new : Workbench) (info : Info) → support ≡ empty → IsLeftBy d (said ++ Says (commands.Ask 0 matter.asked) ∷ []) old →
         CarriesOut old 5 (commands.Ask 1 matter.asked) new (reply.Value info) → reply.Value info ≡ value_for d matter (all_premises d)
     trusting new info none left out =

@@ -72,7 +72,7 @@ impl OverDeclaration<Global> for Counting<'_> {
     }
 }
 
-// A sum over x, y and t, which Ann attaches, tells of and asks for; so does Bob, who believes the same.
+// Ann attaches a sum over x, y and t, tells of its cells and asks for t. Bob, who believes the same, asks for t too.
 const SUM: &[&str] = &[
     "ann attach sum x y t",
     "ann tell x 1..2",

@@ -7,7 +7,7 @@ use std::cell::Cell;
 use std::io;
 use std::io::{ErrorKind, Read, Write};
 
-/// How often an end fails: once, and then it goes on, or from then on.
+/// How often an end fails: once, and then it goes on, or for good.
 #[derive(Clone, Copy, PartialEq, Eq)]
 pub enum Failing {
     Once,
@@ -15,7 +15,7 @@ pub enum Failing {
 }
 
 impl Failing {
-    // Where an end fails next that has just failed at this byte.
+    // Where an end fails next, after it has just failed at this byte.
     fn next(self, breaks_at: usize) -> usize {
         match self {
             Failing::Once => usize::MAX,
@@ -67,7 +67,7 @@ impl Read for Drip<'_> {
     }
 }
 
-/// A reader that gives one byte over and over, as long as there are such bytes left, and then the rest.
+/// A reader that gives one byte `left` times, and then the rest.
 #[derive(Drop)]
 pub struct Repeated<'a> {
     pub byte: u8,
@@ -89,7 +89,7 @@ impl Read for Repeated<'_> {
     }
 }
 
-/// A reader that gives a line a read, with its line feed, as often as there are such lines left, and then the rest.
+/// A reader that gives a line a read, with its line feed. It gives the line `left` times, and then the rest.
 #[derive(Drop)]
 pub struct Lined<'a> {
     pub line: &'a [u8],
@@ -153,8 +153,8 @@ impl Write for Sink {
     }
 }
 
-/// A reader that gives a line a read, with its line feed, and notes whether some read came when not as many bytes had been
-/// written as stand beside its line.
+/// A reader that gives a line a read, with its line feed. Beside each line is the number of bytes that must be written before
+/// that line is read. The reader notes whether some read found another number.
 #[derive(Drop)]
 pub struct Asking<'a> {
     pub lines: &'a [(&'a str, usize)],

@@ -31,9 +31,9 @@ pub struct Matter {
 }
 
 impl Matter {
-    /// A callable that is attached to two cells, by name, an interval that is told of the first of them under some premises,
-    /// which one of two users doubts, and the second cell, which both ask for. None where the declaration has no such callable,
-    /// cell or second user, where the callable does not take the cells, or where the first is of no interval.
+    /// The matter of these names: a callable to attach to two cells, an interval to tell of the first cell under some premises,
+    /// which one of two users doubts, and the second cell, which both ask for. None if the declaration lacks the callable, a cell
+    /// or the second user, if the callable does not take the cells, or if the first is not a cell of intervals.
     pub fn named<A: Allocator + Copy>(
         declaration: &Declaration<'_, A>,
         callable: &[u8],
@@ -115,7 +115,7 @@ impl Matter {
 }
 
 /// User 0 attaches a callable for everybody, and user 1 tells a fact. Then user 0 doubts some premises, and both ask for one
-/// cell. The replies to both; None where memory was refused.
+/// cell. Answers the replies to both, or None if memory ran out.
 pub fn asked_by_two<A: Allocator + Copy>(
     alloc: A,
     declaration: &Declaration<'_, A>,

@@ -1,6 +1,6 @@
-//! For tests alone: a proved host that uses the workbench as a library, and the tests of what stands above settlings and reasons:
-//! commands of a host, runs of transcripts over ends that work and ends that fail, and growths refused in their turn. Helpers come
-//! first (`sessions`, `ends`), beside those of `pw_refusals`, then what is tested.
+//! For tests alone: a proved host that uses the workbench as a library, and the tests of what lies above settlings and reasons.
+//! They try commands of a host, runs of transcripts over ends that work and ends that fail, and refused growths. Helpers come
+//! first (`sessions`, `ends`), beside those of `pw_refusals`; then comes what is tested.
 #![tactic(auto)]
 
 mod host;

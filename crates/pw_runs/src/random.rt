@@ -1,9 +1,9 @@
 //! Random calls: commands of several users over one workbench, drawn from a seed, with growths of memory refused among them. Each
-//! reply is the answer by rounds, or a refusal for memory where a growth was refused during the command.
+//! reply is the answer by rounds, or a refusal for memory if a growth was refused during the command.
 //!
-//! A failing test names the seed, the line that differs and the growths that were refused, and prints the lines that it takes: the
-//! sequence ends at that line, and each command is left out without which some reply still differs. To replay a seed set `FIRST` to
-//! it and `DRAWN` to 1. To try more than the tests of every day do, raise `DRAWN`, and give the tests more time, as
+//! A failing test names the seed, the line that differs and the refused growths, and prints the lines that it takes. The sequence
+//! ends at the line that differs, and leaves out each command without which some reply still differs. To replay a seed, set
+//! `FIRST` to it and `DRAWN` to 1. To try more sequences, raise `DRAWN` and give the tests more time, as
 //! `rt try --test --seconds 3600` does.
 
 mod answers;
@@ -25,13 +25,13 @@ use refusing::Refused;
 use std::process::Abort;
 use std::test::Fail;
 
-// The first seed, and how many sequences are drawn from it on.
+// The first seed, and the number of sequences drawn from it on.
 const FIRST: u64 = 0;
 
 const DRAWN: u64 = 300;
 
-// Ends the test, with the seed and the sequence cut short, where a reply differs from the answer by rounds. Else what was compared;
-// nothing where that takes too many rounds.
+// Ends the test if a reply differs from the answer by rounds, and prints the seed and the sequence cut short. Else answers what
+// was compared, or nothing if that takes too many rounds.
 fn compare<R: Abort + AllocGlobal>(rt: &R, play: &Play<'_>) -> Result<Option<Counts>, Fail> {
     let alloc = rt.alloc();
     match played(alloc, play)? {
@@ -77,7 +77,7 @@ fn compare_drawn<R: Abort + AllocGlobal>(rt: &R, seed: u64) -> Result<Option<Cou
     Ok(Some(all))
 }
 
-// That enough was compared of each kind of answer.
+// Checks that enough answers of each kind were compared.
 fn is_telling<R: Abort>(rt: &R, compared: u64, all: &Counts) {
     let half = DRAWN / 2;
     assert!(rt; compared >= half, "{compared} sequences were compared");

@@ -1,4 +1,4 @@
-//! Tests of `run`: what is written for what is read.
+//! Tests of `run`: what it writes for what it reads.
 
 mod attachments;
 mod failing_ends;

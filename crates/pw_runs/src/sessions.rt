@@ -1,4 +1,4 @@
-//! Sessions: rows of what is said and what is answered. A row whose answer is empty gets no reply.
+//! Sessions: rows of what users say and what they are answered. A row with an empty answer gets no reply.
 
 use pw_decl::Declaration;
 use pw_info::{Output, Writing};
@@ -9,7 +9,7 @@ use std::alloc::{AllocError, Allocator, Global};
 use std::process::Abort;
 use std::test::Fail;
 
-// A transcript is answered over a declaration. The run's growths are those of `memory`.
+// Answers a transcript over a declaration. The run's growths are those of `memory`.
 #[derive(Drop)]
 struct Running<'a, A: Allocator, I, O> {
     memory: A,
@@ -51,6 +51,16 @@ pub fn run_over<A: Allocator + Copy, I: Input, O: Output>(
     over_text(alloc, reading, declaration, running)?
 }
 
+/// The same with ample memory.
+pub fn run_amply<I: Input, O: Output>(
+    alloc: Global,
+    declaration: &str,
+    input: &mut I,
+    output: &mut O,
+) -> Result<Result<Lines, RunFault>, Fail> {
+    run_over(alloc, alloc, alloc, declaration, input, output)
+}
+
 /// What a run over the declaration of this text came to, and what it wrote. Its own growths are those of `memory`, and those
 /// of the declaration are those of `reading`.
 pub fn outcome<A: Allocator + Copy>(
@@ -66,7 +76,7 @@ pub fn outcome<A: Allocator + Copy>(
     Ok((answer, String::from_utf8(output.into_writer())?))
 }
 
-/// What is said in a session, line by line; its last line is not ended.
+/// What users say in a session, line by line. The last line is not ended.
 pub fn said(alloc: Global, rows: &[(&str, &str)]) -> Result<String, AllocError> {
     let mut lines = Vec::new(alloc);
     for (line, _) in rows {
@@ -75,7 +85,7 @@ pub fn said(alloc: Global, rows: &[(&str, &str)]) -> Result<String, AllocError> 
     joined(alloc, &lines)
 }
 
-/// The same, where its last line is ended too.
+/// The same, with the last line ended too.
 pub fn whole(alloc: Global, rows: &[(&str, &str)]) -> Result<String, AllocError> {
     let mut lines = Vec::new(alloc);
     for (line, _) in rows {
@@ -98,7 +108,7 @@ pub fn answered(alloc: Global, rows: &[(&str, &str)]) -> Result<String, AllocErr
     Ok(text)
 }
 
-// That a run over the declaration answers the transcript by these replies.
+// Checks that a run over the declaration answers the transcript by these replies.
 fn answers_text<R: Abort + AllocGlobal>(
     rt: &R,
     declaration: &str,
@@ -113,7 +123,7 @@ fn answers_text<R: Abort + AllocGlobal>(
     Ok(())
 }
 
-/// That a run over the declaration answers the session as its rows say, whether its last line is ended or not.
+/// Checks that a run over the declaration answers the session as its rows say, with the last line ended and not.
 pub fn answers<R: Abort + AllocGlobal>(
     rt: &R,
     declaration: &str,

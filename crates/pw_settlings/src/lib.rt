@@ -1,5 +1,5 @@
-//! For tests alone: of networks, of what follows in them, and of reasons. Helpers of `pw_refusals` are used, and a folder stands for
-//! each thing tested.
+//! For tests alone: the tests of networks, of what follows in them, and of reasons. They use helpers of `pw_refusals`. Each thing
+//! tested has a folder.
 #![tactic(auto)]
 
 #[cfg(test)]

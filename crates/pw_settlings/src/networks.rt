@@ -1,4 +1,4 @@
-//! Tests of networks: what is attached is shown as lines of names, and compared with what it should be.
+//! Tests of networks. They show what is attached as lines of names, and compare these with known lines.
 
 mod attaching;
 mod refused;
@@ -53,7 +53,7 @@ pub fn at_line<'a>(line: u32, callable: &'a str, cells: &'a [&'a str]) -> Attach
     }
 }
 
-/// The cells of these names, one to four, if there are such.
+/// The cells of these one to four names, if all are declared.
 pub fn cells_named<A: Allocator + Copy>(
     declaration: &Declaration<'_, A>,
     names: &[&str],
@@ -83,8 +83,8 @@ pub fn cells_named<A: Allocator + Copy>(
     }
 }
 
-/// The callable and the cells of an attachment, by their names; none where they are not declared, or where its line does not come
-/// after the last.
+/// The callable and the cells of an attachment, by their names. None if a name is not declared, or if its line does not come
+/// after the last one or is past the most lines.
 pub fn named_in<A: Allocator + Copy>(
     network: &Network<'_, '_, A>,
     attachment: &Attachment<'_>,
@@ -101,6 +101,20 @@ pub fn named_in<A: Allocator + Copy>(
         return None;
     }
     Some((callable, cells))
+}
+
+/// Attaches callables to declared cells, by their names, one after another.
+pub fn attach_named<A: Allocator + Copy>(
+    network: &mut Network<'_, '_, A>,
+    attachments: &[Attachment<'_>],
+) -> Result<(), Fail> {
+    for attachment in attachments {
+        let (callable, cells) = named_in(network, attachment).ok_or("wrong names")?;
+        let Ok(()) = network.attach(attachment.line, callable, cells, attachment.support) else {
+            return Err("not attached".into());
+        };
+    }
+    Ok(())
 }
 
 // Adds the cell to the text: a declared one by its name, an inner one by its line and its number there.
@@ -205,7 +219,7 @@ pub fn kinds_of<A: Allocator + Copy>(
     Ok(kinds)
 }
 
-/// What a network shows.
+/// What a test sees of a network.
 #[derive(Drop)]
 pub struct Shown {
     pub instances: String,
@@ -216,7 +230,7 @@ pub struct Shown {
     pub fault: Option<(u32, NetworkFault)>,
 }
 
-// Callables are attached to a network over a declaration, and it is shown. The growths of the network are those of `memory`.
+// Attaches callables to a network over a declaration, and shows it. The growths of the network are those of `memory`.
 #[derive(Drop)]
 struct AttachingAll<'a, A: Allocator> {
     alloc: Global,
@@ -257,8 +271,8 @@ impl<A: Allocator + Copy> OverDeclaration<A> for AttachingAll<'_, A> {
     }
 }
 
-/// What a network over the declaration of this text shows, once these are attached to it, where its growths are those of
-/// `memory`, and those of the declaration are those of `reading`.
+/// What a network over the declaration of this text shows once these are attached. Its growths are those of `memory`, and those
+/// of the declaration are those of `reading`.
 pub fn attached_in<A: Allocator + Copy>(
     alloc: Global,
     reading: A,

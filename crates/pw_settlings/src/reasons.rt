@@ -1,5 +1,5 @@
-//! Tests of reasons: a network is made, facts are told, and in a worldview it is asked why a cell has its value, and what is noted
-//! then.
+//! Tests of reasons. Each makes a network, tells facts, and asks in a worldview why a cell has its value. Then it asks what was
+//! noted.
 
 mod drawn;
 mod noting;
@@ -13,7 +13,7 @@ ghost use Rattle.pw_network.specs.Network.{cells_in};
 ghost use Rattle.pw_reasons.specs.Nogood.{AreNogoods};
 ghost use Rattle.pw_settlings.specs.Settling.{IsReady};
 
-use crate::networks::named_in;
+use crate::networks::attach_named;
 use crate::settling::{Matter, all_told, store_of, tell_fact};
 use pw_cells::CellStore;
 use pw_decl::Declaration;
@@ -29,11 +29,11 @@ use std::test::Fail;
 #[derive(Drop)]
 pub struct Answer {
     pub reason: PremiseSet,
-    /// Of each of the sets asked for, whether it is covered afterwards.
+    /// Whether each of the sets asked for is covered afterwards.
     pub covered: Vec<bool>,
-    /// Whether the question was refused for want of memory, and then put again.
+    /// Whether the question ran out of memory, and was then put again.
     pub is_refused: bool,
-    /// Whether what was told stayed as it was.
+    /// Whether the told facts stayed as they were.
     pub is_told_the_same: bool,
 }
 
@@ -56,7 +56,7 @@ fn reason_once<A: Allocator + Copy>(
     reason(memory, network, store, nogoods, &settled, cell)
 }
 
-// The same, and once more where memory is refused; whether it was.
+// The same, and once more if memory is refused. Answers whether it was refused.
 fn reason_anyhow<A: Allocator + Copy>(
     memory: A,
     network: &Network<'_, '_, A>,
@@ -76,7 +76,7 @@ fn reason_anyhow<A: Allocator + Copy>(
     Ok((true, found))
 }
 
-// Of each of these sets, whether it is covered.
+// Whether each of these sets is covered.
 fn all_covered<A: Allocator + Copy>(
     alloc: Global,
     nogoods: &Nogoods<A>,
@@ -89,7 +89,7 @@ fn all_covered<A: Allocator + Copy>(
     Ok(covered)
 }
 
-// A question for the reason of a cell, and which sets are asked for afterwards. The growths of the declaration and the network are
+// A question for the reason of a cell, and the sets asked for afterwards. The growths of the declaration and the network are
 // those of `ample`, and those of the store, of the settlings and of what is noted are those of `memory`.
 #[derive(Drop)]
 struct Asking<'a, A: Allocator> {
@@ -141,12 +141,7 @@ fn ask_over<A: Allocator + Copy>(
     declaration: &Declaration<'_, A>,
 ) -> Result<Answer, Fail> {
     let mut network = Network::new(task.ample, declaration)?;
-    for attachment in task.matter.attachments {
-        let (callable, cells) = named_in(&network, attachment).ok_or("wrong names")?;
-        let Ok(()) = network.attach(attachment.line, callable, cells, attachment.support) else {
-            return Err("not attached".into());
-        };
-    }
+    attach_named(&mut network, task.matter.attachments)?;
     task.ask(&network)
 }
 

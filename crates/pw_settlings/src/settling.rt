@@ -1,4 +1,4 @@
-//! Tests of settling: a network is made, facts are told, and worldviews are settled one after another over one store.
+//! Tests of settling. Each makes a network, tells facts, and settles worldviews one after another over one store.
 
 mod calls;
 pub mod drawing;
@@ -18,7 +18,7 @@ ghost use Rattle.pw_network.specs.Network.{cells_in};
 ghost use Rattle.pw_settle.specs.Fitting.{IsFitting};
 ghost use Rattle.pw_settlings.specs.Settling.{IsReady, LeavesFitting};
 
-use crate::networks::{Attachment, kinds_of, named_in};
+use crate::networks::{Attachment, attach_named, kinds_of};
 use pw_cells::CellStore;
 use pw_decl::Declaration;
 use pw_facts::Fact;
@@ -38,7 +38,7 @@ pub struct Tell<'a> {
     pub fact: Fact,
 }
 
-/// That a cell of intervals lies from `lo` to `hi`, under these premises.
+/// The fact that a cell of intervals lies from `lo` to `hi`, under these premises.
 pub fn told<'a>(cell: &'a str, lo: i64, hi: i64, support: PremiseSet) -> Tell<'a> {
     Tell {
         cell,
@@ -54,7 +54,7 @@ pub struct Matter<'a> {
     pub tells: &'a [Tell<'a>],
 }
 
-/// What a settling answered: how often procedures were called, and the value of each cell.
+/// What a settling answered: how often it called procedures, and the value of each cell.
 #[derive(Drop)]
 pub struct Answer {
     pub calls: u128,
@@ -66,15 +66,15 @@ pub struct Answer {
 pub struct Shown {
     /// What each answered, once there was memory.
     pub answers: Vec<Answer>,
-    /// What is kept afterwards of the cells asked for, in the worldviews asked for.
+    /// What the store keeps afterwards of the cells asked for, in the worldviews asked for.
     pub kept: Vec<Fact>,
-    /// How many settlings were refused for want of memory, and then made again.
+    /// How many settlings ran out of memory, and were then made again.
     pub refused: u32,
-    /// Whether what was told stayed as it was in each of the worldviews, after each settling and each refusal.
+    /// Whether the told facts stayed as they were in each of the worldviews, after each settling and each refusal.
     pub is_told_the_same: bool,
 }
 
-/// A store of the network's cells. Where memory is refused once, it is asked for again.
+/// A store of the network's cells. Asks again if memory is refused once.
 pub fn store_of<A: Allocator + Copy>(
     alloc: Global,
     memory: A,
@@ -110,7 +110,7 @@ fn tell_once<A: Allocator + Copy>(
     Ok(())
 }
 
-/// Tells a fact of a declared cell. Where memory is refused once, it is told again.
+/// Tells a fact of a declared cell. Tells it again if memory is refused once.
 pub fn tell_fact<A: Allocator + Copy>(
     network: &Network<'_, '_, A>,
     store: &mut CellStore<A>,
@@ -200,7 +200,7 @@ fn settle_once<A: Allocator + Copy>(
     Ok(settled)
 }
 
-// Settles a worldview, and once more where memory is refused; whether it was, and the values in the end.
+// Settles a worldview, and once more if memory is refused. Answers whether it was refused, and the values in the end.
 fn settle_anyhow<A: Allocator + Copy>(
     memory: A,
     network: &Network<'_, '_, A>,
@@ -236,7 +236,7 @@ fn answer_of<A: Allocator + Copy>(
     })
 }
 
-// What is kept of these cells in these worldviews.
+// What the store keeps of these cells in these worldviews.
 fn kept_of<A: Allocator + Copy>(
     alloc: Global,
     network: &Network<'_, '_, A>,
@@ -301,12 +301,7 @@ fn settle_over<A: Allocator + Copy>(
     declaration: &Declaration<'_, A>,
 ) -> Result<Shown, Fail> {
     let mut network = Network::new(task.ample, declaration)?;
-    for attachment in task.matter.attachments {
-        let (callable, cells) = named_in(&network, attachment).ok_or("wrong names")?;
-        let Ok(()) = network.attach(attachment.line, callable, cells, attachment.support) else {
-            return Err("not attached".into());
-        };
-    }
+    attach_named(&mut network, task.matter.attachments)?;
     task.settle_all(&network)
 }
 
@@ -318,8 +313,8 @@ impl<A: Allocator + Copy> OverDeclaration<A> for Settling<'_, A> {
     }
 }
 
-/// What it comes to when these worldviews are settled one after another, and what is then kept of the cells asked for. The
-/// growths of the declaration and the network are those of `ample`, and the others those of `memory`.
+/// Settles these worldviews one after another. Answers what they came to, and what the store then keeps of the cells asked for.
+/// The growths of the declaration and the network are those of `ample`, and the others those of `memory`.
 pub fn settled_in<A: Allocator + Copy>(
     alloc: Global,
     ample: A,

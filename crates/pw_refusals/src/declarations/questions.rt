@@ -7,7 +7,7 @@ use pw_info::{Kind, KindNames};
 use std::alloc::Global;
 use std::test::Fail;
 
-/// What is asked of a declaration. What has a number is looked up by its name, and the name by the number again.
+/// What a test asks of a declaration. What has a number is looked up by its name, and then the name by the number.
 #[derive(Clone, Copy)]
 pub enum Question<'a> {
     /// The number of the user of this name.
@@ -22,15 +22,15 @@ pub enum Question<'a> {
     KindOf(&'a str),
     /// The place of the member of this name in the set of this number.
     Place(u8, &'a str),
-    /// What may be called by this name.
+    /// The callable of this name.
     Callable(&'a str),
-    /// Whether what may be called by this name takes cells of these kinds.
+    /// Whether the callable of this name takes cells of these kinds.
     Accepts(&'a str, &'a [Kind]),
     /// The line of this number, from 0, of the compound of this name.
     Step(&'a str, usize),
 }
 
-/// What is answered.
+/// What a declaration answers.
 #[derive(Clone, Copy, PartialEq, Eq)]
 pub enum Answer {
     Number(u32),
@@ -90,7 +90,7 @@ fn step(declaration: &Declaration<'_>, name: &str, line: usize) -> Option<Answer
     Some(Answer::Step(*step))
 }
 
-// A declaration is asked.
+// Asks a declaration one question.
 #[derive(Drop)]
 struct Asking<'a> {
     question: Question<'a>,
@@ -114,7 +114,7 @@ impl OverDeclaration<Global> for Asking<'_> {
     }
 }
 
-/// What a declaration of these lines, the last of which is not ended, answers.
+/// What a declaration of these lines answers. The last line is not ended.
 pub fn asked(
     alloc: Global,
     lines: &[&str],

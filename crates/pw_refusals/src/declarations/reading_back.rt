@@ -35,7 +35,7 @@ const SETS: [&str; 7] = [
     "cell q sign",
 ];
 
-// Two compounds, of which the second calls the first.
+// Two compounds: the second calls the first.
 const COMPOUNDS: [&str; 9] = [
     "workbench 1",
     "compound twice x interval t interval",
@@ -48,13 +48,13 @@ const COMPOUNDS: [&str; 9] = [
     " end ",
 ];
 
-// How much a declaration of these lines declares.
+// Counts what a declaration of these lines declares.
 fn counts<R: AllocGlobal>(rt: &R, lines: &[&str]) -> Result<Option<Counts>, Fail> {
     let text = joined(rt.alloc(), lines)?;
     Ok(counted(rt.alloc(), rt.alloc(), SOUND, text.as_str())?.ok())
 }
 
-// That a declaration of these lines answers each question by what stands beside it.
+// Checks that a declaration of these lines answers each question as its row says.
 fn answers<R: Abort + AllocGlobal>(
     rt: &R,
     lines: &[&str],

@@ -1,4 +1,4 @@
-//! What is read of numbers and ranges, at words whose meaning is known beforehand.
+//! Numbers and ranges that are read, at words whose meaning is known beforehand.
 
 use super::words::Palette;
 use pw_info::{Info, Kind, Writing, read_info, write_info};
@@ -14,7 +14,7 @@ fn read_range(word: &[u8]) -> Option<(i64, i64)> {
     Some((interval.lo(), interval.hi()))
 }
 
-// The number of the interval that a word spells, where it has no other.
+// The only number of the interval that a word spells.
 fn read_number(word: &[u8]) -> Option<i64> {
     let (lo, hi) = read_range(word)?;
     (lo == hi).then_some(lo)

@@ -1,4 +1,4 @@
-//! Words and the texts that are written for what they spell.
+//! Words, and the texts written for what they spell.
 
 ghost use Rattle.pw_refusals.specs.ExampleNames.{colours};
 

@@ -1,4 +1,4 @@
-//! Exact numbers, by some that are known beforehand.
+//! Exact numbers, at numbers known beforehand.
 
 use pw_kinds::Exact;
 use std::test::Fail;

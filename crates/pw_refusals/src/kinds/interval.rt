@@ -1,4 +1,4 @@
-//! Intervals, by numbers that are known beforehand.
+//! Intervals, at numbers known beforehand.
 
 use pw_kinds::Interval;
 use std::test::Fail;

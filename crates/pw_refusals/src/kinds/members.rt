@@ -1,4 +1,4 @@
-//! Members of sets, by masks that are known beforehand.
+//! Members of sets, at masks known beforehand.
 
 use pw_kinds::Members;
 use std::test::Fail;

@@ -1,4 +1,4 @@
-//! Sets of premises, by some that are known beforehand.
+//! Sets of premises, at sets known beforehand.
 
 use pw_premises::PremiseSet;
 use std::test::Fail;

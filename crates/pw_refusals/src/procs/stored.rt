@@ -36,7 +36,7 @@ fn given(stored: &Stored, inputs: &[Info]) -> Option<Info> {
     Some(stored.call(inputs))
 }
 
-// That a procedure gives the values of the calls of its name among these, and that there are some.
+// Checks that a procedure gives the values of the calls of its name, and that there are some.
 fn tell_calls<R: Abort>(rt: &R, stored: &Stored, calls: &[Call]) {
     let mut called = false;
     for call in calls {
@@ -48,7 +48,7 @@ fn tell_calls<R: Abort>(rt: &R, stored: &Stored, calls: &[Call]) {
     assert!(rt; called, "no call of {}", stored.name());
 }
 
-// That each procedure does.
+// Checks this for each procedure of the list.
 fn tell_all<R: Abort>(rt: &R, list: &[Stored], calls: &[Call]) {
     for stored in list {
         tell_calls(rt, stored, calls);
@@ -109,7 +109,7 @@ fn others(rt: HostRuntime) -> Result<(), Fail> {
     Ok(())
 }
 
-// That a procedure gives the members of these masks to these intervals.
+// Checks that a procedure gives the members of these masks for these intervals.
 fn tells<R: Abort>(rt: &R, stored: &Stored, set: SetKind, calls: &[((i64, i64), u64)]) {
     for (ends, mask) in calls {
         let got = given(stored, &[from_to(*ends)]);
@@ -122,7 +122,7 @@ fn tells<R: Abort>(rt: &R, stored: &Stored, set: SetKind, calls: &[((i64, i64), 
     }
 }
 
-// `light` is called over a registry.
+// Calls `light` over a registry.
 #[derive(Drop)]
 struct Lighting<'r, R> {
     rt: &'r R,

@@ -1,10 +1,10 @@
-//! Calls of procedures whose values were found by hand. (The gate tries each procedure of the program on all small inputs besides.)
+//! Calls of procedures whose values were found by hand. (The gate also tries each procedure of the program on all small inputs.)
 
 use pw_info::Info;
 use pw_kinds::{Exact, Interval, Members};
 use pw_procs::Meaning;
 
-// Ends that leave no number possible, and those that leave every one.
+// Ends that leave no number possible, and ends that leave every number possible.
 const NONE: (i64, i64) = (1, 0);
 
 const WHOLE: (i64, i64) = (-1_000_000, 1_000_000);
@@ -18,7 +18,7 @@ const TRUE: u64 = 2;
 
 const BOTH: u64 = 3;
 
-/// The numbers from one to another; the contradiction where there are none, or where an end is out of range.
+/// The numbers between these ends; the contradiction if there are none, or if an end is out of range.
 pub fn from_to(ends: (i64, i64)) -> Info {
     Info::of_interval(Interval::new(ends.0, ends.1).unwrap_or(Interval::empty()))
 }
@@ -33,7 +33,7 @@ fn exact(n: i64) -> Info {
     Info::of_exact(Exact::one(n).unwrap_or(Exact::none()))
 }
 
-/// A call whose value is known; a procedure of one input takes the first.
+/// A call whose value is known. A procedure of one input takes the first.
 #[derive(Debug, Drop)]
 pub struct Call {
     pub meaning: Meaning,
@@ -42,7 +42,7 @@ pub struct Call {
 }
 
 impl Call {
-    /// What the procedure is called with.
+    /// The inputs of the call.
     pub fn inputs(&self) -> &[Info] {
         match self.meaning {
             Meaning::Squarer

@@ -1,4 +1,4 @@
-//! A declaration with growths of memory refused: it is read, or memory is told.
+//! A declaration over an allocator that refuses growths: the reader reads it whole, or reports that memory ran out.
 
 use crate::Refusing;
 use crate::declarations::{Counts, counted};
@@ -18,8 +18,8 @@ const WHOLE: Counts = Counts {
     compounds: 1,
 };
 
-// That the declaration is read whole where no growth was refused, and that memory is told otherwise; whether it was. All that was
-// taken is given back.
+// Checks that the reader reads the declaration whole if no growth was refused, and else reports that memory ran out. Checks that
+// it gives back all memory that it took. Answers whether a growth was refused.
 fn is_read_or_refused<R: Abort + AllocGlobal>(
     rt: &R,
     refusing: &Refusing<Global>,

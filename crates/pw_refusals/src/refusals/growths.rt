@@ -8,7 +8,7 @@ use std::test::Fail;
 /// A list takes room for 4 small numbers first, then for 8, then for 16.
 const PUSHES: u64 = 9;
 
-/// How many of the pushes were refused. A refused push leaves the list as it was.
+/// The number of refused pushes. A refused push leaves the list as it was.
 fn refused_pushes<A: Allocator>(alloc: A) -> u64 {
     let mut list = Vec::new(alloc);
     let mut refused = 0u64;
@@ -20,7 +20,7 @@ fn refused_pushes<A: Allocator>(alloc: A) -> u64 {
     refused
 }
 
-// That so many pushes are refused, of three growths that are asked for.
+// Checks that `refused` pushes are refused, and that the list asks for three growths.
 fn refuses<R: Abort>(rt: &R, refusing: &Refusing<Global>, refused: u64, at: u64) {
     assert_eq!(rt; refused_pushes(refusing), refused, "at {at}");
     assert_eq!(rt; refusing.calls(), 3, "at {at}");
@@ -50,7 +50,7 @@ fn every_later_growth_refused(rt: HostRuntime) {
     }
 }
 
-/// A test of code under refusals looks so: it raises `at` until a run meets no refusal.
+/// The form of a test under refusals: it raises `at` until a run meets no refusal.
 #[test]
 fn a_loop_ends_where_no_growth_is_refused(rt: HostRuntime) {
     let mut runs = 0u64;
@@ -74,14 +74,14 @@ fn what_is_held_is_not_given_back_yet(rt: HostRuntime) -> Result<(), Fail> {
     for number in 0..5u64 {
         list.push(number)?;
     }
-    // Room for 4 numbers of 8 bytes, which was given back for room for 8 of them.
+    // Room for 4 numbers of 8 bytes, given back for room for 8 of them.
     assert_eq!(rt; (refusing.taken(), refusing.given_back()), (96, 32));
     drop(list);
     assert_eq!(rt; (refusing.taken(), refusing.given_back()), (96, 96));
     Ok(())
 }
 
-// A growth that is refused is asked for again at the next push, and the nine pushes ask for three in all.
+// The next push asks again for a refused growth. The nine pushes ask for three growths in all.
 #[test]
 fn what_is_refused_is_not_taken(rt: HostRuntime) {
     for (at, taken) in [(0u64, 224u64), (1, 96), (2, 96), (3, 96), (4, 224)] {

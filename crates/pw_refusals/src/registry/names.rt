@@ -1,12 +1,13 @@
 //! Lists of procedures under several names.
 
+use super::NAMES;
 use pw_info::{Info, Kind};
 use pw_procs::{Body, Meaning, Registry, RegistryFault, Signature, Slot, Stored, bodies};
 use std::alloc::Global;
 use std::test::Fail;
 
-// What became of a list of copying procedures under these names: the fault, how many of them there are in the registry
-// or in the list that was handed back, and the numbers under which the last name and `sum` are found.
+// What a list of copying procedures under some names comes to: the fault, the number of procedures in the registry or in the list
+// handed back, and the numbers of the last name and of `sum`.
 #[derive(Clone, Copy, Debug, PartialEq, Eq)]
 struct Outcome {
     fault: Option<RegistryFault>,
@@ -24,7 +25,7 @@ fn refused(fault: RegistryFault, len: usize) -> Outcome {
     }
 }
 
-// The number of a name, where the procedure of that number has the name, and copies.
+// The number of a name, if the procedure of that number has the name and copies.
 fn find_copier(registry: &Registry, name: &str) -> Option<u8> {
     let number = registry.find(name.as_bytes())?;
     let copier = registry.get(number);
@@ -66,25 +67,6 @@ fn register(alloc: Global, names: &[&str]) -> Result<Outcome, Fail> {
     Ok(observe(Registry::new(alloc, list), names))
 }
 
-// The names under which the program has its procedures.
-const OF_THE_PROGRAM: [&str; 15] = [
-    "adder",
-    "subtractor",
-    "multiplier",
-    "squarer",
-    "divider",
-    "at_most",
-    "equal",
-    "inverter",
-    "conjoiner",
-    "disjoiner",
-    "switch",
-    "copy",
-    "point",
-    "fixed",
-    "sign",
-];
-
 #[test]
 fn names_of_procedures(rt: HostRuntime) -> Result<(), Fail> {
     for (names, fault) in [
@@ -105,7 +87,7 @@ fn names_of_procedures(rt: HostRuntime) -> Result<(), Fail> {
     for (names, last) in [
         ([].as_slice(), None),
         (["adder", "summer"].as_slice(), Some(1)),
-        (OF_THE_PROGRAM.as_slice(), Some(14)),
+        (NAMES.as_slice(), Some(14)),
     ] {
         let found = Outcome {
             fault: None,

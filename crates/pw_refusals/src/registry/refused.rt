@@ -1,10 +1,11 @@
-//! A registry of fifteen procedures, as the program has, with growths of memory refused: the list of procedures is handed back
-//! whole, and makes the registry once there is memory.
+//! A registry of fifteen procedures, as in the program, over an allocator that refuses growths. The registry hands the list of
+//! procedures back whole, and the list makes a registry once there is memory.
 
 ghost use Rattle.std.specs.Prelude.{◌≡◌, ◌∷◌, [], map, IfOk};
 ghost use Rattle.pw_info.specs.Information.{kind_of};
 ghost use Rattle.pw_procs.specs.Rules.{AreRules, value_of_rules};
 
+use super::NAMES;
 use crate::Refusing;
 use crate::procedures::{from_to, table_of};
 use pw_info::{Info, Kind, SetKind};
@@ -17,25 +18,7 @@ use std::alloc::{AllocError, Allocator, Global};
 use std::process::Abort;
 use std::test::Fail;
 
-const NAMES: [&str; 15] = [
-    "sign",
-    "adder",
-    "subtractor",
-    "multiplier",
-    "squarer",
-    "divider",
-    "at_most",
-    "equal",
-    "inverter",
-    "conjoiner",
-    "disjoiner",
-    "switch",
-    "copy",
-    "point",
-    "fixed",
-];
-
-// Puts procedures of the table at the end of a list, each boxed where this stands.
+// Adds procedures of the table at the end of a list. It boxes each body where the macro is used.
 macro_rules! add_table {
     ($alloc:expr, $list:expr, $($name:literal $meaning:ident $body:ident,)*) => {
         $(
@@ -52,7 +35,7 @@ fn sign_set() -> SetKind
     SetKind { number: 1, size: 3 }
 }
 
-// The signs that the numbers in each of five ranges have.
+// The rules of `sign`: the signs of the numbers in each of five ranges.
 fn sign_rules(alloc: Global, sign: SetKind) -> Result<Vec<Rule>, AllocError>
     ensures { IfOk result (λ made. AreRules (Kind.Interval ∷ []) (Kind.Members sign) made.items) }
 {
@@ -91,7 +74,7 @@ fn sign_rules(alloc: Global, sign: SetKind) -> Result<Vec<Rule>, AllocError>
     Ok(rules)
 }
 
-// That the registry finds each procedure by its name.
+// Checks that the registry finds each procedure by its name.
 fn finds_all<R: Abort, A: Allocator + Copy>(rt: &R, registry: &Registry<A>) {
     for (number, name) in NAMES.iter().enumerate() {
         assert_eq!(rt;
@@ -102,7 +85,7 @@ fn finds_all<R: Abort, A: Allocator + Copy>(rt: &R, registry: &Registry<A>) {
     }
 }
 
-// That the list has all procedures, in their order.
+// Checks that the list has all procedures, in their order.
 fn is_whole<R: Abort>(rt: &R, list: &[Stored], at: u64) {
     assert_eq!(rt; list.len(), NAMES.len(), "at {at}");
     for (entry, name) in list.iter().zip(NAMES) {
@@ -110,7 +93,8 @@ fn is_whole<R: Abort>(rt: &R, list: &[Stored], at: u64) {
     }
 }
 
-// That the list makes a registry, and is handed back whole whichever growth is refused: with all later ones, and then alone.
+// Refuses each growth in turn, with all later ones and then alone. Checks that the list comes back whole each time, and that it
+// makes a registry in the end.
 fn is_handed_back<R: Abort + AllocGlobal>(rt: &R, list: Vec<Stored>) -> Result<(), Fail> {
     let mut entries = list;
     for turn in 2..200u64 {

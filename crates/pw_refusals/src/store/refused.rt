@@ -1,5 +1,5 @@
-//! A store of facts with each growth of memory refused in turn: nothing changes then, and the same call is answered once
-//! there is memory.
+//! A store of facts over an allocator that refuses each allocation growth in turn. A refusal changes nothing, and the same call
+//! gets its answer once there is memory.
 ghost use Rattle.std.specs.Prelude.{◌≡◌, [], ◌∷◌, OnOk};
 ghost use Rattle.pw_info.specs.Information.{kind_of};
 ghost use Rattle.pw_cells.specs.Cells.{kinds_of};
@@ -22,7 +22,8 @@ fn shown<A: Allocator + Copy>(store: &mut CellStore<A>) -> (Info, Fact)
     (store.told(0, &both), store.kept(0, &both))
 }
 
-// Adds an interval cell and an exact one to a store of none, however often memory is refused.
+// Adds an interval cell and an exact one to a store without cells, a second time if memory is refused. Answers 1 if it was
+// refused, and else 0.
 fn add<A: Allocator + Copy>(store: &mut CellStore<A>) -> Result<u32, Fail>
     requires { store.old.cells ≡ [] }
     ensures { OnOk result (kinds_of store.new ≡ Kind.Interval ∷ Kind.Exact ∷ []) }
@@ -43,7 +44,7 @@ fn add<A: Allocator + Copy>(store: &mut CellStore<A>) -> Result<u32, Fail>
     Ok(refused)
 }
 
-// Tells a fact of the interval cell, a second time where memory is refused; answers how often it was.
+// Tells a fact of the interval cell, a second time if memory is refused. Answers how often it was refused.
 fn tell<A: Allocator + Copy>(store: &mut CellStore<A>, fact: &Fact) -> Result<u32, Fail>
     requires cells { kinds_of store.old ≡ Kind.Interval ∷ Kind.Exact ∷ [] }
     requires kind { kind_of fact.now.info ≡ Kind.Interval }
@@ -60,7 +61,7 @@ fn tell<A: Allocator + Copy>(store: &mut CellStore<A>, fact: &Fact) -> Result<u3
     Ok(1)
 }
 
-// Keeps a fact of the interval cell, a second time where memory is refused; answers how often it was.
+// Keeps a fact of the interval cell, a second time if memory is refused. Answers how often it was refused.
 fn keep<A: Allocator + Copy>(store: &mut CellStore<A>, fact: &Fact) -> Result<u32, Fail>
     requires cells { kinds_of store.old ≡ Kind.Interval ∷ Kind.Exact ∷ [] }
     requires kind { kind_of fact.now.info ≡ Kind.Interval }
@@ -77,8 +78,8 @@ fn keep<A: Allocator + Copy>(store: &mut CellStore<A>, fact: &Fact) -> Result<u3
     Ok(1)
 }
 
-// Tells and keeps facts of the interval cell of a new store, each call a second time where memory is refused; how often it was,
-// and what the store shows then.
+// Tells and keeps facts of the interval cell of a new store, each call a second time if memory is refused. Answers how often it
+// was refused, and what the store shows in the end.
 fn shown_at_last<A: Allocator + Copy>(memory: A) -> Result<(u32, Info, Fact), Fail> {
     let (zero, one) = (PremiseSet::one(0), PremiseSet::one(1));
     let mut store = CellStore::new(memory);

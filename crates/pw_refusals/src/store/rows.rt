@@ -11,7 +11,7 @@ use pw_premises::PremiseSet;
 use std::alloc::AllocError;
 use std::test::Fail;
 
-// Tells the first of an interval cell and an exact one an interval.
+// Tells a fact of the interval cell. The store also has an exact cell.
 fn tell(store: &mut CellStore, fact: Fact) -> Result<(), AllocError>
     requires cells { kinds_of store.old ≡ Kind.Interval ∷ Kind.Exact ∷ [] }
     requires kind { kind_of fact.info ≡ Kind.Interval }
@@ -20,7 +20,7 @@ fn tell(store: &mut CellStore, fact: Fact) -> Result<(), AllocError>
     store.tell(0, fact)
 }
 
-// Asks what was told of a cell of the two.
+// Asks what was told of one of the two cells.
 fn told(store: &CellStore, cell: u32, worldview: &PremiseSet) -> Info
     requires cells { kinds_of store.now ≡ Kind.Interval ∷ Kind.Exact ∷ [] }
     requires there { cell < 2 }
@@ -28,7 +28,7 @@ fn told(store: &CellStore, cell: u32, worldview: &PremiseSet) -> Info
     store.told(cell, worldview)
 }
 
-// Asks what is kept of a cell of the two.
+// Asks what is kept of one of the two cells.
 fn kept(store: &mut CellStore, cell: u32, worldview: &PremiseSet) -> Fact
     requires cells { kinds_of store.old ≡ Kind.Interval ∷ Kind.Exact ∷ [] }
     requires there { cell < 2 }
@@ -37,7 +37,7 @@ fn kept(store: &mut CellStore, cell: u32, worldview: &PremiseSet) -> Fact
     store.kept(cell, worldview)
 }
 
-// Asks, as a user of this number, what was told of a cell of the two.
+// Asks, as a user of this number, what was told of one of the two cells.
 fn recall(store: &mut CellStore, asker: u8, cell: u32, worldview: &PremiseSet) -> Info
     requires cells { kinds_of store.old ≡ Kind.Interval ∷ Kind.Exact ∷ [] }
     requires there { cell < 2 }
@@ -46,7 +46,7 @@ fn recall(store: &mut CellStore, asker: u8, cell: u32, worldview: &PremiseSet) -
     store.recall(asker, cell, worldview)
 }
 
-// Keeps an interval of the interval cell that the store has.
+// Keeps a fact of the store's one cell, an interval cell.
 fn keep(store: &mut CellStore, fact: Fact) -> Result<bool, AllocError>
     requires cells { kinds_of store.old ≡ Kind.Interval ∷ [] }
     requires kind { kind_of fact.info ≡ Kind.Interval }
@@ -55,7 +55,7 @@ fn keep(store: &mut CellStore, fact: Fact) -> Result<bool, AllocError>
     store.keep(0, fact)
 }
 
-// Tells the interval cell, under each of the first premises alone, that a number is at least that of the premise.
+// Tells facts of the interval cell, one under each of the first premises alone: the number is at least that of the premise.
 fn tell_under_each(store: &mut CellStore, premises: u8) -> Result<(), AllocError>
     requires { kinds_of store.old ≡ Kind.Interval ∷ Kind.Exact ∷ [] }
     ensures { kinds_of store.new ≡ Kind.Interval ∷ Kind.Exact ∷ [] }

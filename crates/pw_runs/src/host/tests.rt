@@ -30,7 +30,7 @@ impl OverDeclaration<Global> for Copying {
     }
 }
 
-// The values of both replies, where both are values.
+// The values of both replies, if both are values.
 fn values_of(replies: Option<(Reply, Reply)>) -> Option<(Info, Info)> {
     match replies {
         Some((Reply::Value(first), Reply::Value(second))) => Some((first, second)),

@@ -1,4 +1,4 @@
-//! Pseudo-random numbers, by which a sequence is drawn.
+//! Pseudo-random numbers that sequences are drawn from.
 
 use pw_premises::PremiseSet;
 
@@ -9,7 +9,7 @@ pub struct Random {
 }
 
 impl Random {
-    /// One for the place of this number under a seed. Its state is mixed, so that neighbours do not begin alike.
+    /// A generator for this place under a seed. Its state is mixed, so that neighbours do not begin alike.
     pub fn at(seed: u64, place: u64) -> Random {
         let sum = seed.wrapping_mul(0x9E37_79B9_7F4A_7C15).wrapping_add(place);
         let once = (sum ^ (sum >> 30)).wrapping_mul(0xBF58_476D_1CE4_E5B9);
@@ -19,7 +19,7 @@ impl Random {
         }
     }
 
-    /// The next number, below `bound`; 0 where that is 0.
+    /// The next number below `bound`; 0 if `bound` is 0.
     pub fn below(&mut self, bound: u64) -> u64 {
         self.state = self
             .state
@@ -31,12 +31,12 @@ impl Random {
         (self.state >> 33) % bound
     }
 
-    /// The next number, from `lo`, below `lo + bound`.
+    /// The next number from `lo` on, below `lo + bound`.
     pub fn number(&mut self, lo: i64, bound: u32) -> i64 {
         lo.saturating_add(i64::try_from(self.below(u64::from(bound))).unwrap_or(0))
     }
 
-    /// One of the places, 0 where there are none.
+    /// One of the places; 0 if there are none.
     pub fn one_of(&mut self, places: &[usize]) -> usize {
         let place = self.below(places.len() as u64) as usize;
         match places.get(place) {
@@ -45,7 +45,7 @@ impl Random {
         }
     }
 
-    /// A set of the first premises, so many, each in it with one chance in `chance`.
+    /// A random set of the first `count` premises: each is in it with one chance in `chance`.
     pub fn premises(&mut self, count: u8, chance: u64) -> PremiseSet {
         let mut premises = PremiseSet::empty();
         for premise in 0..count.min(64) {

@@ -1,4 +1,5 @@
-//! A sequence in which a reply differs, cut short: commands are left out one by one, the last first, as long as some reply differs.
+//! Cuts a sequence short in which a reply differs. It leaves out commands one by one, the last first, as long as some reply
+//! differs.
 
 use super::drawing::COMMANDS;
 use super::lines::line_of;
@@ -13,7 +14,7 @@ pub struct Cut {
     pub difference: Difference,
 }
 
-// Whether the command at each place stands at a line up to this one.
+// Whether the command at each place is at a line up to this one.
 fn given_until(alloc: Global, line: u32) -> Result<Vec<bool>, AllocError> {
     let mut is_given = Vec::new(alloc);
     for place in 0..COMMANDS {
@@ -22,7 +23,7 @@ fn given_until(alloc: Global, line: u32) -> Result<Vec<bool>, AllocError> {
     Ok(is_given)
 }
 
-/// The sequence up to the reply that differs, without each command without which some reply still does.
+/// The sequence up to the reply that differs. It leaves out each command without which some reply still differs.
 pub fn cut_short(alloc: Global, play: &Play<'_>, found: Difference) -> Result<Cut, Fail> {
     let mut is_given = given_until(alloc, found.line)?;
     let mut difference = found;

@@ -1,4 +1,4 @@
-//! The declaration over which sequences are drawn, and the same in tables, from which rounds take what is declared.
+//! The declaration that sequences are drawn over, and the same in tables, which rounds read.
 
 use pw_info::{Kind, SetKind};
 
@@ -58,7 +58,7 @@ pub const GENERAL: u8 = 4;
 /// The place of the user who may tell under each premise.
 pub const BOB: usize = 1;
 
-/// What a cell may be of.
+/// The sorts of cells.
 #[derive(Clone, Copy, PartialEq, Eq, Debug)]
 pub enum Sort {
     Interval,

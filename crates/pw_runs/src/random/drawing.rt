@@ -96,7 +96,7 @@ fn draw_known(random: &mut Random, sort: Sort) -> Known {
     }
 }
 
-// A cell, more often than not of intervals.
+// A sort of cells, mostly intervals.
 fn draw_sort(random: &mut Random) -> Sort {
     match random.below(8) {
         0 => Sort::Exact,
@@ -126,7 +126,7 @@ fn draw_support(random: &mut Random, user: usize) -> PremiseSet {
     support
 }
 
-// Some premise, and maybe others.
+// One premise, and maybe others.
 fn draw_premises(random: &mut Random) -> PremiseSet {
     let one = PremiseSet::one(random.below(5).min(4) as u8);
     one.join(random.premises(PREMISE_COUNT, 5))
@@ -242,7 +242,7 @@ fn draw_question(random: &mut Random) -> Action {
     }
 }
 
-// A command: so many of a hundred are questions.
+// A command. Of a hundred commands, `questions` are questions.
 fn draw(random: &mut Random, questions: u64) -> Command {
     let user = (random.below(USERS.len() as u64) as usize).min(2);
     let action = if random.below(100) < questions {
@@ -253,7 +253,7 @@ fn draw(random: &mut Random, questions: u64) -> Command {
     Command { user, action }
 }
 
-// Bounds of a cell of intervals under no premise, mostly, so that there are not too many rounds.
+// Mostly bounds of a cell of intervals under no premise, so that there are not too many rounds.
 fn draw_bounds(random: &mut Random, cell: usize) -> Command {
     if random.below(12) == 0 {
         return draw(random, 0);

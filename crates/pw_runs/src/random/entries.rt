@@ -1,4 +1,5 @@
-//! What accepted lines leave behind, as definitions have it: what is told, what attachments expand to, and what users believe.
+//! What accepted lines leave behind, as the definitions have it: what is told, what attachments expand to, and what users
+//! believe.
 
 use super::declared::{CELLS, Callable, PREMISE_COUNT, Sort, Step};
 use super::drawing::{Action, Command};
@@ -8,7 +9,7 @@ use pw_procs::Registry;
 use std::alloc::{AllocError, Global};
 use std::test::Fail;
 
-// How deep compounds call one another, at most.
+// The deepest that compounds call one another.
 const DEEPEST: u8 = 8;
 
 /// A declared cell, or an inner cell of an attachment: the attachment's line and premises.
@@ -120,8 +121,8 @@ impl Entries {
         Ok(())
     }
 
-    // Adds what a callable over these cells expands to, depth first: a procedure to itself, and a compound to what its steps
-    // expand to, one after another, over its parameters and a new inner cell for each local.
+    // Adds what a callable over these cells expands to, depth first. A procedure expands to itself. A compound expands to what
+    // its steps expand to, one after another, over its parameters and a new inner cell for each local.
     fn expand(
         &mut self,
         registry: &Registry,

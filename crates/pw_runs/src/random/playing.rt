@@ -22,8 +22,8 @@ use pw_transcript::read_command;
 use std::alloc::{Allocator, Global};
 use std::test::Fail;
 
-/// The sequence of a seed: which of its commands are given, each at the line of its place, and which growths are refused meanwhile.
-/// Lines of commands that are left out are blank.
+/// The sequence of a seed: which of its commands are given, each at the line of its place, and which growths are refused
+/// meanwhile. The line of a command that is left out is blank.
 #[derive(Clone, Copy)]
 pub struct Play<'a> {
     pub seed: u64,
@@ -107,7 +107,7 @@ impl Counts {
         }
     }
 
-    /// Both.
+    /// The counts of both, growths left out.
     pub fn and(&self, other: &Counts) -> Counts {
         Counts {
             lines: self.lines.saturating_add(other.lines),
@@ -172,8 +172,8 @@ struct State {
 }
 
 impl State {
-    // The line of this number, which says the command, or is blank where there is none; nothing where its answer takes too many
-    // rounds.
+    // The line of this number, with its answer by rounds. It says the command, or is blank if there is none. Nothing if the
+    // answer takes too many rounds.
     fn ask(
         &self,
         registry: &Registry,
@@ -199,8 +199,8 @@ impl State {
         }))
     }
 
-    // Takes in the answer that was given, where it is the one by rounds, or where the command was refused and `is_met`: a growth
-    // was. Else the difference.
+    // Takes in the given answer, if it is the one by rounds, or if the command was refused and `is_met`: a growth was refused.
+    // Else answers the difference.
     fn take_in(
         &mut self,
         registry: &Registry,
@@ -223,7 +223,7 @@ impl State {
 }
 
 impl Asked {
-    // The difference, unless this is what was given.
+    // The difference between the wanted answer and the given one, if there is one.
     fn unless(self, given: Answer) -> Option<Difference> {
         if given == self.wanted {
             return None;

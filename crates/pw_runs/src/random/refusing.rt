@@ -4,7 +4,8 @@ use super::chance::Random;
 use pw_refusals::Refusing;
 use std::alloc::Global;
 
-/// Which growths of a run are refused, by their numbers from 1; at 0 none. The second number counts those that the first left.
+/// Which growths of a run are refused, by their numbers from 1; at 0 none. The second number counts only growths that the first
+/// one lets pass.
 #[derive(Clone, Copy, Debug)]
 pub struct Refused {
     pub once: u64,
@@ -23,7 +24,7 @@ impl Refused {
         }
     }
 
-    /// Some of the growths after the first `before` of this many.
+    /// Random growths among the first `growths`, after the first `before`.
     pub fn drawn(random: &mut Random, before: u64, growths: u64) -> Refused {
         let most = growths.saturating_sub(before);
         Refused {
@@ -34,7 +35,8 @@ impl Refused {
     }
 }
 
-/// The allocators of a run: the outer refuses one growth, and the inner, to which it passes the others on, another or all from one on.
+/// The allocators of a run. The outer one refuses one growth and passes the others on. The inner one refuses another of these, or
+/// all from one on.
 #[derive(Clone, Copy)]
 pub struct Watch<'o, 'i> {
     pub outer: &'o Refusing<&'i Refusing<Global>>,
@@ -43,12 +45,12 @@ pub struct Watch<'o, 'i> {
 }
 
 impl Watch<'_, '_> {
-    /// How many growths were asked for so far.
+    /// The number of growths asked for so far.
     pub fn asked(&self) -> u64 {
         self.outer.calls()
     }
 
-    /// How many of them were refused.
+    /// The number of them that were refused.
     pub fn met(&self) -> u64 {
         let once = has_come(self.outer.calls(), self.refused.once);
         let again = has_come(self.inner.calls(), self.refused.again);
@@ -61,7 +63,7 @@ impl Watch<'_, '_> {
     }
 }
 
-// How many of so many growths have come from the one of this number on; at 0 none.
+// How many of `calls` growths have a number of `from` or more; none if `from` is 0.
 fn has_come(calls: u64, from: u64) -> u64 {
     if from == 0 {
         return 0;

@@ -1,5 +1,5 @@
-//! Values by rounds: from nothing known, each round adds to what is known of each cell what is told of it and what each visible
-//! instance answers to what was known before the round, until a round changes nothing.
+//! Values by rounds. At first nothing is known. Each round adds to what is known of each cell what is told of it, and what each
+//! visible instance answers to what was known before the round. The rounds end when one changes nothing.
 
 use super::entries::{Entries, Instance, Told};
 use pw_info::{Info, Kind};
@@ -22,7 +22,7 @@ fn add(known: &mut [Info], cell: usize, info: &Info) -> Result<(), Fail> {
     Ok(())
 }
 
-// Adds a fact that is told, where it is visible.
+// Adds a told fact, if it is visible.
 fn add_told(told: &Told, worldview: &PremiseSet, known: &mut [Info]) -> Result<(), Fail> {
     if !told.support.is_subset(worldview) {
         return Ok(());
@@ -54,7 +54,7 @@ fn answer_of(
     Ok(stored.call(&inputs[..cells.len()]))
 }
 
-// Adds what an instance answers to what was known before the round, where it is visible.
+// Adds what an instance answers to what was known before the round, if the instance is visible.
 fn add_answer(
     registry: &Registry,
     instance: &Instance,
@@ -99,7 +99,7 @@ impl Entries {
         Ok(known)
     }
 
-    /// What is known of each cell in the worldview when a round changes nothing; none where that takes too many rounds.
+    /// What is known of each cell in the worldview when a round changes nothing. None if that takes too many rounds.
     pub fn values(
         &self,
         registry: &Registry,

@@ -1,4 +1,4 @@
-//! What follows from what a procedure of the host says.
+//! What follows from the answers of a host's own procedure.
 
 use crate::sessions::answers;
 use std::test::Fail;

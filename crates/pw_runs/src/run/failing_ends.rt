@@ -1,8 +1,8 @@
-//! Ends that fail, once or for good: the first failure ends the run, and what was passed before it stays.
+//! Ends that fail, once or for good. The first failure ends the run. What was passed before it stays.
 
 use super::worked::SWITCHING;
 use crate::ends::{Drip, Failing, Sink};
-use crate::sessions::{answered, run_over, said, whole};
+use crate::sessions::{answered, run_amply, said, whole};
 use pw_info::{Output, Writing};
 use pw_refusals::worlds::{GENERAL, WORLD};
 use pw_transcript::{Input, Lines, Reading, RunFault};
@@ -16,14 +16,7 @@ fn a_failing_input_leaves_the_replies_to_ended_lines(rt: HostRuntime) -> Result<
     // It fails within the second line, and would give the rest of it afterwards.
     let mut input = Reading::new(Drip::new(transcript.as_str(), 16));
     let mut output = Writing::new(Vec::new(rt.alloc()));
-    let answer = run_over(
-        rt.alloc(),
-        rt.alloc(),
-        rt.alloc(),
-        GENERAL,
-        &mut input,
-        &mut output,
-    )?;
+    let answer = run_amply(rt.alloc(), GENERAL, &mut input, &mut output)?;
     assert_eq!(rt; answer, Err(RunFault::Read));
     assert!(rt; input.failed() && !output.failed());
     assert_eq!(rt; input.reader().given, 16);
@@ -32,7 +25,7 @@ fn a_failing_input_leaves_the_replies_to_ended_lines(rt: HostRuntime) -> Result<
     Ok(())
 }
 
-// What a run over the transcript comes to where the output fails once, at this byte: whether the run answers all, whether the output
+// What a run over the transcript comes to if the output fails once, at this byte: whether the run answers all, whether the output
 // failed, and what it took.
 fn taken_until(
     alloc: Global,
@@ -41,7 +34,7 @@ fn taken_until(
 ) -> Result<(bool, bool, Vec<u8>), Fail> {
     let mut input = Reading::new(transcript.as_bytes());
     let mut output = Writing::new(Sink::new(alloc, breaks_at, Failing::Once));
-    let answer = run_over(alloc, alloc, alloc, WORLD, &mut input, &mut output)?;
+    let answer = run_amply(alloc, WORLD, &mut input, &mut output)?;
     let failed = output.failed();
     Ok((answer.is_ok(), failed, output.into_writer().text))
 }
@@ -77,7 +70,7 @@ fn each_fault_has_its_text(rt: HostRuntime) -> Result<(), Fail> {
     Ok(())
 }
 
-// What a run came to that took and put one byte at a time.
+// What a run came to that moved one byte at a time.
 #[derive(Drop)]
 struct Dripped {
     answer: Result<Lines, RunFault>,
@@ -100,7 +93,7 @@ fn drip(
 ) -> Result<Dripped, Fail> {
     let mut input = Reading::new(Drip::failing(transcript, input_breaks_at, failing));
     let mut output = Writing::new(Sink::new(alloc, output_breaks_at, failing));
-    let answer = run_over(alloc, alloc, alloc, GENERAL, &mut input, &mut output)?;
+    let answer = run_amply(alloc, GENERAL, &mut input, &mut output)?;
     Ok(Dripped {
         answer,
         given: input.reader().given,
@@ -117,7 +110,7 @@ fn ended_before(text: &[u8], byte: usize) -> usize {
     front.iter().filter(|it| **it == b'\n').count()
 }
 
-// That a run without a failure answers each line.
+// Checks that a run without a failure answers each line.
 fn answers_all<R: Abort + AllocGlobal>(rt: &R, run: &Dripped) -> Result<(), Fail> {
     let wanted = answered(rt.alloc(), SWITCHING.rows)?;
     let all = Lines {
@@ -130,7 +123,8 @@ fn answers_all<R: Abort + AllocGlobal>(rt: &R, run: &Dripped) -> Result<(), Fail
     Ok(())
 }
 
-// That a run whose input fails at this byte takes no more of it, and writes the replies to just the lines that ended before.
+// Checks that a run whose input fails at this byte takes no more of it, and writes the replies to just the lines that ended
+// before.
 fn answers_ended_lines<R: Abort + AllocGlobal>(
     rt: &R,
     transcript: &str,
@@ -150,7 +144,7 @@ fn answers_ended_lines<R: Abort + AllocGlobal>(
     Ok(())
 }
 
-// That it is so at each take, until a run has no failure: one take more than there are bytes gives the end.
+// Checks this at each take. Then checks a run without a failure: one take more than there are bytes gives the end.
 fn input_fails_at_each_take<R: Abort + AllocGlobal>(
     rt: &R,
     transcript: &str,
@@ -165,8 +159,8 @@ fn input_fails_at_each_take<R: Abort + AllocGlobal>(
     answers_all(rt, &run)
 }
 
-// That a run whose output fails at this byte writes the replies up to it, and has taken the line whose reply that is, and no more:
-// up to its line feed, or to the end of the input.
+// Checks that a run whose output fails at this byte writes the replies up to it. The run has taken the line whose reply failed,
+// up to its line feed or to the end of the input, and no more.
 fn writes_a_front<R: Abort>(
     rt: &R,
     transcript: &[u8],
@@ -189,7 +183,7 @@ fn writes_a_front<R: Abort>(
     );
 }
 
-// That it is so at each put, until a run has no failure.
+// Checks this at each put, and then a run without a failure.
 fn output_fails_at_each_put<R: Abort + AllocGlobal>(
     rt: &R,
     transcript: &str,

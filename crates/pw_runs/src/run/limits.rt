@@ -1,7 +1,7 @@
 //! The longest line, the most lines and the most bytes that a run answers.
 
 use crate::ends::{Lined, Repeated};
-use crate::sessions::{answers, run_over};
+use crate::sessions::{answers, run_amply};
 use pw_info::Writing;
 use pw_refusals::worlds::WORLD;
 use pw_transcript::{Lines, Reading, RunFault};
@@ -28,14 +28,14 @@ fn a_line_may_have_1024_bytes(rt: HostRuntime) -> Result<(), Fail> {
     Ok(())
 }
 
-// What a run comes to over so many equal bytes and then a rest, what it wrote, and how many of those bytes were left.
+// What a run comes to over one byte repeated and then a rest, what it wrote, and how many of the repeated bytes were left.
 fn outcome_over(
     alloc: Global,
     repeated: Repeated<'_>,
 ) -> Result<(Result<Lines, RunFault>, String, u64), Fail> {
     let mut input = Reading::new(repeated);
     let mut output = Writing::new(Vec::new(alloc));
-    let answer = run_over(alloc, alloc, alloc, WORLD, &mut input, &mut output)?;
+    let answer = run_amply(alloc, WORLD, &mut input, &mut output)?;
     let left = input.into_reader().left;
     Ok((answer, String::from_utf8(output.into_writer())?, left))
 }
@@ -114,14 +114,7 @@ fn a_run_answers_65536_lines_of_1023_spaces(rt: HostRuntime) -> Result<(), Fail>
             rest: rest.as_bytes(),
         });
         let mut output = Writing::new(Vec::new(rt.alloc()));
-        let answer = run_over(
-            rt.alloc(),
-            rt.alloc(),
-            rt.alloc(),
-            WORLD,
-            &mut input,
-            &mut output,
-        )?;
+        let answer = run_amply(rt.alloc(), WORLD, &mut input, &mut output)?;
         assert_eq!(rt; answer, wanted);
         assert_eq!(rt; output.into_writer().len(), 0);
     }

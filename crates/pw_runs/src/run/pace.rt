@@ -1,7 +1,7 @@
-//! When replies are passed on: before the next line is waited for, and however few bytes are taken at once.
+//! When a run passes replies on: before it waits for the next line, even if it takes few bytes at once.
 
 use crate::ends::{Asking, Counting, Drip};
-use crate::sessions::{answered, answers, run_over, said};
+use crate::sessions::{answered, answers, run_amply, said};
 use pw_info::{Output, Writing};
 use pw_refusals::worlds::WORLD;
 use pw_transcript::{Input, Lines, Reading};
@@ -24,14 +24,7 @@ fn takes_of_one_byte_give_the_same_replies(rt: HostRuntime) -> Result<(), Fail> 
     let wanted = answered(rt.alloc(), &rows)?;
     let mut input = Reading::new(Drip::new(transcript.as_str(), usize::MAX));
     let mut output = Writing::new(Vec::new(rt.alloc()));
-    let answer = run_over(
-        rt.alloc(),
-        rt.alloc(),
-        rt.alloc(),
-        WORLD,
-        &mut input,
-        &mut output,
-    )?;
+    let answer = run_amply(rt.alloc(), WORLD, &mut input, &mut output)?;
     assert_eq!(rt;
         answer,
         Ok(Lines {
@@ -60,14 +53,7 @@ fn a_line_is_answered_before_the_next_is_taken(rt: HostRuntime) -> Result<(), Fa
         differs: &differs,
     });
     let mut output = Writing::new(Counting { written: &written });
-    let answer = run_over(
-        rt.alloc(),
-        rt.alloc(),
-        rt.alloc(),
-        WORLD,
-        &mut input,
-        &mut output,
-    )?;
+    let answer = run_amply(rt.alloc(), WORLD, &mut input, &mut output)?;
     assert_eq!(rt;
         answer,
         Ok(Lines {

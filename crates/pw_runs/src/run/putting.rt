@@ -1,4 +1,4 @@
-//! An end that takes bytes: what is passed of a text, and where it fails.
+//! An end that takes bytes: what it takes of a text, and where it fails.
 
 use crate::ends::{Failing, Sink};
 use pw_info::{Failed, Output, Writing, put_all};

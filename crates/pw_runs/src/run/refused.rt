@@ -1,4 +1,4 @@
-//! Sessions with growths of memory refused: a line that memory is refused to counts as blank.
+//! Sessions over an allocator that refuses growths. A line that runs out of memory counts as blank.
 
 mod again;
 mod calm;
@@ -20,8 +20,7 @@ struct Outcome {
     written: String,
 }
 
-// What a run over the session comes to with this allocator. All that was taken is given back afterwards, what the declaration took
-// too.
+// What a run over the session comes to with this allocator. It gives back all memory that it took, that of the declaration too.
 fn run_with<R: Abort + AllocGlobal>(
     rt: &R,
     session: Session<'_>,
@@ -42,7 +41,7 @@ fn run_with<R: Abort + AllocGlobal>(
     Ok(Outcome { answer, written })
 }
 
-// How many lines there were in a run that ended well, and how many replies.
+// The number of lines of a run that ended well, and the number of its replies.
 fn counts_of(answer: Result<Lines, RunFault>) -> Result<(usize, usize), RunFault> {
     match answer {
         Ok(Lines { lines, replies }) => Ok((lines as usize, replies as usize)),
@@ -50,14 +49,15 @@ fn counts_of(answer: Result<Lines, RunFault>) -> Result<(usize, usize), RunFault
     }
 }
 
-// That a run over so many lines wrote these replies.
+// Checks that a run over `lines` lines wrote these replies.
 fn wrote<R: Abort>(rt: &R, outcome: &Outcome, lines: usize, replies: &str, at: u64) {
     let counts = (lines, replies.lines().count());
     assert_eq!(rt; outcome.written.as_str(), replies, "at {at}");
     assert_eq!(rt; counts_of(outcome.answer), Ok(counts), "at {at}");
 }
 
-// How many growths a run over the first lines of the session asks for, which are answered as its rows say.
+// The number of growths that a run over the first `lines` lines of the session asks for. Checks that it answers them as the rows
+// say.
 fn growths_of<R: Abort + AllocGlobal>(
     rt: &R,
     session: Session<'_>,

@@ -1,4 +1,4 @@
-//! An end that gives bytes: what is taken of a text, and where it fails.
+//! An end that gives bytes: what it gives of a text, and where it fails.
 
 use crate::ends::Drip;
 use pw_info::Failed;
@@ -8,7 +8,7 @@ use std::test::Fail;
 
 const TEXT: &str = "one byte at a time";
 
-// That the end gives the text up to the byte at which it fails, if it does.
+// Checks that the end gives the text up to the byte at which it fails, if it does.
 fn gives_a_front<R: Abort + AllocGlobal>(
     rt: &R,
     input: &mut Reading<Drip<'_>>,
@@ -30,14 +30,14 @@ fn gives_a_front<R: Abort + AllocGlobal>(
     Ok(())
 }
 
-// That an end that failed gives nothing more.
+// Checks that an end that failed gives nothing more.
 fn stays_failed<R: Abort>(rt: &R, input: &mut Reading<Drip<'_>>, breaks_at: usize) {
     let mut buffer = [0; 4];
     assert_eq!(rt; input.take(&mut buffer), Err(Failed), "at {breaks_at}");
     assert_eq!(rt; input.take(&mut []), Err(Failed), "at {breaks_at}");
 }
 
-// That an end that gave its text ends when more is asked for, and not before.
+// Checks that an end that gave its text ends when it is asked for more, and not before.
 fn ends_when_asked<R: Abort>(rt: &R, input: &mut Reading<Drip<'_>>, breaks_at: usize) {
     let mut buffer = [0; 4];
     assert_eq!(rt; input.take(&mut []), Ok(0), "at {breaks_at}");

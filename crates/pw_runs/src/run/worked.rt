@@ -2,7 +2,7 @@
 
 use pw_refusals::worlds::{GENERAL, WORLD};
 
-/// What is said over a declaration, and what is answered.
+/// What users say over a declaration, and what they are answered.
 #[derive(Clone, Copy)]
 pub struct Session<'a> {
     pub declaration: &'a str,
@@ -22,7 +22,7 @@ cell p interval
 cell hh interval
 ";
 
-/// How high a building is, by similar triangles; then another user is told.
+/// The height of a building, by similar triangles. Then another user tells it too.
 pub const BUILDING: Session<'_> = Session {
     declaration: SHADOWS,
     rows: &[
@@ -42,7 +42,7 @@ pub const BUILDING: Session<'_> = Session {
     ],
 };
 
-/// Two who disagree.
+/// Two users who disagree.
 pub const DISAGREEING: Session<'_> = Session {
     declaration: GENERAL,
     rows: &[
@@ -82,7 +82,7 @@ pub const SWITCHING: Session<'_> = Session {
     ],
 };
 
-/// A sum that two ask for.
+/// A sum that two users ask for.
 pub const SUMMING: Session<'_> = Session {
     declaration: GENERAL,
     rows: &[
@@ -128,7 +128,7 @@ pub const APART: Session<'_> = Session {
     ],
 };
 
-/// One who asks for a copy of what was told.
+/// A user who asks for a copy of what was told.
 pub const COPYING: Session<'_> = Session {
     declaration: WORLD,
     rows: &[

@@ -1,4 +1,4 @@
-//! What is attached.
+//! What attachments add to a network.
 
 use super::{Attachment, at_line, attached};
 use pw_network::NetworkFault;
@@ -22,14 +22,14 @@ compound deep a interval b interval\nlocal m interval\napart a m\nlocal n interv
 compound deeper a interval b interval\ndeep a b\nlocal m interval\ndeep m a\nend\n\
 compound bare a interval\nend\n";
 
-// That the text has these lines, and no other.
+// Checks that the text has these lines, and no other.
 fn has_lines<R: Abort + AllocGlobal>(rt: &R, text: &str, lines: &[&str]) -> Result<(), Fail> {
     let wanted = ended(rt.alloc(), lines)?;
     assert_eq!(rt; text, wanted.as_str());
     Ok(())
 }
 
-// That these attachments to a network over the text give these instances and these readers.
+// Checks that these attachments to a network over the text give these instances and these readers.
 fn gives<R: Abort + AllocGlobal>(
     rt: &R,
     text: &str,
@@ -43,7 +43,7 @@ fn gives<R: Abort + AllocGlobal>(
     has_lines(rt, shown.readers.as_str(), readers)
 }
 
-// That these attachments to `GENERAL` make one cell, of the kind of the cell `e`.
+// Checks that these attachments to `GENERAL` make one cell, of the kind of the cell `e`.
 fn makes_a_truth<R: Abort + AllocGlobal>(
     rt: &R,
     attachments: &[Attachment<'_>],
@@ -58,7 +58,7 @@ fn makes_a_truth<R: Abort + AllocGlobal>(
     Ok(())
 }
 
-// That an attachment to `GENERAL`, at line 7, is refused and attaches nothing.
+// Checks that an attachment to `GENERAL`, at line 7, is refused and attaches nothing.
 fn is_refused<R: Abort + AllocGlobal>(rt: &R, attachment: &[Attachment<'_>]) -> Result<(), Fail> {
     let shown = attached(rt.alloc(), GENERAL, attachment)?;
     assert_eq!(rt; shown.fault, Some((7, NetworkFault::WrongArguments)));
@@ -191,7 +191,7 @@ fn attachments_have_inner_cells_of_their_own(rt: HostRuntime) -> Result<(), Fail
     )
 }
 
-// That a callable does not take these cells of `MANY`, and what was attached before stays alone.
+// Checks that a callable does not take these cells of `MANY`, and that only what was attached before stays.
 fn are_wrong<R: Abort + AllocGlobal>(rt: &R, callable: &str, cells: &[&str]) -> Result<(), Fail> {
     let tried = [at_line(1, "copy", &["x", "y"]), at_line(7, callable, cells)];
     let shown = attached(rt.alloc(), MANY, &tried)?;
@@ -243,7 +243,7 @@ fn with_locals(alloc: Global) -> Result<String, AllocError> {
 const WIDE: &str =
     "workbench 1\ncell x interval\ncell y interval\ncompound wide p interval q interval\n";
 
-// That the compound with the most calls makes that many instances.
+// Checks that the compound with the most calls makes that many instances.
 fn makes_256_calls<R: Abort + AllocGlobal>(rt: &R) -> Result<(), Fail> {
     let text = with_calls(rt.alloc())?;
     let shown = attached(rt.alloc(), &text, &[at_line(1, "wide", &["x", "y"])])?;
@@ -253,7 +253,7 @@ fn makes_256_calls<R: Abort + AllocGlobal>(rt: &R) -> Result<(), Fail> {
     Ok(())
 }
 
-// That the compound with the most private cells makes that many inner cells each time it is attached.
+// Checks that the compound with the most private cells makes that many inner cells each time it is attached.
 fn makes_256_cells<R: Abort + AllocGlobal>(rt: &R) -> Result<(), Fail> {
     let text = with_locals(rt.alloc())?;
     let twice = [

@@ -1,4 +1,4 @@
-//! A network with each growth of memory refused in turn.
+//! A network over an allocator that refuses each allocation growth in turn.
 
 use super::attaching::MANY;
 use super::{Attachment, Shown, at_line, attached, attached_in};
@@ -8,7 +8,7 @@ use std::alloc::{AllocError, Global};
 use std::process::Abort;
 use std::test::Fail;
 
-// The lines of the text but those that begin so.
+// The lines of the text, without those that begin with `beginning`.
 fn without(alloc: Global, text: &str, beginning: &str) -> Result<String, AllocError> {
     let mut left = String::new(alloc);
     for line in text.lines() {
@@ -37,7 +37,7 @@ fn shown_without(alloc: Global, at: u64) -> Result<(Shown, u64), Fail> {
     Ok((shown, refusing.calls()))
 }
 
-// That these are the instances of the whole but for those of a line.
+// Checks that these are the instances of the whole network, without those of one line.
 fn lacks_a_line<R: Abort + AllocGlobal>(
     rt: &R,
     whole: &str,
@@ -50,8 +50,8 @@ fn lacks_a_line<R: Abort + AllocGlobal>(
     Ok(())
 }
 
-// That, where the growth of this number is refused, what was attached is as in the whole, but for the line that memory was
-// wanting for; whether there was such a line.
+// Refuses the growth of this number. Checks that the network has what the whole network has, without the line that ran out of
+// memory. Answers whether there was one.
 fn is_whole_but_for_a_line<R: Abort + AllocGlobal>(
     rt: &R,
     whole: &str,
@@ -72,7 +72,7 @@ fn is_whole_but_for_a_line<R: Abort + AllocGlobal>(
 fn an_attachment_is_whole_or_memory_is_told(rt: HostRuntime) -> Result<(), Fail> {
     let whole = attached(rt.alloc(), MANY, &attachments())?;
     let mut met = 0u32;
-    // The first growth is that of the lists of readers, in setting up.
+    // The first growth is that of the lists of readers, while the network is set up.
     for at in 2..100u64 {
         if !is_whole_but_for_a_line(&rt, whole.instances.as_str(), at)? {
             break;

@@ -1,11 +1,11 @@
-//! Pseudo-random networks: reasons are those of the deletion filter over values by rounds, and conflicts are what is contradictory by
-//! rounds, with ample memory and where a growth is refused.
+//! Pseudo-random networks. Reasons are those of the deletion filter over values by rounds, and conflicts are the contradictory
+//! cells by rounds: with ample memory, and where a growth is refused.
 
 use super::questions::{Asked, asked_in};
 use crate::networks::Attachment;
 use crate::settling::drawing::{Random, WORLD, draw_attachments, draw_tells};
 use crate::settling::growing::in_lines;
-use crate::settling::rounds::by_rounds;
+use crate::settling::rounds::{by_rounds, took_too_long};
 use crate::settling::{Matter, Tell, told};
 use pw_info::Info;
 use pw_premises::PremiseSet;
@@ -22,7 +22,7 @@ const PREMISES: u8 = 5;
 
 const CELLS: usize = 10;
 
-// How many sets of premises there are.
+// The number of sets of premises.
 const SETS: u8 = 32;
 
 // The set of premises at this place: those whose bits are in the number of the place.
@@ -47,7 +47,7 @@ fn all_sets(alloc: Global) -> Result<Vec<PremiseSet>, AllocError> {
     Ok(sets)
 }
 
-// The place of a set of premises among all.
+// The place of a set of premises among all sets.
 fn place_of(premises: &PremiseSet) -> usize {
     let mut place = 0usize;
     for premise in (0..PREMISES).rev() {
@@ -79,8 +79,8 @@ impl Values {
         Ok(*values.get(cell).ok_or("no cell")?)
     }
 
-    // The reason of a cell in a worldview: from the last declared premise to the first, each is taken out without which the value
-    // stays.
+    // The reason of a cell in a worldview. From the last declared premise to the first, it takes out each one without which the
+    // value stays.
     fn reason(&self, worldview: &PremiseSet, cell: usize) -> Result<PremiseSet, Fail> {
         let value = self.of(worldview, cell)?;
         let mut left = *worldview;
@@ -103,14 +103,14 @@ impl Values {
     }
 }
 
-// The values by rounds; none where that takes too many rounds.
+// The values by rounds. None if that takes too many rounds.
 fn values_of(
     alloc: Global,
     matter: Matter<'_>,
     sets: &[PremiseSet],
 ) -> Result<Option<Values>, Fail> {
     let by_place = by_rounds(alloc, matter, sets)?;
-    if by_place.iter().any(|known| known.is_none()) {
+    if took_too_long(&by_place) {
         return Ok(None);
     }
     Ok(Some(Values { by_place }))
@@ -122,8 +122,8 @@ fn inner_cells(attachment: &Attachment<'_>) -> usize {
     usize::from(has_one)
 }
 
-// What is contradictory in a worldview: declared cells, and lines of the attachments that have a contradictory inner cell. Inner
-// cells come after the declared ones, in the order of the attachments.
+// What is contradictory in a worldview: declared cells, and the lines of the attachments that have a contradictory inner cell.
+// Inner cells come after the declared ones, in the order of the attachments.
 fn conflicts_of(
     alloc: Global,
     matter: Matter<'_>,
@@ -149,7 +149,7 @@ fn conflicts_of(
     Ok((cells, lines))
 }
 
-// A network, and the worldviews in which it is asked about it.
+// A network, and the worldviews of the questions about it.
 #[derive(Clone, Copy)]
 struct Case<'a> {
     seed: u64,
@@ -169,7 +169,7 @@ struct Counts {
     refused: u32,
 }
 
-// Adds what is so.
+// Counts one more if it is so.
 fn add(count: &mut u32, is_so: bool) {
     *count = count.saturating_add(u32::from(is_so));
 }
@@ -217,7 +217,7 @@ impl Case<'_> {
         Ok(())
     }
 
-    // Compares what is covered: nogoods alone, and of each contradictory cell the reason.
+    // Compares what is covered: only nogoods, and the reason of each contradictory cell.
     fn compare_covered<R: Abort>(
         &self,
         rt: &R,
@@ -243,7 +243,7 @@ impl Case<'_> {
         Ok(())
     }
 
-    // Compares all that was asked.
+    // Compares all answers.
     fn compare<R: Abort + AllocGlobal>(
         &self,
         rt: &R,
@@ -264,7 +264,7 @@ impl Case<'_> {
         self.compare_covered(rt, values, asked)
     }
 
-    // Asks where the growth of this number is refused, or none at 0, and compares; how many growths were asked for.
+    // Asks while the growth of this number is refused, or none at 0, and compares. Answers how many growths were asked for.
     fn compare_at<R: Abort + AllocGlobal>(
         &self,
         rt: &R,
@@ -293,7 +293,7 @@ impl Case<'_> {
     }
 }
 
-// Compares what is asked with ample memory, and where one growth is refused or another.
+// Compares the answers with ample memory, and twice with a random growth refused.
 fn compare_case<R: Abort + AllocGlobal>(
     rt: &R,
     case: &Case<'_>,
@@ -312,7 +312,7 @@ fn compare_case<R: Abort + AllocGlobal>(
     Ok(())
 }
 
-// Some facts, among them narrow bounds of the cells of intervals, so that there are few rounds.
+// Some facts, with narrow bounds of the cells of intervals, so that there are few rounds.
 fn draw_narrow(random: &mut Random) -> [Tell<'static>; 12] {
     let mut tells = draw_tells(random);
     for (tell, cell) in tells.iter_mut().zip(["x", "y", "z", "t"]) {
@@ -352,7 +352,7 @@ fn compare_drawn<R: Abort + AllocGlobal>(
     compare_case(rt, &case, &mut random, counts)
 }
 
-// That enough was compared of each kind of answer.
+// Checks that enough answers of each kind were compared.
 fn is_telling<R: Abort>(rt: &R, counts: &Counts) {
     assert!(rt; counts.networks >= 25, "{counts:?}");
     assert!(rt;

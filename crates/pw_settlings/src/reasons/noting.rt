@@ -1,4 +1,4 @@
-//! Sets of premises that are noted, and which they cover.
+//! Sets of premises that are noted, and the sets that they cover.
 
 use pw_premises::PremiseSet;
 use pw_reasons::Nogoods;

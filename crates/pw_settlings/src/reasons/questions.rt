@@ -1,5 +1,5 @@
-//! Questions over one store: in one worldview after another, why each cell has its value, and what is contradictory. A question that
-//! is refused for want of memory is put again.
+//! Questions over one store, in one worldview after another: why each cell has its value, and what is contradictory. A question
+//! that runs out of memory is put again.
 
 ghost use Rattle.std.specs.Prelude.{◌<◌, IfOk, OnOk};
 ghost use Rattle.pw_network.specs.Fields.{network_by};
@@ -8,7 +8,7 @@ ghost use Rattle.pw_reasons.specs.Nogood.{AreNogoods};
 ghost use Rattle.pw_settlings.specs.Settling.{IsReady};
 
 use super::{all_covered, reason_once};
-use crate::networks::named_in;
+use crate::networks::attach_named;
 use crate::settling::{Matter, all_told, store_of, tell_fact};
 use pw_cells::CellStore;
 use pw_decl::Declaration;
@@ -27,15 +27,15 @@ pub struct Asked {
     pub reasons: Vec<Vec<PremiseSet>>,
     /// In each worldview, the contradictory declared cells, and the lines of the attachments with a contradictory inner cell.
     pub conflicts: Vec<(Vec<u32>, Vec<u32>)>,
-    /// Of each of the sets asked for, whether it is covered in the end.
+    /// Whether each of the sets asked for is covered in the end.
     pub covered: Vec<bool>,
     /// How many questions were refused, and then put again.
     pub refused: u32,
-    /// Whether what was told stayed as it was.
+    /// Whether the told facts stayed as they were.
     pub is_told_the_same: bool,
 }
 
-// The reason of a cell in the worldview. Where memory is refused once, it is asked for again, which is counted.
+// The reason of a cell in the worldview. Asks again if memory is refused once, and counts the refusal.
 fn reason_again<A: Allocator + Copy>(
     memory: A,
     network: &Network<'_, '_, A>,
@@ -98,7 +98,7 @@ fn conflicts_once<A: Allocator + Copy>(
     list_conflicts(memory, network, &settled)
 }
 
-// The same, and once more where memory is refused, which is counted.
+// The same, and once more if memory is refused. Counts the refusal.
 fn conflicts_again<A: Allocator + Copy>(
     memory: A,
     network: &Network<'_, '_, A>,
@@ -119,7 +119,7 @@ fn conflicts_again<A: Allocator + Copy>(
     }
 }
 
-// Questions in some worldviews, and which sets are asked for afterwards. The growths of the declaration and the network are those of
+// Questions in some worldviews, and the sets asked for afterwards. The growths of the declaration and the network are those of
 // `ample`, and those of the store, of the settlings and of what is noted are those of `memory`.
 #[derive(Drop)]
 struct Questions<'a, A: Allocator> {
@@ -219,12 +219,7 @@ fn ask_over<A: Allocator + Copy>(
     declaration: &Declaration<'_, A>,
 ) -> Result<Asked, Fail> {
     let mut network = Network::new(task.ample, declaration)?;
-    for attachment in task.matter.attachments {
-        let (callable, cells) = named_in(&network, attachment).ok_or("wrong names")?;
-        let Ok(()) = network.attach(attachment.line, callable, cells, attachment.support) else {
-            return Err("not attached".into());
-        };
-    }
+    attach_named(&mut network, task.matter.attachments)?;
     task.ask(&network)
 }
 

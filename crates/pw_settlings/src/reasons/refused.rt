@@ -1,5 +1,5 @@
-//! Reasons with each growth of memory refused in turn: what was told stays as it was, and the same question is answered and noted as
-//! ever once there is memory.
+//! Reasons over an allocator that refuses each allocation growth in turn. The told facts stay as they were. Once there is memory
+//! the same question gets its usual answer, which is noted as usual.
 
 use super::reason_in;
 use crate::networks::at_line;
@@ -10,8 +10,8 @@ use pw_refusals::worlds::GENERAL;
 use std::process::Abort;
 use std::test::Fail;
 
-// That the reason of the cell is so where the growth of this number is refused, and is noted; whether it was refused then, and
-// nothing where there was no such growth.
+// Refuses the growth of this number. Checks that the cell has this reason, and that it is noted. Answers whether the question was
+// refused, or nothing if fewer growths were asked for.
 fn is_found<R: Abort + AllocGlobal>(
     rt: &R,
     matter: Matter<'_>,
@@ -45,7 +45,8 @@ fn is_found<R: Abort + AllocGlobal>(
     Ok(Some(answer.is_refused))
 }
 
-// That whichever growth is refused, the reason of the cell is so, and is noted; how often it was refused.
+// Refuses each growth in turn. Checks that the cell has this reason, and that it is noted. Answers how often the question was
+// refused.
 fn is_found_anyhow<R: Abort + AllocGlobal>(
     rt: &R,
     matter: Matter<'_>,

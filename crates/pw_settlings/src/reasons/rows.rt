@@ -1,4 +1,4 @@
-//! Small sessions of which the reasons are known beforehand.
+//! Small sessions whose reasons are known beforehand.
 
 use super::reason_of;
 use crate::networks::at_line;

@@ -1,5 +1,5 @@
-//! Small networks, settled in stages, whose counts of calls are known beforehand: at each stage after the first those instances are
-//! due that are new to the values found before, and those that read a cell of which more is known now.
+//! Small networks, settled in stages, whose counts of calls are known beforehand. At each stage after the first, an instance is
+//! due if it is new to the values found before, or reads a cell of which more is known now.
 
 use super::stages::{Stage, settled_in_stages};
 use super::{Matter, Shown, Tell, told};
@@ -11,7 +11,7 @@ use pw_refusals::worlds::GENERAL;
 use std::alloc::Global;
 use std::test::Fail;
 
-// What it comes to when these come in stages.
+// What the stages come to with these attachments and tells.
 fn shown_at(
     alloc: Global,
     attachments: &[Attachment<'_>],
@@ -39,8 +39,8 @@ fn found_at(shown: &Shown, stage: usize, cell: usize) -> Result<Info, Fail> {
     Ok(value.info)
 }
 
-// Two of the three instances of a sum read each of its cells. What is told of x makes those two due, and what they find of t, one
-// of two numbers less, may make two more so.
+// Two of the three instances of a sum read each of its cells. What is told of x makes those two due. They find one number of t
+// where there were two, which may make two more due.
 #[test]
 fn a_tell_of_a_summand_calls_two_to_four(rt: HostRuntime) -> Result<(), Fail> {
     let none = PremiseSet::empty();
@@ -67,7 +67,7 @@ fn a_tell_of_a_summand_calls_two_to_four(rt: HostRuntime) -> Result<(), Fail> {
     Ok(())
 }
 
-// The one that is hidden is not called, though it reads the cell as well.
+// The hidden instance is not called, though it reads the cell too.
 #[test]
 fn a_tell_calls_the_visible_reader(rt: HostRuntime) -> Result<(), Fail> {
     let none = PremiseSet::empty();
@@ -143,7 +143,7 @@ fn what_comes_into_sight_is_called(rt: HostRuntime) -> Result<(), Fail> {
     Ok(())
 }
 
-// Four instances are visible under a premise, and three without it: what was found with the premise says nothing of them.
+// Four instances are visible under a premise, and three without it. What was found with the premise says nothing of these three.
 #[test]
 fn where_the_worldview_is_not_within_all_visible_are_called(rt: HostRuntime) -> Result<(), Fail> {
     let (none, a) = (PremiseSet::empty(), PremiseSet::one(0));

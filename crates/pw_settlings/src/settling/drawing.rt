@@ -1,4 +1,4 @@
-//! Pseudo-random networks, with what is told and which worldviews are settled.
+//! Pseudo-random networks, with facts to tell and worldviews to settle.
 
 use super::{Tell, told};
 use crate::networks::Attachment;
@@ -9,7 +9,7 @@ use pw_premises::PremiseSet;
 use pw_procs::members_of_mask;
 use pw_refusals::facts::fact;
 
-/// The cells that networks are drawn over, of each kind.
+/// The declaration that networks are drawn over, with cells of each kind.
 pub const WORLD: &str = "workbench 1
 user ann
 premise a
@@ -50,12 +50,12 @@ pub struct Random {
 }
 
 impl Random {
-    /// One that begins with this seed.
+    /// A generator that begins with this seed.
     pub fn new(seed: u64) -> Random {
         Random { state: seed }
     }
 
-    /// The next number, below `bound`; 0 where that is 0.
+    /// The next number below `bound`; 0 if `bound` is 0.
     pub fn below(&mut self, bound: u64) -> u64 {
         self.state = self
             .state
@@ -67,7 +67,7 @@ impl Random {
         (self.state >> 33) % bound
     }
 
-    // The next number, from `lo`, below `lo + bound`.
+    // The next number from `lo` on, below `lo + bound`.
     fn number(&mut self, lo: i64, bound: u32) -> i64 {
         lo.saturating_add(i64::try_from(self.below(u64::from(bound))).unwrap_or(0))
     }
@@ -91,7 +91,7 @@ impl Random {
         }
     }
 
-    /// A set of the premises, each in it with one chance in `chance`.
+    /// A random set of the five premises: each is in it with one chance in `chance`.
     pub fn premises(&mut self, chance: u64) -> PremiseSet {
         let mut premises = PremiseSet::empty();
         for premise in 0..5u8 {
@@ -102,7 +102,7 @@ impl Random {
         premises
     }
 
-    /// A worldview, and three to go on to: the same, a larger one, and one that it is not within.
+    /// A worldview, and three to go on to: the same, a larger one, and one that does not include it.
     pub fn worldviews(&mut self) -> (PremiseSet, [PremiseSet; 3]) {
         let number = self.below(5).min(4);
         let next = number.saturating_add(self.below(4)).saturating_add(1) % 5;
@@ -135,7 +135,7 @@ impl Drawn {
     }
 }
 
-// A callable to cells of intervals, the last of which may be of truths or of colours.
+// A callable over three cells of intervals.
 fn draw_arithmetic(random: &mut Random) -> (&'static str, [&'static str; 4], usize) {
     let callables = [
         "adder",
@@ -240,7 +240,7 @@ fn draw_tell(random: &mut Random) -> Tell<'static> {
     Tell { cell, fact }
 }
 
-// Bounds of a cell of intervals, mostly, so that there are not too many rounds.
+// Bounds of a cell of intervals, mostly narrow, so that there are not too many rounds.
 fn draw_bounds(random: &mut Random, cell: &'static str) -> Tell<'static> {
     let most = if random.below(4) == 0 { 1_000_000 } else { 500 };
     told(cell, -most, most, PremiseSet::empty())

@@ -1,10 +1,10 @@
-//! Pseudo-random networks, settled where a growth of memory is refused: what was told stays as it was, and once there is memory the
-//! values are those by rounds, of worldviews one after another and of stages that go on.
+//! Pseudo-random networks, settled where a growth of memory is refused. The told facts stay as they were. Once there is memory
+//! the values are those by rounds: of worldviews one after another, and of stages that go on.
 
 use super::drawing::{Random, WORLD, draw_attachments, draw_tells};
 use super::going_on::{draw_parts, stages_of};
 use super::growing::in_lines;
-use super::rounds::{by_rounds, by_rounds_at};
+use super::rounds::{by_rounds, by_rounds_at, took_too_long};
 use super::stages::{Stage, settled_in_stages_in};
 use super::{Matter, Shown, settled_in};
 use pw_info::Info;
@@ -13,14 +13,14 @@ use pw_refusals::Refusing;
 use std::process::Abort;
 use std::test::Fail;
 
-// How many networks are compared, at least, of how many that are drawn, and how many settlings are refused, at least.
+// The least number of networks to compare, the number drawn, and the least number of refused settlings.
 const COMPARED: u32 = 40;
 
 const DRAWN: u64 = 60;
 
 const REFUSED: u32 = 30;
 
-// That what was told stays as it was, and the values are those by rounds.
+// Checks that the told facts stay as they were, and that the values are those by rounds.
 fn is_known<R: Abort>(rt: &R, seed: u64, at: u64, shown: &Shown, wanted: &[Option<Vec<Info>>]) {
     assert!(rt; shown.is_told_the_same, "seed {seed}, at {at}");
     assert_eq!(rt; shown.answers.len(), wanted.len(), "seed {seed}, at {at}");
@@ -35,8 +35,8 @@ fn is_known<R: Abort>(rt: &R, seed: u64, at: u64, shown: &Shown, wanted: &[Optio
     }
 }
 
-// Settles the worldviews where the growth of this number is refused, or none at 0: how many growths were asked for, and how many
-// settlings were refused.
+// Settles the worldviews while the growth of this number is refused, or none at 0. Answers how many growths were asked for, and
+// how many settlings were refused.
 fn settle_at<R: Abort + AllocGlobal>(
     rt: &R,
     seed: u64,
@@ -70,8 +70,8 @@ fn go_on_at<R: Abort + AllocGlobal>(
     Ok((refusing.calls(), shown.refused))
 }
 
-// Settles worldviews one after another, where one growth is refused or another; how many settlings were refused, and nothing where
-// the values take too many rounds.
+// Settles worldviews one after another, three times with a random growth refused. Answers how many settlings were refused, or
+// nothing if the values take too many rounds.
 fn settle_refused<R: Abort + AllocGlobal>(
     rt: &R,
     seed: u64,
@@ -80,7 +80,7 @@ fn settle_refused<R: Abort + AllocGlobal>(
 ) -> Result<Option<u32>, Fail> {
     let worldviews = [random.premises(2), PremiseSet::first(5), random.premises(2)];
     let wanted = by_rounds(rt.alloc(), matter, &worldviews)?;
-    if wanted.iter().any(|known| known.is_none()) {
+    if took_too_long(&wanted) {
         return Ok(None);
     }
     let (growths, _) = settle_at(rt, seed, 0, matter, &worldviews, &wanted)?;
@@ -93,8 +93,8 @@ fn settle_refused<R: Abort + AllocGlobal>(
     Ok(Some(refused))
 }
 
-// Goes on through stages, where one growth is refused or another; how many settlings that go on were refused, and nothing where the
-// values take too many rounds.
+// Goes on through stages, three times with a random growth refused. Answers how many settlings that go on were refused, or
+// nothing if the values take too many rounds.
 fn go_on_refused<R: Abort + AllocGlobal>(
     rt: &R,
     seed: u64,
@@ -105,7 +105,7 @@ fn go_on_refused<R: Abort + AllocGlobal>(
     let (first, [_, larger, _]) = random.worldviews();
     let stages = stages_of(first, larger, &parts);
     let wanted = by_rounds_at(rt.alloc(), matter, &stages)?;
-    if wanted.iter().any(|known| known.is_none()) {
+    if took_too_long(&wanted) {
         return Ok(None);
     }
     let (growths, _) = go_on_at(rt, seed, 0, matter, &stages, &wanted)?;
@@ -118,7 +118,7 @@ fn go_on_refused<R: Abort + AllocGlobal>(
     Ok(Some(refused))
 }
 
-// Draws a network, and settles it both ways; nothing where the values take too many rounds.
+// Draws a network, and settles it both ways. Answers nothing if the values take too many rounds.
 fn compare_drawn<R: Abort + AllocGlobal>(rt: &R, seed: u64) -> Result<Option<(u32, u32)>, Fail> {
     let mut random = Random::new(seed);
     let drawn = draw_attachments(&mut random);

@@ -1,23 +1,23 @@
-//! Pseudo-random networks, settled in a worldview; then more is attached and told, and the settling goes on from the values found:
-//! in the same worldview, in a larger one, and in one that the first is not within. The values are those by rounds, as they are by
-//! rounds under the premises that each value rests on; and where nothing more comes, nothing is called.
+//! Pseudo-random networks, settled in a worldview. Then more is attached and told, and the settling goes on from the values
+//! found: in the same worldview, in a larger one, and in one that does not include the first. The values are those by rounds.
+//! Each is also the value by rounds under just the premises that it rests on. A stage that adds nothing calls nothing.
 
 use super::Matter;
 use super::drawing::{Random, WORLD, draw_attachments, draw_tells};
 use super::growing::{in_lines, is_by_rounds};
-use super::rounds::by_rounds_at;
+use super::rounds::{by_rounds_at, took_too_long};
 use super::stages::{Stage, settled_in_stages};
 use pw_premises::PremiseSet;
 use std::process::Abort;
 use std::test::Fail;
 
-// How many walks through stages are compared, at least, of the three that are drawn for each network.
+// The least number of walks through stages to compare, of the three that are drawn for each network.
 const COMPARED: u32 = 150;
 
 const DRAWN: u64 = 60;
 
-// Compares the values at several stages, unless that takes too many rounds, of which the last brings nothing more; how many of them
-// say something by premises.
+// Compares the values at several stages, unless that takes too many rounds. The last stage brings nothing more. Answers how many
+// of the values say something by premises.
 fn compare<R: Abort + AllocGlobal>(
     rt: &R,
     seed: u64,
@@ -25,7 +25,7 @@ fn compare<R: Abort + AllocGlobal>(
     stages: &[Stage],
 ) -> Result<Option<u32>, Fail> {
     let wanted = by_rounds_at(rt.alloc(), matter, stages)?;
-    if wanted.iter().any(|known| known.is_none()) {
+    if took_too_long(&wanted) {
         return Ok(None);
     }
     let shown = settled_in_stages(rt.alloc(), matter, stages)?;
@@ -45,7 +45,7 @@ fn compare<R: Abort + AllocGlobal>(
     Ok(Some(telling))
 }
 
-/// How many of so many attachments, and of twelve tells, come at first, by a second stage, and in all.
+/// How many of `most` attachments, and of twelve tells, have come by a first stage, by a second, and in all.
 pub fn draw_parts(random: &mut Random, most: u64) -> [(usize, usize); 3] {
     let first = random.below(most);
     let left = most.saturating_sub(first);
@@ -58,7 +58,7 @@ pub fn draw_parts(random: &mut Random, most: u64) -> [(usize, usize); 3] {
     ]
 }
 
-/// The first part in a first worldview; then another part in a further one, the rest, and nothing more.
+/// The stages: the first part in a first worldview; then, in a further one, another part, the rest, and nothing more.
 pub fn stages_of(
     first: PremiseSet,
     further: PremiseSet,
@@ -72,7 +72,8 @@ pub fn stages_of(
     ]
 }
 
-// Goes on from a first worldview to three others; how many walks were compared, and how many values say something by premises.
+// Goes on from a first worldview to three others. Answers how many walks were compared, and how many values say something by
+// premises.
 fn compare_all<R: Abort + AllocGlobal>(
     rt: &R,
     seed: u64,
@@ -92,7 +93,7 @@ fn compare_all<R: Abort + AllocGlobal>(
     Ok((compared, telling))
 }
 
-// Draws a network, and what comes of it.
+// Draws a network, and compares its walks through stages.
 fn compare_drawn<R: Abort + AllocGlobal>(rt: &R, seed: u64) -> Result<(u32, u32), Fail> {
     let mut random = Random::new(seed);
     let drawn = draw_attachments(&mut random);

@@ -1,8 +1,8 @@
-//! Pseudo-random networks, settled in several worldviews one after another over one store: the values are those by rounds, as
-//! they are by rounds under the premises that each value rests on.
+//! Pseudo-random networks, settled in several worldviews one after another over one store. The values are those by rounds. Each
+//! is also the value by rounds under just the premises that it rests on.
 
 use super::drawing::{Drawn, Random, WORLD, draw_attachments, draw_tells};
-use super::rounds::by_rounds;
+use super::rounds::{by_rounds, took_too_long};
 use super::{Answer, Matter, settled};
 use crate::networks::Attachment;
 use pw_facts::Fact;
@@ -12,7 +12,7 @@ use std::alloc::{AllocError, Global};
 use std::process::Abort;
 use std::test::Fail;
 
-// How many networks are compared, at least, of how many that are drawn.
+// The least number of networks to compare, and the number drawn.
 const COMPARED: u32 = 60;
 
 const DRAWN: u64 = 90;
@@ -40,18 +40,18 @@ fn supports_of(alloc: Global, values: &[Fact]) -> Result<Vec<PremiseSet>, AllocE
     Ok(supports)
 }
 
-// That this is what is known of the cell at this place.
+// Checks that this is what is known of the cell at this place.
 fn is_known<R: Abort>(rt: &R, seed: u64, place: usize, known: &[Info], info: &Info) {
     assert_eq!(rt; known.get(place), Some(info), "seed {seed}, cell {place}");
 }
 
-// Whether a value says something, and not too much, by premises.
+// Whether a value is neither nothing nor a contradiction, and rests on premises.
 fn says_by_premises(value: &Fact) -> bool {
     !value.info.is_nothing() && !value.info.is_contradiction() && !value.support.is_empty()
 }
 
-/// That an answer has the values by rounds, with premises of the worldview under which they are the values too; how many of them
-/// say something, and not too much, by premises.
+/// Checks that an answer has the values by rounds, each on premises of the worldview, and that they are the values by rounds
+/// under these premises too. Answers how many of them are neither nothing nor a contradiction, and rest on premises.
 pub fn is_by_rounds<R: Abort + AllocGlobal>(
     rt: &R,
     seed: u64,
@@ -81,7 +81,8 @@ pub fn is_by_rounds<R: Abort + AllocGlobal>(
     Ok(telling)
 }
 
-// Compares the values in several worldviews, unless that takes too many rounds; how many of them say something by premises.
+// Compares the values in several worldviews, unless that takes too many rounds. Answers how many of them say something by
+// premises.
 fn compare<R: Abort + AllocGlobal>(
     rt: &R,
     seed: u64,
@@ -89,7 +90,7 @@ fn compare<R: Abort + AllocGlobal>(
     worldviews: &[PremiseSet],
 ) -> Result<Option<u32>, Fail> {
     let wanted = by_rounds(rt.alloc(), matter, worldviews)?;
-    if wanted.iter().any(|known| known.is_none()) {
+    if took_too_long(&wanted) {
         return Ok(None);
     }
     let shown = settled(rt.alloc(), matter, worldviews, &[])?;

@@ -1,5 +1,5 @@
-//! Settlings with each growth of memory refused in turn: what was told stays as it was, and the same question is answered as ever
-//! once there is memory.
+//! Settlings over an allocator that refuses each allocation growth in turn. The told facts stay as they were, and the same
+//! question gets its usual answer once there is memory.
 
 use super::rounds::by_rounds_at;
 use super::stages::{Stage, settled_in_stages_in};
@@ -12,7 +12,7 @@ use pw_refusals::worlds::GENERAL;
 use std::process::Abort;
 use std::test::Fail;
 
-// That two settlings of the same worldviews answer the same informations.
+// Checks that two settlings of the same worldviews answer the same informations.
 fn answers_alike<R: Abort + AllocGlobal>(rt: &R, at: u64, one: &Shown, other: &Shown) {
     assert_eq!(rt; one.answers.len(), other.answers.len(), "at {at}");
     for (answer, wanted) in one.answers.iter().zip(other.answers.iter()) {
@@ -23,8 +23,8 @@ fn answers_alike<R: Abort + AllocGlobal>(rt: &R, at: u64, one: &Shown, other: &S
     }
 }
 
-// That the worldviews are answered as they are with ample memory where the growth of this number is refused; how many settlings
-// were refused, and none where there was no such growth.
+// Refuses the growth of this number. Checks that the worldviews get the answers of ample memory. Answers how many settlings were
+// refused, or nothing if fewer growths were asked for.
 fn is_answered<R: Abort + AllocGlobal>(
     rt: &R,
     matter: Matter<'_>,
@@ -44,7 +44,8 @@ fn is_answered<R: Abort + AllocGlobal>(
     Ok(Some(shown.refused))
 }
 
-// That whichever growth is refused, the worldviews are answered as they are with ample memory; how many settlings were refused.
+// Refuses each growth in turn. Checks that the worldviews get the answers of ample memory. Answers how many settlings were
+// refused.
 fn is_answered_anyhow<R: Abort + AllocGlobal>(
     rt: &R,
     matter: Matter<'_>,
@@ -98,7 +99,7 @@ fn a_refused_settling_is_answered_when_asked_again(rt: HostRuntime) -> Result<()
     Ok(())
 }
 
-// That a settling in stages has the values by rounds.
+// Checks that a settling in stages has the values by rounds.
 fn has_values<R: Abort>(rt: &R, at: u64, shown: &Shown, wanted: &[Option<Vec<Info>>]) {
     assert_eq!(rt; shown.answers.len(), wanted.len(), "at {at}");
     for (answer, known) in shown.answers.iter().zip(wanted.iter()) {
@@ -112,8 +113,8 @@ fn has_values<R: Abort>(rt: &R, at: u64, shown: &Shown, wanted: &[Option<Vec<Inf
     }
 }
 
-// That the stages have the values by rounds where the growth of this number is refused; how many settlings that go on were refused,
-// and none where there was no such growth.
+// Refuses the growth of this number. Checks that the stages have the values by rounds. Answers how many settlings that go on were
+// refused, or nothing if fewer growths were asked for.
 fn goes_on<R: Abort + AllocGlobal>(
     rt: &R,
     matter: Matter<'_>,
@@ -133,7 +134,8 @@ fn goes_on<R: Abort + AllocGlobal>(
     Ok(Some(shown.refused))
 }
 
-// That whichever growth is refused, the stages have the values by rounds; how many settlings that go on were refused.
+// Refuses each growth in turn. Checks that the stages have the values by rounds. Answers how many settlings that go on were
+// refused.
 fn goes_on_anyhow<R: Abort + AllocGlobal>(
     rt: &R,
     matter: Matter<'_>,
@@ -151,7 +153,8 @@ fn goes_on_anyhow<R: Abort + AllocGlobal>(
     Ok(met)
 }
 
-// The stages: a first worldview, the same with more attached and told, a larger one with still more, and one that it is not within.
+// The stages: a first worldview, the same with more attached and told, a larger one with still more, and one that does not
+// include it.
 fn stages_of(a: PremiseSet, b: PremiseSet) -> [Stage; 4] {
     [
         Stage::new(1, 2, a),

@@ -1,9 +1,10 @@
-//! Values by rounds, as a definition has them: from nothing known, each round adds to what is known of each cell what is told of
-//! it and what each visible instance answers to what was known before the round, until a round changes nothing.
+//! Values by rounds, as the definition has them. At first nothing is known. Each round adds to what is known of each cell what is
+//! told of it, and what each visible instance answers to what was known before the round. The rounds end when one changes
+//! nothing.
 
 use super::stages::Stage;
 use super::{Matter, Tell};
-use crate::networks::named_in;
+use crate::networks::attach_named;
 use pw_decl::Declaration;
 use pw_info::{Info, Kind};
 use pw_network::{Instance, Network};
@@ -26,7 +27,7 @@ fn add(known: &mut Vec<Info>, cell: u32, info: &Info) -> Result<(), Fail> {
     Ok(())
 }
 
-// Adds a fact that is told, where it is visible.
+// Adds a told fact, if it is visible.
 fn add_told(
     network: &Network<'_, '_>,
     tell: &Tell<'_>,
@@ -43,7 +44,7 @@ fn add_told(
     add(known, cell, &tell.fact.info)
 }
 
-// Adds what an instance answers to what was known before the round, where it is visible.
+// Adds what an instance answers to what was known before the round, if the instance is visible.
 fn add_answer(
     network: &Network<'_, '_>,
     instance: &Instance,
@@ -101,7 +102,7 @@ fn nothing(alloc: Global, network: &Network<'_, '_>) -> Result<Vec<Info>, AllocE
     Ok(known)
 }
 
-// What is known of each cell when a round changes nothing; none where that takes too many rounds.
+// What is known of each cell when a round changes nothing. None if that takes too many rounds.
 fn known_at_last(
     alloc: Global,
     network: &Network<'_, '_>,
@@ -119,6 +120,11 @@ fn known_at_last(
     Ok(None)
 }
 
+/// Whether some of the values took too many rounds.
+pub fn took_too_long(values: &[Option<Vec<Info>>]) -> bool {
+    values.iter().any(|known| known.is_none())
+}
+
 // The values in some worldviews.
 #[derive(Drop)]
 struct ByRounds<'a> {
@@ -133,12 +139,7 @@ fn values_over(
     declaration: &Declaration<'_>,
 ) -> Result<Vec<Option<Vec<Info>>>, Fail> {
     let mut network = Network::new(task.alloc, declaration)?;
-    for attachment in task.matter.attachments {
-        let (callable, cells) = named_in(&network, attachment).ok_or("wrong names")?;
-        let Ok(()) = network.attach(attachment.line, callable, cells, attachment.support) else {
-            return Err("not attached".into());
-        };
-    }
+    attach_named(&mut network, task.matter.attachments)?;
     task.values(&network)
 }
 
@@ -162,7 +163,7 @@ impl OverDeclaration<Global> for ByRounds<'_> {
     }
 }
 
-/// The values of all cells by rounds, in each of these worldviews; none of a worldview where that takes too many rounds.
+/// The values of all cells by rounds, in each of these worldviews. None of a worldview that takes too many rounds.
 pub fn by_rounds(
     alloc: Global,
     matter: Matter<'_>,
@@ -176,8 +177,8 @@ pub fn by_rounds(
     over_text(alloc, alloc, matter.text, task)?
 }
 
-/// The values of all cells by rounds at each of these stages, of all that has come by then; none of a stage where that takes too
-/// many rounds.
+/// The values of all cells by rounds at each of these stages, of all that has come by then. None of a stage that takes too many
+/// rounds.
 pub fn by_rounds_at(
     alloc: Global,
     matter: Matter<'_>,

@@ -1,4 +1,4 @@
-//! Settlings in stages: at each more is attached and told, and then a worldview is settled, from the values that the stage before
+//! Settlings in stages. Each stage attaches and tells more, and then settles a worldview from the values that the stage before
 //! found.
 
 ghost use Rattle.std.specs.Prelude.{◌≡◌, ◌+◌, ◌≤◌, ◌++◌, length, map, IfOk, IfSome, OnOk};
@@ -24,7 +24,7 @@ use pw_settle::{Settled, resettle};
 use std::alloc::{AllocError, Allocator, Global};
 use std::test::Fail;
 
-/// How many of the attachments and of the tells of a matter have come at a stage, and the worldview that is settled then.
+/// How many of the attachments and of the tells of a matter have come at a stage, and the worldview to settle then.
 #[derive(Clone, Copy)]
 pub struct Stage {
     pub attached: usize,
@@ -33,7 +33,7 @@ pub struct Stage {
 }
 
 impl Stage {
-    /// The stage at which so many attachments and so many tells have come.
+    /// The stage at which the first `attached` attachments and the first `told` tells have come.
     pub fn new(attached: usize, told: usize, worldview: PremiseSet) -> Stage {
         Stage {
             attached,
@@ -43,7 +43,7 @@ impl Stage {
     }
 }
 
-// The elements of a list from one place on, up to another.
+// The elements of a list from one place up to another.
 fn between<T>(list: &[T], from: usize, to: usize) -> &[T] {
     let to = to.min(list.len());
     &list[from.min(to)..to]
@@ -75,7 +75,7 @@ fn inner_kinds<'a, A: Allocator + Copy>(
     }
 }
 
-// Adds new cells of these kinds. Where memory is refused once, it is asked for again.
+// Adds new cells of these kinds. Asks again if memory is refused once.
 fn add_cells<A: Allocator + Copy>(
     store: &mut CellStore<A>,
     kinds: &[Kind],
@@ -148,8 +148,8 @@ fn resettle_once<A: Allocator + Copy>(
     Ok(settled)
 }
 
-// Settles a worldview, from the last values where there are such, and without them where memory is refused; whether it was refused
-// to go on from them, and the values in the end.
+// Settles a worldview: from the last values if there are any, and without them if memory is refused. Answers whether going on
+// from them was refused, and the values in the end.
 fn settle_next<A: Allocator + Copy>(
     memory: A,
     last: Option<Settled<A>>,
@@ -209,7 +209,7 @@ impl<A: Allocator + Copy> Staged<'_, A> {
         Ok(())
     }
 
-    // Settles the worldview of a stage from the last values, where there are such, and shows what it comes to.
+    // Settles the worldview of a stage, from the last values if there are any, and shows what it comes to.
     fn settle_stage(
         &self,
         last: Option<Settled<A>>,
@@ -279,10 +279,10 @@ impl<A: Allocator + Copy> OverDeclaration<A> for Staged<'_, A> {
     }
 }
 
-/// What it comes to when the worldviews of these stages are settled one after another, each after the first from the values of the
-/// one before, over a network and a store to which the matter comes in stages. How many settlings were refused counts those that
-/// go on, which are then made without earlier values. The growths of the declaration and the network are those of `ample`, and
-/// the others those of `memory`.
+/// Settles the worldviews of these stages one after another, over a network and a store to which the matter comes in stages. Each
+/// settling after the first goes on from the values of the one before. The count of refused settlings is that of those that go
+/// on: they are then made without earlier values. The growths of the declaration and the network are those of `ample`, and the
+/// others those of `memory`.
 pub fn settled_in_stages_in<A: Allocator + Copy>(
     alloc: Global,
     ample: A,

@@ -1,4 +1,4 @@
-//! Lines that memory was refused to: they leave nothing, and a question is answered when it is asked again.
+//! Lines that run out of memory: they leave nothing, and a question gets its answer when it is asked again.
 
 use super::super::worked::{APART, Session};
 use super::{growths_of, run_with, wrote};
@@ -44,7 +44,7 @@ const CONFLICTING: Session<'_> = Session {
     ],
 };
 
-// The replies to the session where memory is refused to the line after so many.
+// The replies to the session if the line after the first `before` lines runs out of memory.
 fn replies_without(alloc: Global, session: Session<'_>, before: usize) -> Result<String, Fail> {
     let mut rows = Vec::new(alloc);
     for row in session.rows {
@@ -55,8 +55,8 @@ fn replies_without(alloc: Global, session: Session<'_>, before: usize) -> Result
     Ok(answered(alloc, &rows)?)
 }
 
-// That where each growth is refused that the line after so many asks for, memory is refused to the line, and the others get these
-// replies.
+// Refuses each growth in turn that the line after the first `before` lines asks for. Checks that the session gets these replies
+// each time.
 fn is_refused_alone<R: Abort + AllocGlobal>(
     rt: &R,
     session: Session<'_>,
@@ -73,7 +73,7 @@ fn is_refused_alone<R: Abort + AllocGlobal>(
     Ok(())
 }
 
-// That the last line of the session, which says the same as the one before, gets its reply when memory is refused to that.
+// Checks that the last line of the session gets its reply when the line before it, which says the same, runs out of memory.
 fn is_answered_again<R: Abort + AllocGlobal>(rt: &R, session: Session<'_>) -> Result<(), Fail> {
     let before = session.rows.len().saturating_sub(2);
     let replies = replies_without(rt.alloc(), session, before)?;

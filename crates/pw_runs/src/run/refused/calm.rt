@@ -1,5 +1,5 @@
-//! Commands that take no memory, with every growth refused: those on beliefs, and an ask of a cell that no instance writes whose
-//! premises are all believed.
+//! Commands that take no memory, with every growth refused: those on beliefs, and an ask of a cell that no instance under
+//! believed premises writes.
 
 use super::super::worked::Session;
 use super::{growths_of, run_with, wrote};
@@ -8,7 +8,7 @@ use pw_refusals::Refusing;
 use pw_refusals::worlds::GENERAL;
 use std::test::Fail;
 
-// Much is told of one cell, and another is written under a premise; then that premise is doubted.
+// Users tell much of one cell, and an instance writes another cell under a premise. Then a user doubts that premise.
 const CALM: Session<'_> = Session {
     declaration: GENERAL,
     rows: &[
@@ -44,7 +44,7 @@ const CALM: Session<'_> = Session {
     ],
 };
 
-// How many lines come first, which take memory.
+// The number of lines that come first and take memory.
 const FIRST: usize = 12;
 
 #[test]
@@ -54,7 +54,7 @@ fn calm_commands_take_no_memory(rt: HostRuntime) -> Result<(), Fail> {
     Ok(())
 }
 
-// The same commands among others, to which memory is refused.
+// The same commands among others, which run out of memory.
 const AMONG_OTHERS: Session<'_> = Session {
     declaration: GENERAL,
     rows: &[

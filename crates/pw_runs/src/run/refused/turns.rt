@@ -1,6 +1,6 @@
-//! Each growth of a run refused in its turn, alone or with all later ones: either the run ends before it writes anything, or each
-//! line is answered as if those that memory was refused to were blank. Where one growth is refused alone, that is at most one line,
-//! the one that asked for it.
+//! Runs over an allocator that refuses each allocation growth in turn, alone or with all later ones. Either a run ends before it
+//! writes anything, or it answers each line as if the lines that ran out of memory were blank. Where one growth is refused alone,
+//! that is at most one line: the one that asked for it.
 
 use super::super::worked::{
     APART, BUILDING, COPYING, DISAGREEING, SUMMING, SWITCHING, Session, TWICE,
@@ -19,14 +19,14 @@ enum Others {
     Later,
 }
 
-// The replies of a run: the lines that memory was refused to, and the other replies.
+// The replies of a run: the lines that ran out of memory, and the other replies.
 #[derive(Drop)]
 struct Replies {
     refused: Vec<usize>,
     others: String,
 }
 
-// The replies that were written, told apart.
+// Splits what a run wrote into lines that ran out of memory and other replies.
 fn told_apart(alloc: Global, written: &str) -> Result<Replies, Fail> {
     let mut refused = Vec::new(alloc);
     let mut others = String::new(alloc);
@@ -41,7 +41,7 @@ fn told_apart(alloc: Global, written: &str) -> Result<Replies, Fail> {
     Ok(Replies { refused, others })
 }
 
-// The rows, those of the refused lines made blank.
+// The rows, with those of the refused lines made blank.
 fn blanked<'a>(
     alloc: Global,
     rows: &[(&'a str, &'a str)],
@@ -60,7 +60,7 @@ fn blanked<'a>(
     Ok(left)
 }
 
-// That the other replies are those of a run with ample memory over the session with the refused lines made blank.
+// Checks that the other replies are those of a run with ample memory over the session with the refused lines made blank.
 fn are_as_if_blank<R: Abort + AllocGlobal>(
     rt: &R,
     session: Session<'_>,
@@ -77,7 +77,7 @@ fn are_as_if_blank<R: Abort + AllocGlobal>(
     Ok(())
 }
 
-// That a run that ended well answered each line, as if the refused ones were blank; which were refused.
+// Checks that a run that ended well answered each line as if the refused lines were blank. Answers which lines were refused.
 fn refused_in<R: Abort + AllocGlobal>(
     rt: &R,
     session: Session<'_>,
@@ -91,8 +91,8 @@ fn refused_in<R: Abort + AllocGlobal>(
     Ok(replies.refused)
 }
 
-// That this growth is refused as it should be, where runs ask for so many growths by the end of each line; how many lines memory
-// was refused to.
+// Refuses this growth, and checks what the run does. `growths` has the number of growths that runs ask for by the end of each
+// line. Answers how many lines ran out of memory.
 fn is_refused_in_turn<R: Abort + AllocGlobal>(
     rt: &R,
     session: Session<'_>,
@@ -105,7 +105,7 @@ fn is_refused_in_turn<R: Abort + AllocGlobal>(
         Others::Later => Refusing::all_from(rt.alloc(), at),
     };
     let outcome = run_with(rt, session, &refusing)?;
-    // The line that asks for the growth; 0 in setting up.
+    // The line that asks for the growth; 0 while the run is set up.
     let asking = growths.iter().filter(|by_then| **by_then < at).count();
     if asking == 0 {
         assert_eq!(rt; outcome.answer, Err(RunFault::Memory), "at {at}");
@@ -123,7 +123,7 @@ fn is_refused_in_turn<R: Abort + AllocGlobal>(
     Ok(refused.len())
 }
 
-// That each growth of a run over the session is refused as it should be in its turn.
+// Refuses each growth of a run over the session in turn, and checks what the run does.
 fn each_is_refused_in_turn<R: Abort + AllocGlobal>(
     rt: &R,
     session: Session<'_>,
