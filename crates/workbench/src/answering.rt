@@ -5,7 +5,7 @@ use crate::checking::check_line;
 use crate::fault::Fault;
 use crate::files::declaration_text;
 use crate::procedures::{OverProcedures, over_procedures};
-use pw_arguments::Job;
+use pw_command_line::Job;
 use pw_decl::{Declaration, read_declaration};
 use pw_info::Writing;
 use pw_procs::Registry;

@@ -11,7 +11,7 @@ mod procedures;
 
 use answering::do_job;
 use ending::{Stop, conclude};
-use pw_arguments::{given_arguments, read_arguments};
+use pw_command_line::{given_arguments, read_arguments};
 use std::process::ExitCode;
 use std::rt::Files;
 

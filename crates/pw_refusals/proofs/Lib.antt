@@ -1,2 +1,0 @@
-mod ExampleNames
-mod Grants

@@ -1,2 +1,0 @@
-pub mod ExampleNames
-pub mod Refused

@@ -1,6 +1,0 @@
-use Rattle.pw_network.specs.Fields.{network_by}
-use Rattle.pw_settlings.specs.Settling.{IsReady}
-use Rattle.pw_settlings.proofs.reasons.Asking.ask.Given as goal
-
-abbrev pub invariant-loop-fact : goal.invariant-loop-fact
-invariant-loop-fact g l = IsReady (network_by l.network) l.store

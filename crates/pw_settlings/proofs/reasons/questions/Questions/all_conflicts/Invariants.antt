@@ -1,6 +1,0 @@
-use Rattle.pw_network.specs.Fields.{network_by}
-use Rattle.pw_settlings.specs.Settling.{IsReady}
-use Rattle.pw_settlings.proofs.reasons.questions.Questions.all_conflicts.Given as goal
-
-abbrev pub invariant-loop-worldview : goal.invariant-loop-worldview
-invariant-loop-worldview g l = IsReady (network_by l.network) l.store

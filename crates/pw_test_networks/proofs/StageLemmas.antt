@@ -1,0 +1,44 @@
+-- A store over which a network grows.
+use Rattle.std.proofs.Common.{◌≡◌, ◌++◌, ℕ, List, length, map, sym, ap, ◌∙◌, subst, arith}
+use Rattle.pw_info.specs.declared.kind.Kind.{Kind}
+use Rattle.pw_premises.specs.Premises.{Premises}
+use Rattle.pw_cells.specs.Cells.{Cell, Store, new_cell}
+use Rattle.pw_decl.specs.declared.step.Callable.{Callable}
+use Rattle.pw_decl.specs.Expansion.{inner_kinds_of}
+use Rattle.pw_network.specs.Network.{IsWellNetwork, Network, with_attached}
+use Rattle.pw_settle.specs.Values.{kinds_in}
+use Rattle.pw_settle.specs.Wider.{IsWider}
+use Rattle.pw_settle.proofs.FittingLaws.{fits_added, fits_wider}
+use Rattle.pw_settle.proofs.SoundStores.{sound_attached}
+use Rattle.pw_settle.proofs.StoreCells.{cells_kept, kinds_added}
+use Rattle.pw_settle.proofs.WiderNetworks.{kinds_with_attached, wide_attached}
+use Rattle.pw_test_networks.specs.Settling.{IsReady, LeavesFitting}
+
+-- where a callable is attached, and its inner cells are added to the store, of which nothing was told
+module _ (network : Network) (line : ℕ) (callable : Callable) (cells : List ℕ) (support : Premises) (wider : Network)
+    (well : IsWellNetwork network) (also : IsWellNetwork wider) (is : wider ≡ with_attached network line callable cells support)
+    (old new : Store) (are : new.cells ≡ old.cells ++ map new_cell (inner_kinds_of network.declared.compounds callable))
+    (ready : IsReady network old) where
+  abbrev own : List Kind
+  own = inner_kinds_of network.declared.compounds callable
+
+  wide : IsWider network wider
+  wide = subst (IsWider network) (sym is) (wide_attached network line callable cells support)
+
+  kinds : map (λ (c : Cell). c.kind) new.cells ≡ kinds_in wider
+  kinds =
+      ap (λ (cs : List Cell). map (λ (c : Cell). c.kind) cs) are ∙ kinds_added old.cells own ∙ ap (λ (l : List Kind). l ++ own) ready.kinds
+      ∙ sym (kinds_with_attached network line callable cells support) ∙ ap kinds_in (sym is)
+
+  -- the store is ready again
+  pub ready_attached : IsReady wider new
+  ready_attached = record {
+    kinds = kinds;
+    sound = sound_attached network wider wide well also old new own ready.kinds kinds are ready.sound;
+  }
+
+  -- and what fitted still fits
+  pub fits_attached : LeavesFitting network old wider new
+  fits_attached settled fits =
+      fits_wider network wider new settled well wide
+      (fits_added network old new settled own are (let many = cells_kept network old well ready.kinds in omega (arith, many)) fits)

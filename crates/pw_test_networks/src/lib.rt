@@ -1,0 +1,10 @@
+//! For tests alone: the tests of networks, of what follows in them, and of reasons. They use helpers of `pw_testing`. Each thing
+//! tested has a folder.
+#![tactic(auto)]
+
+#[cfg(test)]
+mod networks;
+#[cfg(test)]
+mod reasons;
+#[cfg(test)]
+mod settling;

@@ -1,0 +1,49 @@
+//! Sets of premises that are noted, and the sets that they cover.
+
+use pw_premises::PremiseSet;
+use pw_reasons::Nogoods;
+use pw_testing::Refusing;
+use std::test::Fail;
+
+#[test]
+fn a_noted_set_covers_what_includes_it(rt: HostRuntime) -> Result<(), Fail> {
+    let mut nogoods = Nogoods::new(rt.alloc());
+    assert_eq!(rt; nogoods.note(&PremiseSet::first(2))?, true);
+    assert_eq!(rt; nogoods.note(&PremiseSet::first(3))?, false);
+    let more = PremiseSet::first(2).join(PremiseSet::one(3));
+    assert!(rt; nogoods.covers(&more));
+    assert!(rt; !nogoods.covers(&PremiseSet::one(0)));
+    Ok(())
+}
+
+#[test]
+fn a_smaller_set_covers_what_a_larger_did(rt: HostRuntime) -> Result<(), Fail> {
+    let mut nogoods = Nogoods::new(rt.alloc());
+    assert_eq!(rt; nogoods.note(&PremiseSet::first(3))?, true);
+    assert_eq!(rt; nogoods.note(&PremiseSet::one(5))?, true);
+    assert_eq!(rt; nogoods.note(&PremiseSet::one(1))?, true);
+    assert!(rt; nogoods.covers(&PremiseSet::first(3)) && nogoods.covers(&PremiseSet::one(5)));
+    assert!(rt; nogoods.covers(&PremiseSet::one(1)) && !nogoods.covers(&PremiseSet::one(0)));
+    Ok(())
+}
+
+#[test]
+fn a_refused_note_notes_nothing(rt: HostRuntime) -> Result<(), Fail> {
+    let refusing = Refusing::nth(rt.alloc(), 1);
+    let mut nogoods = Nogoods::new(&refusing);
+    assert!(rt; nogoods.note(&PremiseSet::first(2)).is_err());
+    assert!(rt; !nogoods.covers(&PremiseSet::first(64)));
+    assert_eq!(rt; nogoods.note(&PremiseSet::first(2))?, true);
+    assert!(rt; nogoods.covers(&PremiseSet::first(2)));
+    Ok(())
+}
+
+#[test]
+fn what_is_covered_takes_no_memory(rt: HostRuntime) -> Result<(), Fail> {
+    let refusing = Refusing::all_from(rt.alloc(), 2);
+    let mut nogoods = Nogoods::new(&refusing);
+    assert_eq!(rt; nogoods.note(&PremiseSet::first(2))?, true);
+    assert_eq!(rt; nogoods.note(&PremiseSet::first(3))?, false);
+    assert_eq!(rt; refusing.calls(), 1);
+    Ok(())
+}

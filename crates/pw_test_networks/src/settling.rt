@@ -1,0 +1,345 @@
+//! Tests of settling. Each makes a network, tells facts, and settles worldviews one after another over one store.
+
+mod calls;
+pub mod drawing;
+mod drawn_refused;
+mod going_on;
+pub mod growing;
+mod refused;
+pub mod rounds;
+mod rows;
+mod stages;
+
+ghost use Rattle.std.specs.Prelude.{◌≡◌, ◌<◌, IfOk, OnOk, length};
+ghost use Rattle.pw_info.specs.Information.{kind_of};
+ghost use Rattle.pw_cells.specs.Cells.{kind_in_store};
+ghost use Rattle.pw_network.specs.Fields.{network_by};
+ghost use Rattle.pw_network.specs.Network.{cells_in};
+ghost use Rattle.pw_settle.specs.Fitting.{IsFitting};
+ghost use Rattle.pw_test_networks.specs.Settling.{IsReady, LeavesFitting};
+
+use crate::networks::{Attachment, attach_named, kinds_of};
+use pw_cells::CellStore;
+use pw_decl::Declaration;
+use pw_facts::Fact;
+use pw_info::Info;
+use pw_network::Network;
+use pw_premises::PremiseSet;
+use pw_testing::facts::{fact, is_of_kind};
+use pw_testing::worlds::{OverDeclaration, over_text};
+use pw_settle::{Settled, settle};
+use std::alloc::{AllocError, Allocator, Global};
+use std::test::Fail;
+
+/// A fact that a test tells of a declared cell, by its name.
+#[derive(Clone, Copy)]
+pub struct Tell<'a> {
+    pub cell: &'a str,
+    pub fact: Fact,
+}
+
+/// The fact that a cell of intervals lies from `lo` to `hi`, under these premises.
+pub fn told<'a>(cell: &'a str, lo: i64, hi: i64, support: PremiseSet) -> Tell<'a> {
+    Tell {
+        cell,
+        fact: fact(lo, hi, support),
+    }
+}
+
+/// A declaration, what is attached to its cells, and what is told of them.
+#[derive(Clone, Copy)]
+pub struct Matter<'a> {
+    pub text: &'a str,
+    pub attachments: &'a [Attachment<'a>],
+    pub tells: &'a [Tell<'a>],
+}
+
+/// What a settling answered: how often it called procedures, and the value of each cell.
+#[derive(Drop)]
+pub struct Answer {
+    pub calls: u128,
+    pub values: Vec<Fact>,
+}
+
+/// What several settlings over one store came to.
+#[derive(Drop)]
+pub struct Shown {
+    /// What each answered, once there was memory.
+    pub answers: Vec<Answer>,
+    /// What the store keeps afterwards of the cells asked for, in the worldviews asked for.
+    pub kept: Vec<Fact>,
+    /// How many settlings ran out of memory, and were then made again.
+    pub refused: u32,
+    /// Whether the told facts stayed as they were in each of the worldviews, after each settling and each refusal.
+    pub is_told_the_same: bool,
+}
+
+/// A store of the network's cells. Asks again if memory is refused once.
+pub fn store_of<A: Allocator + Copy>(
+    alloc: Global,
+    memory: A,
+    network: &Network<'_, '_, A>,
+) -> Result<CellStore<A>, Fail>
+    ensures { IfOk result (λ store. IsReady (network_by network.now) store) }
+{
+    let kinds = kinds_of(alloc, network)?;
+    let mut store = CellStore::new(memory);
+    if store.reserve(network.cells()).is_err() {
+        store.reserve(network.cells())?;
+    }
+    store.add_cells(&kinds)?;
+    Ok(store)
+}
+
+// Tells a fact of a cell that is there.
+fn tell_once<A: Allocator + Copy>(
+    network: &Network<'_, '_, A>,
+    store: &mut CellStore<A>,
+    cell: u32,
+    fact: Fact,
+) -> Result<(), AllocError>
+    requires ready { IsReady (network_by network.now) store.old }
+    requires there { cell < length store.old.cells }
+    requires kind { kind_of fact.info ≡ kind_in_store store.old cell }
+    ensures ready { IsReady (network_by network.now) store.new }
+    ensures fits { LeavesFitting (network_by network.now) store.old (network_by network.now) store.new }
+{
+    // The network is the one that the store is for.
+    let _instances = network.instances();
+    store.tell(cell, fact)?;
+    Ok(())
+}
+
+/// Tells a fact of a declared cell. Tells it again if memory is refused once.
+pub fn tell_fact<A: Allocator + Copy>(
+    network: &Network<'_, '_, A>,
+    store: &mut CellStore<A>,
+    tell: &Tell<'_>,
+) -> Result<(), Fail>
+    requires { IsReady (network_by network.now) store.old }
+    ensures ready { OnOk result (IsReady (network_by network.now) store.new) }
+    ensures fits { OnOk result (LeavesFitting (network_by network.now) store.old
+        (network_by network.now) store.new) }
+{
+    let cell = network
+        .declaration()
+        .cell(tell.cell.as_bytes())
+        .ok_or("no cell")?;
+    for _ in 0..2 {
+        if cell >= store.cells() || !is_of_kind(&tell.fact.info, store.kind(cell)) {
+            return Err("a fact of another kind".into());
+        }
+        if tell_once(network, store, cell, tell.fact).is_ok() {
+            return Ok(());
+        }
+    }
+    Err("no memory".into())
+}
+
+// Tells facts of declared cells.
+fn tell_each<A: Allocator + Copy>(
+    network: &Network<'_, '_, A>,
+    store: &mut CellStore<A>,
+    tells: &[Tell<'_>],
+) -> Result<(), Fail>
+    requires { IsReady (network_by network.now) store.old }
+    ensures ready { OnOk result (IsReady (network_by network.now) store.new) }
+    ensures fits { OnOk result (LeavesFitting (network_by network.now) store.old
+        (network_by network.now) store.new) }
+{
+    for tell in tells {
+        tell_fact(network, store, tell)?;
+    }
+    Ok(())
+}
+
+/// What the store is told of each cell, in one worldview after another.
+pub fn all_told<A: Allocator + Copy>(
+    alloc: Global,
+    store: &CellStore<A>,
+    worldviews: &[PremiseSet],
+) -> Result<Vec<Info>, AllocError> {
+    let mut list = Vec::new(alloc);
+    for worldview in worldviews {
+        for cell in 0..store.cells() {
+            list.push(store.told(cell, worldview))?;
+        }
+    }
+    Ok(list)
+}
+
+// The values of all cells of the network that was settled.
+fn values_of<A: Allocator + Copy>(
+    alloc: Global,
+    network: &Network<'_, '_, A>,
+    settled: &Settled<A>,
+) -> Result<Vec<Fact>, AllocError>
+    requires { length settled.now.infos ≡ cells_in (network_by network.now) }
+{
+    let mut values = Vec::new(alloc);
+    for cell in 0..network.cells() {
+        values.push(settled.value(cell))?;
+    }
+    Ok(values)
+}
+
+// Settles a worldview.
+fn settle_once<A: Allocator + Copy>(
+    memory: A,
+    network: &Network<'_, '_, A>,
+    store: &mut CellStore<A>,
+    worldview: &PremiseSet,
+) -> Result<Settled<A>, AllocError>
+    requires { IsReady (network_by network.now) store.old }
+    ensures ready { IsReady (network_by network.now) store.new }
+    ensures cells { IfOk result (λ settled.
+        length settled.infos ≡ cells_in (network_by network.now)) }
+    ensures fits { IfOk result (IsFitting (network_by network.now) store.new) }
+{
+    let settled = settle(memory, network, store, worldview)?;
+    Ok(settled)
+}
+
+// Settles a worldview, and once more if memory is refused. Answers whether it was refused, and the values in the end.
+fn settle_anyhow<A: Allocator + Copy>(
+    memory: A,
+    network: &Network<'_, '_, A>,
+    store: &mut CellStore<A>,
+    worldview: &PremiseSet,
+) -> Result<(bool, Settled<A>), Fail>
+    requires { IsReady (network_by network.now) store.old }
+    ensures ready { OnOk result (IsReady (network_by network.now) store.new) }
+    ensures cells { IfOk result (λ settled.
+        length settled.1.infos ≡ cells_in (network_by network.now)) }
+    ensures fits { IfOk result (λ settled. IsFitting (network_by network.now) store.new settled.1) }
+{
+    match settle_once(memory, network, store, worldview) {
+        Ok(settled) => Ok((false, settled)),
+        Err(_) => {
+            let settled = settle_once(memory, network, store, worldview)?;
+            Ok((true, settled))
+        }
+    }
+}
+
+// What the values of a settling show.
+fn answer_of<A: Allocator + Copy>(
+    alloc: Global,
+    network: &Network<'_, '_, A>,
+    settled: &Settled<A>,
+) -> Result<Answer, AllocError>
+    requires { length settled.now.infos ≡ cells_in (network_by network.now) }
+{
+    Ok(Answer {
+        calls: settled.calls(),
+        values: values_of(alloc, network, settled)?,
+    })
+}
+
+// What the store keeps of these cells in these worldviews.
+fn kept_of<A: Allocator + Copy>(
+    alloc: Global,
+    network: &Network<'_, '_, A>,
+    store: &mut CellStore<A>,
+    asked: &[(&str, PremiseSet)],
+) -> Result<Vec<Fact>, Fail> {
+    let mut kept = Vec::new(alloc);
+    for (name, worldview) in asked {
+        let cell = network
+            .declaration()
+            .cell(name.as_bytes())
+            .ok_or("no cell")?;
+        if cell >= store.cells() {
+            return Err("no such cell".into());
+        }
+        kept.push(store.kept(cell, worldview))?;
+    }
+    Ok(kept)
+}
+
+// Settlings over one store. The growths of the declaration and the network are those of `ample`, and those of the store and of
+// the settlings are those of `memory`.
+#[derive(Drop)]
+struct Settling<'a, A: Allocator> {
+    alloc: Global,
+    ample: A,
+    memory: A,
+    matter: Matter<'a>,
+    worldviews: &'a [PremiseSet],
+    asked: &'a [(&'a str, PremiseSet)],
+}
+
+impl<A: Allocator + Copy> Settling<'_, A> {
+    // Settles the worldviews one after another, over a store in which the facts were told.
+    fn settle_all(&self, network: &Network<'_, '_, A>) -> Result<Shown, Fail> {
+        let mut store = store_of(self.alloc, self.memory, network)?;
+        tell_each(network, &mut store, self.matter.tells)?;
+        let before = all_told(self.alloc, &store, self.worldviews)?;
+        let mut shown = Shown {
+            answers: Vec::new(self.alloc),
+            kept: Vec::new(self.alloc),
+            refused: 0,
+            is_told_the_same: true,
+        };
+        for worldview in self.worldviews {
+            let (is_refused, settled) = settle_anyhow(self.memory, network, &mut store, worldview)?;
+            let answer = answer_of(self.alloc, network, &settled)?;
+            shown.answers.push(answer)?;
+            shown.refused = shown.refused.saturating_add(u32::from(is_refused));
+            if all_told(self.alloc, &store, self.worldviews)? != before {
+                shown.is_told_the_same = false;
+            }
+        }
+        shown.kept = kept_of(self.alloc, network, &mut store, self.asked)?;
+        Ok(shown)
+    }
+}
+
+// Makes the network, and settles the worldviews.
+fn settle_over<A: Allocator + Copy>(
+    task: &Settling<'_, A>,
+    declaration: &Declaration<'_, A>,
+) -> Result<Shown, Fail> {
+    let mut network = Network::new(task.ample, declaration)?;
+    attach_named(&mut network, task.matter.attachments)?;
+    task.settle_all(&network)
+}
+
+impl<A: Allocator + Copy> OverDeclaration<A> for Settling<'_, A> {
+    type Answer = Result<Shown, Fail>;
+
+    fn over(self, declaration: &Declaration<'_, A>) -> Result<Shown, Fail> {
+        settle_over(&self, declaration)
+    }
+}
+
+/// Settles these worldviews one after another. Answers what they came to, and what the store then keeps of the cells asked for.
+/// The growths of the declaration and the network are those of `ample`, and the others those of `memory`.
+pub fn settled_in<A: Allocator + Copy>(
+    alloc: Global,
+    ample: A,
+    memory: A,
+    matter: Matter<'_>,
+    worldviews: &[PremiseSet],
+    asked: &[(&str, PremiseSet)],
+) -> Result<Shown, Fail> {
+    let task = Settling {
+        alloc,
+        ample,
+        memory,
+        matter,
+        worldviews,
+        asked,
+    };
+    over_text(alloc, ample, matter.text, task)?
+}
+
+/// The same with ample memory.
+pub fn settled(
+    alloc: Global,
+    matter: Matter<'_>,
+    worldviews: &[PremiseSet],
+    asked: &[(&str, PremiseSet)],
+) -> Result<Shown, Fail> {
+    settled_in(alloc, alloc, alloc, matter, worldviews, asked)
+}

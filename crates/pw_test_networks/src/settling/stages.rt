@@ -1,0 +1,310 @@
+//! Settlings in stages. Each stage attaches and tells more, and then settles a worldview from the values that the stage before
+//! found.
+
+ghost use Rattle.std.specs.Prelude.{◌≡◌, ◌+◌, ◌≤◌, ◌++◌, length, map, IfOk, IfSome, OnOk};
+ghost use Rattle.pw_cells.specs.Cells.{most_cells, new_cell};
+ghost use Rattle.pw_decl.specs.Declaration.{IsCallable};
+ghost use Rattle.pw_decl.specs.Expansion.{inner_kinds_of};
+ghost use Rattle.pw_decl.specs.Fields.{declared_by};
+ghost use Rattle.pw_decl.specs.Limits.{most_inner_cells};
+ghost use Rattle.pw_network.specs.Fields.{network_by};
+ghost use Rattle.pw_network.specs.Network.{cells_in};
+ghost use Rattle.pw_settle.specs.Fitting.{IsFitting};
+ghost use Rattle.pw_test_networks.specs.Settling.{IsReady, LeavesFitting};
+
+use super::{Matter, Shown, all_told, answer_of, settle_anyhow, settle_once, store_of, tell_each};
+use crate::networks::{Attachment, named_in};
+use pw_cells::CellStore;
+use pw_decl::{Callable, Declaration};
+use pw_info::Kind;
+use pw_network::Network;
+use pw_premises::PremiseSet;
+use pw_testing::worlds::{OverDeclaration, over_text};
+use pw_settle::{Settled, resettle};
+use std::alloc::{AllocError, Allocator, Global};
+use std::test::Fail;
+
+/// How many of the attachments and of the tells of a matter have come at a stage, and the worldview to settle then.
+#[derive(Clone, Copy)]
+pub struct Stage {
+    pub attached: usize,
+    pub told: usize,
+    pub worldview: PremiseSet,
+}
+
+impl Stage {
+    /// The stage at which the first `attached` attachments and the first `told` tells have come.
+    pub fn new(attached: usize, told: usize, worldview: PremiseSet) -> Stage {
+        Stage {
+            attached,
+            told,
+            worldview,
+        }
+    }
+}
+
+// The elements of a list from one place up to another.
+fn between<T>(list: &[T], from: usize, to: usize) -> &[T] {
+    let to = to.min(list.len());
+    &list[from.min(to)..to]
+}
+
+impl<'a> Matter<'a> {
+    /// What has come at a stage.
+    pub fn until(&self, stage: &Stage) -> Matter<'a> {
+        Matter {
+            text: self.text,
+            attachments: between(self.attachments, 0, stage.attached),
+            tells: between(self.tells, 0, stage.told),
+        }
+    }
+}
+
+// The kinds of the inner cells that the callable makes.
+fn inner_kinds<'a, A: Allocator + Copy>(
+    declaration: &'a Declaration<'_, A>,
+    callable: Callable,
+) -> &'a [Kind]
+    requires { IsCallable (declared_by declaration.now) callable }
+    ensures kinds { result.now ≡ inner_kinds_of (declared_by declaration.now).compounds callable }
+    ensures most { length result.now ≤ most_inner_cells }
+{
+    match callable {
+        Callable::Stored(_) => &[],
+        Callable::Compound(compound) => declaration.inner_kinds(compound),
+    }
+}
+
+// Adds new cells of these kinds. Asks again if memory is refused once.
+fn add_cells<A: Allocator + Copy>(
+    store: &mut CellStore<A>,
+    kinds: &[Kind],
+) -> Result<(), AllocError>
+    requires { length store.old.cells + length kinds.now ≤ most_cells }
+    ensures { OnOk result (store.new.cells ≡ store.old.cells ++ map new_cell kinds.now) }
+{
+    match store.add_cells(kinds) {
+        Ok(_) => Ok(()),
+        Err(_) => {
+            store.add_cells(kinds)?;
+            Ok(())
+        }
+    }
+}
+
+// Attaches a callable to declared cells, and adds its inner cells to the store.
+fn attach_one<A: Allocator + Copy>(
+    network: &mut Network<'_, '_, A>,
+    store: &mut CellStore<A>,
+    attachment: &Attachment<'_>,
+) -> Result<(), Fail>
+    requires { IsReady (network_by network.old) store.old }
+    ensures ready { OnOk result (IsReady (network_by network.new) store.new) }
+    ensures fits { OnOk result (LeavesFitting (network_by network.old) store.old
+        (network_by network.new) store.new) }
+{
+    let (callable, cells) = named_in(network, attachment).ok_or("wrong names")?;
+    let Ok(()) = network.attach(attachment.line, callable, cells, attachment.support) else {
+        return Err("not attached".into());
+    };
+    let kinds = inner_kinds(network.declaration(), callable);
+    add_cells(store, kinds)?;
+    Ok(())
+}
+
+// Attaches callables to declared cells, and adds their inner cells to the store.
+fn attach_each<A: Allocator + Copy>(
+    network: &mut Network<'_, '_, A>,
+    store: &mut CellStore<A>,
+    attachments: &[Attachment<'_>],
+) -> Result<(), Fail>
+    requires { IsReady (network_by network.old) store.old }
+    ensures ready { OnOk result (IsReady (network_by network.new) store.new) }
+    ensures fits { OnOk result (LeavesFitting (network_by network.old) store.old
+        (network_by network.new) store.new) }
+{
+    for attachment in attachments {
+        attach_one(network, store, attachment)?;
+    }
+    Ok(())
+}
+
+// Settles a worldview from the last values.
+fn resettle_once<A: Allocator + Copy>(
+    memory: A,
+    last: Settled<A>,
+    network: &Network<'_, '_, A>,
+    store: &mut CellStore<A>,
+    worldview: &PremiseSet,
+) -> Result<Settled<A>, AllocError>
+    requires ready { IsReady (network_by network.now) store.old }
+    requires fits { IsFitting (network_by network.now) store.old last }
+    ensures ready { IsReady (network_by network.now) store.new }
+    ensures cells { IfOk result (λ settled.
+        length settled.infos ≡ cells_in (network_by network.now)) }
+    ensures fits { IfOk result (IsFitting (network_by network.now) store.new) }
+{
+    let settled = resettle(memory, last, network, store, worldview)?;
+    Ok(settled)
+}
+
+// Settles a worldview: from the last values if there are any, and without them if memory is refused. Answers whether going on
+// from them was refused, and the values in the end.
+fn settle_next<A: Allocator + Copy>(
+    memory: A,
+    last: Option<Settled<A>>,
+    network: &Network<'_, '_, A>,
+    store: &mut CellStore<A>,
+    worldview: &PremiseSet,
+) -> Result<(bool, Settled<A>), Fail>
+    requires ready { IsReady (network_by network.now) store.old }
+    requires fits { IfSome last (IsFitting (network_by network.now) store.old) }
+    ensures ready { OnOk result (IsReady (network_by network.now) store.new) }
+    ensures cells { IfOk result (λ settled.
+        length settled.1.infos ≡ cells_in (network_by network.now)) }
+    ensures fits { IfOk result (λ settled. IsFitting (network_by network.now) store.new settled.1) }
+{
+    let Some(last) = last else {
+        let (_, settled) = settle_anyhow(memory, network, store, worldview)?;
+        return Ok((false, settled));
+    };
+    match resettle_once(memory, last, network, store, worldview) {
+        Ok(settled) => Ok((false, settled)),
+        Err(_) => {
+            let settled = settle_once(memory, network, store, worldview)?;
+            Ok((true, settled))
+        }
+    }
+}
+
+// Settlings in stages over one network and one store. The growths of the declaration and the network are those of `ample`, and
+// those of the store and of the settlings are those of `memory`.
+#[derive(Drop)]
+struct Staged<'a, A: Allocator> {
+    alloc: Global,
+    ample: A,
+    memory: A,
+    matter: Matter<'a>,
+    stages: &'a [Stage],
+}
+
+impl<A: Allocator + Copy> Staged<'_, A> {
+    // Attaches and tells what comes after one stage, up to another.
+    fn come(
+        &self,
+        network: &mut Network<'_, '_, A>,
+        store: &mut CellStore<A>,
+        before: &Stage,
+        stage: &Stage,
+    ) -> Result<(), Fail>
+        requires { IsReady (network_by network.old) store.old }
+        ensures ready { OnOk result (IsReady (network_by network.new) store.new) }
+        ensures fits { OnOk result (LeavesFitting (network_by network.old) store.old
+            (network_by network.new) store.new) }
+    {
+        let attachments = between(self.matter.attachments, before.attached, stage.attached);
+        attach_each(network, store, attachments)?;
+        let tells = between(self.matter.tells, before.told, stage.told);
+        tell_each(network, store, tells)?;
+        Ok(())
+    }
+
+    // Settles the worldview of a stage, from the last values if there are any, and shows what it comes to.
+    fn settle_stage(
+        &self,
+        last: Option<Settled<A>>,
+        network: &Network<'_, '_, A>,
+        store: &mut CellStore<A>,
+        worldview: &PremiseSet,
+        shown: &mut Shown,
+    ) -> Result<Settled<A>, Fail>
+        requires ready { IsReady (network_by network.now) store.old }
+        requires fits { IfSome last (IsFitting (network_by network.now) store.old) }
+        ensures ready { OnOk result (IsReady (network_by network.now) store.new) }
+        ensures fits { IfOk result (IsFitting (network_by network.now) store.new) }
+    {
+        let seen = [*worldview, PremiseSet::empty(), PremiseSet::first(5)];
+        let before = all_told(self.alloc, store, &seen)?;
+        let (is_refused, settled) = settle_next(self.memory, last, network, store, worldview)?;
+        let answer = answer_of(self.alloc, network, &settled)?;
+        shown.answers.push(answer)?;
+        shown.refused = shown.refused.saturating_add(u32::from(is_refused));
+        if all_told(self.alloc, store, &seen)? != before {
+            shown.is_told_the_same = false;
+        }
+        Ok(settled)
+    }
+
+    // Goes through the stages, over a network to which nothing is attached yet and a store of its cells.
+    fn settle_all(
+        &self,
+        network: &mut Network<'_, '_, A>,
+        store: &mut CellStore<A>,
+    ) -> Result<Shown, Fail>
+        requires { IsReady (network_by network.old) store.old }
+    {
+        let mut shown = Shown {
+            answers: Vec::new(self.alloc),
+            kept: Vec::new(self.alloc),
+            refused: 0,
+            is_told_the_same: true,
+        };
+        let mut before = Stage::new(0, 0, PremiseSet::empty());
+        let mut last = None;
+        for stage in self.stages {
+            self.come(network, store, &before, stage)?;
+            let settled = self.settle_stage(last, network, store, &stage.worldview, &mut shown)?;
+            last = Some(settled);
+            before = *stage;
+        }
+        Ok(shown)
+    }
+}
+
+// Makes the network and the store, and goes through the stages.
+fn settle_over<A: Allocator + Copy>(
+    task: &Staged<'_, A>,
+    declaration: &Declaration<'_, A>,
+) -> Result<Shown, Fail> {
+    let mut network = Network::new(task.ample, declaration)?;
+    let mut store = store_of(task.alloc, task.memory, &network)?;
+    task.settle_all(&mut network, &mut store)
+}
+
+impl<A: Allocator + Copy> OverDeclaration<A> for Staged<'_, A> {
+    type Answer = Result<Shown, Fail>;
+
+    fn over(self, declaration: &Declaration<'_, A>) -> Result<Shown, Fail> {
+        settle_over(&self, declaration)
+    }
+}
+
+/// Settles the worldviews of these stages one after another, over a network and a store to which the matter comes in stages. Each
+/// settling after the first goes on from the values of the one before. The count of refused settlings is that of those that go
+/// on: they are then made without earlier values. The growths of the declaration and the network are those of `ample`, and the
+/// others those of `memory`.
+pub fn settled_in_stages_in<A: Allocator + Copy>(
+    alloc: Global,
+    ample: A,
+    memory: A,
+    matter: Matter<'_>,
+    stages: &[Stage],
+) -> Result<Shown, Fail> {
+    let task = Staged {
+        alloc,
+        ample,
+        memory,
+        matter,
+        stages,
+    };
+    over_text(alloc, ample, matter.text, task)?
+}
+
+/// The same with ample memory.
+pub fn settled_in_stages(
+    alloc: Global,
+    matter: Matter<'_>,
+    stages: &[Stage],
+) -> Result<Shown, Fail> {
+    settled_in_stages_in(alloc, alloc, alloc, matter, stages)
+}

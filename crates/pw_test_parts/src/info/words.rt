@@ -1,0 +1,266 @@
+//! Words, and the texts written for what they spell.
+
+ghost use Rattle.pw_test_parts.specs.ExampleNames.{colours};
+
+use super::outputs::Trickle;
+use pw_info::{Info, Kind, KindNames, SetKind, Writing, read_info, write_info};
+use pw_kinds::{Exact, Interval, Members};
+
+/// One set of members: the names of three colours, under each number.
+#[derive(Drop)]
+pub struct Palette;
+
+impl KindNames for Palette {
+    ghost members = { λ _ _. colours };
+
+    fn member(&self, _set: u8, place: u8) -> &str {
+        match place {
+            0 => "red",
+            1 => "green",
+            _ => "blue",
+        }
+    }
+
+    #[tactic(auto, using(crate::proofs::ExampleNames::colours_are_names))]
+    fn place(&self, _set: u8, name: &[u8]) -> Option<u8> {
+        if name == b"red".as_slice() {
+            return Some(0);
+        }
+        if name == b"green".as_slice() {
+            return Some(1);
+        }
+        if name == b"blue".as_slice() {
+            return Some(2);
+        }
+        None
+    }
+}
+
+#[test]
+fn names_of_a_set(rt: HostRuntime) {
+    assert_eq!(rt; Palette.member(0, 1), "green");
+    assert_eq!(rt; Palette.place(0, b"blue"), Some(2));
+    assert_eq!(rt; Palette.place(0, b"pink"), None);
+}
+
+fn between(lo: i64, hi: i64) -> Option<Info> {
+    let interval = Interval::new(lo, hi)?;
+    Some(Info::of_interval(interval))
+}
+
+#[test]
+fn reads_and_writes_intervals(rt: HostRuntime) {
+    let nothing = Some(Info::nothing(Kind::Interval));
+    let contradiction = Some(Info::contradiction(Kind::Interval));
+    let cases: [(&str, Option<Info>, &str); 9] = [
+        ("nothing", nothing, "nothing"),
+        ("-1000000..1000000", nothing, "nothing"),
+        ("contradiction", contradiction, "contradiction"),
+        ("5", between(5, 5), "5"),
+        ("5..5", between(5, 5), "5"),
+        ("0", between(0, 0), "0"),
+        ("-3..4", between(-3, 4), "-3..4"),
+        (
+            "-1000000..999999",
+            between(-1_000_000, 999_999),
+            "-1000000..999999",
+        ),
+        (
+            "-999999..1000000",
+            between(-999_999, 1_000_000),
+            "-999999..1000000",
+        ),
+    ];
+    for (word, want, text) in cases {
+        let read = read_info(word.as_bytes(), Kind::Interval, &Palette);
+        assert_eq!(rt; read, want, "at {word}");
+        let Some(info) = read else {
+            continue;
+        };
+        assert_eq!(rt; info.kind(), Kind::Interval);
+        for room in 0..20usize {
+            let mut output = Writing::new(Trickle {
+                text: Vec::new(rt.alloc()),
+                room,
+            });
+            let answer = write_info(&info, &Palette, &mut output);
+            assert_eq!(rt; answer.is_ok(), room >= text.len(), "at {word}, {room}");
+            let kept = room.min(text.len());
+            assert_eq!(rt;
+                output.into_writer().text.as_slice(),
+                &text.as_bytes()[..kept],
+                "at {word}, {room}"
+            );
+        }
+    }
+}
+
+#[test]
+fn reads_and_writes_members(rt: HostRuntime) {
+    let kind = Kind::Members(SetKind { number: 7, size: 3 });
+    let cases: [(&str, u64, &str); 9] = [
+        ("nothing", 0b111, "nothing"),
+        ("contradiction", 0b000, "contradiction"),
+        ("{red}", 0b001, "{red}"),
+        ("{blue}", 0b100, "{blue}"),
+        ("{red,green}", 0b011, "{red,green}"),
+        ("{green,red}", 0b011, "{red,green}"),
+        ("{blue,red}", 0b101, "{red,blue}"),
+        ("{red,green,blue}", 0b111, "nothing"),
+        ("{blue,green,red}", 0b111, "nothing"),
+    ];
+    for (word, mask, text) in cases {
+        let want = Members::of(3, mask).map(|part| Info::of_members(7, part));
+        let read = read_info(word.as_bytes(), kind, &Palette);
+        assert_eq!(rt; read, want, "at {word}");
+        let Some(info) = read else {
+            continue;
+        };
+        assert_eq!(rt; info.kind(), kind);
+        for room in 0..20usize {
+            let mut output = Writing::new(Trickle {
+                text: Vec::new(rt.alloc()),
+                room,
+            });
+            let answer = write_info(&info, &Palette, &mut output);
+            assert_eq!(rt; answer.is_ok(), room >= text.len(), "at {word}, {room}");
+            let kept = room.min(text.len());
+            assert_eq!(rt;
+                output.into_writer().text.as_slice(),
+                &text.as_bytes()[..kept],
+                "at {word}, {room}"
+            );
+        }
+    }
+}
+
+#[test]
+fn reads_and_writes_exact_numbers(rt: HostRuntime) {
+    let cases: [(&str, Option<Exact>, &str); 6] = [
+        ("nothing", Some(Exact::any()), "nothing"),
+        ("contradiction", Some(Exact::none()), "contradiction"),
+        ("0", Exact::one(0), "0"),
+        ("-7", Exact::one(-7), "-7"),
+        ("1000000000", Exact::one(1_000_000_000), "1000000000"),
+        ("-1000000000", Exact::one(-1_000_000_000), "-1000000000"),
+    ];
+    for (word, exact, text) in cases {
+        let read = read_info(word.as_bytes(), Kind::Exact, &Palette);
+        assert_eq!(rt; read, exact.map(Info::of_exact), "at {word}");
+        let Some(info) = read else {
+            continue;
+        };
+        assert_eq!(rt; info.kind(), Kind::Exact);
+        for room in 0..20usize {
+            let mut output = Writing::new(Trickle {
+                text: Vec::new(rt.alloc()),
+                room,
+            });
+            let answer = write_info(&info, &Palette, &mut output);
+            assert_eq!(rt; answer.is_ok(), room >= text.len(), "at {word}, {room}");
+            let kept = room.min(text.len());
+            assert_eq!(rt;
+                output.into_writer().text.as_slice(),
+                &text.as_bytes()[..kept],
+                "at {word}, {room}"
+            );
+        }
+    }
+}
+
+#[test]
+fn reads_none(rt: HostRuntime) {
+    let ones = [b'1'; 1000];
+    let words: [&[u8]; 20] = [
+        b"9..3",
+        b"1000001",
+        b"-1000001..0",
+        b"007",
+        b"-0",
+        b"+1",
+        b"1..",
+        b"..2",
+        b"1...2",
+        b"1..2..3",
+        b"{red}",
+        b"",
+        b"Nothing",
+        b"nothing ",
+        b"nothin",
+        b"contradictio",
+        b"\xff",
+        b"5\x80",
+        b"\xd9\xa1",
+        &ones,
+    ];
+    for word in words {
+        assert_eq!(rt; read_info(word, Kind::Interval, &Palette), None);
+    }
+}
+
+#[test]
+fn reads_no_members(rt: HostRuntime) {
+    let kind = Kind::Members(SetKind { number: 0, size: 3 });
+    let words: [&str; 18] = [
+        "{red,red}",
+        "{red,green,red}",
+        "{red,}",
+        "{,red}",
+        "{red,,green}",
+        "{}",
+        "{,}",
+        "red",
+        "{pink}",
+        "{red,pink}",
+        "{red",
+        "red}",
+        "{{red}}",
+        "{red;green}",
+        "{Red}",
+        "{re}",
+        "{red }",
+        "1",
+    ];
+    for word in words {
+        assert_eq!(rt;
+            read_info(word.as_bytes(), kind, &Palette),
+            None,
+            "at {word}"
+        );
+    }
+}
+
+#[test]
+fn reads_no_exact_number(rt: HostRuntime) {
+    let words: [&str; 9] = [
+        "1..2",
+        "7..7",
+        "1000000001",
+        "-1000000001",
+        "007",
+        "-0",
+        "+1",
+        "{7}",
+        "",
+    ];
+    for word in words {
+        assert_eq!(rt;
+            read_info(word.as_bytes(), Kind::Exact, &Palette),
+            None,
+            "at {word}"
+        );
+    }
+}
+
+#[test]
+fn parts_are_given_back(rt: HostRuntime) {
+    let exact = Info::of_exact(Exact::any());
+    assert_eq!(rt; exact.exact(), Some(Exact::any()));
+    assert_eq!(rt; (exact.interval(), exact.members()), (None, None));
+    let members = Info::of_members(3, Members::full(2));
+    assert_eq!(rt; members.members(), Some(Members::full(2)));
+    assert_eq!(rt; (members.interval(), members.exact()), (None, None));
+    let whole = Info::of_interval(Interval::whole());
+    assert_eq!(rt; whole.interval(), Some(Interval::whole()));
+    assert_eq!(rt; (whole.members(), whole.exact()), (None, None));
+}

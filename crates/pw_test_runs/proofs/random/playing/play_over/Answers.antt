@@ -1,0 +1,11 @@
+use Rattle.std.proofs.Common.{[], refl}
+use Rattle.pw_test_runs.proofs.random.playing.play_over.Goals as goal
+
+pub loop-place-init : goal.loop-place-init
+loop-place-init g c = ([], refl, c.in_ok-workbench.ensures.left)
+
+pub reply_to-reply-requires-clause-left : goal.reply_to-reply-requires-clause-left
+reply_to-reply-requires-clause-left g c = c.loop-place.invariant
+
+pub loop-place-preserved : goal.loop-place-preserved
+loop-place-preserved g c = c.reply_to-reply.ensures

@@ -1,0 +1,118 @@
+//! Tests of how often commands call procedures, one line after another over one workbench.
+
+ghost use Rattle.std.specs.Prelude.{◌≡◌, ◌+◌, ◌≤◌};
+ghost use Rattle.pw_decl.specs.Fields.{declared_by};
+ghost use Rattle.pw_sessions.specs.Fields.{workbench_by};
+ghost use Rattle.pw_transcript.specs.Limits.{most_lines};
+ghost use Rattle.pw_transcript.specs.Steps.Answering.{IsLeft};
+
+use pw_decl::Declaration;
+use pw_network::Network;
+use pw_testing::worlds::{GENERAL, OverDeclaration, over_text};
+use pw_sessions::Workbench;
+use pw_transcript::read_command;
+use std::alloc::{Allocator, Global};
+use std::test::Fail;
+
+// How often the line of this number called procedures. One that says no command calls none.
+fn calls_of<A: Allocator + Copy>(
+    declaration: &Declaration<'_, A>,
+    number: u32,
+    line: &[u8],
+    workbench: &mut Workbench<'_, '_, A>,
+) -> u128
+    requires left { IsLeft (declared_by declaration.now) number (workbench_by workbench.old) }
+    requires most { number ≤ most_lines }
+    ensures { IsLeft (declared_by declaration.now) (number + 1) (workbench_by workbench.new) }
+{
+    // Cells have kinds whose members are named.
+    declaration.limits();
+    match read_command(line, declaration) {
+        Ok(Some(command)) => {
+            workbench.command(number, &command);
+            workbench.last_calls()
+        }
+        _ => 0,
+    }
+}
+
+// How often each of the lines called procedures, over one workbench.
+fn calls_of_each(
+    alloc: Global,
+    declaration: &Declaration<'_>,
+    lines: &[&str],
+) -> Result<Vec<u128>, Fail> {
+    let network = Network::new(alloc, declaration)?;
+    let mut workbench = Workbench::new(alloc, declaration, network)?;
+    let mut calls = Vec::new(alloc);
+    let mut number = 1;
+    for line in lines {
+        if number > 1_000_000 {
+            return Err("too many lines".into());
+        }
+        let of_line = calls_of(declaration, number, line.as_bytes(), &mut workbench);
+        calls.push(of_line)?;
+        number += 1;
+    }
+    Ok(calls)
+}
+
+// Lines over one workbench.
+#[derive(Drop)]
+struct Counting<'a> {
+    alloc: Global,
+    lines: &'a [&'a str],
+}
+
+impl OverDeclaration<Global> for Counting<'_> {
+    type Answer = Result<Vec<u128>, Fail>;
+
+    fn over(self, declaration: &Declaration<'_>) -> Result<Vec<u128>, Fail> {
+        calls_of_each(self.alloc, declaration, self.lines)
+    }
+}
+
+// Ann attaches a sum over x, y and t, tells of its cells and asks for t. Bob, who believes the same, asks for t too.
+const SUM: &[&str] = &[
+    "ann attach sum x y t",
+    "ann tell x 1..2",
+    "ann tell y 10",
+    "ann ask t",
+    "ann ask t",
+    "bob ask t",
+    "ann tell x 1",
+    "ann ask t",
+    "ann tell t 0..100",
+    "ann ask t",
+    "ann doubt a",
+    "ann ask t",
+    "ann conflicts",
+];
+
+#[test]
+fn who_is_fresh_calls_nothing(rt: HostRuntime) -> Result<(), Fail> {
+    let counting = Counting {
+        alloc: rt.alloc(),
+        lines: SUM,
+    };
+    let calls = over_text(rt.alloc(), rt.alloc(), GENERAL, counting)??;
+    let Some(calls) = calls.get(..13) else {
+        return Err("a line is missing".into());
+    };
+    // Lines that ask nothing settle nothing.
+    assert_eq!(rt;
+        [calls[0], calls[1], calls[2], calls[6], calls[8], calls[10]],
+        [0; 6]
+    );
+    // Nothing was settled before: each of the three instances is called.
+    assert!(rt; calls[3] >= 3);
+    // The same again; the other user, for whom all is kept already.
+    assert_eq!(rt; [calls[4], calls[5]], [0, 3]);
+    // Two instances read x; t loses one value, and has two readers.
+    assert!(rt; 2 <= calls[7] && calls[7] <= 4);
+    // What was told of t last follows already: it is no news.
+    assert_eq!(rt; calls[9], 0);
+    // Beliefs that were doubted: a smaller worldview settles anew. Then all is known.
+    assert_eq!(rt; [calls[11], calls[12]], [3, 0]);
+    Ok(())
+}
