@@ -8,7 +8,7 @@ use Rattle.pw_facts.specs.Facts.{Subsumes}
 use Rattle.pw_facts.proofs.Shown.{subsumes_refl, subsumes_trans, subsumes_antisym}
 use Rattle.pw_cells.specs.Cells.{IsSubsumedBy}
 use Rattle.pw_cells.specs.Changes.{Assimilates}
-use Rattle.pw_cells.specs.OneCell.{AreOfKind, AreApart, IsRest}
+use Rattle.pw_cells.specs.inside.OneCell.{AreOfKind, AreApart, IsRest}
 
 -- what is left of them and the fact
 pub assimilates_news : (fact : Fact) (old rest : List Fact) → IsRest fact old rest → Assimilates fact old (rest ++ fact ∷ [])

@@ -15,9 +15,9 @@ use Rattle.pw_facts.specs.declared.fact.Fact.{Fact}
 use Rattle.pw_facts.specs.Facts.{IsMerge, IsMergeOfAll, MergesTo, nothing_known, visible_facts}
 use Rattle.pw_facts.proofs.Merges.{merge_is_first, merge_rests, merge_shows}
 use Rattle.pw_cells.specs.declared.bound.Bound.{Bound}
-use Rattle.pw_cells.specs.Bound.{Bounds}
+use Rattle.pw_cells.specs.inside.OneCell.{Bounds}
 use Rattle.pw_cells.specs.Cells.{IsSubsumedBy}
-use Rattle.pw_cells.specs.OneCell.{AreOfKind, StandsFor}
+use Rattle.pw_cells.specs.inside.OneCell.{AreOfKind, StandsFor}
 use Rattle.pw_cells.proofs.Together.{all_reversed, kind-shown_by, meet_first}
 use Rattle.pw_cells.proofs.MergesTogether.{merge_none, merge_hidden, merge_visible}
 use Rattle.pw_cells.proofs.LastFirst.{stands_reversed, visible_reversed}

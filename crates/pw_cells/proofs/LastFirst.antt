@@ -9,7 +9,7 @@ use Rattle.pw_info.specs.declared.kind.Kind.{Kind}
 use Rattle.pw_premises.specs.Premises.{Premises}
 use Rattle.pw_facts.specs.declared.fact.Fact.{Fact}
 use Rattle.pw_facts.specs.Facts.{visible_facts}
-use Rattle.pw_cells.specs.OneCell.{AreOfKind, StandsFor}
+use Rattle.pw_cells.specs.inside.OneCell.{AreOfKind, StandsFor}
 use Rattle.pw_cells.proofs.Together.{shown-reversed}
 
 -- reversing one element or none changes nothing

@@ -18,8 +18,8 @@ use Rattle.pw_facts.specs.Facts.{shows, Subsumes}
 use Rattle.pw_facts.proofs.Shown.{subsumes_trans}
 use Rattle.pw_cells.specs.Cells.{shown_by, IsSubsumedBy}
 use Rattle.pw_cells.specs.Changes.{Assimilates}
-use Rattle.pw_cells.specs.Assimilated.{does_subsume, unsubsumed, assimilated, all_assimilated}
-use Rattle.pw_cells.specs.OneCell.{AreOfKind, AreApart, IsRest}
+use Rattle.pw_cells.specs.Cells.{does_subsume, unsubsumed, assimilated, all_assimilated}
+use Rattle.pw_cells.specs.inside.OneCell.{AreOfKind, AreApart, IsRest}
 use Rattle.pw_cells.proofs.Together.{kinds-push, kinds-rest, meet_first, shown-rest, shown_known}
 use Rattle.pw_cells.proofs.Wholes.{apart_rest}
 use Rattle.pw_cells.proofs.Assimilations.{assimilates_news, assimilates_known}

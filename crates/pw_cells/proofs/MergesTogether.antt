@@ -18,7 +18,7 @@ use Rattle.pw_facts.specs.declared.fact.Fact.{Fact}
 use Rattle.pw_facts.specs.Facts.{shows, IsMerge, MergesTo, visible_facts}
 use Rattle.pw_facts.proofs.Shown.{shows-supported, shows-unsupported, kind-shows}
 use Rattle.pw_cells.specs.Cells.{shown_by}
-use Rattle.pw_cells.specs.OneCell.{StandsFor}
+use Rattle.pw_cells.specs.inside.OneCell.{StandsFor}
 use Rattle.pw_cells.proofs.Together.{kind-shown_by, larger_shown, shown-push, shown_unsupported, kind_together, meet_keeps}
 
 -- nothing, under no premise, is the merge of no fact

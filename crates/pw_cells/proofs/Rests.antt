@@ -4,7 +4,7 @@ use Rattle.std.proofs.Math.Seq.{take-append_seam, drop-append_seam}
 use Rattle.std.proofs.lemmas.List.{append-nil, get_or-drop, drop-drop, length-take-le, take_more, take_all}
 use Rattle.std.proofs.lemmas.List.Elements.{filter-append}
 use Rattle.pw_facts.specs.declared.fact.Fact.{Fact}
-use Rattle.pw_cells.specs.Assimilated.{does_subsume, unsubsumed}
+use Rattle.pw_cells.specs.Cells.{does_subsume, unsubsumed}
 
 -- one more that the fact subsumes is dropped, and one more that it does not subsume stays
 pub unsubsumed_drops : (f x : Fact) (xs ys : List Fact) → ys ≡ unsubsumed f xs → does_subsume f x ≡ true → ys ≡ unsubsumed f (xs ++ x ∷ [])

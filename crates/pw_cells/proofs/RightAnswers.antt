@@ -15,7 +15,7 @@ use Rattle.pw_facts.proofs.Shown.{shows-supported}
 use Rattle.pw_cells.specs.declared.recalled.Recalled.{Recalled}
 use Rattle.pw_cells.specs.Cells.{Cell, Store, new_cell, cell_at, kind_in_store, told_of, told_in, told_at}
 use Rattle.pw_cells.specs.Changes.{GainsFact}
-use Rattle.pw_cells.specs.Recalled.{IsRight, AreRight, after_tell}
+use Rattle.pw_cells.specs.inside.OneCell.{IsRight, AreRight, after_tell}
 use Rattle.pw_cells.proofs.Rests.{same_ahead, less_ahead}
 use Rattle.pw_cells.proofs.Together.{kind-shown_by, shown_unsupported}
 

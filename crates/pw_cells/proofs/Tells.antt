@@ -10,13 +10,13 @@ use Rattle.pw_premises.specs.Premises.{Premises}
 use Rattle.pw_facts.specs.declared.fact.Fact.{Fact}
 use Rattle.pw_facts.specs.Facts.{shows}
 use Rattle.pw_cells.specs.Cells.{shown_by, IsSubsumedBy}
-use Rattle.pw_cells.specs.Assimilated.{assimilated, all_assimilated}
-use Rattle.pw_cells.specs.OneCell.{AreOfKind, IsWhole, ShowsMore}
+use Rattle.pw_cells.specs.Cells.{assimilated, all_assimilated}
+use Rattle.pw_cells.specs.inside.OneCell.{AreOfKind, IsCellWhole, ShowsMore}
 use Rattle.pw_cells.proofs.Together.{kind_together, meet_first, meet_keeps}
 use Rattle.pw_cells.proofs.Late.{IsAssimilation, assimilation, any_subsumes, assimilated_known, late_kinds_apart, late_push, subsumed_late}
 
 -- what is kept of a whole cell after one more fact of its kind is assimilated
-pub kept_more : (k : Kind) (f : Fact) (told : List Fact) (supports : List Premises) (kept late : List Fact) → kind_of f.info ≡ k → IsWhole k told supports kept late
+pub kept_more : (k : Kind) (f : Fact) (told : List Fact) (supports : List Premises) (kept late : List Fact) → kind_of f.info ≡ k → IsCellWhole k told supports kept late
     → IsAssimilation k f (all_assimilated kept late) (assimilated (all_assimilated kept late) f)
 kept_more k f told supports kept late is whole =
     let both = late_kinds_apart k kept late whole.kept_kinds whole.late_kinds whole.apart in
@@ -24,7 +24,7 @@ kept_more k f told supports kept late is whole =
 
 -- a fact that is added to those that are late is assimilated in the end, and so is one that
 -- something late subsumes
-pub late_more : (k : Kind) (f : Fact) (told : List Fact) (supports : List Premises) (kept late : List Fact) (known : Bool) → kind_of f.info ≡ k → IsWhole k told supports kept late
+pub late_more : (k : Kind) (f : Fact) (told : List Fact) (supports : List Premises) (kept late : List Fact) (known : Bool) → kind_of f.info ≡ k → IsCellWhole k told supports kept late
     → (known ≡ true → IsSubsumedBy late f)
     → all_assimilated kept (if known then late else late ++ f ∷ []) ≡ assimilated (all_assimilated kept late) f
 late_more k f told supports kept late true is whole by =
@@ -38,9 +38,9 @@ late_kinds_more k f late true is kinds = kinds
 late_kinds_more k f late false is kinds = All-push (λ x. kind_of x.info ≡ k) late f kinds is
 
 pub whole_told : (k : Kind) (f : Fact) (told : List Fact) (supports : List Premises) (kept late told' : List Fact) (supports' : List Premises) (known : Bool)
-    → kind_of f.info ≡ k → IsWhole k told supports kept late → (known ≡ true → IsSubsumedBy late f)
+    → kind_of f.info ≡ k → IsCellWhole k told supports kept late → (known ≡ true → IsSubsumedBy late f)
     → AreOfKind (kind_of f.info) told' → supports' ≡ map (λ x. x.support) told' → ShowsMore f told told'
-    → IsWhole k told' supports' kept (if known then late else late ++ f ∷ [])
+    → IsCellWhole k told' supports' kept (if known then late else late ++ f ∷ [])
 whole_told k f told supports kept late told' supports' known is whole by told_kinds known_supports more_told = record {
   told_kinds = subst (λ (x : Kind). AreOfKind x told') is told_kinds;
   kept_kinds = whole.kept_kinds;
@@ -58,8 +58,8 @@ whole_told k f told supports kept late told' supports' known is whole by told_ki
 }
 
 -- after what is late is assimilated
-pub whole_caught_up : (k : Kind) (told : List Fact) (supports : List Premises) (kept late : List Fact) → IsWhole k told supports kept late
-    → IsWhole k told supports (all_assimilated kept late) []
+pub whole_caught_up : (k : Kind) (told : List Fact) (supports : List Premises) (kept late : List Fact) → IsCellWhole k told supports kept late
+    → IsCellWhole k told supports (all_assimilated kept late) []
 whole_caught_up k told supports kept late whole =
     let both = late_kinds_apart k kept late whole.kept_kinds whole.late_kinds whole.apart in
     record {
@@ -71,8 +71,8 @@ whole_caught_up k told supports kept late whole =
       apart = both.1;
     }
 
-pub whole_kept : (k : Kind) (f : Fact) (told : List Fact) (supports : List Premises) (kept : List Fact) → kind_of f.info ≡ k → IsWhole k told supports kept []
-    → IsWhole k told supports (assimilated kept f) []
+pub whole_kept : (k : Kind) (f : Fact) (told : List Fact) (supports : List Premises) (kept : List Fact) → kind_of f.info ≡ k → IsCellWhole k told supports kept []
+    → IsCellWhole k told supports (assimilated kept f) []
 whole_kept k f told supports kept is whole =
     let one = kept_more k f told supports kept [] is whole in
     record {

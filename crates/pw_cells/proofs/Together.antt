@@ -17,7 +17,7 @@ use Rattle.pw_facts.specs.declared.fact.Fact.{Fact}
 use Rattle.pw_facts.specs.Facts.{shows}
 use Rattle.pw_facts.proofs.Shown.{shows-supported, shows-unsupported, kind-shows, larger_shows, subsumption_shows}
 use Rattle.pw_cells.specs.Cells.{shown_by, IsSubsumedBy}
-use Rattle.pw_cells.specs.OneCell.{AreOfKind, IsRest}
+use Rattle.pw_cells.specs.inside.OneCell.{AreOfKind, IsRest}
 use Rattle.pw_cells.proofs.Closest.{meet_mono}
 
 -- in the worldview the fact leaves the value possible

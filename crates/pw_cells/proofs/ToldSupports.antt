@@ -10,7 +10,7 @@ use Rattle.std.proofs.lemmas.List.Quantifiers.{position-Some}
 use Rattle.pw_premises.specs.Premises.{Premises}
 use Rattle.pw_premises.specs.PremiseSubsets.{has_same_numbers, same_numbers_equal}
 use Rattle.pw_facts.specs.declared.fact.Fact.{Fact}
-use Rattle.pw_cells.specs.OneCell.{place_of_support}
+use Rattle.pw_cells.specs.inside.OneCell.{place_of_support}
 
 -- at the place of the support there is a fact, and it has the support
 pub at_place : (told : List Fact) (support : Premises) (place : ℕ) (d : Fact) → place_of_support support (map (λ f. f.support) told) ≡ Some place

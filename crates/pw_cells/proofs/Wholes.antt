@@ -5,7 +5,7 @@ use Rattle.std.proofs.lemmas.List.Elements.{All-contains, Contains-push_cases}
 use Rattle.pw_facts.specs.declared.fact.Fact.{Fact}
 use Rattle.pw_facts.specs.Facts.{Subsumes}
 use Rattle.pw_cells.specs.Cells.{IsSubsumedBy}
-use Rattle.pw_cells.specs.OneCell.{AreApart, IsRest}
+use Rattle.pw_cells.specs.inside.OneCell.{AreApart, IsRest}
 
 -- the remaining facts with the new fact stay apart, if none of the old ones subsumes it
 pub apart_rest : (f : Fact) (facts rest : List Fact) → AreApart facts → (IsSubsumedBy facts f → ⊥) → IsRest f facts rest → AreApart (rest ++ f ∷ [])

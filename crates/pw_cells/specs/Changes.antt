@@ -7,6 +7,10 @@ use Rattle.pw_premises.specs.Premises.{Premises}
 use Rattle.pw_facts.specs.declared.fact.Fact.{Fact}
 use Rattle.pw_facts.specs.Facts.{shows, Subsumes}
 use Rattle.pw_cells.specs.Cells.{Store, cell_at, kept_at, told_in, kept_in, IsSubsumedBy}
+use Rattle.std.specs.Prelude.{slice_index_or}
+use Rattle.pw_info.specs.declared.kind.Kind.TheVariants as kinds
+use Rattle.pw_info.specs.Information.{kind_of}
+use Rattle.pw_cells.specs.Cells.{kind_in_store, kinds_of}
 
 -- in each worldview, the new information is the old one, merged with what the fact shows
 abbrev pub GainsFact : Fact → (Premises → Info) → (Premises → Info) → Type 0
@@ -42,3 +46,21 @@ AssimilatesAt cell fact old new = Assimilates fact (kept_at old cell) (kept_at n
 -- every other cell is unchanged
 abbrev pub LeavesOthers : ℕ → Store → Store → Type 0
 LeavesOthers cell old new = (c : ℕ) → c ≢ cell → cell_at new c ≡ cell_at old c
+
+-- what is told of a cell is of its kind
+abbrev pub ToldIsOfTheKind : Type 0
+ToldIsOfTheKind =
+    (s : Store) (c : ℕ) (w : Premises) →
+    kind_of (told_in s c w) ≡ kind_in_store s c
+
+-- so is what is kept of it
+abbrev pub KeptIsOfTheKind : Type 0
+KeptIsOfTheKind =
+    (s : Store) (c : ℕ) (w : Premises) →
+    kind_of (kept_in s c w) ≡ kind_in_store s c
+
+-- the kind of a cell is the one at its place in the list of kinds
+abbrev pub KindsAreListed : Type 0
+KindsAreListed =
+    (s : Store) (c : ℕ) →
+    kind_in_store s c ≡ slice_index_or (kinds_of s) c kinds.Interval

@@ -1,7 +1,3 @@
 pub mod Cells
-pub mod CellCode
-pub mod Assimilated
-pub mod Bound
-pub mod OneCell
 pub mod Changes
-pub mod Recalled
+pub mod inside

@@ -1,8 +1,8 @@
 //! A bound on what the older facts of a cell say.
 ghost use Rattle.std.specs.Prelude.{◌≡◌, ◌-◌, []};
 ghost use Rattle.pw_info.specs.Information.{kind_of};
-ghost use Rattle.pw_cells.specs.Bound.{Bounds};
-ghost use Rattle.pw_cells.specs.OneCell.{AreOfKind};
+ghost use Rattle.pw_cells.specs.inside.OneCell.{Bounds};
+ghost use Rattle.pw_cells.specs.inside.OneCell.{AreOfKind};
 
 use pw_facts::Fact;
 use pw_info::{Info, Kind};

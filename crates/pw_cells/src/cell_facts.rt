@@ -1,15 +1,17 @@
 //! The facts of one cell.
 
-ghost use Rattle.std.specs.Prelude.{◌≡◌, ◌+◌, ◌<◌, ◌≤◌, ◌↔◌, ◌++◌, ◌∷◌, [], true, false, if◌then◌else◌, None};
+ghost use Rattle.std.specs.Prelude.{◌≡◌, ◌+◌, ◌<◌, ◌≤◌, ◌↔◌, ◌++◌, ◌∷◌, [], true, false};
+ghost use Rattle.std.specs.Prelude.{if◌then◌else◌, None};
 ghost use Rattle.std.specs.Prelude.{map, reverse, vec_len, vec_capacity, IsTrue, IfOk, OnOk, OnErr};
 ghost use Rattle.pw_info.specs.Information.{kind_of, Implies};
 ghost use Rattle.pw_facts.specs.Facts.{IsMerge, IsMergeOfAll, MergesTo, visible_facts};
-ghost use Rattle.pw_facts.specs.Worldviews.{IsLeastAbove, IsMostBelow};
-ghost use Rattle.pw_cells.specs.Bound.{Bounds};
+ghost use Rattle.pw_facts.specs.Facts.{IsLeastAbove, IsMostBelow};
+ghost use Rattle.pw_cells.specs.inside.OneCell.{Bounds};
 ghost use Rattle.pw_cells.specs.Cells.{new_cell, shown_by, told_of, kept_of, IsSubsumedBy};
 ghost use Rattle.pw_cells.specs.Changes.{GainsFact, Assimilates, TellsNews};
-ghost use Rattle.pw_cells.specs.Assimilated.{assimilated, all_assimilated, unsubsumed};
-ghost use Rattle.pw_cells.specs.OneCell.{AreApart, AreOfKind, place_of_support, with_support, ShowsMore, StandsFor};
+ghost use Rattle.pw_cells.specs.Cells.{assimilated, all_assimilated, unsubsumed};
+ghost use Rattle.pw_cells.specs.inside.OneCell.{AreApart, AreOfKind, place_of_support};
+ghost use Rattle.pw_cells.specs.inside.OneCell.{with_support, ShowsMore, StandsFor};
 
 use crate::bound::Bound;
 use crate::supports::Supports;
@@ -45,11 +47,11 @@ impl<A: Allocator> Model for CellFacts<A> {
     ghost use Rattle.std.specs.Prelude.{◌+◌, ◌≤◌, vec_len, vec_capacity};
     ghost use Rattle.pw_info.specs.contracts.kind.Kind as kinds;
     ghost use Rattle.pw_facts.specs.contracts.fact.Fact as facts;
-    ghost use Rattle.pw_cells.specs.Assimilated.{all_assimilated};
-    ghost use Rattle.pw_cells.specs.Bound.{Bounds};
+    ghost use Rattle.pw_cells.specs.Cells.{all_assimilated};
+    ghost use Rattle.pw_cells.specs.inside.OneCell.{Bounds};
     ghost use Rattle.pw_cells.specs.Cells.{Cell};
-    ghost use Rattle.pw_cells.specs.CellCode.{cell_code};
-    ghost use Rattle.pw_cells.specs.OneCell.{IsWhole};
+    ghost use Rattle.pw_cells.specs.inside.OneCell.{cell_code};
+    ghost use Rattle.pw_cells.specs.inside.OneCell.{IsCellWhole};
 
     ghost Value = { Cell };
 
@@ -61,7 +63,7 @@ impl<A: Allocator> Model for CellFacts<A> {
       kept = all_assimilated a.kept.items a.late.items;
     } };
 
-    ghost invariant = { λ a. IsWhole a.kind a.told.items a.supports a.kept.items a.late.items
+    ghost invariant = { λ a. IsCellWhole a.kind a.told.items a.supports a.kept.items a.late.items
         × (vec_len a.kept + vec_len a.late ≤ vec_capacity a.kept) × Bounds a.kind a.kept.items a.bound };
 }
 
@@ -220,7 +222,8 @@ fn reserve_late<A: Allocator>(
     ensures kept { kept.new.items ≡ kept.old.items }
     ensures late { late.new.items ≡ late.old.items }
     ensures room { vec_len kept.new + vec_len late.new ≤ vec_capacity kept.new }
-    ensures more { OnOk result (known ≡ false → vec_len kept.new + vec_len late.new < vec_capacity kept.new) }
+    ensures more { OnOk result (known ≡ false → vec_len kept.new + vec_len late.new < vec_capacity
+        kept.new) }
     ensures late_room { OnOk result (known ≡ false → vec_len late.new < vec_capacity late.new) }
 {
     if known {
@@ -250,7 +253,8 @@ fn add_told<A: Allocator>(told: &mut Vec<Fact, A>, place: Option<usize>, fact: &
 // Adds a fact to the late ones, where there is room, unless the fact is known.
 fn add_late<A: Allocator>(late: &mut Vec<Fact, A>, known: bool, fact: &Fact)
     requires { known ≡ false → vec_len late.old < vec_capacity late.old }
-    ensures items { late.new.items ≡ (if known then late.old.items else late.old.items ++ fact.now ∷ []) }
+    ensures items { late.new.items ≡ (if known then late.old.items else late.old.items ++ fact.now ∷
+        []) }
     ensures known { known ≡ true → vec_len late.new ≡ vec_len late.old }
     ensures len { vec_len late.new ≤ vec_len late.old + 1 }
 {

@@ -1,13 +1,16 @@
 //! The store: cells by number, each with the facts told about it and the facts kept of it.
 
-ghost use Rattle.std.specs.Prelude.{◌≡◌, ◌+◌, ◌≤◌, ◌<◌, ◌++◌, [], true, false, length, map, IsOk, IfOk, vec_len, vec_capacity, OnOk, OnErr};
+ghost use Rattle.std.specs.Prelude.{◌≡◌, ◌+◌, ◌≤◌, ◌<◌, ◌++◌, [], true, false, length, map, IsOk};
+ghost use Rattle.std.specs.Prelude.{IfOk, vec_len, vec_capacity, OnOk, OnErr};
 ghost use Rattle.std.specs.FinSet.{is_subset};
 ghost use Rattle.pw_info.specs.Information.{kind_of, Implies};
 ghost use Rattle.pw_premises.specs.Premises.{Premises};
 ghost use Rattle.pw_facts.specs.Facts.{IsMergeOfAll, visible_facts};
-ghost use Rattle.pw_facts.specs.Worldviews.{IsLeastAbove, IsMostBelow};
-ghost use Rattle.pw_cells.specs.Changes.{GainsTold, GainsKept, TellsNews, AssimilatesAt, LeavesOthers};
-ghost use Rattle.pw_cells.specs.Cells.{new_cell, kind_in_store, kinds_of, kept_at, told_in, kept_in, most_cells, ArePremisesOf};
+ghost use Rattle.pw_facts.specs.Facts.{IsLeastAbove, IsMostBelow};
+ghost use Rattle.pw_cells.specs.Changes.{GainsTold, GainsKept, TellsNews, AssimilatesAt};
+ghost use Rattle.pw_cells.specs.Changes.{LeavesOthers};
+ghost use Rattle.pw_cells.specs.Cells.{new_cell, kind_in_store, kinds_of, kept_at, told_in};
+ghost use Rattle.pw_cells.specs.Cells.{kept_in, most_store_cells, ArePremisesOf};
 
 use crate::cell_facts::CellFacts;
 use crate::recalled::{Answers, Recalled};
@@ -32,9 +35,9 @@ impl<A: Allocator> Model for CellStore<A> {
     ghost use Rattle.std.specs.Prelude.{◌-◌, ◌≤◌, IfSome, length, vec_len, vec_capacity};
     ghost use Rattle.pw_info.specs.contracts.kind.Kind as kinds;
     ghost use Rattle.pw_facts.specs.contracts.fact.Fact as facts;
-    ghost use Rattle.pw_cells.specs.Cells.{Store, most_cells};
-    ghost use Rattle.pw_cells.specs.CellCode.{store_code};
-    ghost use Rattle.pw_cells.specs.Recalled.{AreRight};
+    ghost use Rattle.pw_cells.specs.Cells.{Store, most_store_cells};
+    ghost use Rattle.pw_cells.specs.inside.OneCell.{store_code};
+    ghost use Rattle.pw_cells.specs.inside.OneCell.{AreRight};
 
     ghost Value = { Store };
 
@@ -45,7 +48,7 @@ impl<A: Allocator> Model for CellStore<A> {
       room = vec_capacity a.cells - vec_len a.cells;
     } };
 
-    ghost invariant = { λ a. (length a.cells.items ≤ most_cells) × IfSome a.recalled.slots (AreRight a.cells.items) };
+    ghost invariant = { λ a. (length a.cells.items ≤ most_store_cells) × IfSome a.recalled.slots (AreRight a.cells.items) };
 }
 
 impl<A: Allocator + Copy> CellStore<A> {
@@ -77,7 +80,7 @@ impl<A: Allocator + Copy> CellStore<A> {
     /// Makes room for this many more cells: the next `add_cells` of at most this many succeeds, no
     /// matter what is told or kept in between. Fails only when out of memory; then nothing changes.
     pub fn reserve(&mut self, cells: u32) -> Result<(), AllocError>
-        requires { length self.old.cells + cells ≤ most_cells }
+        requires { length self.old.cells + cells ≤ most_store_cells }
         ensures room { OnOk result (cells ≤ self.new.room) }
         ensures cells { self.new.cells ≡ self.old.cells }
         ensures err { OnErr result (self.new ≡ self.old) }
@@ -88,7 +91,7 @@ impl<A: Allocator + Copy> CellStore<A> {
     /// Adds cells of these kinds, about which nothing was told, and answers the number of the
     /// first. Succeeds if there is room. Fails only when out of memory; then nothing changes.
     pub fn add_cells(&mut self, kinds: &[Kind]) -> Result<u32, AllocError>
-        requires { length self.old.cells + length kinds.now ≤ most_cells }
+        requires { length self.old.cells + length kinds.now ≤ most_store_cells }
         ensures first { IfOk result (λ first. first ≡ length self.old.cells) }
         ensures cells { OnOk result (self.new.cells ≡ self.old.cells ++ map new_cell kinds.now) }
         ensures succeeds { length kinds.now ≤ self.old.room → IsOk result }

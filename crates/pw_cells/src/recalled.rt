@@ -4,7 +4,7 @@ ghost use Rattle.std.specs.Prelude.{◌≡◌, None, List, All, IfSome, map};
 ghost use Rattle.std.specs.Option.{option_map};
 ghost use Rattle.pw_info.specs.Information.{kind_of};
 ghost use Rattle.pw_cells.specs.Cells.{Cell, told_at};
-ghost use Rattle.pw_cells.specs.Recalled.{AreRight, IsRight, after_tell};
+ghost use Rattle.pw_cells.specs.inside.OneCell.{AreRight, IsRight, after_tell};
 
 use pw_facts::Fact;
 use pw_info::Info;
@@ -38,8 +38,8 @@ impl Answers {
     // The last answer to the asker, if it was on this cell in this worldview. If the answers are
     // right, it is the told information.
     pub(crate) fn find(&self, asker: u8, cell: u32, worldview: &PremiseSet) -> Option<Info>
-        ensures { IfSome result (λ info. (cells : List Cell) → IfSome self.now.slots (AreRight cells)
-            → info ≡ told_at cells cell worldview.now) }
+        ensures { IfSome result (λ info. (cells : List Cell) → IfSome self.now.slots (AreRight
+            cells) → info ≡ told_at cells cell worldview.now) }
     {
         let slots = self.slots.as_ref()?;
         let last = slots[usize::from(asker) % ANSWERS];
@@ -53,8 +53,8 @@ impl Answers {
     // Replaces the last answer to the asker by this one. If it is right, and the others were, all
     // are right.
     pub(crate) fn remember(&mut self, asker: u8, answer: Recalled)
-        ensures { (cells : List Cell) → IfSome self.old.slots (AreRight cells) → IsRight cells answer
-            → IfSome self.new.slots (AreRight cells) }
+        ensures { (cells : List Cell) → IfSome self.old.slots (AreRight cells) → IsRight cells
+            answer → IfSome self.new.slots (AreRight cells) }
     {
         match &mut self.slots {
             Some(slots) => slots[usize::from(asker) % ANSWERS] = answer,
@@ -65,7 +65,8 @@ impl Answers {
     // Merges a fact that was told about the cell, and is of its kind, into the answers on the cell.
     #[inline(always)]
     pub(crate) fn take_in(&mut self, cell: u32, fact: &Fact)
-        requires { IfSome self.old.slots (All (λ answer. answer.cell ≡ cell → kind_of answer.info ≡ kind_of fact.now.info)) }
+        requires { IfSome self.old.slots (All (λ answer. answer.cell ≡ cell → kind_of answer.info ≡
+            kind_of fact.now.info)) }
         ensures { self.new.slots ≡ option_map (map (after_tell cell fact.now)) self.old.slots }
     {
         if let Some(slots) = &mut self.slots {
@@ -76,7 +77,8 @@ impl Answers {
 
 // Merges the fact into each of the answers on the cell.
 fn take_into_each(answers: &mut [Recalled], cell: u32, fact: &Fact)
-    requires { All (λ answer. answer.cell ≡ cell → kind_of answer.info ≡ kind_of fact.now.info) answers.old }
+    requires { All (λ answer. answer.cell ≡ cell → kind_of answer.info ≡ kind_of fact.now.info)
+        answers.old }
     ensures { answers.new ≡ map (after_tell cell fact.now) answers.old }
 {
     for place in 0..answers.len() {

@@ -2,7 +2,7 @@
 
 ghost use Rattle.std.specs.Prelude.{◌≡◌, [], ◌<◌, length, position, IfSome, OnOk, OnErr};
 ghost use Rattle.pw_premises.specs.PremiseSubsets.{has_same_numbers};
-ghost use Rattle.pw_cells.specs.OneCell.{place_of_support, with_support};
+ghost use Rattle.pw_cells.specs.inside.OneCell.{place_of_support, with_support};
 
 use indexmap::IndexSet;
 use pw_premises::PremiseSet;

@@ -4,7 +4,7 @@ use Rattle.std.specs.Prelude.{All}
 use Rattle.std.specs.List.{filter_map, cons_option}
 use Rattle.std.proofs.lemmas.List.Elements.{All-cons, All-nil}
 use Rattle.pw_info.specs.declared.kind.Kind.{Kind}
-use Rattle.pw_procs.specs.Place.{place_of_name}
+use Rattle.pw_procs.specs.Registering.{place_of_name}
 use Rattle.pw_procs.specs.Procedure.{Procedure}
 use Rattle.pw_decl.specs.declared.step.Callable.{Callable}
 use Rattle.pw_decl.specs.Compound.{Step, NewCell, CallOn, Compound, new_kinds, cell_kinds, AcceptsKinds, kinds_at, AreSteps, AreCompoundsAfter, Size, no_size, sum_of_sizes, size_of_local, size_of_callable, size_of_step, size_of_steps, sizes_after, sizes_of}

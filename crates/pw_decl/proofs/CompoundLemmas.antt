@@ -4,14 +4,14 @@ use Rattle.std.specs.Prelude.{All, slice_get, is_some, IsSome, ◌≢◌, ◌⊎
 use Rattle.std.specs.Str.{bytes_eq}
 use Rattle.std.proofs.Common.{subst, inl, inr, Bool, true, false, ◌&&◌, ◌↔◌, length-append, length-take, slice_index_or}
 use Rattle.std.proofs.lemmas.Bool.{false≢true}
-use Rattle.pw_procs.specs.Place.{place_of_name}
+use Rattle.pw_procs.specs.Registering.{place_of_name}
 use Rattle.pw_procs.specs.Procedure.{Procedure}
 use Rattle.std.specs.List.{filter_map, list_all, cons_option, AllByRecursion, IsDistinct}
 use Rattle.std.proofs.lemmas.List.{take_more, take_more_set}
 use Rattle.std.proofs.lemmas.List.Elements.{filter_map-append, All-from_recursion}
 use Rattle.std.proofs.lemmas.Option.{none-some, slice_get_read, slice_get_within, slice_get-get_or, get_or_from_slice_get}
 use Rattle.pw_info.specs.declared.kind.Kind.TheVariants as cells
-use Rattle.pw_procs.specs.Slots.{kind_in}
+use Rattle.pw_procs.specs.Slots.{kind_in_slot}
 use Rattle.pw_procs.specs.Signature.{input_slots_of, output_slot_of}
 use Rattle.pw_decl.specs.declared.step.Callable.TheVariants as callables
 use Rattle.pw_decl.proofs.CompoundLaws.{sum_with_none, size_push, well_with_local, well_with_call}
@@ -20,10 +20,10 @@ use Rattle.pw_info.specs.declared.kind.Kind.{Kind}
 use Rattle.std.proofs.lemmas.List.{append-nil, length-map, map_push}
 use Rattle.std.specs.String.{string_bytes}
 use Rattle.pw_procs.specs.declared.arguments.Arguments.{Arguments}
-use Rattle.pw_procs.specs.Arguments.{cells_of}
+use Rattle.pw_procs.specs.Registry.{cells_of}
 use Rattle.pw_decl.specs.declared.step.Callable.{Callable}
 use Rattle.pw_decl.specs.declared.step.Step.TheVariants as kept
-use Rattle.pw_decl.specs.declared.compound.OpenCompound.{OpenCompound as OpenCompoundKept}
+use Rattle.pw_decl.specs.declared.compound.OpenCompound.{OpenCompound as OpenCompoundType}
 use Rattle.pw_decl.specs.Compound.{Compound, Step, NewCell, CallOn, new_kinds, cell_kinds, with_step, kinds_at, Size, no_size, sum_of_sizes, size_of_local, size_of_steps, size_of_callable, sizes_of, AcceptsKinds, IsTooLarge}
 use Rattle.pw_decl.specs.Declaration.{Declared, OpenCompound, Inside, Outside, Local, Begin, Call, NamesKind, NameKinds, callable_named, parameter_names, parameter_kinds, begun, places_of, with_local, with_call, Makes}
 use Rattle.pw_decl.specs.Prelude.{prelude_compounds}
@@ -32,9 +32,9 @@ use Rattle.pw_decl.specs.Limits.{most_inner_cells, most_compounds, most_paramete
 use Rattle.pw_decl.specs.WellDeclared.{IsWellDeclared, IsWellOpen}
 use Rattle.pw_decl.specs.Faults.{is_cell_of, HasUnknown, HasWrongArguments, IsOneTooMany, OutgrowsWith, Duplicate, Unknown, Wrong, TooMany}
 use Rattle.pw_decl.specs.declared.decl_fault.DeclFaultKind.TheVariants.{DuplicateName, UnknownName, WrongArguments, Limit}
-use Rattle.pw_decl.specs.Steps.SentenceFaults.{IsFaultless, IsToldOf}
-use Rattle.pw_decl.specs.Kept.{compound_of, size_of, step_of, steps_of}
-use Rattle.pw_decl.specs.Steps.Opened.{open_of, IsBegun, IsGrown, IsOpen}
+use Rattle.pw_decl.specs.inside.SentenceFaults.{IsFaultless, IsToldOf}
+use Rattle.pw_decl.specs.inside.Held.{compound_of, size_of, step_of, steps_of}
+use Rattle.pw_decl.specs.inside.Opened.{open_of, IsBegun, IsGrown, IsOpen}
 
 -- ---- the kinds at places
 
@@ -73,7 +73,7 @@ cell_kinds-call compound callable places =
 -- ---- from one open compound to the next
 
 -- if all but lines, names, kinds and size stays, it has become this
-pub grown_local : {A : Type 0} (old new : OpenCompoundKept A) (name : List ℕ) (kind : Kind) →
+pub grown_local : {A : Type 0} (old new : OpenCompoundType A) (name : List ℕ) (kind : Kind) →
     new.name ≡ old.name → new.names ≡ old.names ++ name ∷ [] → new.kinds.items ≡ old.kinds.items ++ kind ∷ [] →
     new.compound.parameters ≡ old.compound.parameters →
     new.compound.steps.items ≡ old.compound.steps.items ++ kept.Local kind ∷ [] →
@@ -92,7 +92,7 @@ grown_local old new name kind same names kinds parameters steps size = record {
   size = size;
 }
 
-pub grown_call : {A : Type 0} (old new : OpenCompoundKept A) (callable : Callable) (arguments : Arguments) (more : Size) →
+pub grown_call : {A : Type 0} (old new : OpenCompoundType A) (callable : Callable) (arguments : Arguments) (more : Size) →
     new.name ≡ old.name → new.names ≡ old.names → new.kinds ≡ old.kinds → new.compound.parameters ≡ old.compound.parameters →
     new.compound.steps.items ≡ old.compound.steps.items ++ kept.Call callable arguments ∷ [] →
     size_of new.compound.size ≡ sum_of_sizes (size_of old.compound.size) more →
@@ -126,7 +126,7 @@ new_kinds_few sizes (NewCell kind ∷ steps) = omega (arith, new_kinds_few sizes
 new_kinds_few sizes (CallOn callable places ∷ steps) = omega (arith, new_kinds_few sizes steps)
 
 -- what has grown keeps what an open compound keeps
-pub grown_open : {A : Type 0} (d : Declared) (old new : OpenCompoundKept A) (opened : OpenCompound) (more : Size) → IsOpen d old → IsGrown old opened more new →
+pub grown_open : {A : Type 0} (d : Declared) (old new : OpenCompoundType A) (opened : OpenCompound) (more : Size) → IsOpen d old → IsGrown old opened more new →
     IsWellOpen d opened →
     sum_of_sizes (size_of_steps (sizes_of d.compounds) (steps_of old.compound.steps.items)) more ≡ size_of_steps (sizes_of d.compounds) opened.compound.steps →
     IsOpen d new
@@ -139,17 +139,17 @@ grown_open d old new opened more was grown well size = record {
 }
 
 -- and if it has not grown
-pub stays_open : {A : Type 0} (d : Declared) (old new : OpenCompoundKept A) → IsOpen d old → IsGrown old (open_of old) no_size new → IsOpen d new
+pub stays_open : {A : Type 0} (d : Declared) (old new : OpenCompoundType A) → IsOpen d old → IsGrown old (open_of old) no_size new → IsOpen d new
 stays_open d old new was grown =
     grown_open d old new (open_of old) no_size was grown was.well (sum_with_none (size_of_steps (sizes_of d.compounds) (steps_of old.compound.steps.items)))
 
-pub grown_open_local : {A : Type 0} (d : Declared) (old new : OpenCompoundKept A) (name : List ℕ) (kind : Kind) → IsOpen d old →
+pub grown_open_local : {A : Type 0} (d : Declared) (old new : OpenCompoundType A) (name : List ℕ) (kind : Kind) → IsOpen d old →
     IsGrown old (with_local (open_of old) name kind) size_of_local new → (OutgrowsWith d (open_of old) size_of_local → ⊥) → IsOpen d new
 grown_open_local d old new name kind was grown fits =
     grown_open d old new (with_local (open_of old) name kind) size_of_local was grown (well_with_local d (open_of old) name kind was.well fits)
     (sym (size_push (sizes_of d.compounds) (steps_of old.compound.steps.items) (NewCell kind)))
 
-pub grown_open_call : {A : Type 0} (d : Declared) (old new : OpenCompoundKept A) (callable : Callable) (places : List ℕ) (more : Size) → IsOpen d old →
+pub grown_open_call : {A : Type 0} (d : Declared) (old new : OpenCompoundType A) (callable : Callable) (places : List ℕ) (more : Size) → IsOpen d old →
     more ≡ size_of_callable (sizes_of d.compounds) callable → IsGrown old (with_call (open_of old) callable places) more new →
     All (λ place. place < length (cell_kinds (open_of old).compound)) places →
     AcceptsKinds d.procedures d.compounds callable (kinds_at (cell_kinds (open_of old).compound) places) →
@@ -190,12 +190,12 @@ local_limit d opened name word kind fresh named large =
     inr (TooMany, inr (λ there. false≢true (sym fresh ∙ there), inr (λ none. none kind named, inr (λ wrong. wrong, inl (refl, large)))), refl)
 
 -- whether there is room for a private cell
-pub fits_local : {A : Type 0} (d : Declared) (old : OpenCompoundKept A) → IsOpen d old → old.compound.size.inner_cells < most_inner_cells →
+pub fits_local : {A : Type 0} (d : Declared) (old : OpenCompoundType A) → IsOpen d old → old.compound.size.inner_cells < most_inner_cells →
     OutgrowsWith d (open_of old) size_of_local → ⊥
 fits_local d old was room (inl large) = omega (arith, was.well.small.instances)
 fits_local d old was room (inr large) = omega (arith, ap (λ (s : Size). s.inner_cells) was.size)
 
-pub full_local : {A : Type 0} (d : Declared) (old : OpenCompoundKept A) → IsOpen d old → most_inner_cells ≤ old.compound.size.inner_cells →
+pub full_local : {A : Type 0} (d : Declared) (old : OpenCompoundType A) → IsOpen d old → most_inner_cells ≤ old.compound.size.inner_cells →
     OutgrowsWith d (open_of old) size_of_local
 full_local d old was full = inr (omega (arith, ap (λ (s : Size). s.inner_cells) was.size))
 
@@ -265,7 +265,7 @@ length-parameters [] = refl
 length-parameters (name ∷ []) = refl
 length-parameters (name ∷ kind ∷ words) = ap suc (length-parameters words)
 
-pub begun_open : {A : Type 0} (d : Declared) (name : List ℕ) (parameters : List (List ℕ)) (opened : OpenCompoundKept A) → IsBegun d name parameters opened →
+pub begun_open : {A : Type 0} (d : Declared) (name : List ℕ) (parameters : List (List ℕ)) (opened : OpenCompoundType A) → IsBegun d name parameters opened →
     callable_named d name ≡ None → (prelude_compounds + most_compounds ≤ length d.compounds → ⊥) → length (parameter_names parameters) ≤ most_parameters → IsOpen d opened
 begun_open d name parameters opened is_begun fresh room few =
     let kinds = opened.compound.parameters.items in
@@ -286,7 +286,7 @@ begun_open d name parameters opened is_begun fresh room few =
       size = is_begun.size ∙ ap (size_of_steps (sizes_of d.compounds)) (sym none);
     }
 
-pub begun_made : {A : Type 0} (d : Declared) (name : List ℕ) (parameters : List (List ℕ)) (opened : OpenCompoundKept A) → IsBegun d name parameters opened →
+pub begun_made : {A : Type 0} (d : Declared) (name : List ℕ) (parameters : List (List ℕ)) (opened : OpenCompoundType A) → IsBegun d name parameters opened →
     Makes (Outside d) (Begin name parameters) (Inside d (open_of opened))
 begun_made d name parameters opened is_begun = (opened.compound.parameters.items, is_begun.named, ap (Inside d) is_begun.is)
 
@@ -336,7 +336,7 @@ few_accepted : (d : Declared) (callable : Callable) (kinds : List Kind) → IsWe
 few_accepted d (callables.Stored number) kinds well accepts =
     let signature = accepts.0.signature in
     let count = ap length accepts.2.1 in
-    omega (arith, count, length-map (input_slots_of signature ++ output_slot_of signature ∷ []) (kind_in accepts.2.0), length-append (input_slots_of signature) (output_slot_of signature ∷ []), length-take signature.count signature.slots, signature.shape.most)
+    omega (arith, count, length-map (input_slots_of signature ++ output_slot_of signature ∷ []) (kind_in_slot accepts.2.0), length-append (input_slots_of signature) (output_slot_of signature ∷ []), length-take signature.count signature.slots, signature.shape.most)
 few_accepted d (callables.Compound number) kinds well accepts =
     let few = well.few number accepts.0 (slice_get_within d.compounds number accepts.0 accepts.1) in
     let same : length (slice_index_or d.compounds number accepts.0).parameters ≡ length accepts.0.parameters =

@@ -7,14 +7,14 @@ use Rattle.std.proofs.lemmas.Bool.{cases_Bool, cases_eq, cases_lt, false≢true}
 use Rattle.std.proofs.lemmas.Option.{none-some, same_Some}
 use Rattle.pw_info.specs.declared.kind.Kind.{Kind}
 use Rattle.pw_info.specs.declared.kind.Kind.TheVariants as kinds
-use Rattle.pw_info.specs.First.{IsFirstIn, HoldsOfNone}
+use Rattle.pw_info.specs.Lines.{IsFirstIn, HoldsOfNone}
 use Rattle.pw_info.proofs.Informations.{same_set}
 use Rattle.pw_procs.specs.declared.signature.Signature.{Signature}
-use Rattle.pw_procs.specs.declared.slot.Slot.{Slot}
-use Rattle.pw_procs.specs.declared.slot.Slot.TheVariants.{Fixed, Same}
+use Rattle.pw_procs.specs.declared.signature.Slot.{Slot}
+use Rattle.pw_procs.specs.declared.signature.Slot.TheVariants.{Fixed, Same}
 use Rattle.pw_procs.specs.Procedure.{Procedure}
 use Rattle.pw_procs.specs.Signature.{input_slots_of, output_slot_of, Accepts}
-use Rattle.pw_procs.specs.Slots.{kind_in, KindsFit}
+use Rattle.pw_procs.specs.Slots.{kind_in_slot, KindsFit}
 use Rattle.pw_decl.specs.declared.step.Callable.{Callable}
 use Rattle.pw_decl.specs.declared.step.Callable.TheVariants as callables
 use Rattle.pw_decl.specs.Compound.{Compound, AcceptsKinds}
@@ -159,18 +159,18 @@ kind_of_same (Same ∷ slots) (kind ∷ kinds) = kind
 kind_of_same slots list = kinds.Interval
 
 -- if kinds fit, they fit with it
-settled : (slots : List Slot) (kinds : List Kind) (same : Kind) → kinds ≡ map (kind_in same) slots → kinds ≡ map (kind_in (kind_of_same slots kinds)) slots
+settled : (slots : List Slot) (kinds : List Kind) (same : Kind) → kinds ≡ map (kind_in_slot same) slots → kinds ≡ map (kind_in_slot (kind_of_same slots kinds)) slots
 settled [] kinds same e = e
 settled (slot ∷ slots) [] same e = absurd cc
 settled (Fixed fixed ∷ slots) (kind ∷ kinds) same e =
-    ap (λ (k : Kind). k ∷ kinds) (first_is kind fixed kinds (map (kind_in same) slots) e)
-    ∙ ap (λ (l : List Kind). fixed ∷ l) (settled slots kinds same (rest_is kind fixed kinds (map (kind_in same) slots) e))
+    ap (λ (k : Kind). k ∷ kinds) (first_is kind fixed kinds (map (kind_in_slot same) slots) e)
+    ∙ ap (λ (l : List Kind). fixed ∷ l) (settled slots kinds same (rest_is kind fixed kinds (map (kind_in_slot same) slots) e))
 settled (Same ∷ slots) (kind ∷ kinds) same e =
-    subst (λ (k : Kind). kind ∷ kinds ≡ map (kind_in k) (Same ∷ slots)) (sym (first_is kind same kinds (map (kind_in same) slots) e)) e
+    subst (λ (k : Kind). kind ∷ kinds ≡ map (kind_in_slot k) (Same ∷ slots)) (sym (first_is kind same kinds (map (kind_in_slot same) slots) e)) e
 
 decided_fit : (slots : List Slot) (kinds : List Kind) → Decided (KindsFit slots kinds)
 decided_fit slots kinds =
-    elim (decided_kinds kinds (map (kind_in (kind_of_same slots kinds)) slots)) [
+    elim (decided_kinds kinds (map (kind_in_slot (kind_of_same slots kinds)) slots)) [
       | inl fit ↦ inl (kind_of_same slots kinds, fit)
       | inr other ↦ inr (λ (same, fit). other (settled slots kinds same fit))
     ]

@@ -5,13 +5,13 @@ use Rattle.std.specs.List.{list_all}
 use Rattle.std.proofs.lemmas.Bool.{false≢true}
 use Rattle.pw_decl.specs.declared.decl_fault.DeclFaultKind.{DeclFaultKind}
 use Rattle.pw_decl.specs.declared.decl_fault.DeclFaultKind.TheVariants.{Syntax}
-use Rattle.pw_info.specs.First.{IsFirstIn}
+use Rattle.pw_info.specs.Lines.{IsFirstIn}
 use Rattle.pw_info.specs.Words.{words_of, is_idle, is_allowed}
 use Rattle.pw_decl.specs.Declaration.{Declared, SoFar, BeforeHeader, Outside, DeclarationSentence, Header, Set, Begin, Call, IsOuterSentence, IsInnerSentence, Makes}
-use Rattle.pw_decl.specs.Steps.Forms.{sentence_at, outer_sentence_of, inner_sentence_of, is_header}
+use Rattle.pw_decl.specs.inside.Forms.{sentence_at, outer_sentence_of, inner_sentence_of, is_header}
 use Rattle.pw_decl.specs.Faults.{SaysInPlace, Declares, LineFault, BadSyntax, Duplicate, Unknown, Wrong, TooMany, FaultApplies, IsFirstFaultOf, HasNoFault, HasDuplicate, HasUnknown, HasWrongArguments, IsOneTooMany}
 use Rattle.pw_decl.specs.Limits.{most_line_bytes}
-use Rattle.pw_decl.specs.Steps.SentenceFaults.{FaultAppliesTo, HasGoodParts, sentence_faults, IsFaultless, IsToldOf, IsToldOfLine}
+use Rattle.pw_decl.specs.inside.SentenceFaults.{FaultAppliesTo, HasGoodParts, sentence_faults, IsFaultless, IsToldOf, IsToldOfLine}
 use Rattle.pw_info.proofs.NameLemmas.{all_pass}
 use Rattle.pw_decl.proofs.LineFaults.{found, found_outer, found_inner, given, parameters_pass, one_sentence}
 

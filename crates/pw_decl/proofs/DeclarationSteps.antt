@@ -10,11 +10,11 @@ use Rattle.pw_decl.specs.declared.decl_fault.DeclFaultKind.{DeclFaultKind}
 use Rattle.pw_decl.specs.declared.decl_fault.DeclFaultKind.TheVariants.{Memory}
 use Rattle.pw_decl.specs.declared.declaration.Declaration.{Declaration}
 use Rattle.pw_decl.specs.Declaration.{Declared, nothing_declared, SoFar, BeforeHeader, Outside, Inside}
-use Rattle.pw_decl.specs.Faults.{LineFault, TooLong, BadSyntax, Duplicate, Unknown, Wrong, TooMany, kind_of_fault, Declares, Leads, PreludeDeclares, SpellsDeclaration, IsUnfinished, IsFaultAmong, IsClearUpTo, IsFaultOfPrelude, IsFirstFault, IsToldAmong, IsClearInPrelude, HasNoFaultUpTo, IsTold, IsReadAs, IsFaultAt}
-use Rattle.pw_decl.specs.Fields.{declared_by}
+use Rattle.pw_decl.specs.Faults.{LineFault, TooLong, BadSyntax, Duplicate, Unknown, Wrong, TooMany, kind_of_fault, Declares, Leads, PreludeDeclares, SpellsDeclaration, IsUnfinished, IsFaultAmong, IsClearUpTo, IsFaultOfPrelude, IsFirstFault, IsReportedAmong, IsClearInPrelude, HasNoFaultUpTo, IsReported, IsReadAs, IsFaultAt}
+use Rattle.pw_decl.specs.inside.Fields.{declared}
 use Rattle.pw_decl.specs.Limits.{most_text_bytes}
 use Rattle.pw_decl.specs.Prelude.{prelude_text}
-use Rattle.pw_decl.specs.Steps.SentenceFaults.{IsToldOfLine}
+use Rattle.pw_decl.specs.inside.SentenceFaults.{IsToldOfLine}
 use Rattle.pw_decl.proofs.LineFaults.{one_spelled, one_fault, not_both}
 
 -- ---- as many lines as bytes, at most
@@ -136,7 +136,7 @@ given_back P (Err given) why is h = subst (λ e. P (Err e)) (sym is) h
 
 -- the fault reported after the last line
 pub told_at_end : (start : SoFar) (lines left : List (List ℕ)) (count : ℕ) (s : SoFar) (r : IsReadUpTo start lines left count s) (fault : DeclFault) →
-    left ≡ [] → IsUnfinished s fault.why × (fault.line ≡ count + 1) → IsToldAmong start lines fault
+    left ≡ [] → IsUnfinished s fault.why × (fault.line ≡ count + 1) → IsReportedAmong start lines fault
 told_at_end start lines left count s r fault none (unfinished, at) =
     inr (subst (λ (n : ℕ). IsFaultAmong start lines n fault.why) (sym at) (fault_at_end start lines left count s r fault.why none unfinished))
 
@@ -151,7 +151,7 @@ module _ (ps : List Procedure) (d : Declared) (text : List ℕ) (nothing : d ≡
   pub prelude_declares : (known : Declared) → Leads (Outside d) (lines_of text) (Outside known) → PreludeDeclares ps known
   prelude_declares known leads = from_nothing (λ s lines. Leads s lines (Outside known)) leads
 
-  pub prelude_faulty : (fault : DeclFault) → IsToldAmong (Outside d) (lines_of text) fault → (fault.why ≡ Memory) ⊎ IsFaultOfPrelude ps fault.why
+  pub prelude_faulty : (fault : DeclFault) → IsReportedAmong (Outside d) (lines_of text) fault → (fault.why ≡ Memory) ⊎ IsFaultOfPrelude ps fault.why
   prelude_faulty fault (inl memory) = inl memory
   prelude_faulty fault (inr among) = inr (fault.line, from_nothing (λ s lines. IsFaultAmong s lines fault.line fault.why) among)
 
@@ -162,7 +162,7 @@ module _ (ps : List Procedure) (d : Declared) (text : List ℕ) (nothing : d ≡
 
 module _ (ps : List Procedure) (text : List ℕ) (short : length text ≤ most_text_bytes) where
   -- the fault reported for the prelude
-  pub told_of_prelude : (fault : DeclFault) → fault.line ≡ 0 → (fault.why ≡ Memory) ⊎ IsFaultOfPrelude ps fault.why → IsTold ps text fault
+  pub told_of_prelude : (fault : DeclFault) → fault.line ≡ 0 → (fault.why ≡ Memory) ⊎ IsFaultOfPrelude ps fault.why → IsReported ps text fault
   told_of_prelude fault at (inl memory) = inl memory
   told_of_prelude fault at (inr wrong) = inr (inr (short, inl (at, wrong)))
 
@@ -170,7 +170,7 @@ module _ (ps : List Procedure) (text : List ℕ) (short : length text ≤ most_t
   clear_in_prelude number at clear = (short, inl (at, clear))
 
   -- the fault reported for the lines after it
-  pub told_of_text : (known : Declared) (fault : DeclFault) → PreludeDeclares ps known → IsToldAmong (BeforeHeader known) (lines_of text) fault → IsTold ps text fault
+  pub told_of_text : (known : Declared) (fault : DeclFault) → PreludeDeclares ps known → IsReportedAmong (BeforeHeader known) (lines_of text) fault → IsReported ps text fault
   told_of_text known fault prelude (inl memory) = inl memory
   told_of_text known fault prelude (inr among) = inr (inr (short, inr (record { known = known; prelude = prelude; among = among })))
 
@@ -187,12 +187,12 @@ over P d ps nothing h = subst P (ap (λ (x : Declared). x.procedures) nothing) h
 -- ---- the converse
 
 -- if a fault is reported, the text spells no declaration, unless memory runs out
-pub told_only : (ps : List Procedure) (text : List ℕ) (fault : DeclFault) → IsTold ps text fault → (d : Declared) → SpellsDeclaration ps text d → fault.why ≡ Memory
+pub told_only : (ps : List Procedure) (text : List ℕ) (fault : DeclFault) → IsReported ps text fault → (d : Declared) → SpellsDeclaration ps text d → fault.why ≡ Memory
 told_only ps text fault (inl memory) d spells = memory
 told_only ps text fault (inr first) d spells = absurd (not_both ps text fault.line fault.why d first spells)
 
 -- and the fault is the text's first, unless memory runs out
-pub told_first : (ps : List Procedure) (text : List ℕ) (fault : DeclFault) → IsTold ps text fault →
+pub told_first : (ps : List Procedure) (text : List ℕ) (fault : DeclFault) → IsReported ps text fault →
     (line : ℕ) (why : DeclFaultKind) → IsFirstFault ps text line why → (fault.why ≡ Memory) ⊎ ((fault.line ≡ line) × (fault.why ≡ why))
 told_first ps text fault (inl memory) line why first = inl memory
 told_first ps text fault (inr told) line why first = inr (one_fault ps text fault.line line fault.why why told first)
@@ -200,14 +200,14 @@ told_first ps text fault (inr told) line why first = inr (one_fault ps text faul
 module _ {A : _} {X : Type 0} {F : X → Type 0} {C : _} (ps : List Procedure) (text : List ℕ) where
   -- what is read of a text that spells a declaration
   pub only_declaration : (r : Result (Declaration A X F C) DeclFault) →
-      IfOk r (λ x. SpellsDeclaration ps text (declared_by x)) → IfErr r (IsTold ps text) →
+      IfOk r (λ x. SpellsDeclaration ps text (declared x)) → IfErr r (IsReported ps text) →
       (d : Declared) → SpellsDeclaration ps text d → IsReadAs d r
-  only_declaration (Ok x) ok err d spells = one_spelled ps text (declared_by x) d ok spells
+  only_declaration (Ok x) ok err d spells = one_spelled ps text (declared x) d ok spells
   only_declaration (Err fault) ok err d spells = told_only ps text fault err d spells
 
   -- the fault reported for a text that has a first fault
   pub only_fault : (r : Result (Declaration A X F C) DeclFault) →
-      IfOk r (λ x. SpellsDeclaration ps text (declared_by x)) → IfErr r (IsTold ps text) →
+      IfOk r (λ x. SpellsDeclaration ps text (declared x)) → IfErr r (IsReported ps text) →
       (line : ℕ) (why : DeclFaultKind) → IsFirstFault ps text line why → IsFaultAt line why r
-  only_fault (Ok x) ok err line why first = absurd (not_both ps text line why (declared_by x) first ok)
+  only_fault (Ok x) ok err line why first = absurd (not_both ps text line why (declared x) first ok)
   only_fault (Err fault) ok err line why first = told_first ps text fault err line why first

@@ -9,7 +9,7 @@ use Rattle.std.proofs.lemmas.Option.{get_or_from_slice_get, slice_get_within, sl
 use Rattle.pw_info.specs.declared.kind.Kind.{Kind}
 use Rattle.pw_procs.specs.Procedure.{Procedure}
 use Rattle.pw_procs.specs.Signature.{input_slots_of, output_slot_of}
-use Rattle.pw_procs.specs.Slots.{kind_in}
+use Rattle.pw_procs.specs.Slots.{kind_in_slot}
 use Rattle.pw_decl.specs.declared.step.Callable.{Callable}
 use Rattle.pw_decl.specs.declared.step.Callable.TheVariants as callables
 use Rattle.pw_decl.specs.Compound.{Step, NewCell, CallOn, Compound, AcceptsKinds, kinds_at, AreSteps, AreCompoundsAfter, Size, no_size, size_of_callable, size_of_steps, sizes_after, sizes_of}
@@ -325,8 +325,8 @@ pub accepts_some : (procedures : List Procedure) (compounds : List Compound) (nu
 accepts_some procedures compounds number kinds (procedure, at, (same, are)) =
     let slots = input_slots_of procedure.signature in
     let output = output_slot_of procedure.signature in
-    let a : length kinds ≡ length (map (kind_in same) (slots ++ output ∷ [])) = ap length are in
-    let b = length-map (slots ++ output ∷ []) (kind_in same) in
+    let a : length kinds ≡ length (map (kind_in_slot same) (slots ++ output ∷ [])) = ap length are in
+    let b = length-map (slots ++ output ∷ []) (kind_in_slot same) in
     let c = length-append slots (output ∷ []) in
     omega arith
 

@@ -11,7 +11,7 @@ use Rattle.pw_info.specs.declared.kind.Kind.{Kind}
 use Rattle.pw_decl.specs.declared.step.Callable.{Callable}
 use Rattle.pw_decl.specs.declared.step.Callable.TheVariants as callables
 use Rattle.pw_decl.specs.Compound.{Compound, Step, NewCell, CallOn, new_kinds, Size, no_size, size_of_callable, size_of_steps, sizes_after, sizes_of}
-use Rattle.pw_decl.specs.Steps.Flattening.{cells_after}
+use Rattle.pw_decl.specs.inside.Flattening.{cells_after}
 use Rattle.pw_decl.specs.Expansion.{Instance, instance_on, renamed, inner_of_callable, inner_of_steps, inner_after, inner_kinds_of, Expands, cells_at, expand_callable, expand_steps, expand_after, expansion_of, at_place, on_places}
 
 -- ---- names of cells, of one instance

@@ -7,12 +7,12 @@ use Rattle.std.proofs.lemmas.List.Elements.{All-cons, All-head, All-nil, All-tai
 use Rattle.std.proofs.lemmas.List.FromFn.{length-range_with_len, get_or-range_with_len}
 use Rattle.std.proofs.lemmas.Option.{get_or_from_slice_get}
 use Rattle.pw_info.specs.declared.kind.Kind.{Kind}
-use Rattle.pw_procs.specs.Arguments.{cells_of}
+use Rattle.pw_procs.specs.Registry.{cells_of}
 use Rattle.pw_decl.specs.declared.flat_call.FlatCall.{FlatCall}
 use Rattle.pw_decl.specs.declared.step.Callable.TheVariants as callables
 use Rattle.pw_decl.specs.Compound.{Compound, no_size, size_of_callable, sizes_of}
 use Rattle.pw_decl.specs.Expansion.{Instance, Expands, instance_on, inner_of_steps, inner_after, inner_kinds_of, expand_steps, expand_after, expansion_of, on_places, SpeaksOf}
-use Rattle.pw_decl.specs.Flat.{instances_of, IsBelow, on_own_places, calls_of, AreCallsOf}
+use Rattle.pw_decl.specs.inside.Held.{instances_of, IsBelow, on_own_places, calls_of, AreCallsOf}
 use Rattle.pw_decl.specs.Limits.{most_inner_cells}
 use Rattle.pw_decl.specs.WellDeclared.{IsSmall}
 use Rattle.pw_decl.proofs.CompoundLaws.{length-sizes_of}
@@ -45,17 +45,17 @@ calls_push compounds compound =
 
 -- if this is kept of compounds, and this is the expansion of one more compound, so it is with that
 -- compound added
-pub calls_kept_push : (compounds : List Compound) (compound : Compound) (kept : List (List (Instance ℕ))) (here : List (Instance ℕ)) →
+pub calls_held_push : (compounds : List Compound) (compound : Compound) (kept : List (List (Instance ℕ))) (here : List (Instance ℕ)) →
     kept ≡ calls_of compounds →
     here ≡ on_places (expand_steps (inner_after [] compounds) (expand_after [] [] compounds) compound.steps) (length compound.parameters) →
     kept ++ here ∷ [] ≡ calls_of (compounds ++ compound ∷ [])
-calls_kept_push compounds compound kept here same is = (λ k. same k ++ is k ∷ []) ∙ sym (calls_push compounds compound)
+calls_held_push compounds compound kept here same is = (λ k. same k ++ is k ∷ []) ∙ sym (calls_push compounds compound)
 
 -- and so with the kinds of inner cells
-pub inner_kept_push : (compounds : List Compound) (compound : Compound) (kept : List (List Kind)) (here : List Kind) →
+pub inner_held_push : (compounds : List Compound) (compound : Compound) (kept : List (List Kind)) (here : List Kind) →
     kept ≡ inner_after [] compounds → here ≡ inner_of_steps (inner_after [] compounds) compound.steps →
     kept ++ here ∷ [] ≡ inner_after [] (compounds ++ compound ∷ [])
-inner_kept_push compounds compound kept here same is = (λ k. same k ++ is k ∷ []) ∙ sym (inner_push [] compounds compound)
+inner_held_push compounds compound kept here same is = (λ k. same k ++ is k ∷ []) ∙ sym (inner_push [] compounds compound)
 
 -- ---- how many
 
@@ -103,17 +103,17 @@ calls_at compounds n compound at =
     own_at known compounds n compound (omega (arith, length-expand_after {C = ℕ} [] [] compounds)) at
 
 -- if this is kept of compounds, the kept calls at a compound's number are its expansion
-pub calls_kept_at : (compounds : List Compound) (kept : List (List (Instance ℕ))) (n : ℕ) (compound : Compound) (here : List (Instance ℕ)) →
+pub calls_held_at : (compounds : List Compound) (kept : List (List (Instance ℕ))) (n : ℕ) (compound : Compound) (here : List (Instance ℕ)) →
     kept ≡ calls_of compounds → slice_get compounds n ≡ Some compound → slice_get kept n ≡ Some here →
     here ≡ on_places (expansion_of compounds (callables.Compound n)) (length compound.parameters)
-calls_kept_at compounds kept n compound here same at got =
+calls_held_at compounds kept n compound here same at got =
     some_is here (on_places (expansion_of compounds (callables.Compound n)) (length compound.parameters))
     (sym got ∙ ap (λ (l : List (List (Instance ℕ))). slice_get l n) same ∙ calls_at compounds n compound at)
 
 -- and the kinds there are those of its inner cells
-pub inner_kept_at : (compounds : List Compound) (kept : List (List Kind)) (n : ℕ) (here : List Kind) →
+pub inner_held_at : (compounds : List Compound) (kept : List (List Kind)) (n : ℕ) (here : List Kind) →
     kept ≡ inner_after [] compounds → slice_get kept n ≡ Some here → here ≡ inner_kinds_of compounds (callables.Compound n)
-inner_kept_at compounds kept n here same got =
+inner_held_at compounds kept n here same got =
     sym (get_or_from_slice_get (inner_after [] compounds) n here [] (ap (λ (l : List (List Kind)). slice_get l n) (sym same) ∙ got))
 
 -- a compound has no more inner cells than it may have, if all are small

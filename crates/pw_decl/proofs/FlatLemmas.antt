@@ -3,16 +3,16 @@ use Rattle.std.proofs.Common.{◌≡◌, ℕ, zero, suc, ◌+◌, ◌-◌, ◌<�
 use Rattle.std.proofs.lemmas.List.{take_more, take_more_set, map_push, map-append}
 use Rattle.std.specs.Prelude.{All, slice_get}
 use Rattle.std.specs.List.{range_with_len}
-use Rattle.pw_procs.specs.Arguments.{cells_of}
+use Rattle.pw_procs.specs.Registry.{cells_of}
 use Rattle.pw_decl.specs.declared.flat_call.FlatCall.{FlatCall}
-use Rattle.pw_decl.specs.declared.flattened.Flattened.{Flattened}
+use Rattle.pw_decl.specs.declared.flat_call.Flattened.{Flattened}
 use Rattle.pw_decl.specs.declared.step.Callable.{Callable}
 use Rattle.pw_decl.specs.declared.step.Callable.TheVariants as callables
 use Rattle.pw_decl.specs.Compound.{Compound}
 use Rattle.pw_decl.specs.Declaration.{Declared}
 use Rattle.pw_decl.specs.Expansion.{Instance, at_place, instance_on, renamed, inner_of_callable, inner_after, inner_kinds_of, expand_callable, expand_after, expansion_of, on_places}
-use Rattle.pw_decl.specs.Flat.{instances_of, IsBelow, AreCallsOf}
-use Rattle.pw_decl.specs.Steps.Flattening.{TakesSoMany, GainsCallable}
+use Rattle.pw_decl.specs.inside.Held.{instances_of, IsBelow, AreCallsOf}
+use Rattle.pw_decl.specs.inside.Flattening.{TakesSoMany, GainsCallable}
 use Rattle.pw_decl.proofs.ExpansionLemmas.{instance_on_renamed, expansion_placed}
 use Rattle.pw_decl.proofs.KeptLemmas.{some_is}
 

@@ -9,14 +9,14 @@ use Rattle.pw_info.specs.declared.kind.Kind.{Kind}
 use Rattle.pw_procs.specs.Procedure.{Procedure}
 use Rattle.pw_decl.specs.declared.flattening.Flattening.{Flattening}
 use Rattle.pw_decl.specs.declared.step.Callable.{Callable}
-use Rattle.pw_decl.specs.declared.step.Step.{Step as StepKept}
+use Rattle.pw_decl.specs.declared.step.Step.{Step as StepType}
 use Rattle.pw_decl.specs.declared.step.Callable.TheVariants as callables
 use Rattle.pw_decl.specs.Compound.{Compound, Step, NewCell, CallOn, AcceptsKinds, IsThere, AreSteps, new_kinds, kinds_at, size_of_steps, sizes_of}
 use Rattle.pw_decl.specs.Declaration.{Declared}
 use Rattle.pw_decl.specs.Expansion.{Instance, Expands, at_place, cells_at, inner_of_callable, inner_of_steps, inner_after, expand_callable, expand_steps, expand_after}
-use Rattle.pw_decl.specs.Flat.{instances_of}
-use Rattle.pw_decl.specs.Kept.{step_of, steps_of}
-use Rattle.pw_decl.specs.Steps.Flattening.{TakesSoMany, GainsCallable, IsFlatSoFar, IsNextStep, cells_after}
+use Rattle.pw_decl.specs.inside.Held.{instances_of}
+use Rattle.pw_decl.specs.inside.Held.{step_of, steps_of}
+use Rattle.pw_decl.specs.inside.Flattening.{TakesSoMany, GainsCallable, IsFlatSoFar, IsNextStep, cells_after}
 use Rattle.pw_decl.proofs.ExpansionLemmas.{inner_steps_push, inner_steps_counted, expand_steps_push, cells_after_push, length-cells_after}
 use Rattle.pw_decl.proofs.ExpansionFits.{length-cells_at}
 use Rattle.pw_decl.proofs.FlatLemmas.{at_place_within}
@@ -182,13 +182,13 @@ is_next d parameters done rest step so_far are few small flat =
 -- ---- lines as they are kept
 
 -- the lines up to this one, and this one
-pub next_done : (items : List StepKept) (n : ℕ) (item : StepKept) → n < length items → item ≡ get_or items n item →
+pub next_done : (items : List StepType) (n : ℕ) (item : StepType) → n < length items → item ≡ get_or items n item →
     steps_of (take (n + 1) items) ≡ steps_of (take n items) ++ step_of item ∷ []
 next_done items n item here read =
-    ap steps_of (take_more items n item here ∙ ap (λ (x : StepKept). take n items ++ x ∷ []) (sym read)) ∙ map_push step_of (take n items) item
+    ap steps_of (take_more items n item here ∙ ap (λ (x : StepType). take n items ++ x ∷ []) (sym read)) ∙ map_push step_of (take n items) item
 
 -- the next of them may be next
-pub next_kept : {A : Type 0} (d : Declared) (parameters : List Kind) (items : List StepKept) (n count : ℕ) (item : StepKept) (so_far : Flattening A) →
+pub next_kept : {A : Type 0} (d : Declared) (parameters : List Kind) (items : List StepType) (n count : ℕ) (item : StepType) (so_far : Flattening A) →
     AreSteps d.procedures d.compounds parameters (steps_of items) → length parameters ≤ 8 →
     (size_of_steps (sizes_of d.compounds) (steps_of items)).inner_cells ≤ 256 → n < length items → item ≡ get_or items n item →
     count ≡ length parameters → IsFlatSoFar d.compounds count (steps_of (take n items)) so_far → IsNextStep d so_far (step_of item)

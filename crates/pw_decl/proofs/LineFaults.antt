@@ -20,7 +20,7 @@ use Rattle.pw_decl.specs.declared.decl_fault.DeclFaultKind.{DeclFaultKind}
 use Rattle.pw_decl.specs.declared.step.Callable.{Callable}
 use Rattle.pw_decl.specs.Declaration.{Declared, nothing_declared, SoFar, BeforeHeader, Outside, Inside, DeclarationSentence, Header, User, Premise, PremiseOf, Set, Cell, Begin, Local, Call, End, IsSentenceAt, IsOuterSentence, IsInnerSentence, AreParameters, parameter_names, parameter_kinds, members_of, NamesKind, NameKinds, begun, with_premise, with_cell, with_local, with_call, places_of, Makes}
 use Rattle.pw_decl.specs.Prelude.{prelude_text}
-use Rattle.pw_decl.specs.Steps.Forms.{sentence_at, outer_sentence_of, inner_sentence_of, is_header, are_parameters, user_form, premise_form, set_form, cell_form, compound_form, local_form, end_form, call_form}
+use Rattle.pw_decl.specs.inside.Forms.{sentence_at, outer_sentence_of, inner_sentence_of, is_header, are_parameters, user_form, premise_form, set_form, cell_form, compound_form, local_form, end_form, call_form}
 use Rattle.pw_decl.specs.Faults.{SaysInPlace, Declares, Leads, PreludeDeclares, SpellsDeclaration, IsUnfinished, IsFaultNext, IsFaultAmong, IsFaultOnLine, IsFirstFault, line_faults, FaultApplies, IsFirstFaultOf, kind_of_fault}
 
 -- ---- the header

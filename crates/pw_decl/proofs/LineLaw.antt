@@ -4,7 +4,7 @@ use Rattle.std.specs.Prelude.{All, IsSome}
 use Rattle.std.specs.List.{list_all}
 use Rattle.std.proofs.lemmas.Bool.{cases_Bool, false≢true}
 use Rattle.std.proofs.Math.Nat.{lt_of_not-le}
-use Rattle.pw_kinds.specs.Limits.{most_members}
+use Rattle.pw_kinds.specs.Places.{most_members}
 use Rattle.pw_kinds.specs.Places.{IsSize, fewest_members}
 use Rattle.pw_info.specs.declared.kind.Kind.{Kind}
 use Rattle.pw_info.specs.declared.kind.Kind.TheVariants as kinds
@@ -12,7 +12,7 @@ use Rattle.pw_info.specs.Lines.{lines_of}
 use Rattle.pw_info.specs.Words.{words_of, is_idle, is_allowed}
 use Rattle.pw_info.specs.SetNames.{IsNamed}
 use Rattle.pw_info.proofs.FirstLemmas.{none_is_first}
-use Rattle.pw_procs.specs.Place.{place_of_name}
+use Rattle.pw_procs.specs.Registering.{place_of_name}
 use Rattle.pw_procs.specs.Procedure.{Procedure}
 use Rattle.pw_decl.specs.declared.decl_fault.DeclFaultKind.{DeclFaultKind}
 use Rattle.pw_decl.specs.declared.decl_fault.DeclFaultKind.TheVariants.{Syntax, Limit, MissingEnd}
@@ -23,7 +23,7 @@ use Rattle.pw_decl.specs.Faults.{SaysInPlace, HasDuplicate, HasUnknown, is_cell_
 use Rattle.pw_decl.specs.Limits.{most_users, most_premises, most_cells, most_sets, most_compounds, most_parameters, most_instances, most_inner_cells, most_line_bytes, most_text_bytes}
 use Rattle.pw_decl.specs.Prelude.{prelude_compounds, prelude_text}
 use Rattle.pw_decl.specs.WellDeclared.{IsWellDeclared, IsWellSoFar}
-use Rattle.pw_decl.specs.Steps.Forms.{sentence_at}
+use Rattle.pw_decl.specs.inside.Forms.{sentence_at}
 use Rattle.pw_decl.proofs.CompoundLaws.{well_begun, well_with_local, well_with_call, places_there}
 use Rattle.pw_decl.proofs.Decided.{Decided, first_or_none, decided_not, decided_or, decided_less, decided_at_most, decided_some, decided_none, decided_distinct, decided_false, decided_nil, decided_there, decided_accepts_kinds}
 use Rattle.pw_decl.proofs.DeclaredLemmas.{well_at_first, well_with_user, well_with_premise, well_with_cell, well_with_set, well_with_compound}

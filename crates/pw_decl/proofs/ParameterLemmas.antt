@@ -2,7 +2,7 @@
 use Rattle.std.proofs.Common.{◌≡◌, ◌↔◌, ℕ, sym, ap, ◌∙◌, true, false, List, [], ◌∷◌, ◌++◌, Option, None, Some, Bool, ◌&&◌, append_assoc}
 use Rattle.std.proofs.lemmas.Bool.{false≢true}
 use Rattle.pw_info.specs.Name.{is_name}
-use Rattle.pw_decl.specs.Steps.Forms.{are_parameters}
+use Rattle.pw_decl.specs.inside.Forms.{are_parameters}
 use Rattle.std.specs.Prelude.{IfSome, IfNone, is_some}
 use Rattle.pw_info.specs.declared.kind.Kind.{Kind}
 use Rattle.pw_decl.specs.Declaration.{Declared, NamesKind, NameKinds}

@@ -3,7 +3,7 @@ use Rattle.std.proofs.Common.{◌≡◌, ℕ, ◌+◌, ◌<◌, Bool, List, [], 
 use Rattle.std.specs.List.{position_from}
 use Rattle.std.specs.Str.{bytes_eq}
 use Rattle.std.proofs.lemmas.Bool.{cases_Bool}
-use Rattle.pw_procs.specs.Place.{place_of_name}
+use Rattle.pw_procs.specs.Registering.{place_of_name}
 
 position_from-lt : {K : Type 0} (test : K → Bool) (start : ℕ) (ks : List K) (k : ℕ) → position_from test start ks ≡ Some k → k < start + length ks
 position_from-lt test start [] k found = absurd (let e : None ≡ Some k = found in cc)

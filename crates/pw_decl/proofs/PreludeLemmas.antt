@@ -9,7 +9,7 @@ use Rattle.pw_info.specs.declared.kind.Kind.TheVariants as kinds
 use Rattle.pw_info.specs.Lines.{lines_of}
 use Rattle.pw_info.specs.Name.{is_name, is_reserved}
 use Rattle.pw_info.specs.Words.{words_of, is_idle}
-use Rattle.pw_procs.specs.Place.{place_of_name}
+use Rattle.pw_procs.specs.Registering.{place_of_name}
 use Rattle.pw_procs.specs.Procedure.{Procedure, names_of}
 use Rattle.pw_procs.specs.Values.{bool}
 use Rattle.pw_decl.specs.declared.step.Callable.{Callable}
@@ -18,7 +18,7 @@ use Rattle.pw_decl.specs.Compound.{Compound}
 use Rattle.pw_decl.specs.Declaration.{Declared, nothing_declared, OpenCompound, SoFar, Outside, Inside, DeclarationSentence, Begin, Local, Call, End, NameKinds, parameter_names, parameter_kinds, callable_named, begun, with_local, with_call, with_compound, places_of, Makes}
 use Rattle.pw_decl.specs.Faults.{SaysInPlace, Declares, Leads, PreludeDeclares}
 use Rattle.pw_decl.specs.Prelude.{prelude_text}
-use Rattle.pw_decl.specs.Steps.Forms.{sentence_at, outer_sentence_of, inner_sentence_of}
+use Rattle.pw_decl.specs.inside.Forms.{sentence_at, outer_sentence_of, inner_sentence_of}
 use Rattle.pw_decl.proofs.LineFaults.{found, one_sentence, same_kinds, outside_is}
 
 -- ---- a line whose sentence is known

@@ -14,7 +14,7 @@ use Rattle.pw_info.specs.declared.kind.Kind.TheVariants as kinds
 use Rattle.pw_info.specs.Name.{IsName, is_name, is_reserved}
 use Rattle.pw_info.specs.SetNames.{AreNames, IsNamed}
 use Rattle.pw_info.proofs.NameTests.{passed}
-use Rattle.pw_procs.specs.Place.{place_of_name}
+use Rattle.pw_procs.specs.Registering.{place_of_name}
 use Rattle.pw_procs.specs.Procedure.{Procedure}
 use Rattle.pw_decl.specs.Declaration.{Declared, nothing_declared, built_in_sets, built_in_members, built_in_kind_names, kind_names, members_of, NamesKind}
 

@@ -25,8 +25,11 @@ first_compounds d = record (nothing_declared d.procedures) {
 -- gives its parameters
 pub record HasPrelude (d : Declared) : Type 0 where
   pub three : prelude_compounds ≤ length d.compounds
-  pub names : take prelude_compounds d.compound_names ≡ codes "sum" ∷ codes "product" ∷ codes "conditional" ∷ []
+  pub names : take prelude_compounds d.compound_names
+      ≡ codes "sum" ∷ codes "product" ∷ codes "conditional" ∷ []
   pub first : PreludeDeclares d.procedures (first_compounds d)
   pub sum : IsBuiltIn d (codes "sum") 0 (kinds.Interval ∷ kinds.Interval ∷ kinds.Interval ∷ [])
-  pub product : IsBuiltIn d (codes "product") 1 (kinds.Interval ∷ kinds.Interval ∷ kinds.Interval ∷ [])
-  pub conditional : IsBuiltIn d (codes "conditional") 2 (bool ∷ kinds.Interval ∷ kinds.Interval ∷ kinds.Interval ∷ [])
+  pub product : IsBuiltIn d (codes "product") 1
+      (kinds.Interval ∷ kinds.Interval ∷ kinds.Interval ∷ [])
+  pub conditional : IsBuiltIn d (codes "conditional") 2
+      (bool ∷ kinds.Interval ∷ kinds.Interval ∷ kinds.Interval ∷ [])

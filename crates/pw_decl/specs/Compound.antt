@@ -1,5 +1,6 @@
 -- Compounds: propagators that a declaration builds from procedures and from earlier compounds.
-use Rattle.std.specs.Prelude.{◌≡◌, ℕ, ◌+◌, ◌<◌, List, [], ◌∷◌, ◌++◌, All, length, Some, slice_get, slice_index_or, ◌⊎◌}
+use Rattle.std.specs.Prelude.{◌≡◌, ℕ, ◌+◌, ◌<◌, List, [], ◌∷◌, ◌++◌, All, length, Some, slice_get}
+use Rattle.std.specs.Prelude.{slice_index_or, ◌⊎◌}
 use Rattle.std.specs.List.{filter_map}
 use Rattle.pw_info.specs.declared.kind.Kind.{Kind}
 use Rattle.pw_procs.specs.Procedure.{Procedure}
@@ -40,9 +41,11 @@ with_step compound step = record compound { steps = compound.steps ++ step ∷ [
 -- compound takes cells of the kinds of its parameters
 abbrev pub AcceptsKinds : List Procedure → List Compound → Callable → List Kind → Type 0
 AcceptsKinds procedures compounds (callables.Stored number) kinds =
-    (procedure : Procedure) × (slice_get procedures number ≡ Some procedure) × Accepts procedure.signature kinds
+    (procedure : Procedure) × (slice_get procedures number ≡ Some procedure)
+    × Accepts procedure.signature kinds
 AcceptsKinds procedures compounds (callables.Compound number) kinds =
-    (compound : Compound) × (slice_get compounds number ≡ Some compound) × (kinds ≡ compound.parameters)
+    (compound : Compound) × (slice_get compounds number ≡ Some compound)
+    × (kinds ≡ compound.parameters)
 
 -- the callable exists
 abbrev pub IsThere : List Procedure → List Compound → Callable → Type 0
@@ -57,16 +60,19 @@ kinds_at kinds places = filter_map (slice_get kinds) places
 -- names places of existing cells, and its callable accepts their kinds
 abbrev pub AreSteps : List Procedure → List Compound → List Kind → List Step → Type 0
 AreSteps procedures compounds kinds [] = Unit {0}
-AreSteps procedures compounds kinds (NewCell kind ∷ steps) = AreSteps procedures compounds (kinds ++ kind ∷ []) steps
+AreSteps procedures compounds kinds (NewCell kind ∷ steps) =
+    AreSteps procedures compounds (kinds ++ kind ∷ []) steps
 AreSteps procedures compounds kinds (CallOn callable places ∷ steps) =
-    All (λ place. place < length kinds) places × AcceptsKinds procedures compounds callable (kinds_at kinds places)
+    All (λ place. place < length kinds) places
+    × AcceptsKinds procedures compounds callable (kinds_at kinds places)
     × AreSteps procedures compounds kinds steps
 
 -- each compound after the known ones names only earlier things
 abbrev pub AreCompoundsAfter : List Procedure → List Compound → List Compound → Type 0
 AreCompoundsAfter procedures known [] = Unit {0}
 AreCompoundsAfter procedures known (compound ∷ compounds) =
-    AreSteps procedures known compound.parameters compound.steps × AreCompoundsAfter procedures (known ++ compound ∷ []) compounds
+    AreSteps procedures known compound.parameters compound.steps
+    × AreCompoundsAfter procedures (known ++ compound ∷ []) compounds
 
 -- ---- the size of an expansion
 
@@ -79,7 +85,11 @@ abbrev pub no_size : Size
 no_size = record { instances = 0; inner_cells = 0 }
 
 abbrev pub sum_of_sizes : Size → Size → Size
-sum_of_sizes a b = record { instances = a.instances + b.instances; inner_cells = a.inner_cells + b.inner_cells }
+sum_of_sizes a b = record {
+  instances = a.instances + b.instances;
+  inner_cells =
+      a.inner_cells + b.inner_cells;
+}
 
 -- the size of a callable, where the compounds have these sizes: a procedure is one instance
 abbrev pub size_of_callable : List Size → Callable → Size
@@ -98,13 +108,15 @@ size_of_step sizes (CallOn callable places) = size_of_callable sizes callable
 -- the size of lines: the sum of their sizes
 abbrev pub size_of_steps : List Size → List Step → Size
 size_of_steps sizes [] = no_size
-size_of_steps sizes (step ∷ steps) = sum_of_sizes (size_of_step sizes step) (size_of_steps sizes steps)
+size_of_steps sizes (step ∷ steps) = sum_of_sizes (size_of_step sizes step)
+    (size_of_steps sizes steps)
 
 -- the sizes of compounds, each from the sizes of the compounds before it: first the known sizes,
 -- and then these
 abbrev pub sizes_after : List Size → List Compound → List Size
 sizes_after sizes [] = sizes
-sizes_after sizes (compound ∷ compounds) = sizes_after (sizes ++ size_of_steps sizes compound.steps ∷ []) compounds
+sizes_after sizes (compound ∷ compounds) = sizes_after (sizes
+    ++ size_of_steps sizes compound.steps ∷ []) compounds
 
 -- the sizes of compounds, in their order
 abbrev pub sizes_of : List Compound → List Size

@@ -1,12 +1,13 @@
 -- What a declaration is, and what each of its lines adds.
-use Rattle.std.specs.Prelude.{◌≡◌, ◌≢◌, ℕ, ◌+◌, List, [], ◌∷◌, ◌++◌, All, length, map, Option, Some, None, codes, slice_index_or}
+use Rattle.std.specs.Prelude.{◌≡◌, ◌≢◌, ℕ, ◌+◌, List, [], ◌∷◌, ◌++◌, All, length, map, Option, Some}
+use Rattle.std.specs.Prelude.{None, codes, slice_index_or}
 use Rattle.std.specs.List.{filter_map}
 use Rattle.std.specs.Option.{option_map, option_or}
 use Rattle.pw_info.specs.declared.kind.Kind.{Kind}
 use Rattle.pw_info.specs.declared.kind.Kind.TheVariants as kinds
 use Rattle.pw_info.specs.Name.{IsName}
 use Rattle.pw_info.specs.SetNames.{SetNames}
-use Rattle.pw_procs.specs.Place.{place_of_name}
+use Rattle.pw_procs.specs.Registering.{place_of_name}
 use Rattle.pw_procs.specs.Procedure.{Procedure}
 use Rattle.pw_decl.specs.declared.step.Callable.{Callable}
 use Rattle.pw_decl.specs.declared.step.Callable.TheVariants as callables
@@ -54,7 +55,8 @@ kind_at d cell = slice_index_or d.kinds cell kinds.Interval
 -- the members of the set kinds that every declaration has: `bool`, with the number 0, and `sign`,
 -- with the number 1
 abbrev pub built_in_sets : List (List (List ℕ))
-built_in_sets = (codes "false" ∷ codes "true" ∷ []) ∷ (codes "neg" ∷ codes "zero" ∷ codes "pos" ∷ []) ∷ []
+built_in_sets = (codes "false" ∷ codes "true" ∷ []) ∷
+    (codes "neg" ∷ codes "zero" ∷ codes "pos" ∷ []) ∷ []
 
 -- the names of the members of one of them, by its number
 abbrev pub built_in_members : SetNames
@@ -77,7 +79,8 @@ abbrev pub NamesKind : Declared → List ℕ → Kind → Type 0
 NamesKind d word kinds.Interval = place_of_name (kind_names d) word ≡ Some 0
 NamesKind d word kinds.Exact = place_of_name (kind_names d) word ≡ Some 1
 NamesKind d word (kinds.Members set) =
-    (place_of_name (kind_names d) word ≡ Some (set.number + 2)) × (length (members_of d set.number) ≡ set.size)
+    (place_of_name (kind_names d) word ≡ Some (set.number + 2))
+    × (length (members_of d set.number) ≡ set.size)
 
 -- the words name these kinds, one each
 abbrev pub NameKinds : Declared → List (List ℕ) → List Kind → Type 0
@@ -88,7 +91,8 @@ NameKinds d words kinds = ⊥
 -- the callable of this name, if there is one: a procedure, or a compound that has ended
 abbrev pub callable_named : Declared → List ℕ → Option Callable
 callable_named d word =
-    option_or (option_map callables.Stored (place_of_name (map (λ procedure. procedure.name) d.procedures) word))
+    option_or (option_map callables.Stored (place_of_name (map (λ procedure.
+    procedure.name) d.procedures) word))
     (option_map callables.Compound (place_of_name d.compound_names word))
 
 -- the callable exists
@@ -135,10 +139,13 @@ parameter_kinds words = []
 abbrev pub IsOuterSentence : List (List ℕ) → DeclarationSentence → Type 0
 IsOuterSentence words (User name) = (words ≡ codes "user" ∷ name ∷ []) × IsName name
 IsOuterSentence words (Premise name) = (words ≡ codes "premise" ∷ name ∷ []) × IsName name
-IsOuterSentence words (PremiseOf name user) = (words ≡ codes "premise" ∷ name ∷ codes "of" ∷ user ∷ []) × IsName name
-IsOuterSentence words (Set name members) = (words ≡ codes "set" ∷ name ∷ members) × IsName name × All IsName members
+IsOuterSentence words (PremiseOf name user) = (words
+    ≡ codes "premise" ∷ name ∷ codes "of" ∷ user ∷ []) × IsName name
+IsOuterSentence words (Set name members) = (words ≡ codes "set" ∷ name ∷ members) × IsName name
+    × All IsName members
 IsOuterSentence words (Cell name kind) = (words ≡ codes "cell" ∷ name ∷ kind ∷ []) × IsName name
-IsOuterSentence words (Begin name parameters) = (words ≡ codes "compound" ∷ name ∷ parameters) × IsName name × AreParameters parameters
+IsOuterSentence words (Begin name parameters) = (words ≡ codes "compound" ∷ name ∷ parameters)
+    × IsName name × AreParameters parameters
 IsOuterSentence words sentence = ⊥
 
 -- inside a compound: a first word that is neither `local` nor `end` begins a call, which has one or
@@ -146,7 +153,8 @@ IsOuterSentence words sentence = ⊥
 abbrev pub IsInnerSentence : List (List ℕ) → DeclarationSentence → Type 0
 IsInnerSentence words (Local name kind) = (words ≡ codes "local" ∷ name ∷ kind ∷ []) × IsName name
 IsInnerSentence words (Call callable arguments) =
-    (words ≡ callable ∷ arguments) × (callable ≢ codes "local") × (callable ≢ codes "end") × (arguments ≢ [])
+    (words ≡ callable ∷ arguments) × (callable ≢ codes "local") × (callable ≢ codes "end")
+    × (arguments ≢ [])
 IsInnerSentence words End = words ≡ codes "end" ∷ []
 IsInnerSentence words sentence = ⊥
 
@@ -168,7 +176,8 @@ pub data SoFar : Type 0 where
 
 -- at this place, the words form the sentence. The header comes once, before every other line
 abbrev pub IsSentenceAt : SoFar → List (List ℕ) → DeclarationSentence → Type 0
-IsSentenceAt (BeforeHeader d) words sentence = (sentence ≡ Header) × (words ≡ codes "workbench" ∷ codes "1" ∷ [])
+IsSentenceAt (BeforeHeader d) words sentence = (sentence ≡ Header)
+    × (words ≡ codes "workbench" ∷ codes "1" ∷ [])
 IsSentenceAt (Outside d) words sentence = IsOuterSentence words sentence
 IsSentenceAt (Inside d opened) words sentence = IsInnerSentence words sentence
 
@@ -178,7 +187,11 @@ with_user d name = record d { users = d.users ++ name ∷ [] }
 
 -- with one more premise, which belongs to a user or to none
 abbrev pub with_premise : Declared → List ℕ → Option ℕ → Declared
-with_premise d name owner = record d { premises = d.premises ++ name ∷ []; owners = d.owners ++ owner ∷ [] }
+with_premise d name owner = record d {
+  premises = d.premises ++ name ∷ [];
+  owners = d.owners
+      ++ owner ∷ [];
+}
 
 -- with one more cell
 abbrev pub with_cell : Declared → List ℕ → Kind → Declared
@@ -186,25 +199,45 @@ with_cell d name kind = record d { cells = d.cells ++ name ∷ []; kinds = d.kin
 
 -- with one more set kind
 abbrev pub with_set : Declared → List ℕ → List (List ℕ) → Declared
-with_set d name members = record d { set_names = d.set_names ++ name ∷ []; sets = d.sets ++ members ∷ [] }
+with_set d name members = record d {
+  set_names = d.set_names ++ name ∷ [];
+  sets = d.sets
+      ++ members ∷ [];
+}
 
 -- with one more compound
 abbrev pub with_compound : Declared → List ℕ → Compound → Declared
 with_compound d name compound =
-    record d { compound_names = d.compound_names ++ name ∷ []; compounds = d.compounds ++ compound ∷ [] }
+    record d {
+      compound_names = d.compound_names ++ name ∷ [];
+      compounds = d.compounds
+          ++ compound ∷ [];
+    }
 
 -- a compound of this name has begun, with parameters of these names and kinds
 abbrev pub begun : List ℕ → List (List ℕ) → List Kind → OpenCompound
-begun name names kinds = record { name = name; names = names; compound = record { parameters = kinds; steps = [] } }
+begun name names kinds = record {
+  name = name;
+  names = names;
+  compound =
+      record { parameters = kinds; steps = [] };
+}
 
 -- the open compound with one more private cell
 abbrev pub with_local : OpenCompound → List ℕ → Kind → OpenCompound
 with_local opened name kind =
-    record opened { names = opened.names ++ name ∷ []; compound = with_step opened.compound (NewCell kind) }
+    record opened {
+      names = opened.names ++ name ∷ [];
+      compound =
+          with_step opened.compound (NewCell kind);
+    }
 
 -- the open compound with one more call
 abbrev pub with_call : OpenCompound → Callable → List ℕ → OpenCompound
-with_call opened callable places = record opened { compound = with_step opened.compound (CallOn callable places) }
+with_call opened callable places = record opened {
+  compound =
+      with_step opened.compound (CallOn callable places);
+}
 
 -- the places of the cells that the words name
 abbrev pub places_of : OpenCompound → List (List ℕ) → List ℕ
@@ -216,15 +249,22 @@ Makes (BeforeHeader d) Header after = after ≡ Outside d
 Makes (Outside d) (User name) after = after ≡ Outside (with_user d name)
 Makes (Outside d) (Premise name) after = after ≡ Outside (with_premise d name None)
 Makes (Outside d) (PremiseOf name user) after =
-    (owner : ℕ) × (place_of_name d.users user ≡ Some owner) × (after ≡ Outside (with_premise d name (Some owner)))
+    (owner : ℕ) × (place_of_name d.users user ≡ Some owner)
+    × (after ≡ Outside (with_premise d name (Some owner)))
 Makes (Outside d) (Set name members) after = after ≡ Outside (with_set d name members)
-Makes (Outside d) (Cell name word) after = (kind : Kind) × NamesKind d word kind × (after ≡ Outside (with_cell d name kind))
+Makes (Outside d) (Cell name word) after = (kind : Kind) × NamesKind d word kind
+    × (after ≡ Outside (with_cell d name kind))
 Makes (Outside d) (Begin name parameters) after =
     (kinds : List Kind) × NameKinds d (parameter_kinds parameters) kinds
     × (after ≡ Inside d (begun name (parameter_names parameters) kinds))
-Makes (Inside d opened) (Local name word) after = (kind : Kind) × NamesKind d word kind × (after ≡ Inside d (with_local opened name kind))
+Makes (Inside d opened) (Local name word) after = (kind : Kind) × NamesKind d word kind
+    × (after ≡ Inside d (with_local opened name kind))
 Makes (Inside d opened) (Call word arguments) after =
     (callable : Callable) × (callable_named d word ≡ Some callable)
     × (after ≡ Inside d (with_call opened callable (places_of opened arguments)))
 Makes (Inside d opened) End after = after ≡ Outside (with_compound d opened.name opened.compound)
 Makes so_far sentence after = ⊥
+
+-- nothing is declared yet
+abbrev pub DeclaresNothing : Declared → Type 0
+DeclaresNothing d = d ≡ nothing_declared d.procedures

@@ -3,11 +3,8 @@ pub mod Compound
 pub mod Declaration
 pub mod Expansion
 pub mod Faults
-pub mod Fields
-pub mod Flat
-pub mod Kept
 pub mod Limits
 pub mod Prelude
-pub mod Props
-pub mod Steps
 pub mod WellDeclared
+pub mod Laws
+pub mod inside

@@ -2,9 +2,12 @@
 use Rattle.std.specs.Prelude.{◌≡◌, ℕ, ◌+◌, ◌<◌, ◌≤◌, [], None, length, All, IfSome}
 use Rattle.pw_kinds.specs.Places.{IsSize}
 use Rattle.pw_info.specs.SetNames.{AreNames, IsNamed}
-use Rattle.pw_decl.specs.Compound.{AreSteps, AreCompoundsAfter, cell_kinds, Size, size_of_steps, sizes_of}
-use Rattle.pw_decl.specs.Declaration.{Declared, OpenCompound, SoFar, BeforeHeader, Outside, Inside, callable_named, members_of}
-use Rattle.pw_decl.specs.Limits.{most_users, most_premises, most_cells, most_sets, most_compounds, most_parameters, most_instances, most_inner_cells}
+use Rattle.pw_decl.specs.Compound.{AreSteps, AreCompoundsAfter, cell_kinds, Size, size_of_steps}
+use Rattle.pw_decl.specs.Compound.{sizes_of}
+use Rattle.pw_decl.specs.Declaration.{Declared, OpenCompound, SoFar, BeforeHeader, Outside, Inside}
+use Rattle.pw_decl.specs.Declaration.{callable_named, members_of}
+use Rattle.pw_decl.specs.Limits.{most_users, most_premises, most_cells, most_sets, most_compounds}
+use Rattle.pw_decl.specs.Limits.{most_parameters, most_instances, most_inner_cells}
 use Rattle.pw_decl.specs.Prelude.{prelude_compounds}
 
 -- the size is small enough for an expansion

@@ -1,9 +1,20 @@
-//! Compounds as they are stored: the ended ones, and the one whose lines are being read.
+//! Compounds as they are kept, ended or open, and where the reader of a text is.
 
 use crate::step::Step;
 use pw_info::Kind;
 use pw_procs::NameTable;
 use std::alloc::{Allocator, Global};
+
+/// The place of a line.
+#[derive(Drop)]
+pub(crate) enum Place<A: Allocator = Global> {
+    /// Before the header.
+    BeforeHeader,
+    /// Outside any compound.
+    Outside,
+    /// Inside a compound.
+    Inside(OpenCompound<A>),
+}
 
 /// The number of procedure instances and the number of inner cells that something expands to.
 #[derive(Clone, Copy, Debug, PartialEq, Eq)]

@@ -1,23 +1,25 @@
 //! The lines that begin, fill and end a compound.
-ghost use Rattle.std.specs.Prelude.{◌≡◌, ◌≢◌, ◌↔◌, ◌≤◌, ◌+◌, ◌<◌, ℕ, List, [], All, None};
-ghost use Rattle.std.specs.Prelude.{true, length, min, is_some, IsTrue, IfOk, IfErr, IfNone, IfSome, OnOk, OnErr};
+ghost use Rattle.std.specs.Prelude.{◌≡◌, ◌≢◌, ◌↔◌, ◌≤◌, ◌+◌, ◌<◌, List, [], None};
+ghost use Rattle.std.specs.Prelude.{true, length, min, is_some, IsTrue, IfOk, IfErr, IfNone};
+ghost use Rattle.std.specs.Prelude.{IfSome, OnOk, OnErr};
 ghost use Rattle.std.specs.List.{list_all, list_any, filter_map, IsDistinct};
 ghost use Rattle.std.specs.Str.{bytes_eq};
 ghost use Rattle.pw_info.specs.declared.kind.Kind.{Kind as KindOfCell};
-ghost use Rattle.pw_procs.specs.Arguments.{cells_of};
-ghost use Rattle.pw_procs.specs.Place.{place_of_name};
-ghost use Rattle.pw_procs.specs.Shapes.{most_cells};
-ghost use Rattle.pw_decl.specs.Compound.{kinds_at, sum_of_sizes, no_size, size_of_local, IsTooLarge};
-ghost use Rattle.pw_decl.specs.Declaration.{Inside, Begin, Local, Call, IsCallable, Takes};
-ghost use Rattle.pw_decl.specs.Declaration.{Makes, NameKinds, with_call, with_compound, with_local, parameter_kinds, parameter_names};
+ghost use Rattle.pw_procs.specs.Registry.{cells_of};
+ghost use Rattle.pw_procs.specs.Registering.{place_of_name};
+ghost use Rattle.pw_procs.specs.inside.Shapes.{most_arguments};
+ghost use Rattle.pw_decl.specs.Compound.{sum_of_sizes, no_size, size_of_local, IsTooLarge};
+ghost use Rattle.pw_decl.specs.Declaration.{Begin, Local, Call};
+ghost use Rattle.pw_decl.specs.Declaration.{Makes, NameKinds, with_call, with_compound, with_local};
+ghost use Rattle.pw_decl.specs.Declaration.{parameter_kinds, parameter_names};
 ghost use Rattle.pw_decl.specs.Limits.{most_inner_cells, most_parameters};
-ghost use Rattle.pw_decl.specs.Fields.{declared_by};
-ghost use Rattle.pw_decl.specs.Steps.Standing.{outside, inside};
-ghost use Rattle.pw_decl.specs.Kept.{size_of};
-ghost use Rattle.pw_decl.specs.Steps.Opened.{IsBegun, IsGrown, IsOpen, open_of};
-ghost use Rattle.pw_decl.specs.Steps.Forms.{are_parameters};
+ghost use Rattle.pw_decl.specs.inside.Fields.{declared};
+ghost use Rattle.pw_decl.specs.inside.Fields.{outside, inside};
+ghost use Rattle.pw_decl.specs.inside.Held.{size_of};
+ghost use Rattle.pw_decl.specs.inside.Opened.{IsBegun, IsGrown, IsOpen, open_of};
+ghost use Rattle.pw_decl.specs.inside.Forms.{are_parameters};
 ghost use Rattle.pw_decl.specs.WellDeclared.{IsSmall};
-ghost use Rattle.pw_decl.specs.Steps.SentenceFaults.{IsFaultless, IsToldOf};
+ghost use Rattle.pw_decl.specs.inside.SentenceFaults.{IsFaultless, IsToldOf};
 
 use crate::compound::{Compound, OpenCompound, Size};
 use crate::decl_fault::DeclFaultKind;
@@ -73,7 +75,7 @@ fn have_kinds<A: Allocator + Copy>(
     mut parameters: Words<'_>,
 ) -> bool
     ensures { IsTrue result ↔ ((kinds : List KindOfCell)
-        × NameKinds (declared_by declaration.now) (parameter_kinds parameters.entry) kinds) }
+        × NameKinds (declared declaration.now) (parameter_kinds parameters.entry) kinds) }
 {
     while let Some(_) = parameters.next() {
         let Some(word) = parameters.next() else {
@@ -107,9 +109,9 @@ fn begun_with<A: Allocator + Copy>(
     requires named { are_parameters parameters ≡ true }
     requires distinct { IsDistinct bytes_eq (parameter_names parameters) }
     requires known { (kinds : List KindOfCell)
-        × NameKinds (declared_by declaration.now) (parameter_kinds parameters) kinds }
+        × NameKinds (declared declaration.now) (parameter_kinds parameters) kinds }
     ensures begun { IfOk result (λ opened.
-        IsBegun (declared_by declaration.now) name.now parameters.entry opened) }
+        IsBegun (declared declaration.now) name.now parameters.entry opened) }
 {
     let mut opened = OpenCompound {
         name: String::from_str(alloc, name)?,
@@ -148,7 +150,7 @@ pub(crate) fn begin_compound<A: Allocator + Copy>(
     requires named { are_parameters parameters ≡ true }
     ensures ok { IfOk result (λ opened. Makes (outside declaration.now)
         (Begin name.now parameters.entry) (inside declaration.now opened)) }
-    ensures kept { IfOk result (λ opened. IsOpen (declared_by declaration.now) opened) }
+    ensures kept { IfOk result (λ opened. IsOpen (declared declaration.now) opened) }
     ensures none { OnOk result (IsFaultless (outside declaration.now)
         (Begin name.now parameters.entry)) }
     ensures err { IfErr result (IsToldOf (outside declaration.now)
@@ -209,8 +211,8 @@ pub(crate) fn declare_local<A: Allocator + Copy>(
     name: &str,
     kind: &[u8],
 ) -> Result<(), DeclFaultKind>
-    requires kept { IsOpen (declared_by declaration.now) opened.old }
-    ensures kept { IsOpen (declared_by declaration.now) opened.new }
+    requires kept { IsOpen (declared declaration.now) opened.old }
+    ensures kept { IsOpen (declared declaration.now) opened.new }
     ensures ok { OnOk result (Makes (inside declaration.now opened.old) (Local name.now kind.now)
         (inside declaration.now opened.new)) }
     ensures none { OnOk result (IsFaultless (inside declaration.now opened.old)
@@ -253,7 +255,7 @@ fn place_arguments<A: Allocator + Copy>(
     requires few { length names.now ≤ 264 }
     requires some { words ≢ [] }
     requires known { list_all (λ word. is_some (place_of_name names.now word)) words ≡ true }
-    ensures none { IfNone result (most_cells < length words.entry) }
+    ensures none { IfNone result (most_arguments < length words.entry) }
     ensures some { IfSome result (λ arguments.
         cells_of arguments ≡ filter_map (place_of_name names.now) words.entry) }
 {
@@ -297,9 +299,9 @@ pub(crate) fn declare_call<A: Allocator + Copy>(
     callable: &[u8],
     arguments: Words<'_>,
 ) -> Result<(), DeclFaultKind>
-    requires kept { IsOpen (declared_by declaration.now) opened.old }
+    requires kept { IsOpen (declared declaration.now) opened.old }
     requires some { arguments ≢ [] }
-    ensures kept { IsOpen (declared_by declaration.now) opened.new }
+    ensures kept { IsOpen (declared declaration.now) opened.new }
     ensures ok { OnOk result (Makes (inside declaration.now opened.old)
         (Call callable.now arguments.entry) (inside declaration.now opened.new)) }
     ensures none { OnOk result (IsFaultless (inside declaration.now opened.old)
@@ -335,10 +337,10 @@ pub(crate) fn end_compound<A: Allocator + Copy>(
     declaration: &mut Declaration<'_, A>,
     opened: OpenCompound<A>,
 ) -> Result<(), AllocError>
-    requires { IsOpen (declared_by declaration.old) opened }
-    ensures ok { OnOk result ((declared_by declaration.new) ≡ with_compound
-        (declared_by declaration.old) (open_of opened).name (open_of opened).compound) }
-    ensures err { OnErr result ((declared_by declaration.new) ≡ (declared_by declaration.old)) }
+    requires { IsOpen (declared declaration.old) opened }
+    ensures ok { OnOk result ((declared declaration.new) ≡ with_compound
+        (declared declaration.old) (open_of opened).name (open_of opened).compound) }
+    ensures err { OnErr result ((declared declaration.new) ≡ (declared declaration.old)) }
 {
     let flattened = flatten(alloc, declaration, &opened)?;
     declaration.add_compound(opened, flattened)

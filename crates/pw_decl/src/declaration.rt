@@ -2,31 +2,31 @@
 //! number.
 ghost use Rattle.std.specs.Prelude.{◌≡◌, ◌↔◌, ◌+◌, ◌-◌, [], All, None, Some, ◌<◌, ◌≤◌, IsTrue};
 ghost use Rattle.std.specs.Prelude.{length, slice_get, Contains, IfSome, IfNone};
-ghost use Rattle.pw_kinds.specs.Limits.{most_members};
+ghost use Rattle.pw_kinds.specs.Places.{most_members};
 ghost use Rattle.pw_info.specs.SetNames.{IsNamed};
-ghost use Rattle.pw_procs.specs.Arguments.{cells_of};
-ghost use Rattle.pw_procs.specs.Place.{place_of_name};
+ghost use Rattle.pw_procs.specs.Registry.{cells_of};
+ghost use Rattle.pw_procs.specs.Registering.{place_of_name};
 ghost use Rattle.pw_procs.specs.Registry.{procedures_in};
 ghost use Rattle.pw_decl.specs.declared.step.Callable.TheVariants as callables;
 ghost use Rattle.pw_decl.specs.Compound.{kinds_at, sizes_of};
-ghost use Rattle.pw_decl.specs.Declaration.{nothing_declared, owner_of, kind_at, members_of, callable_named, IsCallable, Takes};
-ghost use Rattle.pw_decl.specs.Limits.{most_users, most_premises, most_cells, most_sets, most_compounds, most_inner_cells};
+ghost use Rattle.pw_decl.specs.Declaration.{nothing_declared, owner_of, kind_at, members_of};
+ghost use Rattle.pw_decl.specs.Declaration.{callable_named, IsCallable, Takes};
+ghost use Rattle.pw_decl.specs.Limits.{most_users, most_premises, most_cells, most_sets};
+ghost use Rattle.pw_decl.specs.Limits.{most_compounds, most_inner_cells};
 ghost use Rattle.pw_decl.specs.Prelude.{prelude_compounds};
 ghost use Rattle.pw_decl.specs.Expansion.{inner_kinds_of};
-ghost use Rattle.pw_decl.specs.Flat.{AreCallsOf};
-ghost use Rattle.pw_decl.specs.Kept.{steps_of};
+ghost use Rattle.pw_decl.specs.inside.Held.{AreCallsOf};
+ghost use Rattle.pw_decl.specs.inside.Held.{steps_of};
 ghost use Rattle.pw_decl.specs.WellDeclared.{IsWellDeclared};
 ghost use Rattle.std.proofs.Props.{props};
-ghost use Rattle.pw_decl.specs.Props.{named_prop};
+ghost use Rattle.pw_decl.specs.inside.Held.{named_prop};
 ghost use Rattle.pw_decl.specs.Expansion.{inner_after};
-ghost use Rattle.pw_decl.specs.Flat.{calls_kept, calls_of, inner_kept};
-ghost use Rattle.pw_decl.specs.Kept.{compounds_of, declared_from, sizes_kept};
+ghost use Rattle.pw_decl.specs.inside.Held.{calls_held, calls_of, inner_held};
+ghost use Rattle.pw_decl.specs.inside.Held.{compounds_of, declared_from, sizes_held};
 
-use crate::built_in_sets::{BUILT_IN_SETS, built_in_member, built_in_place};
+use crate::built_in::{BUILT_IN_SETS, PRELUDE_COMPOUNDS, built_in_member, built_in_place};
 use crate::compound::Compound;
-use crate::flat_call::{FlatCall, MOST_CELLS};
-use crate::flattened::Flattened;
-use crate::prelude::PRELUDE_COMPOUNDS;
+use crate::flat_call::{FlatCall, Flattened, MOST_CELLS};
 use crate::step::{Callable, Step};
 use pw_info::{Kind, KindNames};
 use pw_procs::{Arguments, NameTable, Registry, are_equal_kinds};
@@ -59,17 +59,17 @@ pub struct Declaration<'r, A: Allocator = Global> {
     flattened: Vec<Flattened<A>, A>,
     ghost well: { IsWellDeclared (declared_from registry.now users premises owners.items cells kinds.items
         set_names sets.items compound_names compounds.items) } by { Prim.hlevel (props, named_prop) },
-    ghost sized: { sizes_kept compounds.items ≡ sizes_of (compounds_of compounds.items) },
-    ghost calls: { calls_kept flattened.items ≡ calls_of (compounds_of compounds.items) },
-    ghost inner: { inner_kept flattened.items ≡ inner_after [] (compounds_of compounds.items) },
+    ghost sized: { sizes_held compounds.items ≡ sizes_of (compounds_of compounds.items) },
+    ghost calls: { calls_held flattened.items ≡ calls_of (compounds_of compounds.items) },
+    ghost inner: { inner_held flattened.items ≡ inner_after [] (compounds_of compounds.items) },
 }
 
 impl<'r, A: Allocator + Copy> Declaration<'r, A> {
-    ghost use Rattle.pw_decl.specs.Fields.{declared_by, StepsAre};
+    ghost use Rattle.pw_decl.specs.inside.Fields.{declared, StepsAre};
 
     /// An empty declaration. Takes no memory.
     pub(crate) fn new(alloc: A, registry: &'r Registry) -> Declaration<'r, A>
-        ensures { declared_by result ≡ nothing_declared (procedures_in registry.entry.now) }
+        ensures { declared result ≡ nothing_declared (procedures_in registry.entry.now) }
     {
         Declaration {
             registry,
@@ -88,7 +88,7 @@ impl<'r, A: Allocator + Copy> Declaration<'r, A> {
 
     /// The registry over which the declaration was read.
     pub fn registry(&self) -> &'r Registry
-        ensures { procedures_in result.now ≡ (declared_by self.now).procedures }
+        ensures { procedures_in result.now ≡ (declared self.now).procedures }
     {
         self.registry
     }
@@ -96,7 +96,7 @@ impl<'r, A: Allocator + Copy> Declaration<'r, A> {
     /// Properties of every declaration: it keeps its limits, the members of sets have names, and
     /// the kinds of cells are declared.
     pub fn limits(&self)
-        ensures { IsWellDeclared (declared_by self.now) }
+        ensures { IsWellDeclared (declared self.now) }
     {
         // Reads a field, so that the properties of every declaration are known.
         let _users = &self.users;
@@ -104,7 +104,7 @@ impl<'r, A: Allocator + Copy> Declaration<'r, A> {
 
     /// The number of users, at most 64.
     pub fn users(&self) -> u8
-        ensures count { result ≡ length (declared_by self.now).users }
+        ensures count { result ≡ length (declared self.now).users }
         ensures most { result ≤ most_users }
     {
         self.users.len() as u8
@@ -112,7 +112,7 @@ impl<'r, A: Allocator + Copy> Declaration<'r, A> {
 
     /// The number of premises, at most 64.
     pub fn premises(&self) -> u8
-        ensures count { result ≡ length (declared_by self.now).premises }
+        ensures count { result ≡ length (declared self.now).premises }
         ensures most { result ≤ most_premises }
     {
         self.premises.len() as u8
@@ -120,7 +120,7 @@ impl<'r, A: Allocator + Copy> Declaration<'r, A> {
 
     /// The number of cells, at most 1,024.
     pub fn cells(&self) -> u32
-        ensures count { result ≡ length (declared_by self.now).cells }
+        ensures count { result ≡ length (declared self.now).cells }
         ensures most { result ≤ most_cells }
     {
         self.cells.len() as u32
@@ -128,7 +128,7 @@ impl<'r, A: Allocator + Copy> Declaration<'r, A> {
 
     /// The number of declared set kinds, at most 32. `bool` and `sign` do not count.
     pub fn sets(&self) -> u8
-        ensures count { result ≡ length (declared_by self.now).sets }
+        ensures count { result ≡ length (declared self.now).sets }
         ensures most { result ≤ most_sets }
     {
         self.sets.len() as u8
@@ -137,7 +137,7 @@ impl<'r, A: Allocator + Copy> Declaration<'r, A> {
     /// The number of declared compounds, at most 64. `sum`, `product` and `conditional` do not
     /// count.
     pub fn compounds(&self) -> u8
-        ensures count { result ≡ length (declared_by self.now).compounds - prelude_compounds }
+        ensures count { result ≡ length (declared self.now).compounds - prelude_compounds }
         ensures most { result ≤ most_compounds }
     {
         self.compounds.len().saturating_sub(PRELUDE_COMPOUNDS) as u8
@@ -146,8 +146,8 @@ impl<'r, A: Allocator + Copy> Declaration<'r, A> {
     /// The callable of this name, if there is one, which a line may call or attach: a procedure of
     /// the registry, `sum`, `product`, `conditional`, or a declared compound.
     pub fn callable(&self, name: &[u8]) -> Option<Callable>
-        ensures named { result ≡ callable_named (declared_by self.now) name.now }
-        ensures there { IfSome result (λ callable. IsCallable (declared_by self.now) callable) }
+        ensures named { result ≡ callable_named (declared self.now) name.now }
+        ensures there { IfSome result (λ callable. IsCallable (declared self.now) callable) }
     {
         if let Some(number) = self.registry.find(name) {
             return Some(Callable::Stored(number));
@@ -159,8 +159,8 @@ impl<'r, A: Allocator + Copy> Declaration<'r, A> {
     /// Whether the callable, which must exist, takes cells of these kinds: a procedure takes its
     /// inputs and then its output, a compound its parameters.
     pub fn accepts(&self, callable: Callable, kinds: &[Kind]) -> bool
-        requires { IsCallable (declared_by self.now) callable }
-        ensures { IsTrue result ↔ Takes (declared_by self.now) callable kinds.now }
+        requires { IsCallable (declared self.now) callable }
+        ensures { IsTrue result ↔ Takes (declared self.now) callable kinds.now }
     {
         match callable {
             Callable::Stored(number) => self.registry.get(number).signature().accepts(kinds),
@@ -173,9 +173,9 @@ impl<'r, A: Allocator + Copy> Declaration<'r, A> {
     /// Whether the callable, which must exist, takes the cells at these places, where `kinds` are
     /// the kinds of all cells. The places must exist.
     pub fn accepts_at(&self, callable: Callable, kinds: &[Kind], places: Arguments) -> bool
-        requires there { IsCallable (declared_by self.now) callable }
+        requires there { IsCallable (declared self.now) callable }
         requires places { All (λ place. place < length kinds.now) (cells_of places) }
-        ensures { IsTrue result ↔ Takes (declared_by self.now) callable (kinds_at kinds.now
+        ensures { IsTrue result ↔ Takes (declared self.now) callable (kinds_at kinds.now
             (cells_of places)) }
     {
         let places = places.cells();
@@ -188,8 +188,8 @@ impl<'r, A: Allocator + Copy> Declaration<'r, A> {
 
     /// The lines of the compound of this number.
     pub fn steps(&self, compound: u8) -> &[Step]
-        requires { compound < length (declared_by self.now).compounds }
-        ensures { StepsAre (declared_by self.now) compound (steps_of result.now) }
+        requires { compound < length (declared self.now).compounds }
+        ensures { StepsAre (declared self.now) compound (steps_of result.now) }
     {
         &self.compounds[usize::from(compound)].steps
     }
@@ -197,8 +197,8 @@ impl<'r, A: Allocator + Copy> Declaration<'r, A> {
     /// The flattened compound of this number, as calls of procedures over places: its parameters
     /// from 0, and after them its inner cells.
     pub fn flat_calls(&self, compound: u8) -> &[FlatCall]
-        requires { compound < length (declared_by self.now).compounds }
-        ensures { AreCallsOf (declared_by self.now).compounds compound result.now }
+        requires { compound < length (declared self.now).compounds }
+        ensures { AreCallsOf (declared self.now).compounds compound result.now }
     {
         &self.flattened[usize::from(compound)].calls
     }
@@ -206,18 +206,19 @@ impl<'r, A: Allocator + Copy> Declaration<'r, A> {
     /// The kinds of the inner cells of the flattened compound of this number, at most 256, in the
     /// order in which they are made.
     pub fn inner_kinds(&self, compound: u8) -> &[Kind]
-        requires { compound < length (declared_by self.now).compounds }
-        ensures kinds { result.now ≡ inner_kinds_of (declared_by self.now).compounds
+        requires { compound < length (declared self.now).compounds }
+        ensures kinds { result.now ≡ inner_kinds_of (declared self.now).compounds
             (callables.Compound compound) }
         ensures most { length result.now ≤ most_inner_cells }
     {
         &self.flattened[usize::from(compound)].inner
     }
 
-    /// The kinds of the inner cells that the callable, which is there, makes, at most 256: a procedure makes none.
+    /// The kinds of the inner cells that the callable, which is there, makes, at most 256: a
+    /// procedure makes none.
     pub fn inner_kinds_of(&self, callable: Callable) -> &[Kind]
-        requires { IsCallable (declared_by self.now) callable }
-        ensures kinds { result.now ≡ inner_kinds_of (declared_by self.now).compounds callable }
+        requires { IsCallable (declared self.now) callable }
+        ensures kinds { result.now ≡ inner_kinds_of (declared self.now).compounds callable }
         ensures most { length result.now ≤ most_inner_cells }
     {
         match callable {
@@ -228,8 +229,8 @@ impl<'r, A: Allocator + Copy> Declaration<'r, A> {
 
     /// The number of the user of this name, if there is one.
     pub fn user(&self, name: &[u8]) -> Option<u8>
-        ensures number { result ≡ place_of_name (declared_by self.now).users name.now }
-        ensures within { IfSome result (λ number. number < length (declared_by self.now).users) }
+        ensures number { result ≡ place_of_name (declared self.now).users name.now }
+        ensures within { IfSome result (λ number. number < length (declared self.now).users) }
         ensures limit { IfSome result (λ number. number < most_users) }
     {
         let number = self.users.find(name)?;
@@ -238,8 +239,8 @@ impl<'r, A: Allocator + Copy> Declaration<'r, A> {
 
     /// The number of the premise of this name, if there is one.
     pub fn premise(&self, name: &[u8]) -> Option<u8>
-        ensures number { result ≡ place_of_name (declared_by self.now).premises name.now }
-        ensures within { IfSome result (λ number. number < length (declared_by self.now).premises) }
+        ensures number { result ≡ place_of_name (declared self.now).premises name.now }
+        ensures within { IfSome result (λ number. number < length (declared self.now).premises) }
         ensures limit { IfSome result (λ number. number < most_premises) }
     {
         let number = self.premises.find(name)?;
@@ -248,8 +249,8 @@ impl<'r, A: Allocator + Copy> Declaration<'r, A> {
 
     /// The number of the cell of this name, if there is one.
     pub fn cell(&self, name: &[u8]) -> Option<u32>
-        ensures number { result ≡ place_of_name (declared_by self.now).cells name.now }
-        ensures within { IfSome result (λ number. number < length (declared_by self.now).cells) }
+        ensures number { result ≡ place_of_name (declared self.now).cells name.now }
+        ensures within { IfSome result (λ number. number < length (declared self.now).cells) }
         ensures limit { IfSome result (λ number. number < most_cells) }
     {
         let number = self.cells.find(name)?;
@@ -258,44 +259,44 @@ impl<'r, A: Allocator + Copy> Declaration<'r, A> {
 
     /// The name of the user of this number.
     pub fn user_name(&self, user: u8) -> &str
-        requires { user < length (declared_by self.now).users }
-        ensures name { slice_get (declared_by self.now).users user ≡ Some result.now }
-        ensures own { place_of_name (declared_by self.now).users result.now ≡ Some user }
+        requires { user < length (declared self.now).users }
+        ensures name { slice_get (declared self.now).users user ≡ Some result.now }
+        ensures own { place_of_name (declared self.now).users result.now ≡ Some user }
     {
         self.users.name(usize::from(user))
     }
 
     /// The name of the premise of this number.
     pub fn premise_name(&self, premise: u8) -> &str
-        requires { premise < length (declared_by self.now).premises }
-        ensures name { slice_get (declared_by self.now).premises premise ≡ Some result.now }
-        ensures own { place_of_name (declared_by self.now).premises result.now ≡ Some premise }
+        requires { premise < length (declared self.now).premises }
+        ensures name { slice_get (declared self.now).premises premise ≡ Some result.now }
+        ensures own { place_of_name (declared self.now).premises result.now ≡ Some premise }
     {
         self.premises.name(usize::from(premise))
     }
 
     /// The name of the cell of this number.
     pub fn cell_name(&self, cell: u32) -> &str
-        requires { cell < length (declared_by self.now).cells }
-        ensures name { slice_get (declared_by self.now).cells cell ≡ Some result.now }
-        ensures own { place_of_name (declared_by self.now).cells result.now ≡ Some cell }
+        requires { cell < length (declared self.now).cells }
+        ensures name { slice_get (declared self.now).cells cell ≡ Some result.now }
+        ensures own { place_of_name (declared self.now).cells result.now ≡ Some cell }
     {
         self.cells.name(cell as usize)
     }
 
     /// The number of the user that the premise of this number belongs to, if any.
     pub fn owner(&self, premise: u8) -> Option<u8>
-        requires { premise < length (declared_by self.now).premises }
-        ensures owner { result ≡ owner_of (declared_by self.now) premise }
-        ensures user { IfSome result (λ user. user < length (declared_by self.now).users) }
+        requires { premise < length (declared self.now).premises }
+        ensures owner { result ≡ owner_of (declared self.now) premise }
+        ensures user { IfSome result (λ user. user < length (declared self.now).users) }
     {
         self.owners[usize::from(premise)]
     }
 
     /// The kinds of the cells, at most 1,024, by cell number.
     pub fn kinds(&self) -> &[Kind]
-        ensures kinds { result.now ≡ (declared_by self.now).kinds }
-        ensures each { length (declared_by self.now).kinds ≡ length (declared_by self.now).cells }
+        ensures kinds { result.now ≡ (declared self.now).kinds }
+        ensures each { length (declared self.now).kinds ≡ length (declared self.now).cells }
         ensures most { length result.now ≤ most_cells }
     {
         &self.kinds
@@ -303,18 +304,18 @@ impl<'r, A: Allocator + Copy> Declaration<'r, A> {
 
     /// The kind of the cell of this number.
     pub fn cell_kind(&self, cell: u32) -> Kind
-        requires { cell < length (declared_by self.now).cells }
-        ensures kind { result ≡ kind_at (declared_by self.now) cell }
-        ensures named { IsNamed (members_of (declared_by self.now)) result }
+        requires { cell < length (declared self.now).cells }
+        ensures kind { result ≡ kind_at (declared self.now) cell }
+        ensures named { IsNamed (members_of (declared self.now)) result }
     {
         self.kinds[cell as usize]
     }
 }
 
 impl<A: Allocator + Copy> KindNames for Declaration<'_, A> {
-    ghost use Rattle.pw_decl.specs.Fields.{declared_by};
+    ghost use Rattle.pw_decl.specs.inside.Fields.{declared};
 
-    ghost members = { λ d. members_of (declared_by d) };
+    ghost members = { λ d. members_of (declared d) };
 
     fn member(&self, set: u8, place: u8) -> &str {
         if set < BUILT_IN_SETS {

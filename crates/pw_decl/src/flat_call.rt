@@ -1,9 +1,19 @@
-//! The stored form of compounds: calls of procedures over places.
+//! What ended compounds become: calls of procedures over places. An attachment goes over these
+//! alone.
 ghost use Rattle.std.specs.Prelude.{◌≡◌, ◌+◌, ◌≤◌, All, map};
-ghost use Rattle.pw_procs.specs.Arguments.{cells_of};
+ghost use Rattle.pw_procs.specs.Registry.{cells_of};
 ghost use Rattle.pw_decl.specs.Expansion.{at_place};
 
+use pw_info::Kind;
 use pw_procs::Arguments;
+use std::alloc::{Allocator, Global};
+
+/// A flattened compound: the calls of procedures over its places, and the kinds of its inner cells.
+#[derive(Drop)]
+pub(crate) struct Flattened<A: Allocator = Global> {
+    pub(crate) calls: Vec<FlatCall, A>,
+    pub(crate) inner: Vec<Kind, A>,
+}
 
 pub(crate) const MOST_CELLS: usize = 9;
 

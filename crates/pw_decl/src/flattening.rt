@@ -1,22 +1,20 @@
 //! Flattening a compound that ends.
-ghost use Rattle.std.specs.Prelude.{◌≡◌, ◌+◌, ◌≤◌, ℕ, List, [], ◌∷◌, ◌++◌, All, map, length, IfOk, OnOk};
+ghost use Rattle.std.specs.Prelude.{◌≡◌, ◌+◌, ◌≤◌, ◌++◌, All, length, IfOk, OnOk};
 ghost use Rattle.std.specs.List.{range_with_len};
-ghost use Rattle.pw_info.specs.declared.kind.Kind.{Kind as KindOfCell};
-ghost use Rattle.pw_procs.specs.Arguments.{cells_of};
-ghost use Rattle.pw_decl.specs.Compound.{AreSteps, Step as StepOfCompound};
+ghost use Rattle.pw_procs.specs.Registry.{cells_of};
 ghost use Rattle.pw_decl.specs.Declaration.{IsCallable};
-ghost use Rattle.pw_decl.specs.Expansion.{at_place, renamed, inner_of_steps, inner_after};
-ghost use Rattle.pw_decl.specs.Fields.{declared_by};
-ghost use Rattle.pw_decl.specs.Flat.{IsFlattened, instances_of};
-ghost use Rattle.pw_decl.specs.Kept.{compound_of, step_of};
+ghost use Rattle.pw_decl.specs.inside.Fields.{declared};
+ghost use Rattle.pw_decl.specs.inside.Held.{IsFlattened, instances_of};
+ghost use Rattle.pw_decl.specs.inside.Held.{compound_of, step_of};
 ghost use Rattle.pw_decl.specs.Limits.{most_inner_cells, most_parameters};
-ghost use Rattle.pw_decl.specs.Steps.Flattening.{GainsCallable, IsFlatSoFar, IsNextStep, TakesSoMany};
-ghost use Rattle.pw_decl.specs.Steps.Opened.{IsOpen};
+ghost use Rattle.pw_decl.specs.inside.Flattening.{GainsCallable, IsNextStep, TakesSoMany};
+ghost use Rattle.pw_decl.specs.inside.Opened.{IsOpen};
+ghost use Rattle.pw_decl.specs.inside.Held.{instances_on};
+ghost use Rattle.pw_decl.specs.inside.Flattening.{FlattensStep};
 
 use crate::compound::OpenCompound;
 use crate::declaration::Declaration;
-use crate::flat_call::{FlatCall, place_cells};
-use crate::flattened::Flattened;
+use crate::flat_call::{FlatCall, Flattened, place_cells};
 use crate::step::{Callable, Step};
 use pw_procs::Arguments;
 use std::alloc::{AllocError, Allocator};
@@ -49,8 +47,8 @@ fn add_calls<A: Allocator + Copy>(
 ) -> Result<(), AllocError>
     requires { All (λ call. All (λ place. first + place ≤ 4294967295) (cells_of call.places))
         calls.now }
-    ensures { OnOk result (instances_of added.new.items ≡ instances_of added.old.items
-        ++ map (renamed (at_place cells.now (λ j. first + j))) (instances_of calls.now)) }
+    ensures { OnOk result (instances_of added.new.items ≡ instances_of added.old.items ++
+        instances_on cells.now first calls.now) }
 {
     for call in calls {
         added.push(FlatCall {
@@ -71,9 +69,9 @@ fn add_callable<A: Allocator + Copy>(
     first: u32,
 ) -> Result<(), AllocError>
     requires few { first ≤ most_parameters + most_inner_cells }
-    requires there { IsCallable (declared_by declaration.now) callable }
-    requires takes { TakesSoMany (declared_by declaration.now) callable (length (cells_of cells)) }
-    ensures { OnOk result (GainsCallable (declared_by declaration.now).compounds callable
+    requires there { IsCallable (declared declaration.now) callable }
+    requires takes { TakesSoMany (declared declaration.now) callable (length (cells_of cells)) }
+    ensures { OnOk result (GainsCallable (declared declaration.now).compounds callable
         (cells_of cells) first flattened.old flattened.new) }
 {
     match callable {
@@ -101,11 +99,9 @@ fn add_step<A: Allocator + Copy>(
     step: Step,
 ) -> Result<(), AllocError>
     requires few { parameters ≤ most_parameters }
-    requires next { IsNextStep (declared_by declaration.now) flattening.old (step_of step) }
-    ensures { OnOk result ((done : List StepOfCompound)
-        → IsFlatSoFar (declared_by declaration.now).compounds parameters done flattening.old
-        → IsFlatSoFar (declared_by declaration.now).compounds parameters
-        (done ++ step_of step ∷ []) flattening.new) }
+    requires next { IsNextStep (declared declaration.now) flattening.old (step_of step) }
+    ensures { OnOk result (FlattensStep (declared declaration.now).compounds parameters (step_of
+        step) flattening.old flattening.new) }
 {
     let first = parameters + flattening.flattened.inner.len() as u32;
     match step {
@@ -133,8 +129,8 @@ pub(crate) fn flatten<A: Allocator + Copy>(
     declaration: &Declaration<'_, A>,
     opened: &OpenCompound<A>,
 ) -> Result<Flattened<A>, AllocError>
-    requires { IsOpen (declared_by declaration.now) opened.now }
-    ensures { IfOk result (IsFlattened (declared_by declaration.now).compounds
+    requires { IsOpen (declared declaration.now) opened.now }
+    ensures { IfOk result (IsFlattened (declared declaration.now).compounds
         (compound_of opened.now.compound)) }
 {
     let parameters = opened.compound.parameters.len() as u32;

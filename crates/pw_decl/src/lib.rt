@@ -1,18 +1,15 @@
 //! Declarations: reads a text, and gives what it declares, or its first fault.
 #![tactic(auto)]
 
-mod built_in_sets;
+mod built_in;
 mod compound;
 mod compound_line;
 mod decl_fault;
 mod declaration;
 mod flat_call;
-mod flattened;
 mod flattening;
 pub mod laws;
 mod line;
-mod place;
-mod prelude;
 mod sentence;
 mod set_line;
 mod step;

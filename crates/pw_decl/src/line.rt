@@ -5,17 +5,17 @@ ghost use Rattle.std.specs.List.{list_all};
 ghost use Rattle.pw_info.specs.Words.{is_idle, is_allowed};
 ghost use Rattle.pw_decl.specs.Faults.{Declares};
 ghost use Rattle.pw_decl.specs.Limits.{most_line_bytes};
-ghost use Rattle.pw_decl.specs.Fields.{declared_by};
-ghost use Rattle.pw_decl.specs.Steps.Opened.{IsOpen, IsWellPlaced, open_of};
-ghost use Rattle.pw_decl.specs.Steps.Standing.{outside, inside, placed};
-ghost use Rattle.pw_decl.specs.Steps.Forms.{inner_in, outer_in};
-ghost use Rattle.pw_decl.specs.Steps.SentenceFaults.{HasGoodParts, IsFaultless, IsToldOf, IsToldOfLine};
+ghost use Rattle.pw_decl.specs.inside.Fields.{declared};
+ghost use Rattle.pw_decl.specs.inside.Opened.{IsOpen, IsWellPlaced};
+ghost use Rattle.pw_decl.specs.inside.Fields.{outside, inside, placed};
+ghost use Rattle.pw_decl.specs.inside.Forms.{inner_in, outer_in};
+ghost use Rattle.pw_decl.specs.inside.SentenceFaults.{HasGoodParts, IsFaultless, IsToldOf};
+ghost use Rattle.pw_decl.specs.inside.SentenceFaults.{IsToldOfLine};
 
-use crate::compound::OpenCompound;
+use crate::compound::{OpenCompound, Place};
 use crate::compound_line::{begin_compound, declare_call, declare_local, end_compound};
 use crate::decl_fault::DeclFaultKind;
 use crate::declaration::Declaration;
-use crate::place::Place;
 use crate::sentence::{InnerSentence, OuterSentence, is_header, read_inner, read_outer};
 use crate::set_line::declare_set;
 use pw_info::{allows_all, idles};
@@ -38,8 +38,8 @@ fn declare_user<A: Allocator + Copy>(
         (outside declaration.new)) }
     ensures none { OnOk result (IsFaultless (outside declaration.old) (User name.now)) }
     ensures err { IfErr result (IsToldOf (outside declaration.old) (User name.now)) }
-    ensures unchanged { OnErr result ((declared_by declaration.new) ≡
-        (declared_by declaration.old)) }
+    ensures unchanged { OnErr result ((declared declaration.new) ≡
+        (declared declaration.old)) }
 {
     if declaration.user(name.as_bytes()).is_some() {
         return Err(DeclFaultKind::DuplicateName);
@@ -62,8 +62,8 @@ fn declare_premise<A: Allocator + Copy>(
         (outside declaration.new)) }
     ensures none { OnOk result (IsFaultless (outside declaration.old) (Premise name.now)) }
     ensures err { IfErr result (IsToldOf (outside declaration.old) (Premise name.now)) }
-    ensures unchanged { OnErr result ((declared_by declaration.new) ≡
-        (declared_by declaration.old)) }
+    ensures unchanged { OnErr result ((declared declaration.new) ≡
+        (declared declaration.old)) }
 {
     if declaration.premise(name.as_bytes()).is_some() {
         return Err(DeclFaultKind::DuplicateName);
@@ -88,8 +88,8 @@ fn declare_premise_of<A: Allocator + Copy>(
     ensures none { OnOk result (IsFaultless (outside declaration.old)
         (PremiseOf name.now user.now)) }
     ensures err { IfErr result (IsToldOf (outside declaration.old) (PremiseOf name.now user.now)) }
-    ensures unchanged { OnErr result ((declared_by declaration.new) ≡
-        (declared_by declaration.old)) }
+    ensures unchanged { OnErr result ((declared declaration.new) ≡
+        (declared declaration.old)) }
 {
     if declaration.premise(name.as_bytes()).is_some() {
         return Err(DeclFaultKind::DuplicateName);
@@ -116,8 +116,8 @@ fn declare_cell<A: Allocator + Copy>(
         (outside declaration.new)) }
     ensures none { OnOk result (IsFaultless (outside declaration.old) (Cell name.now kind.now)) }
     ensures err { IfErr result (IsToldOf (outside declaration.old) (Cell name.now kind.now)) }
-    ensures unchanged { OnErr result ((declared_by declaration.new) ≡
-        (declared_by declaration.old)) }
+    ensures unchanged { OnErr result ((declared declaration.new) ≡
+        (declared declaration.old)) }
 {
     if declaration.cell(name.as_bytes()).is_some() {
         return Err(DeclFaultKind::DuplicateName);
@@ -142,8 +142,8 @@ fn declare_outside<A: Allocator + Copy>(
 ) -> Result<Place<A>, DeclFaultKind>
     requires parts { HasGoodParts (outer_in sentence) }
     ensures ok { IfOk result (λ place. Makes (outside declaration.old) (outer_in sentence.entry)
-        (placed (declared_by declaration.new) place)) }
-    ensures well { IfOk result (λ place. IsWellPlaced (declared_by declaration.new) place) }
+        (placed (declared declaration.new) place)) }
+    ensures well { IfOk result (λ place. IsWellPlaced (declared declaration.new) place) }
     ensures none { OnOk result (IsFaultless (outside declaration.old) (outer_in sentence.entry)) }
     ensures err { IfErr result (IsToldOf (outside declaration.old) (outer_in sentence.entry)) }
 {
@@ -167,11 +167,11 @@ fn declare_inside<A: Allocator + Copy>(
     mut opened: OpenCompound<A>,
     sentence: InnerSentence<'_>,
 ) -> Result<Place<A>, DeclFaultKind>
-    requires kept { IsOpen (declared_by declaration.old) opened }
+    requires kept { IsOpen (declared declaration.old) opened }
     requires parts { HasGoodParts (inner_in sentence) }
     ensures ok { IfOk result (λ place. Makes (inside declaration.old opened)
-        (inner_in sentence.entry) (placed (declared_by declaration.new) place)) }
-    ensures well { IfOk result (λ place. IsWellPlaced (declared_by declaration.new) place) }
+        (inner_in sentence.entry) (placed (declared declaration.new) place)) }
+    ensures well { IfOk result (λ place. IsWellPlaced (declared declaration.new) place) }
     ensures none { OnOk result (IsFaultless (inside declaration.old opened)
         (inner_in sentence.entry)) }
     ensures err { IfErr result (IsToldOf (inside declaration.old opened)
@@ -200,14 +200,14 @@ fn declare_line<A: Allocator + Copy>(
     place: Place<A>,
     line: &[u8],
 ) -> Result<Place<A>, DeclFaultKind>
-    requires kept { IsWellPlaced (declared_by declaration.old) place }
+    requires kept { IsWellPlaced (declared declaration.old) place }
     requires spoken { is_idle line.now ≡ false }
     requires allowed { list_all is_allowed line.now ≡ true }
     requires short { length line.now ≤ most_line_bytes }
-    ensures ok { IfOk result (λ next. Declares (placed (declared_by declaration.old) place) line.now
-        (placed (declared_by declaration.new) next)) }
-    ensures kept { IfOk result (λ next. IsWellPlaced (declared_by declaration.new) next) }
-    ensures err { IfErr result (IsToldOfLine (placed (declared_by declaration.old) place) line.now) }
+    ensures ok { IfOk result (λ next. Declares (placed (declared declaration.old) place) line.now
+        (placed (declared declaration.new) next)) }
+    ensures kept { IfOk result (λ next. IsWellPlaced (declared declaration.new) next) }
+    ensures err { IfErr result (IsToldOfLine (placed (declared declaration.old) place) line.now) }
 {
     match place {
         Place::BeforeHeader => {
@@ -240,11 +240,11 @@ pub(crate) fn read_declaration_line<A: Allocator + Copy>(
     place: Place<A>,
     line: &[u8],
 ) -> Result<Place<A>, DeclFaultKind>
-    requires kept { IsWellPlaced (declared_by declaration.old) place }
-    ensures ok { IfOk result (λ next. Declares (placed (declared_by declaration.old) place) line.now
-        (placed (declared_by declaration.new) next)) }
-    ensures kept { IfOk result (λ next. IsWellPlaced (declared_by declaration.new) next) }
-    ensures err { IfErr result (IsToldOfLine (placed (declared_by declaration.old) place) line.now) }
+    requires kept { IsWellPlaced (declared declaration.old) place }
+    ensures ok { IfOk result (λ next. Declares (placed (declared declaration.old) place) line.now
+        (placed (declared declaration.new) next)) }
+    ensures kept { IfOk result (λ next. IsWellPlaced (declared declaration.new) next) }
+    ensures err { IfErr result (IsToldOfLine (placed (declared declaration.old) place) line.now) }
 {
     if line.len() > MOST_LINE_BYTES {
         return Err(DeclFaultKind::Limit);

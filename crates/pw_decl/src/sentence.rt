@@ -1,9 +1,7 @@
 //! What the lines of a declaration say, by their words. No names are looked up.
-ghost use Rattle.std.specs.Prelude.{◌≡◌, true, option_map, IfSome};
-ghost use Rattle.std.specs.List.{list_all};
-ghost use Rattle.pw_info.specs.Name.{is_name};
+ghost use Rattle.std.specs.Prelude.{◌≡◌, true, option_map};
 ghost use Rattle.pw_info.specs.Words.{words_of};
-ghost use Rattle.pw_decl.specs.Steps.Forms as forms;
+ghost use Rattle.pw_decl.specs.inside.Forms as forms;
 
 use pw_info::{Words, are_names, read_name};
 

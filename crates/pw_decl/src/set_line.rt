@@ -1,13 +1,14 @@
 //! The line of a declaration that declares a set kind.
-ghost use Rattle.std.specs.Prelude.{◌≡◌, ◌↔◌, ◌+◌, true, length, min, IsTrue, IfOk, IfErr, OnOk, OnErr};
+ghost use Rattle.std.specs.Prelude.{◌≡◌, ◌↔◌, ◌+◌, true, length, min, IsTrue, IfOk, IfErr, OnOk};
+ghost use Rattle.std.specs.Prelude.{OnErr};
 ghost use Rattle.std.specs.List.{list_all, list_any, IsDistinct};
 ghost use Rattle.std.specs.Str.{bytes_eq};
 ghost use Rattle.pw_info.specs.Name.{is_name};
-ghost use Rattle.pw_kinds.specs.Limits.{most_members};
+ghost use Rattle.pw_kinds.specs.Places.{most_members};
 ghost use Rattle.pw_decl.specs.Declaration.{Set, Makes};
-ghost use Rattle.pw_decl.specs.Fields.{declared_by};
-ghost use Rattle.pw_decl.specs.Steps.Standing.{outside};
-ghost use Rattle.pw_decl.specs.Steps.SentenceFaults.{IsFaultless, IsToldOf};
+ghost use Rattle.pw_decl.specs.inside.Fields.{declared};
+ghost use Rattle.pw_decl.specs.inside.Fields.{outside};
+ghost use Rattle.pw_decl.specs.inside.SentenceFaults.{IsFaultless, IsToldOf};
 
 use crate::decl_fault::DeclFaultKind;
 use crate::declaration::Declaration;
@@ -89,8 +90,8 @@ pub(crate) fn declare_set<A: Allocator + Copy>(
     ensures none { OnOk result (IsFaultless (outside declaration.old)
         (Set name.now members.entry)) }
     ensures err { IfErr result (IsToldOf (outside declaration.old) (Set name.now members.entry)) }
-    ensures unchanged { OnErr result ((declared_by declaration.new) ≡
-        (declared_by declaration.old)) }
+    ensures unchanged { OnErr result ((declared declaration.new) ≡
+        (declared declaration.old)) }
 {
     if declaration.has_kind(name.as_bytes()) || !are_distinct(members.again()) {
         return Err(DeclFaultKind::DuplicateName);

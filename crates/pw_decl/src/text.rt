@@ -5,19 +5,22 @@ ghost use Rattle.pw_procs.specs.Registry.{procedures_in};
 ghost use Rattle.pw_decl.specs.declared.decl_fault.DeclFaultKind.{DeclFaultKind as FaultKind};
 ghost use Rattle.pw_decl.specs.declared.decl_fault.DeclFaultKind.TheVariants.{Memory};
 ghost use Rattle.pw_decl.specs.BuiltIn.{HasPrelude};
-ghost use Rattle.pw_decl.specs.Declaration.{Declared, Outside, nothing_declared};
-ghost use Rattle.pw_decl.specs.Faults.{Leads, PreludeDeclares, SpellsDeclaration, IsUnfinished, IsFirstFault, IsFaultOfPrelude, IsClearUpTo};
-ghost use Rattle.pw_decl.specs.Faults.{IsClearInPrelude, IsToldAmong, HasNoFaultUpTo, IsTold, IsReadAs, IsFaultAt};
+ghost use Rattle.pw_decl.specs.Declaration.{Declared, Outside};
+ghost use Rattle.pw_decl.specs.Faults.{Leads, PreludeDeclares, SpellsDeclaration, IsUnfinished};
+ghost use Rattle.pw_decl.specs.Faults.{IsFirstFault, IsFaultOfPrelude, IsClearUpTo};
+ghost use Rattle.pw_decl.specs.Faults.{IsClearInPrelude, IsReportedAmong, HasNoFaultUpTo};
+ghost use Rattle.pw_decl.specs.Faults.{IsReported, IsReadAs, IsFaultAt};
 ghost use Rattle.pw_decl.specs.Limits.{most_text_bytes};
-ghost use Rattle.pw_decl.specs.Fields.{declared_by};
-ghost use Rattle.pw_decl.specs.Steps.Opened.{IsWellPlaced};
-ghost use Rattle.pw_decl.specs.Steps.Standing.{placed};
+ghost use Rattle.pw_decl.specs.inside.Fields.{declared};
+ghost use Rattle.pw_decl.specs.inside.Opened.{IsWellPlaced};
+ghost use Rattle.pw_decl.specs.inside.Fields.{placed};
+ghost use Rattle.pw_decl.specs.Declaration.{DeclaresNothing};
 
+use crate::built_in::prelude;
+use crate::compound::Place;
 use crate::decl_fault::{DeclFault, DeclFaultKind};
 use crate::declaration::Declaration;
 use crate::line::read_declaration_line;
-use crate::place::Place;
-use crate::prelude::prelude;
 use pw_info::TextLines;
 use pw_procs::Registry;
 use std::alloc::Allocator;
@@ -49,14 +52,14 @@ fn read_lines<A: Allocator + Copy>(
     mut place: Place<A>,
     text: &[u8],
 ) -> Result<(), DeclFault>
-    requires kept { IsWellPlaced (declared_by declaration.old) place }
+    requires kept { IsWellPlaced (declared declaration.old) place }
     requires short { length text.now ≤ most_text_bytes }
-    ensures ok { OnOk result (Leads (placed (declared_by declaration.old) place) (lines_of text.now)
-        (Outside (declared_by declaration.new))) }
+    ensures ok { OnOk result (Leads (placed (declared declaration.old) place) (lines_of text.now)
+        (Outside (declared declaration.new))) }
     ensures err { IfErr result (λ fault.
-        IsToldAmong (placed (declared_by declaration.old) place) (lines_of text.now) fault) }
+        IsReportedAmong (placed (declared declaration.old) place) (lines_of text.now) fault) }
     ensures memory { IfErr result (λ fault. fault.why ≡ Memory
-        → IsClearUpTo (placed (declared_by declaration.old) place) (lines_of text.now) fault.line) }
+        → IsClearUpTo (placed (declared declaration.old) place) (lines_of text.now) fault.line) }
 {
     let mut count = 0u32;
     let mut lines = TextLines::new(text);
@@ -75,14 +78,13 @@ fn read_prelude<A: Allocator + Copy>(
     alloc: A,
     declaration: &mut Declaration<'_, A>,
 ) -> Result<(), DeclFaultKind>
-    requires nothing { declared_by declaration.old ≡ nothing_declared
-        (declared_by declaration.old).procedures }
-    ensures ok { OnOk result (PreludeDeclares (declared_by declaration.old).procedures
-        (declared_by declaration.new)) }
+    requires nothing { DeclaresNothing (declared declaration.old) }
+    ensures ok { OnOk result (PreludeDeclares (declared declaration.old).procedures
+        (declared declaration.new)) }
     ensures err { IfErr result (λ why.
-        (why ≡ Memory) ⊎ IsFaultOfPrelude (declared_by declaration.old).procedures why) }
+        (why ≡ Memory) ⊎ IsFaultOfPrelude (declared declaration.old).procedures why) }
     ensures memory { IfErr result (λ why.
-        why ≡ Memory → IsClearInPrelude (declared_by declaration.old).procedures) }
+        why ≡ Memory → IsClearInPrelude (declared declaration.old).procedures) }
 {
     match read_lines(alloc, declaration, Place::Outside, prelude()) {
         Ok(()) => Ok(()),
@@ -97,15 +99,14 @@ fn read_text<A: Allocator + Copy>(
     declaration: &mut Declaration<'_, A>,
     text: &[u8],
 ) -> Result<(), DeclFault>
-    requires nothing { declared_by declaration.old ≡ nothing_declared
-        (declared_by declaration.old).procedures }
+    requires nothing { DeclaresNothing (declared declaration.old) }
     requires short { length text.now ≤ most_text_bytes }
-    ensures ok { OnOk result (SpellsDeclaration (declared_by declaration.old).procedures text.now
-        (declared_by declaration.new)) }
+    ensures ok { OnOk result (SpellsDeclaration (declared declaration.old).procedures text.now
+        (declared declaration.new)) }
     ensures err { IfErr result (λ fault.
-        IsTold (declared_by declaration.old).procedures text.now fault) }
+        IsReported (declared declaration.old).procedures text.now fault) }
     ensures memory { IfErr result (λ fault. fault.why ≡ Memory
-        → HasNoFaultUpTo (declared_by declaration.old).procedures text.now fault.line) }
+        → HasNoFaultUpTo (declared declaration.old).procedures text.now fault.line) }
 {
     if let Err(why) = read_prelude(alloc, declaration) {
         return Err(DeclFault { line: 0, why });
@@ -127,10 +128,11 @@ pub fn read_declaration<'r, A: Allocator + Copy>(
     registry: &'r Registry,
 ) -> Result<Declaration<'r, A>, DeclFault>
     ensures ok { IfOk result (λ declaration.
-        SpellsDeclaration (procedures_in registry.entry.now) text.now (declared_by declaration)) }
+        SpellsDeclaration (procedures_in registry.entry.now) text.now (declared declaration)) }
     // The compounds `sum`, `product` and `conditional` come first.
-    ensures prelude { IfOk result (λ declaration. HasPrelude (declared_by declaration)) }
-    ensures err { IfErr result (λ fault. IsTold (procedures_in registry.entry.now) text.now fault) }
+    ensures prelude { IfOk result (λ declaration. HasPrelude (declared declaration)) }
+    ensures err { IfErr result (λ fault. IsReported (procedures_in registry.entry.now) text.now
+        fault) }
     // Out of memory is reported at a line that has no fault, and the lines before it have none.
     ensures memory { IfErr result (λ fault. fault.why ≡ Memory
         → HasNoFaultUpTo (procedures_in registry.entry.now) text.now fault.line) }

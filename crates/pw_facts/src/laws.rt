@@ -3,8 +3,9 @@ ghost use Rattle.std.specs.Prelude.{◌≡◌};
 ghost use Rattle.pw_info.specs.Information.{kind_of, Implies};
 ghost use Rattle.pw_premises.specs.Premises.{Premises};
 ghost use Rattle.pw_facts.specs.declared.fact.Fact.{Fact};
-ghost use Rattle.pw_facts.specs.Facts.{shows, Subsumes, IsMerge};
-ghost use Rattle.pw_facts.specs.Worldviews.{IsMonotone};
+ghost use Rattle.pw_facts.specs.Facts.{shows, Subsumes};
+ghost use Rattle.pw_facts.specs.Facts.{IsMonotone};
+ghost use Rattle.pw_facts.specs.Facts.{SubsumptionIsAntisymmetric, OneMerge};
 
 /// What a fact shows is of its kind. A larger worldview shows at least as much, and no worldview
 /// shows more than the fact says.
@@ -18,12 +19,10 @@ pub fn worldviews_show_what_is_supported()
 pub fn subsumption_is_an_order()
     ensures reflexive { (a : Fact) → Subsumes a a }
     ensures transitive { (a b c : Fact) → Subsumes a b → Subsumes b c → Subsumes a c }
-    ensures antisymmetric { (a b : Fact) → kind_of a.info ≡ kind_of b.info → Subsumes a b
-        → Subsumes b a → a ≡ b }
+    ensures antisymmetric { SubsumptionIsAntisymmetric }
 {}
 
 /// Two facts of one kind have one merge.
 pub fn one_merge()
-    ensures { (a b m n : Fact) → kind_of a.info ≡ kind_of b.info → IsMerge a b m → IsMerge a b n
-        → m ≡ n }
+    ensures { OneMerge }
 {}

@@ -7,8 +7,8 @@ use Rattle.std.specs.Fmt.{signed_decimal}
 use Rattle.std.specs.Ordering.{int_eq}
 use Rattle.std.specs.Str.Parse.{AllDigits}
 use Rattle.pw_info.specs.Number.{IsUpTo, SpellsNumber}
-use Rattle.pw_info.specs.Cut.{HasNoDot, SpellsCut}
-use Rattle.pw_info.specs.Range.{SpellsRange, text_of_range}
+use Rattle.pw_info.specs.inside.Scanning.{HasNoDot, SpellsCut}
+use Rattle.pw_info.specs.Number.{SpellsRange, text_of_range}
 use Rattle.pw_info.proofs.Cuts.{no_cut, one_cut}
 use Rattle.pw_info.proofs.Numbers.{one_number_lem, signed_decimal_spells}
 

@@ -1,6 +1,6 @@
 -- The first of a list of which something holds: there is at most one, and none if it holds of none.
 use Rattle.std.proofs.Common.{◌≡◌, List, [], ◌∷◌, sym, ◌∙◌, subst, inl, inr}
-use Rattle.pw_info.specs.First.{IsFirstIn, HoldsOfNone}
+use Rattle.pw_info.specs.Lines.{IsFirstIn, HoldsOfNone}
 
 pub one_first : {A : Type 0} (P : A → Type 0) (xs : List A) (x y : A) → IsFirstIn P xs x → IsFirstIn P xs y → x ≡ y
 one_first P [] x y p q = absurd p

@@ -10,7 +10,7 @@ use Rattle.std.specs.List.{prefix_len}
 use lib.Lanes.{chunk, mask_l, top}
 use Rattle.std.specs.Prelude.{Some, None, IfSome}
 use Rattle.std.proofs.lemmas.Option.{none-some, same_Some}
-use Rattle.pw_info.specs.Lanes.{lowest_set, short_of}
+use Rattle.pw_info.specs.inside.Scanning.{lowest_set, short_of}
 
 -- ---- a mask
 

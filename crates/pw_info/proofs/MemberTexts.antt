@@ -19,12 +19,12 @@ use Rattle.pw_kinds.proofs.MemberSets.{allows_below, place_negative, true_place}
 use Rattle.pw_kinds.proofs.Order.{both_true, is_false, not_both, same_test, true_both}
 use Rattle.pw_info.specs.declared.info.Info.TheVariants as info
 use Rattle.pw_info.specs.Information.{set_kind, IsNothing}
-use Rattle.pw_info.specs.MemberWriting.{mark_after, opened, places_below}
-use Rattle.pw_info.specs.Passing.{PassesPart, IsWritten, IsBrokenOff}
+use Rattle.pw_info.specs.inside.Scanning.{mark_after, opened, places_below}
+use Rattle.pw_info.specs.Passing.{PassesPart, IsPassed, IsBrokenOff}
 use Rattle.pw_info.specs.SetNames.{SetNames, name_at}
-use Rattle.pw_info.specs.SetText.{ArePlaces, is_one_of, text_of_set}
+use Rattle.pw_info.specs.SetNames.{ArePlaces, is_one_of, text_of_set}
 use Rattle.pw_info.specs.Spelling.{SpellsInfo}
-use Rattle.pw_info.specs.Text.{places_of, text_of_members, text_of_places}
+use Rattle.pw_info.specs.Text.{possible_places, text_of_members, text_of_places}
 use Rattle.pw_info.proofs.PassingFacts.{PassesPart-append, broken_off_then, written_then}
 
 -- ---- the possible places
@@ -53,16 +53,16 @@ place_found part (pos k) is =
 place_found part (negsuc k) is = absurd (not_both _ is refl)
 
 -- a number is possible exactly if it is one of the possible places
-places_allowed : (part : Members) (v : ℤ) → allows part v ≡ is_one_of (places_of part) v
+places_allowed : (part : Members) (v : ℤ) → allows part v ≡ is_one_of (possible_places part) v
 places_allowed part v =
     let kept = any-filter_same (λ place. int_eq (pos place) v) (λ place. allows part (pos place)) (allows part v)
     (λ place same. ap (allows part) ((Decides-int_eq (pos place) v).0 same)) (range_with_len 0 (size_of part)) in
-    same_test (allows part v) (is_one_of (places_of part) v)
+    same_test (allows part v) (is_one_of (possible_places part) v)
     (λ is. kept ∙ both_true _ _ is (place_found part v is))
     (λ is. (true_both _ _ (sym kept ∙ is)).0)
 
 -- no place of the row is there twice, so no possible place is
-places_apart : (part : Members) → IsDistinct nat_eq (places_of part)
+places_apart : (part : Members) → IsDistinct nat_eq (possible_places part)
 places_apart part =
     let n : ℕ = size_of part in
     let apart : AllPairs (λ x y. x ≢ y) (range_with_len 0 n) = λ i j d before inside.
@@ -70,11 +70,11 @@ places_apart part =
     let first = range_at n i d (omega arith) in
     let second = range_at n j d below in
     omega arith in
-    IsDistinct-from_AllPairs Decides-eqb (places_of part)
+    IsDistinct-from_AllPairs Decides-eqb (possible_places part)
     (AllPairs-filter (λ x y. x ≢ y) (λ place. allows part (pos place)) (range_with_len 0 n) apart)
 
 -- if there are possible places, they are places of the set
-places_are : (part : Members) → 0 < length (places_of part) → ArePlaces (size_of part) (places_of part)
+places_are : (part : Members) → 0 < length (possible_places part) → ArePlaces (size_of part) (possible_places part)
 places_are part some = record {
   some = some;
   there = All-filter (λ place. allows part (pos place)) (λ place. place < size_of part) (range_with_len 0 (size_of part))
@@ -89,22 +89,22 @@ some_or_none [] = inr refl
 some_or_none (place ∷ places) = inl (omega arith)
 
 -- with no possible place no member is possible
-empty_from_places : (part : Members) → places_of part ≡ [] → IsEmpty part
+empty_from_places : (part : Members) → possible_places part ≡ [] → IsEmpty part
 empty_from_places part none v = places_allowed part v ∙ ap (λ places. is_one_of places v) none
 
 -- and conversely
-places_from_empty : (part : Members) → IsEmpty part → places_of part ≡ []
-places_from_empty part none = elim (some_or_none (places_of part)) [
+places_from_empty : (part : Members) → IsEmpty part → possible_places part ≡ []
+places_from_empty part none = elim (some_or_none (possible_places part)) [
   | inl some ↦
-      let first : ℕ = get_or (places_of part) 0 0 in
+      let first : ℕ = get_or (possible_places part) 0 0 in
       let is : allows part (pos first) ≡ true =
       filter_passes (λ place. allows part (pos place)) (range_with_len 0 (size_of part)) 0 0 some in
       absurd (not_both _ is (none (pos first)))
   | inr is ↦ is
 ]
 
-some_places : (part : Members) → (IsEmpty part → ⊥) → 0 < length (places_of part)
-some_places part possible = elim (some_or_none (places_of part)) [
+some_places : (part : Members) → (IsEmpty part → ⊥) → 0 < length (possible_places part)
+some_places part possible = elim (some_or_none (possible_places part)) [
   | inl some ↦ some
   | inr none ↦ absurd (possible (empty_from_places part none))
 ]
@@ -129,18 +129,18 @@ all_pass p (x ∷ xs) every =
     rw here (ap (λ rest. x ∷ rest) (all_pass p xs (All-tail (λ y. p y ≡ true) x xs every)))
 
 -- if every member is possible, as many places are as the set has
-length_from_full : (part : Members) → IsFull part → length (places_of part) ≡ size_of part
+length_from_full : (part : Members) → IsFull part → length (possible_places part) ≡ size_of part
 length_from_full part every =
     ap length (all_pass (λ place. allows part (pos place)) (range_with_len 0 (size_of part))
     (All-range (λ place. allows part (pos place) ≡ true) (size_of part) every))
     ∙ length-range_with_len 0 (size_of part)
 
 -- and conversely
-full_from_length : (part : Members) → length (places_of part) ≡ size_of part → IsFull part
+full_from_length : (part : Members) → length (possible_places part) ≡ size_of part → IsFull part
 full_from_length part long k below =
     let p : ℕ → Bool = λ place. allows part (pos place) in
     let row : List ℕ = range_with_len 0 (size_of part) in
-    let same : places_of part ≡ row = all_kept p row (long ∙ sym (length-range_with_len 0 (size_of part))) in
+    let same : possible_places part ≡ row = all_kept p row (long ∙ sym (length-range_with_len 0 (size_of part))) in
     All-range-at (λ place. p place ≡ true) (size_of part) k (subst (All (λ place. p place ≡ true)) same (filter_passes p row)) below
 
 -- ---- the text of members
@@ -166,17 +166,17 @@ text_of_no_members names part none = ap (text_of_places names (size_of part)) (p
 pub text_of_all_members : (names : List (List ℕ)) (part : Members) → (IsEmpty part → false ≡ true) → IsFull part
     → text_of_members names part ≡ codes "nothing"
 text_of_all_members names part possible every =
-    let some : 0 < length (places_of part) = some_places part (λ none. not_both false (possible none) refl) in
-    text_of_every names (size_of part) (places_of part) some (length_from_full part every)
+    let some : 0 < length (possible_places part) = some_places part (λ none. not_both false (possible none) refl) in
+    text_of_every names (size_of part) (possible_places part) some (length_from_full part every)
 
 -- if some are and some are not
 pub text_of_some_members : (names : List (List ℕ)) (part : Members) → (IsEmpty part → false ≡ true) → (IsFull part → false ≡ true)
-    → text_of_members names part ≡ text_of_set names (places_of part)
+    → text_of_members names part ≡ text_of_set names (possible_places part)
 text_of_some_members names part possible lacks =
-    let some : 0 < length (places_of part) = some_places part (λ none. not_both false (possible none) refl) in
-    let fewer : (length (places_of part) == size_of part) ≡ false =
-    is_false _ (λ e. not_both false (lacks (full_from_length part (eqb-true (length (places_of part)) (size_of part) e))) refl) in
-    text_of_fewer names (size_of part) (places_of part) some fewer
+    let some : 0 < length (possible_places part) = some_places part (λ none. not_both false (possible none) refl) in
+    let fewer : (length (possible_places part) == size_of part) ≡ false =
+    is_false _ (λ e. not_both false (lacks (full_from_length part (eqb-true (length (possible_places part)) (size_of part) e))) refl) in
+    text_of_fewer names (size_of part) (possible_places part) some fewer
 
 -- ---- the text so far, place by place
 
@@ -239,9 +239,9 @@ closed names [] some = absurd (omega arith)
 closed names (place ∷ places) some = refl
 
 pub closed_at : (names : List (List ℕ)) (part : Members) (n : ℕ) → n ≡ size_of part → (IsEmpty part → ⊥)
-    → text_of_set names (places_of part) ≡ opened names (places_below part n) ++ codes "}"
+    → text_of_set names (possible_places part) ≡ opened names (places_below part n) ++ codes "}"
 closed_at names part n end possible =
-    closed names (places_of part) (some_places part possible) ∙ ap (λ size. opened names (places_below part size) ++ codes "}") (sym end)
+    closed names (possible_places part) (some_places part possible) ∙ ap (λ size. opened names (places_below part size) ++ codes "}") (sym end)
 
 -- ---- a front of the text
 
@@ -269,7 +269,7 @@ module _ {S : Type 0} (passes : S → List ℕ → S → Type 0) (s t : S) (name
 
   -- and so a front of the whole text
   front_of_set : (n : ℕ) → n ≤ size_of part → (IsEmpty part → ⊥) → PassesPart passes s t (opened names (places_below part n))
-      → PassesPart passes s t (text_of_set names (places_of part))
+      → PassesPart passes s t (text_of_set names (possible_places part))
   front_of_set n within possible front =
       subst (PassesPart passes s t) (sym (closed_at names part (size_of part) refl possible))
       (PassesPart-append passes s t (opened names (places_below part (size_of part))) (codes "}")
@@ -281,16 +281,16 @@ module _ {S : Type 0} (passes : S → List ℕ → S → Type 0) (has_failed : S
     (joins : (s t u : S) (xs ys : List ℕ) → passes s xs t → passes t ys u → passes s (xs ++ ys) u)
     (s t u : S) (names : List (List ℕ)) (part : Members) (n : ℕ) (mark name : List ℕ)
     (is : allows part (pos n) ≡ true) (before : mark ≡ mark_after (places_below part n)) (named : slice_get names n ≡ Some name)
-    (so_far : IsWritten passes has_failed s t (opened names (places_below part n))) where
+    (so_far : IsPassed passes has_failed s t (opened names (places_below part n))) where
   -- the whole of it, behind what is written
-  pub written_more : IsWritten passes has_failed t u (mark ++ name) → IsWritten passes has_failed s u (opened names (places_below part (n + 1)))
+  pub written_more : IsPassed passes has_failed t u (mark ++ name) → IsPassed passes has_failed s u (opened names (places_below part (n + 1)))
   written_more more =
-      subst (IsWritten passes has_failed s u) (sym (opened_by names part n mark name is before named))
+      subst (IsPassed passes has_failed s u) (sym (opened_by names part n mark name is before named))
       (written_then passes has_failed joins s t u (opened names (places_below part n)) (mark ++ name) so_far more)
 
   -- a front of it
   pub broken_off_more : n < size_of part → IsBrokenOff passes has_failed t u (mark ++ name)
-      → IsBrokenOff passes has_failed s u (text_of_set names (places_of part))
+      → IsBrokenOff passes has_failed s u (text_of_set names (possible_places part))
   broken_off_more below broken =
       let both = broken_off_then passes has_failed joins s t u (opened names (places_below part n)) (mark ++ name) so_far broken in
       record {
@@ -308,16 +308,16 @@ nothing_known number part every (negsuc k) is = absurd (not_both _ is (place_neg
 
 pub members_spelled : (sets : SetNames) (number : ℕ) (part : Members)
     → SpellsInfo sets (text_of_members (sets number) part) (set_kind number part) (info.Members number part)
-members_spelled sets number part = elim (some_or_none (places_of part)) [
+members_spelled sets number part = elim (some_or_none (possible_places part)) [
   | inr none ↦
       let empty = empty_from_places part none in
       (refl, inr (inl (text_of_no_members (sets number) part empty, empty)))
-  | inl some ↦ elim (cases_Bool (length (places_of part) == size_of part)) [
+  | inl some ↦ elim (cases_Bool (length (possible_places part) == size_of part)) [
     | inl long ↦
-        let same : length (places_of part) ≡ size_of part = eqb-true (length (places_of part)) (size_of part) long in
-        (refl, inl (text_of_every (sets number) (size_of part) (places_of part) some same, nothing_known number part (full_from_length part same)))
+        let same : length (possible_places part) ≡ size_of part = eqb-true (length (possible_places part)) (size_of part) long in
+        (refl, inl (text_of_every (sets number) (size_of part) (possible_places part) some same, nothing_known number part (full_from_length part same)))
     | inr fewer ↦
-        let text = text_of_fewer (sets number) (size_of part) (places_of part) some fewer in
-        (refl, inr (inr (places_of part, places_are part some, text, places_allowed part)))
+        let text = text_of_fewer (sets number) (size_of part) (possible_places part) some fewer in
+        (refl, inr (inr (possible_places part, places_are part some, text, places_allowed part)))
   ]
 ]

@@ -14,11 +14,11 @@ use Rattle.std.specs.Str.{bytes_eq}
 use Rattle.pw_kinds.specs.declared.members.Members.{Members}
 use Rattle.pw_kinds.specs.Members.{size_of, allows}
 use Rattle.pw_kinds.proofs.Order.{true_both, not_both}
-use Rattle.pw_info.specs.Cut.{HasNoComma}
-use Rattle.pw_info.specs.MemberReading.{NamesApart, AddsPlaces}
+use Rattle.pw_info.specs.inside.Scanning.{HasNoComma}
+use Rattle.pw_info.specs.inside.Scanning.{NamesApart, AddsPlaces}
 use Rattle.pw_info.specs.Name.{is_name_byte}
 use Rattle.pw_info.specs.SetNames.{AreNames, name_at}
-use Rattle.pw_info.specs.SetText.{ArePlaces, is_one_of, row_of}
+use Rattle.pw_info.specs.SetNames.{ArePlaces, is_one_of, row_of}
 use Rattle.pw_info.proofs.Cuts.{no_cut, one_cut}
 
 -- ---- names

@@ -4,7 +4,7 @@ use Rattle.std.proofs.Common.{◌≡◌, ℕ, ◌+◌, ◌-◌, Bool, true, List
 use Rattle.std.proofs.lemmas.Bool.{eqb-true}
 use Rattle.std.proofs.lemmas.List.{append-nil, take-append-le, take-append-drop}
 use Rattle.std.proofs.Math.Seq.{take-append-add, take-length}
-use Rattle.pw_info.specs.Passing.{PassesPart, IsWritten, IsBrokenOff, Writes}
+use Rattle.pw_info.specs.Passing.{PassesPart, IsPassed, IsBrokenOff, Writes}
 
 -- the first n and the rest, as code slices it
 pub take-rest : (xs : List ℕ) (n : ℕ) → take n xs ++ take (length xs - n) (drop n xs) ≡ xs
@@ -65,23 +65,23 @@ module _ {S : Type 0} (passes : S → List ℕ → S → Type 0) (has_failed : S
 
   module _ (joins : (s t u : S) (xs ys : List ℕ) → passes s xs t → passes t ys u → passes s (xs ++ ys) u) where
     -- two texts, one written after the other, are written
-    pub written_then : (s t u : S) (xs ys : List ℕ) → IsWritten passes has_failed s t xs → IsWritten passes has_failed t u ys
-        → IsWritten passes has_failed s u (xs ++ ys)
+    pub written_then : (s t u : S) (xs ys : List ℕ) → IsPassed passes has_failed s t xs → IsPassed passes has_failed t u ys
+        → IsPassed passes has_failed s u (xs ++ ys)
     written_then s t u xs ys first second =
         record { passed = joins s t u xs ys first.passed second.passed; works = λ e. second.works (first.works e) }
 
     -- if the first of two texts is written and the second broken off, both are broken off
-    pub broken_off_then : (s t u : S) (xs ys : List ℕ) → IsWritten passes has_failed s t xs → IsBrokenOff passes has_failed t u ys
+    pub broken_off_then : (s t u : S) (xs ys : List ℕ) → IsPassed passes has_failed s t xs → IsBrokenOff passes has_failed t u ys
         → IsBrokenOff passes has_failed s u (xs ++ ys)
     broken_off_then s t u xs ys first second =
         record { front = PassesPart-after passes joins s t u xs ys first.passed second.front; failed = second.failed }
 
-    both_written : {T E : Type 0} (s t u : S) (result : Result T E) (xs ys : List ℕ) → IsWritten passes has_failed s t xs
+    both_written : {T E : Type 0} (s t u : S) (result : Result T E) (xs ys : List ℕ) → IsPassed passes has_failed s t xs
         → Writes passes has_failed t u result ys → Writes passes has_failed s u result (xs ++ ys)
     both_written s t u (Ok x) xs ys first second = written_then s t u xs ys first second
     both_written s t u (Err e) xs ys first second = broken_off_then s t u xs ys first second
 
     -- after a text is written, a call that writes the next one writes both
-    pub second_writes : {T E : Type 0} (s t u : S) (result : Result T E) (text xs ys : List ℕ) → IsWritten passes has_failed s t xs
+    pub second_writes : {T E : Type 0} (s t u : S) (result : Result T E) (text xs ys : List ℕ) → IsPassed passes has_failed s t xs
         → Writes passes has_failed t u result ys → text ≡ xs ++ ys → Writes passes has_failed s u result text
     second_writes s t u result text xs ys first second is = writes_same s u result text (xs ++ ys) is (both_written s t u result xs ys first second)

@@ -11,7 +11,7 @@ use Rattle.pw_kinds.specs.Interval as interval
 use Rattle.pw_kinds.specs.Members as members
 use Rattle.pw_kinds.specs.Places.{IsSize, is_place}
 use Rattle.pw_kinds.specs.Ranges.{interval_lowest, interval_highest, interval_numbers}
-use Rattle.pw_kinds.specs.Search.{count}
+use Rattle.pw_kinds.specs.Ranges.{count}
 use Rattle.pw_kinds.proofs.Counts.{AgreeFrom, count_all, count_gain, count_most, count_none}
 use Rattle.pw_kinds.proofs.Exacts as exacts
 use Rattle.pw_kinds.proofs.Intervals as intervals

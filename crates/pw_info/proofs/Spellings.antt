@@ -16,11 +16,11 @@ use Rattle.pw_info.specs.declared.kind.Kind.{Kind}
 use Rattle.pw_info.specs.declared.kind.Kind.TheVariants as kinds
 use Rattle.pw_info.specs.declared.info.Info.{Info}
 use Rattle.pw_info.specs.Information.{set_kind, kind_of, allows, nothing, contradiction}
-use Rattle.pw_info.specs.MemberReading.{NamesApart, AddsPlaces}
+use Rattle.pw_info.specs.inside.Scanning.{NamesApart, AddsPlaces}
 use Rattle.pw_info.specs.Number.{IsUpTo, SpellsNumber}
-use Rattle.pw_info.specs.Range.{SpellsRange, SpellsNoRange}
+use Rattle.pw_info.specs.Number.{SpellsRange, SpellsNoRange}
 use Rattle.pw_info.specs.SetNames.{SetNames, AreNames, IsNamed}
-use Rattle.pw_info.specs.SetText.{ArePlaces, is_one_of, row_of}
+use Rattle.pw_info.specs.SetNames.{ArePlaces, is_one_of, row_of}
 use Rattle.pw_info.specs.Spelling.{SpellsInfo, SpellsValues}
 use Rattle.pw_info.proofs.Dots.{one_range_lem, uncut}
 use Rattle.pw_info.proofs.Informations.{same_set, same_values, nothing_is, contradiction_is}

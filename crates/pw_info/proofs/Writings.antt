@@ -16,7 +16,7 @@ use Rattle.pw_kinds.proofs.Exacts as exacts
 use Rattle.pw_kinds.proofs.Intervals as intervals
 use Rattle.pw_info.specs.declared.kind.Kind.TheVariants as kinds
 use Rattle.pw_info.specs.declared.info.Info.TheVariants as info
-use Rattle.pw_info.specs.Range.{SpellsRange, text_of_range}
+use Rattle.pw_info.specs.Number.{SpellsRange, text_of_range}
 use Rattle.pw_info.specs.SetNames.{SetNames}
 use Rattle.pw_info.specs.Spelling.{SpellsInfo}
 use Rattle.pw_info.specs.Text.{text_of_ends, text_of_exact, text_of_interval}

@@ -16,13 +16,23 @@ use Rattle.pw_info.specs.declared.info.Info.TheVariants as info
 -- the kind of the members of a set of this number
 abbrev pub set_kind : ℕ → Members → Kind
 set_kind number part =
-    kinds.Members (record { number = number; size = members.size_of part; sized = (part.places.fewest, part.places.most) })
+    kinds.Members (record {
+      number = number;
+      size = members.size_of part;
+      sized =
+          (part.places.fewest, part.places.most);
+    })
 
 -- the kind of an information
 abbrev pub kind_of : Info → Kind
 kind_of (info.Interval part) = kinds.Interval
 kind_of (info.Members number part) =
-    kinds.Members (record { number = number; size = members.size_of part; sized = (part.places.fewest, part.places.most) })
+    kinds.Members (record {
+      number = number;
+      size = members.size_of part;
+      sized =
+          (part.places.fewest, part.places.most);
+    })
 kind_of (info.Exact part) = kinds.Exact
 
 -- the information is given by these members, of the set of some number

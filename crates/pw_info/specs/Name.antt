@@ -1,5 +1,6 @@
 -- The names that a user, a premise, a set kind, a member or a cell may have.
-use Rattle.std.specs.Prelude.{◌≡◌, ℕ, ◌≤◌, nat_le, Bool, true, false, not, ◌&&◌, ◌||◌, ◌==◌, List, [], ◌∷◌, length, codes}
+use Rattle.std.specs.Prelude.{◌≡◌, ℕ, ◌≤◌, nat_le, Bool, true, false, not, ◌&&◌, ◌||◌, ◌==◌, List}
+use Rattle.std.specs.Prelude.{[], ◌∷◌, length, codes}
 use Rattle.std.specs.List.{list_all, list_any}
 use Rattle.std.specs.Str.{bytes_eq}
 use Rattle.pw_info.specs.Bytes.{digit_0, digit_9, letter_a, letter_z, underscore}
@@ -11,7 +12,8 @@ most_name_bytes = 32
 -- the words that are not names
 abbrev pub reserved_words : List (List ℕ)
 reserved_words =
-    codes "under" ∷ codes "none" ∷ codes "nothing" ∷ codes "contradiction" ∷ codes "line" ∷ codes "of" ∷ codes "local" ∷ codes "end" ∷ []
+    codes "under" ∷ codes "none" ∷ codes "nothing" ∷ codes "contradiction" ∷ codes "line" ∷ codes
+    "of" ∷ codes "local" ∷ codes "end" ∷ []
 
 -- one of `a` to `z`
 abbrev pub is_letter : ℕ → Bool
@@ -32,7 +34,8 @@ is_reserved word = list_any (bytes_eq word) reserved_words
 
 -- the test of a name
 unfoldable pub is_name : List ℕ → Bool
-is_name word = nat_le (length word) most_name_bytes && begins_with_letter word && list_all is_name_byte word && not (is_reserved word)
+is_name word = nat_le (length word) most_name_bytes && begins_with_letter word
+    && list_all is_name_byte word && not (is_reserved word)
 
 -- a name has at most 32 bytes of `a` to `z`, `0` to `9` and `_`, begins with a letter, and is no
 -- reserved word

@@ -1,8 +1,11 @@
--- Numbers as words.
-use Rattle.std.specs.Prelude.{◌≡◌, ℕ, zero, suc, ℤ, pos, negsuc, neg_ℤ, ◌≤ℤ◌, List, [], ◌∷◌, slice_index, codes}
+-- Numbers as words, and ranges: one number, or LO..HI.
+use Rattle.std.specs.Prelude.{◌≡◌, ℕ, zero, suc, ℤ, pos, negsuc, neg_ℤ, ◌≤ℤ◌, List, [], ◌∷◌}
+use Rattle.std.specs.Prelude.{slice_index, codes, ◌++◌, ◌⊎◌, if◌then◌else◌}
 use Rattle.std.specs.Int.{IsInRange}
 use Rattle.std.specs.Str.Parse.{AllDigits, digits_value}
 use Rattle.pw_info.specs.Bytes.{digit_1, digit_9, minus}
+use Rattle.std.specs.Fmt.{signed_decimal}
+use Rattle.std.specs.Ordering.{int_eq}
 
 -- a digit 1 to 9 and further digits, and the number that they write
 pub record SpellsPositive (word : List ℕ) (n : ℕ) : Type 0 where
@@ -32,3 +35,20 @@ HoldsOfNoneUpTo most Holds = (lo hi : ℤ) → Holds lo hi → IsUpTo most lo �
 -- the greatest number that is read and written, of any kind
 abbrev pub greatest_number : ℕ
 greatest_number = 1000000000
+
+-- a word spells the range from lo to hi: it is one number, which is both, or it is LO..HI, with LO
+-- at most HI
+abbrev pub SpellsRange : List ℕ → ℤ → ℤ → Type 0
+SpellsRange word lo hi = (SpellsNumber word lo × (lo ≡ hi))
+    ⊎ ((front : List ℕ) × (back : List ℕ) × (word ≡ front ++ (codes ".." ++ back))
+    × SpellsNumber front lo × SpellsNumber back hi × (lo ≤ℤ hi))
+
+-- a word spells no range
+abbrev pub SpellsNoRange : List ℕ → Type 0
+SpellsNoRange word = (lo hi : ℤ) → ¬ SpellsRange word lo hi
+
+-- the text written for the range from lo to hi: one number if both are equal, and otherwise LO..HI
+abbrev pub text_of_range : ℤ → ℤ → List ℕ
+text_of_range lo hi =
+    if int_eq lo hi then signed_decimal lo else signed_decimal lo
+    ++ (codes ".." ++ signed_decimal hi)

@@ -6,7 +6,7 @@ use Rattle.pw_kinds.specs.declared.exact.Exact.TheVariants.{Any, One, Empty}
 use Rattle.pw_kinds.specs.Interval as interval
 use Rattle.pw_kinds.specs.Members as members
 use Rattle.pw_kinds.specs.Ranges.{interval_lowest, interval_numbers}
-use Rattle.pw_kinds.specs.Search.{count}
+use Rattle.pw_kinds.specs.Ranges.{count}
 use Rattle.pw_info.specs.declared.kind.Kind.{Kind}
 use Rattle.pw_info.specs.declared.kind.Kind.TheVariants as kinds
 use Rattle.pw_info.specs.declared.info.Info.{Info}

@@ -9,9 +9,9 @@ use Rattle.pw_info.specs.declared.kind.Kind.TheVariants as kinds
 use Rattle.pw_info.specs.declared.info.Info.{Info}
 use Rattle.pw_info.specs.Information.{kind_of, allows, IsNothing, IsContradiction}
 use Rattle.pw_info.specs.Number.{SpellsNumber}
-use Rattle.pw_info.specs.Range.{SpellsRange}
+use Rattle.pw_info.specs.Number.{SpellsRange}
 use Rattle.pw_info.specs.SetNames.{SetNames}
-use Rattle.pw_info.specs.SetText.{ArePlaces, text_of_set}
+use Rattle.pw_info.specs.SetNames.{ArePlaces, text_of_set}
 
 -- it holds for at most one: any two for which it holds are equal
 abbrev pub AtMostOne : {X : Type 0} → (X → Type 0) → Type 0

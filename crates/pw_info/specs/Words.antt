@@ -1,5 +1,6 @@
 -- Lines as words: blanks, words, comments, and the bytes that a line may have.
-use Rattle.std.specs.Prelude.{◌≡◌, ℕ, ◌<◌, Bool, true, false, not, ◌||◌, ◌&&◌, ◌==◌, nat_le, List, [], ◌∷◌, ◌++◌, length, if◌then◌else◌}
+use Rattle.std.specs.Prelude.{◌≡◌, ℕ, ◌<◌, Bool, true, false, not, ◌||◌, ◌&&◌, ◌==◌, nat_le, List}
+use Rattle.std.specs.Prelude.{[], ◌∷◌, ◌++◌, length, if◌then◌else◌}
 use Rattle.std.specs.List.{onto_first, AllByRecursion}
 use Rattle.pw_info.specs.Bytes.{tab, carriage_return, space, first_visible, hash, last_visible}
 
@@ -36,7 +37,8 @@ IsWord bytes = (0 < length bytes) × AllByRecursion (λ byte. is_blank byte ≡ 
 abbrev pub AreWords : List ℕ → List (List ℕ) → Type 0
 AreWords line [] = AreBlanks line
 AreWords line (word ∷ words) =
-    (gap : List ℕ) × (rest : List ℕ) × (line ≡ gap ++ (word ++ rest)) × AreBlanks gap × IsWord word × (ends_word rest ≡ true) × AreWords rest words
+    (gap : List ℕ) × (rest : List ℕ) × (line ≡ gap ++ (word ++ rest)) × AreBlanks gap × IsWord word
+    × (ends_word rest ≡ true) × AreWords rest words
 
 -- no word is left
 abbrev pub is_nil : List (List ℕ) → Bool

@@ -4,7 +4,8 @@ ghost use Rattle.pw_kinds.specs.Interval as interval;
 ghost use Rattle.pw_kinds.specs.Members as members;
 ghost use Rattle.pw_kinds.specs.Exact as exact;
 ghost use Rattle.pw_info.specs.declared.kind.SetKind.{SetKind as SetOfMembers};
-ghost use Rattle.pw_info.specs.Information.{set_kind, kind_of, HasMembers, allows, meet, nothing, contradiction, IsNothing, IsContradiction, Implies};
+ghost use Rattle.pw_info.specs.Information.{set_kind, kind_of, HasMembers, allows, meet, nothing};
+ghost use Rattle.pw_info.specs.Information.{contradiction, IsNothing, IsContradiction, Implies};
 
 use crate::kind::{Kind, SetKind};
 use pw_kinds::{Exact, Interval, Members};

@@ -1,7 +1,7 @@
 //! Tests 16 bytes together: how many of them come before one that ends a word or a line.
 ghost use Rattle.std.specs.Prelude.{◌≡◌, ◌+◌, ◌<◌, ◌≤◌, length, take, drop, IfSome};
 ghost use Rattle.std.specs.List.{prefix_len};
-ghost use Rattle.pw_info.specs.Lanes.{lowest_set, short_of};
+ghost use Rattle.pw_info.specs.inside.Scanning.{lowest_set, short_of};
 ghost use Rattle.pw_info.specs.Lines.{is_of_line};
 ghost use Rattle.pw_info.specs.Words.{is_plain};
 

@@ -1,21 +1,23 @@
 //! Laws of informations, of their ranks and texts, and of lines and words. Each is the contract of
 //! a function that does nothing.
 
-ghost use Rattle.std.specs.Prelude.{◌≡◌, ◌≢◌, ◌↔◌, ◌&&◌, ◌<◌, ◌≤◌, ◌⊎◌, ℕ, ℤ, pos, neg_ℤ, ◌≤ℤ◌, Bool, List, true, codes};
+ghost use Rattle.std.specs.Prelude.{◌≡◌, ◌↔◌, ◌≤◌, ℕ, ℤ, pos, neg_ℤ, Bool, List, true, codes};
 ghost use Rattle.std.specs.Fmt.{signed_decimal};
 ghost use Rattle.pw_kinds.specs.Ranges.{interval_numbers};
 ghost use Rattle.pw_info.specs.declared.info.Info.{Info};
-ghost use Rattle.pw_info.specs.Information.{kind_of, is_value, allows, meet, nothing, contradiction, closest};
-ghost use Rattle.pw_info.specs.Information.{IsNothing, IsContradiction, Implies, SameValues, PassesMore};
-ghost use Rattle.pw_info.specs.Lines.{AreLines, lines_of};
+ghost use Rattle.pw_info.specs.Information.{kind_of, meet, nothing, contradiction, closest};
+ghost use Rattle.pw_info.specs.Information.{IsNothing, IsContradiction, Implies, SameValues};
+ghost use Rattle.pw_info.specs.Information.{PassesMore};
 ghost use Rattle.pw_info.specs.Name.{is_name, IsName};
 ghost use Rattle.pw_info.specs.Number.{IsUpTo, SpellsNumber, greatest_number};
-ghost use Rattle.pw_info.specs.Range.{SpellsNoRange, SpellsRange, text_of_range};
+ghost use Rattle.pw_info.specs.Number.{SpellsNoRange, SpellsRange};
 ghost use Rattle.pw_info.specs.Rank.{rank_of, most_rank};
-ghost use Rattle.pw_info.specs.SetNames.{SetNames, AllAreNames, IsNamed};
-ghost use Rattle.pw_info.specs.Spelling.{SpellsInfo, AtMostOne};
-ghost use Rattle.pw_info.specs.Text.{text_of_info};
-ghost use Rattle.pw_info.specs.Words.{AreWords, words_of};
+ghost use Rattle.pw_info.specs.Spelling.{AtMostOne};
+ghost use Rattle.pw_info.specs.Laws.{MergeAllowsWhatBothAllow, MergeIsAssociative};
+ghost use Rattle.pw_info.specs.Laws.{ImplicationIsAntisymmetric, GainLowersTheRank};
+ghost use Rattle.pw_info.specs.Laws.{SameOrLowerRank, OneSpelling, WrittenRangeIsSpelled};
+ghost use Rattle.pw_info.specs.Laws.{OneInformation, TextIsASpelling, LinesAreOneList};
+ghost use Rattle.pw_info.specs.Laws.{WordsAreOneList};
 
 use crate::info::Info;
 use crate::kind::Kind;
@@ -29,16 +31,14 @@ pub fn same_values_are_equal()
 pub fn merge_is_intersection()
     ensures nothing { (k : Kind) → IsNothing (nothing k) }
     ensures contradiction { (k : Kind) → IsContradiction (contradiction k) }
-    ensures meet { (a b : Info) → kind_of a ≡ kind_of b
-        → (v : ℤ) → allows (meet a b) v ≡ (allows a v && allows b v) }
+    ensures meet { MergeAllowsWhatBothAllow }
 {}
 
 /// Merge is commutative, associative and idempotent. Nothing is its unit, and the contradiction its
 /// zero.
 pub fn merge_is_a_semilattice()
     ensures commutative { (a b : Info) → kind_of a ≡ kind_of b → meet a b ≡ meet b a }
-    ensures associative { (a b c : Info) → kind_of a ≡ kind_of b → kind_of b ≡ kind_of c
-        → meet (meet a b) c ≡ meet a (meet b c) }
+    ensures associative { MergeIsAssociative }
     ensures idempotent { (a : Info) → meet a a ≡ a }
     ensures unit { (a : Info) → meet a (nothing (kind_of a)) ≡ a }
     ensures zero { (a : Info) → meet a (contradiction (kind_of a)) ≡ contradiction (kind_of a) }
@@ -49,8 +49,7 @@ pub fn merge_is_a_semilattice()
 pub fn implication_is_an_order()
     ensures reflexive { (a : Info) → Implies a a }
     ensures transitive { (a b c : Info) → Implies a b → Implies b c → Implies a c }
-    ensures antisymmetric { (a b : Info) → kind_of a ≡ kind_of b
-        → Implies a b → Implies b a → a ≡ b }
+    ensures antisymmetric { ImplicationIsAntisymmetric }
     ensures merge { (a b : Info) → kind_of a ≡ kind_of b → (Implies a b ↔ (meet a b ≡ a)) }
     ensures nothing { (a : Info) (k : Kind) → kind_of a ≡ k → Implies a (nothing k) }
 {}
@@ -63,10 +62,8 @@ pub fn closest_grows()
 /// A real gain of information lowers the rank: if the first of two informations of a kind implies
 /// the second, it is the second, or has a lower rank.
 pub fn gain_lowers_the_rank()
-    ensures gain { (a b : Info) → kind_of a ≡ kind_of b
-        → Implies a b → a ≢ b → rank_of a < rank_of b }
-    ensures same_or_gain { (a b : Info) → kind_of a ≡ kind_of b
-        → Implies a b → (a ≡ b) ⊎ (rank_of a < rank_of b) }
+    ensures gain { GainLowersTheRank }
+    ensures same_or_gain { SameOrLowerRank }
 {}
 
 /// Nothing has the greatest rank of its kind, which is at most that of intervals, 2,000,001. A
@@ -95,8 +92,7 @@ pub fn written_is_spelled()
 
 /// A number has one spelling: its decimal digits, after `-` if it is negative.
 pub fn one_spelling()
-    ensures { (word : List ℕ) (n : ℤ) → IsUpTo greatest_number n
-        → SpellsNumber word n → word ≡ signed_decimal n }
+    ensures { OneSpelling }
 {}
 
 /// A word spells at most one range.
@@ -106,8 +102,7 @@ pub fn one_range()
 
 /// The text written for a range spells it.
 pub fn written_range_is_spelled()
-    ensures { (lo hi : ℤ) → lo ≤ℤ hi → IsUpTo greatest_number lo → IsUpTo greatest_number hi
-        → SpellsRange (text_of_range lo hi) lo hi }
+    ensures { WrittenRangeIsSpelled }
 {}
 
 /// The words `nothing` and `contradiction` spell no range, so they are free to name other things.
@@ -135,25 +130,21 @@ pub fn spelling_examples()
 
 /// A word spells at most one information of a kind, if the members of each set have names.
 pub fn one_information()
-    ensures { (sets : SetNames) (word : List ℕ) (k : Kind)
-        → AllAreNames sets → IsNamed sets k → AtMostOne (SpellsInfo sets word k) }
+    ensures { OneInformation }
 {}
 
 /// The text written for an information spells it: reading it gives the same information.
 pub fn text_is_a_spelling()
-    ensures { (sets : SetNames) (info : Info)
-        → SpellsInfo sets (text_of_info sets info) (kind_of info) info }
+    ensures { TextIsASpelling }
 {}
 
 /// The lines of a text are the only list of lines that make up the text, with a line feed after
 /// each of them except perhaps the last.
 pub fn lines_are_one_list()
-    ensures { (text : List ℕ) (lines : List (List ℕ))
-        → AreLines text lines ↔ (lines ≡ lines_of text) }
+    ensures { LinesAreOneList }
 {}
 
 /// The words of a line are the only list of words that make up the line, with blanks between them.
 pub fn words_are_one_list()
-    ensures { (line : List ℕ) (words : List (List ℕ))
-        → AreWords line words ↔ (words ≡ words_of line) }
+    ensures { WordsAreOneList }
 {}

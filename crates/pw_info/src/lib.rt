@@ -4,12 +4,12 @@
 
 mod info;
 mod kind;
+mod kind_names;
 mod lanes;
 pub mod laws;
 mod lines;
 mod member_text;
 mod name;
-mod names;
 mod number;
 mod output;
 mod range;
@@ -20,9 +20,9 @@ mod words;
 
 pub use info::Info;
 pub use kind::{Kind, SetKind};
+pub use kind_names::KindNames;
 pub use lines::next_line;
 pub use name::is_name;
-pub use names::KindNames;
 pub use output::{Failed, Output, Writing, put_all};
 pub use text::{read_info, write_info};
 pub use text_lines::TextLines;

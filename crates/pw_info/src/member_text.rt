@@ -3,16 +3,16 @@ ghost use Rattle.std.specs.Prelude.{◌≡◌, ◌++◌, codes, length, IfSome, 
 ghost use Rattle.pw_kinds.specs.Members.{size_of, IsEmpty};
 ghost use Rattle.pw_info.specs.declared.kind.Kind.TheVariants as kinds;
 ghost use Rattle.pw_info.specs.Information.{kind_of};
-ghost use Rattle.pw_info.specs.Cut.{HasNoComma};
-ghost use Rattle.pw_info.specs.MemberReading.{AddsPlaces, NamesNoneApart};
+ghost use Rattle.pw_info.specs.inside.Scanning.{HasNoComma};
+ghost use Rattle.pw_info.specs.inside.Scanning.{AddsPlaces, NamesNoneApart};
 ghost use Rattle.pw_info.specs.Passing.{Writes};
 ghost use Rattle.pw_info.specs.Spelling.{SpellsValues, SpellsNoValues};
-ghost use Rattle.pw_info.specs.SetText.{text_of_set};
-ghost use Rattle.pw_info.specs.Text.{places_of, text_of_members};
+ghost use Rattle.pw_info.specs.SetNames.{text_of_set};
+ghost use Rattle.pw_info.specs.Text.{possible_places, text_of_members};
 
 use crate::info::Info;
 use crate::kind::SetKind;
-use crate::names::KindNames;
+use crate::kind_names::KindNames;
 use crate::output::{Failed, Output, put_all};
 use pw_kinds::Members;
 
@@ -94,7 +94,7 @@ fn write_set<N: KindNames, O: Output>(
     requires named { length (N.members names.now set) ≡ size_of part }
     requires some { IsEmpty part → ⊥ }
     ensures { Writes O.passes O.has_failed output.old output.new result
-        (text_of_set (N.members names.now set) (places_of part)) }
+        (text_of_set (N.members names.now set) (possible_places part)) }
 {
     let mut mark = b"{";
     for place in 0..part.size() {

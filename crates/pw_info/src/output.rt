@@ -51,7 +51,7 @@ pub struct Writing<W> {
 }
 
 impl<W> Writing<W> {
-    ghost use Rattle.pw_info.specs.Writers.{writer_of, writer_failed};
+    ghost use Rattle.pw_info.specs.Text.{writer_of, writer_failed};
 
     /// An output over the writer, which has not failed.
     pub fn new(writer: W) -> Writing<W>
@@ -81,7 +81,7 @@ impl<W> Writing<W> {
 }
 
 impl<W: Write> Output for Writing<W> {
-    ghost use Rattle.pw_info.specs.Writers.{writer_of, writer_failed};
+    ghost use Rattle.pw_info.specs.Text.{writer_of, writer_failed};
 
     // If the writer's bytes are known, they grow by the bytes that are passed.
     ghost passes = { λ s bytes t.

@@ -1,8 +1,8 @@
 //! Reading ranges.
 ghost use Rattle.std.specs.Prelude.{◌≡◌, ◌≤◌, ◌++◌, codes, IfSome, IfNone};
 ghost use Rattle.pw_info.specs.Number.{IsUpTo, HoldsOfNoneUpTo, greatest_number};
-ghost use Rattle.pw_info.specs.Cut.{HasNoDot, SpellsCut};
-ghost use Rattle.pw_info.specs.Range.{SpellsRange};
+ghost use Rattle.pw_info.specs.inside.Scanning.{HasNoDot, SpellsCut};
+ghost use Rattle.pw_info.specs.Number.{SpellsRange};
 
 use crate::number::read_number;
 

@@ -3,15 +3,15 @@ ghost use Rattle.std.specs.Prelude.{◌≡◌, ◌++◌, codes, IfSome, IfNone};
 ghost use Rattle.std.specs.Fmt.{signed_decimal};
 ghost use Rattle.pw_info.specs.Information.{kind_of};
 ghost use Rattle.pw_info.specs.Passing.{Writes};
-ghost use Rattle.pw_info.specs.Range.{text_of_range};
+ghost use Rattle.pw_info.specs.Number.{text_of_range};
 ghost use Rattle.pw_info.specs.SetNames.{SetNames, IsNamed};
 ghost use Rattle.pw_info.specs.Spelling.{SpellsInfo, SpellsNoInfo, SpellsValues, SpellsNoValues};
 ghost use Rattle.pw_info.specs.Text.{text_of_exact, text_of_info, text_of_interval};
 
 use crate::info::Info;
 use crate::kind::Kind;
+use crate::kind_names::KindNames;
 use crate::member_text::{read_members, write_members};
-use crate::names::KindNames;
 use crate::number::read_number;
 use crate::output::{Failed, Output, put_all};
 use crate::range::read_range;

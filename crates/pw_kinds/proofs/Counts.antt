@@ -1,7 +1,7 @@
 -- How many numbers pass a test: fewer pass a stricter one, or it is the same test.
 use Rattle.std.proofs.Common.{◌≡◌, ℕ, zero, suc, ◌<◌, ◌≤◌, ℤ, pos, ◌+ℤ◌, ◌≤ℤ◌, ◌<ℤ◌, Bool, true, false, cond, ◌⊎◌, inl, inr, refl, arith, subst}
 use Rattle.std.proofs.lemmas.Int.{ints, by_lt_z}
-use Rattle.pw_kinds.specs.Search.{count}
+use Rattle.pw_kinds.specs.Ranges.{count}
 
 one_most : (b : Bool) → cond b 1 0 ≤ 1
 one_most true = omega arith

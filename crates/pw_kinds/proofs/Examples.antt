@@ -3,7 +3,7 @@ use Rattle.std.proofs.Common.{◌≡◌, ℤ, pos, ◌≤ℤ◌, ◌<ℤ◌, Boo
 use Rattle.std.proofs.lemmas.Int.{ints}
 use Rattle.pw_kinds.specs.declared.interval.Interval.{Interval}
 use Rattle.pw_kinds.specs.Ranges.{interval_lowest, interval_highest}
-use Rattle.pw_kinds.specs.Span.{IsSpan}
+use Rattle.pw_kinds.specs.Ranges.{IsSpan}
 use Rattle.pw_kinds.specs.Interval.{allows, IsWithin, IsFromTo, IsLeastOf, IsGreatestOf, IsClosest, empty, whole, closest, meet_of, least_of, greatest_of}
 use Rattle.pw_kinds.proofs.Order.{both_true, true_both, same_test, is_false, not_both, between_true, true_between}
 use Rattle.pw_kinds.proofs.Intervals.{allows_true, true_allows, allows-whole, allows-meet, empty_none, same_values, closest_is, closest_closest, least_of_is, greatest_of_is}

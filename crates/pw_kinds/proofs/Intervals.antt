@@ -7,7 +7,7 @@ use Rattle.std.proofs.Props.{props}
 use mathlib.Core.HLevel.{is_prop→PathP}
 use Rattle.pw_kinds.specs.declared.interval.Interval.{Interval}
 use Rattle.pw_kinds.specs.Ranges.{interval_lowest, interval_highest, interval_numbers, is_in_interval_range}
-use Rattle.pw_kinds.specs.Span.{IsSpan}
+use Rattle.pw_kinds.specs.Ranges.{IsSpan}
 use Rattle.pw_kinds.specs.Interval.{allows, empty, checked, from_to, between, closest, whole, meet_of, least_of, greatest_of, IsEmpty, IsWithin, IsFromTo, AreEnds, IsLeastOf, IsGreatestOf, IsClosest}
 use Rattle.pw_kinds.proofs.Order.{true_le, both_true, true_both, same_test, is_false, not_both, between_true, true_between}
 use Rattle.pw_kinds.proofs.Searches.{IsLeast, IsGreatest, least_is, greatest_is}

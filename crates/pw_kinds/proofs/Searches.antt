@@ -2,7 +2,7 @@
 use Rattle.std.proofs.Common.{◌≡◌, ℕ, zero, suc, ℤ, pos, ◌+ℤ◌, ◌-ℤ◌, ◌≤ℤ◌, ◌<ℤ◌, Bool, true, false, Option, Some, None, arith, subst, inl, inr}
 use Rattle.std.proofs.lemmas.Int.{ints, by_lt_z}
 use Rattle.std.proofs.lemmas.Bool.{cases_Bool}
-use Rattle.pw_kinds.specs.Search.{least, greatest}
+use Rattle.pw_kinds.specs.Ranges.{least, greatest}
 
 abbrev pub IsLeast : (ℤ → Bool) → ℕ → ℤ → Option ℤ → Type 0
 IsLeast p n v None = (y : ℤ) → v ≤ℤ y → y <ℤ (v +ℤ pos n) → p y ≡ false

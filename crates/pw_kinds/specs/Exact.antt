@@ -3,8 +3,9 @@ use Rattle.std.specs.Prelude.{◌≡◌, ℤ, Bool, true, false, ◌&&◌, Optio
 use Rattle.std.specs.Ordering.{int_eq}
 use Rattle.pw_kinds.specs.declared.exact.Exact.{Exact}
 use Rattle.pw_kinds.specs.declared.exact.Exact.TheVariants.{Any, One, Empty}
-use Rattle.pw_kinds.specs.Search.{least, greatest}
-use Rattle.pw_kinds.specs.Ranges.{exact_lowest, exact_highest, exact_numbers, is_in_exact_range, exact_range_low, exact_range_high}
+use Rattle.pw_kinds.specs.Ranges.{least, greatest}
+use Rattle.pw_kinds.specs.Ranges.{exact_lowest, exact_highest, exact_numbers, is_in_exact_range}
+use Rattle.pw_kinds.specs.Ranges.{exact_range_low, exact_range_high}
 
 -- whether a number is still possible
 abbrev pub allows : Exact → ℤ → Bool
@@ -34,7 +35,12 @@ IsWithin e f = (v : ℤ) → allows e v ≡ true → allows f v ≡ true
 
 -- a number if the test of its range passes, and otherwise no number
 unfoldable pub checked : (n : ℤ) (b : Bool) → is_in_exact_range n ≡ b → Exact
-checked n true e = One (record { value = n; at_least = exact_range_low n e; at_most = exact_range_high n e })
+checked n true e = One (record {
+  value = n;
+  at_least = exact_range_low n e;
+  at_most =
+      exact_range_high n e;
+})
 checked n false e = Empty
 
 -- only this number if it is in range, and otherwise no number
@@ -72,4 +78,5 @@ AllowsJust p e = (v : ℤ) → is_in_exact_range v ≡ true → allows e v ≡ p
 -- allows each of them, and is within any other value that does
 pub record IsClosest (p : ℤ → Bool) (e : Exact) : Type 0 where
   pub holds : (v : ℤ) → is_in_exact_range v ≡ true → p v ≡ true → allows e v ≡ true
-  pub smallest : (f : Exact) → ((v : ℤ) → is_in_exact_range v ≡ true → p v ≡ true → allows f v ≡ true) → IsWithin e f
+  pub smallest : (f : Exact) → ((v : ℤ) → is_in_exact_range v ≡ true → p v ≡ true → allows f v
+      ≡ true) → IsWithin e f

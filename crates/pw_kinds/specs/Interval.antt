@@ -1,10 +1,12 @@
 -- What an interval says about a number: a set of whole numbers in range, given by its test.
-use Rattle.std.specs.Prelude.{◌≡◌, ℕ, ℤ, pos, neg_ℤ, ◌≤ℤ◌, Bool, true, false, ◌&&◌, Option, Some, refl}
+use Rattle.std.specs.Prelude.{◌≡◌, ℕ, ℤ, pos, neg_ℤ, ◌≤ℤ◌, Bool, true, false, ◌&&◌, Option, Some}
+use Rattle.std.specs.Prelude.{refl}
 use Rattle.std.specs.Int.Signed.{le_z}
 use Rattle.pw_kinds.specs.declared.interval.Interval.{Interval}
-use Rattle.pw_kinds.specs.Search.{least, greatest}
-use Rattle.pw_kinds.specs.Ranges.{interval_lowest, interval_highest, interval_numbers, is_in_interval_range, IsInIntervalRange}
-use Rattle.pw_kinds.specs.Span.{empty_span, checked_span}
+use Rattle.pw_kinds.specs.Ranges.{least, greatest}
+use Rattle.pw_kinds.specs.Ranges.{interval_lowest, interval_highest, interval_numbers}
+use Rattle.pw_kinds.specs.Ranges.{is_in_interval_range, IsInIntervalRange}
+use Rattle.pw_kinds.specs.Ranges.{empty_span, checked_span}
 
 -- whether a number is still possible
 abbrev pub allows : Interval → ℤ → Bool
@@ -39,7 +41,8 @@ abbrev pub empty : Interval
 empty = record { lo = pos 1; hi = pos 0; span = empty_span }
 
 -- the interval from lo to hi if the test of its ends passes, and otherwise the empty one
-unfoldable pub checked : (lo hi : ℤ) (b : Bool) → (le_z interval_lowest lo && le_z lo hi && le_z hi interval_highest) ≡ b → Interval
+unfoldable pub checked : (lo hi : ℤ) (b : Bool) →
+    (le_z interval_lowest lo && le_z lo hi && le_z hi interval_highest) ≡ b → Interval
 checked lo hi true e = record { lo = lo; hi = hi; span = checked_span lo hi e }
 checked lo hi false e = empty
 
@@ -61,7 +64,8 @@ between _ _ = empty
 
 -- the smallest interval in which every number in range that passes is possible
 unfoldable pub closest : (ℤ → Bool) → Interval
-closest p = between (least p interval_numbers interval_lowest) (greatest p interval_numbers interval_highest)
+closest p = between (least p interval_numbers interval_lowest)
+    (greatest p interval_numbers interval_highest)
 
 -- the interval in which every number in range is possible
 abbrev pub whole : Interval
@@ -97,4 +101,5 @@ pub record PassesFromTo (p : ℤ → Bool) (lo hi : ℤ) : Type 0 where
 -- each of them, and is within any interval that does
 pub record IsClosest (p : ℤ → Bool) (i : Interval) : Type 0 where
   pub holds : (v : ℤ) → is_in_interval_range v ≡ true → p v ≡ true → allows i v ≡ true
-  pub smallest : (j : Interval) → ((v : ℤ) → is_in_interval_range v ≡ true → p v ≡ true → allows j v ≡ true) → IsWithin i j
+  pub smallest : (j : Interval) → ((v : ℤ) → is_in_interval_range v ≡ true → p v ≡ true → allows j v
+      ≡ true) → IsWithin i j

@@ -1,8 +1,6 @@
-pub mod Limits
-pub mod Ranges
-pub mod Search
-pub mod Span
-pub mod Interval
-pub mod Places
-pub mod Members
 pub mod Exact
+pub mod Interval
+pub mod Members
+pub mod Places
+pub mod Ranges
+pub mod Laws

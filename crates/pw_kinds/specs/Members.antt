@@ -33,7 +33,12 @@ IsWithin m n = (v : ℤ) → allows m v ≡ true → allows n v ≡ true
 -- the members whose place passes if the test of the size passes, and otherwise no member of a set
 -- of two
 unfoldable pub checked : (size : ℕ) (p : ℤ → Bool) (b : Bool) → is_size size ≡ b → Members
-checked size p true e = record { size = size; mask = mask_of p size; places = checked_mask p size e }
+checked size p true e = record {
+  size = size;
+  mask = mask_of p size;
+  places =
+      checked_mask p size e;
+}
 checked size p false e = record { size = 2; mask = 0; places = empty_mask }
 
 -- the members of a set of this size whose place passes; for a size that no set has, no member of a

@@ -1,11 +1,15 @@
--- The places of the members of a set, counted from 0, and the masks that say which of them are
--- possible. The width of a mask is in `Limits` and in the code; nothing else depends on it.
-use Rattle.std.specs.Prelude.{◌≡◌, ◌↔◌, ℕ, zero, suc, ℤ, pos, negsuc, ◌+◌, ◌*◌, ◌^◌, ◌<◌, ◌≤◌, ◌==◌, Bool, true, false, ◌&&◌, nat_le, if◌then◌else◌}
+-- The places of the members of a set, counted from 0, and the masks that tell which of them are
+-- possible. The width of a mask is the limit of sets.
+use Rattle.std.specs.Prelude.{ℕ, ◌≡◌, ◌↔◌, zero, suc, ℤ, pos, negsuc, ◌+◌, ◌*◌, ◌^◌, ◌<◌, ◌≤◌, ◌==◌}
+use Rattle.std.specs.Prelude.{Bool, true, false, ◌&&◌, nat_le, if◌then◌else◌}
 use Rattle.std.specs.Int.Signed.{le_z, lt_z}
 use Rattle.std.specs.Int.{bit_at, IsBitSet}
 use Rattle.std.proofs.Common.{arith}
 use Rattle.std.proofs.Math.Nat.{pow-suc}
-use Rattle.pw_kinds.specs.Limits.{most_members}
+
+-- the greatest number of members of a set
+abbrev pub most_members : ℕ
+most_members = 64
 
 -- the least number of members of a set
 abbrev pub fewest_members : ℕ
@@ -42,7 +46,8 @@ unfoldable pub mask_of : (ℤ → Bool) → ℕ → ℕ
 mask_of p zero = 0
 mask_of p (suc n) = (if p (pos n) then 1 else 0) * 2 ^ n + mask_of p n
 
-mask_step : (n : ℕ) (b : Bool) (rest : ℕ) → rest < 2 ^ n → (if b then 1 else 0) * 2 ^ n + rest < 2 ^ suc n
+mask_step : (n : ℕ) (b : Bool) (rest : ℕ) → rest < 2 ^ n →
+    (if b then 1 else 0) * 2 ^ n + rest < 2 ^ suc n
 mask_step n true rest h = omega (arith, pow-suc 2 n)
 mask_step n false rest h = omega (arith, pow-suc 2 n)
 
@@ -52,7 +57,12 @@ mask_below p zero = omega arith
 mask_below p (suc n) = mask_step n (p (pos n)) (mask_of p n) (mask_below p n)
 
 pub checked_mask : (p : ℤ → Bool) (size : ℕ) → is_size size ≡ true → IsMask size (mask_of p size)
-checked_mask p size e = record { fewest = grind arith; most = grind arith; below = mask_below p size }
+checked_mask p size e = record {
+  fewest = grind arith;
+  most = grind arith;
+  below =
+      mask_below p size;
+}
 
 pub empty_mask : IsMask 2 0
 empty_mask = record { fewest = omega arith; most = omega arith; below = omega arith }

@@ -1,5 +1,7 @@
--- The whole numbers that an interval may contain, and those that an exact value may have.
-use Rattle.std.specs.Prelude.{◌≡◌, ℕ, ℤ, pos, negsuc, ◌≤ℤ◌, Bool, true, ◌&&◌}
+-- Which whole numbers an interval may speak of, and which ones an exact value; the ends of
+-- intervals; and the first number of a stretch that passes a test.
+use Rattle.std.specs.Prelude.{◌≡◌, ℕ, ℤ, pos, negsuc, ◌≤ℤ◌, Bool, true, ◌&&◌, zero, suc, ◌+◌, cond}
+use Rattle.std.specs.Prelude.{Option, Some, None, ◌+ℤ◌, ◌-ℤ◌, ◌<ℤ◌, refl}
 use Rattle.std.specs.Int.Signed.{le_z}
 use Rattle.std.proofs.Common.{arith}
 use Rattle.std.proofs.lemmas.Int.{ints}
@@ -45,3 +47,41 @@ exact_range_low n e = grind (arith, ints)
 
 pub exact_range_high : (n : ℤ) → is_in_exact_range n ≡ true → n ≤ℤ exact_highest
 exact_range_high n e = grind (arith, ints)
+
+-- the least of the n numbers from v up that passes
+unfoldable pub least : (ℤ → Bool) → ℕ → ℤ → Option ℤ
+least p zero v = None
+least p (suc n) v = cond (p v) (Some v) (least p n (v +ℤ pos 1))
+
+-- the greatest of the n numbers from v down that passes
+unfoldable pub greatest : (ℤ → Bool) → ℕ → ℤ → Option ℤ
+greatest p zero v = None
+greatest p (suc n) v = cond (p v) (Some v) (greatest p n (v -ℤ pos 1))
+
+-- the number of the n numbers from v up that pass
+unfoldable pub count : (ℤ → Bool) → ℕ → ℤ → ℕ
+count p zero v = 0
+count p (suc n) v = cond (p v) 1 0 + count p n (v +ℤ pos 1)
+
+-- the ends of an interval: in range, and in one form if no number lies between them
+pub record IsSpan (lo hi : ℤ) : Type 0 where
+  pub low : interval_lowest ≤ℤ lo
+  pub high : hi ≤ℤ interval_highest
+  pub empty : hi <ℤ lo → (lo ≡ pos 1) × (hi ≡ pos 0)
+
+pub empty_span : IsSpan (pos 1) (pos 0)
+empty_span = record {
+  low = omega (arith, ints);
+  high = omega (arith, ints);
+  empty = λ h.
+      (refl, refl);
+}
+
+pub checked_span : (lo hi : ℤ) → (le_z interval_lowest lo && le_z lo hi && le_z hi interval_highest)
+    ≡ true → IsSpan lo hi
+checked_span lo hi e = record {
+  low = grind (arith, ints);
+  high = grind (arith, ints);
+  empty = λ h.
+      absurd (grind (arith, ints));
+}

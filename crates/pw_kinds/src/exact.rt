@@ -23,9 +23,11 @@ pub enum Exact {
 }
 
 impl Exact {
-    ghost use Rattle.std.specs.Prelude.{◌≡◌, ℤ, ◌↔◌, ◌&&◌, Bool, true, false, Some, IsTrue, IsSome, IfSome};
+    ghost use Rattle.std.specs.Prelude.{◌≡◌, ℤ, ◌↔◌, ◌&&◌, Bool, true, false, Some, IsTrue, IsSome};
+    ghost use Rattle.std.specs.Prelude.{IfSome};
     ghost use Rattle.pw_kinds.specs.Ranges.{IsInExactRange, is_in_exact_range};
-    ghost use Rattle.pw_kinds.specs.Exact.{allows, IsEmpty, IsAny, IsOne, IsWithin, any, empty, meet_of};
+    ghost use Rattle.pw_kinds.specs.Exact.{allows, IsEmpty, IsAny, IsOne, IsWithin, any, empty};
+    ghost use Rattle.pw_kinds.specs.Exact.{meet_of};
 
     /// Every number in range.
     pub fn any() -> Exact

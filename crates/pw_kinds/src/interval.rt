@@ -1,5 +1,5 @@
 //! Intervals: a whole number that is known by its least and greatest possible values.
-ghost use Rattle.pw_kinds.specs.Span.{IsSpan};
+ghost use Rattle.pw_kinds.specs.Ranges.{IsSpan};
 
 /// What is known about a whole number between -1,000,000 and 1,000,000: which numbers are still
 /// possible, from a least to a greatest one, or none at all. Two intervals that leave the same
@@ -12,9 +12,11 @@ pub struct Interval {
 }
 
 impl Interval {
-    ghost use Rattle.std.specs.Prelude.{◌≡◌, ℤ, ◌≤ℤ◌, ◌↔◌, ◌&&◌, Bool, true, false, Some, IsTrue, IsSome, IfSome};
+    ghost use Rattle.std.specs.Prelude.{◌≡◌, ℤ, ◌≤ℤ◌, ◌↔◌, ◌&&◌, Bool, true, false, Some, IsTrue};
+    ghost use Rattle.std.specs.Prelude.{IsSome, IfSome};
     ghost use Rattle.pw_kinds.specs.Ranges.{is_in_interval_range};
-    ghost use Rattle.pw_kinds.specs.Interval.{allows, IsEmpty, IsWithin, IsFromTo, AreEnds, IsLeastOf, IsGreatestOf};
+    ghost use Rattle.pw_kinds.specs.Interval.{allows, IsEmpty, IsWithin, IsFromTo, AreEnds};
+    ghost use Rattle.pw_kinds.specs.Interval.{IsLeastOf, IsGreatestOf};
     ghost use Rattle.pw_kinds.specs.Interval.{empty, whole, meet_of, least_of, greatest_of};
 
     /// The numbers from `lo` to `hi`. None if `lo` is above `hi` or an end is outside -1,000,000 to

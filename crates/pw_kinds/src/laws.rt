@@ -1,19 +1,28 @@
 //! Laws of the kinds. Each is the contract of a function that does nothing, and holds of every
 //! value of the kind.
 
-ghost use Rattle.std.specs.Prelude.{◌≡◌, ℕ, ℤ, pos, negsuc, neg_ℤ, ◌&&◌, Bool, true, false, Some, [], ◌∷◌};
+ghost use Rattle.std.specs.Prelude.{◌≡◌, ℕ, ℤ, pos, negsuc, neg_ℤ, ◌&&◌, Bool, true, false, Some};
+ghost use Rattle.std.specs.Prelude.{[], ◌∷◌};
 ghost use Rattle.std.specs.Int.Signed.{le_z};
 ghost use Rattle.std.specs.Ordering.{int_eq};
 ghost use Rattle.pw_kinds.specs.Ranges.{is_in_interval_range, is_in_exact_range};
 ghost use Rattle.pw_kinds.specs.declared.interval.Interval.{Interval};
-ghost use Rattle.pw_kinds.specs.Interval.{allows, IsEmpty, IsWithin, IsFromTo, AreEnds, PassesFromTo, SameValues};
-ghost use Rattle.pw_kinds.specs.Interval.{IsClosest, closest, from_to, range, from_minus_to, whole, empty, meet_of, least_of, greatest_of};
+ghost use Rattle.pw_kinds.specs.Interval.{allows, IsEmpty, IsWithin, IsFromTo, AreEnds};
+ghost use Rattle.pw_kinds.specs.Interval.{PassesFromTo, SameValues};
+ghost use Rattle.pw_kinds.specs.Interval.{IsClosest, closest, from_to, range, from_minus_to, whole};
+ghost use Rattle.pw_kinds.specs.Interval.{empty, meet_of, least_of, greatest_of};
 ghost use Rattle.pw_kinds.specs.declared.members.Members.{Members};
-ghost use Rattle.pw_kinds.specs.Places.{IsSize, is_place};
+ghost use Rattle.pw_kinds.specs.Places.{IsSize};
 ghost use Rattle.pw_kinds.specs.Members as members;
 ghost use Rattle.pw_kinds.specs.Members.{at_places};
 ghost use Rattle.pw_kinds.specs.declared.exact.Exact.{Exact};
 ghost use Rattle.pw_kinds.specs.Exact as exact;
+ghost use Rattle.pw_kinds.specs.Laws.{EndsGiveOneInterval, SameMembersAreEqual, ClosestMembersPass};
+ghost use Rattle.pw_kinds.specs.Laws.{OnlyClosestMembersPass, AllMembersAllowEachPlace};
+ghost use Rattle.pw_kinds.specs.Laws.{MergeOfMembersAllowsWhatBothAllow, MembersAllowPlaces};
+ghost use Rattle.pw_kinds.specs.Laws.{MembersExampleMeet, MembersExampleApart};
+ghost use Rattle.pw_kinds.specs.Laws.{MergeOfExactValuesAllowsWhatBothAllow};
+ghost use Rattle.pw_kinds.specs.Laws.{ExactExampleClosestToTwo};
 
 /// Intervals that leave the same numbers possible are equal.
 pub fn same_values_are_equal()
@@ -24,8 +33,7 @@ pub fn same_values_are_equal()
 /// included, and no other interval does.
 pub fn ends_give_an_interval()
     ensures values { (lo hi : ℤ) → AreEnds lo hi → IsFromTo (from_to lo hi) lo hi }
-    ensures only { (lo hi : ℤ) (i : Interval)
-        → AreEnds lo hi → IsFromTo i lo hi → i ≡ from_to lo hi }
+    ensures only { EndsGiveOneInterval }
 {}
 
 /// The closest interval to a test is the smallest one in which each number in range that passes is
@@ -61,29 +69,23 @@ pub fn interval_examples()
 
 /// Members of sets of one size that leave the same places possible are equal.
 pub fn same_members_are_equal()
-    ensures { (m n : Members)
-        → members.size_of m ≡ members.size_of n → members.SameValues m n → m ≡ n }
+    ensures { SameMembersAreEqual }
 {}
 
 /// The closest members to a test are those whose place passes, and any members like that are the
 /// closest.
 pub fn closest_members_are_those_that_pass()
-    ensures closest { (size : ℕ) (p : ℤ → Bool)
-        → IsSize size → members.IsClosest size p (members.closest size p) }
-    ensures only { (size : ℕ) (p : ℤ → Bool) (m : Members)
-        → members.IsClosest size p m → m ≡ members.closest size p }
+    ensures closest { ClosestMembersPass }
+    ensures only { OnlyClosestMembersPass }
 {}
 
 /// The places that the definitions of every member, of no member and of a merge leave possible.
 pub fn merge_of_members_is_intersection()
-    ensures full { (size : ℕ) → IsSize size
-        → (v : ℤ) → members.allows (members.full size) v ≡ is_place size v }
+    ensures full { AllMembersAllowEachPlace }
     ensures empty { (size : ℕ) → IsSize size → members.IsEmpty (members.empty size) }
     ensures size { (m n : Members) → members.size_of (members.meet_of m n) ≡ members.size_of m }
-    ensures meet { (m n : Members) (v : ℤ)
-        → members.allows (members.meet_of m n) v ≡ (members.allows m v && members.allows n v) }
-    ensures places { (m : Members) (v : ℤ)
-        → members.allows m v ≡ true → is_place (members.size_of m) v ≡ true }
+    ensures meet { MergeOfMembersAllowsWhatBothAllow }
+    ensures places { MembersAllowPlaces }
 {}
 
 /// Examples: the definitions of members on a set of three.
@@ -93,10 +95,8 @@ pub fn members_examples()
     ensures below { members.allows (members.full 3) (negsuc 0) ≡ false }
     ensures closest { members.closest 3 (λ v. le_z v (pos 1)) ≡ at_places 3 (0 ∷ 1 ∷ []) }
     ensures in_any_order { at_places 3 (2 ∷ 0 ∷ []) ≡ at_places 3 (0 ∷ 2 ∷ []) }
-    ensures meet { members.meet_of (at_places 3 (0 ∷ 1 ∷ [])) (at_places 3 (1 ∷ 2 ∷ []))
-        ≡ at_places 3 (1 ∷ []) }
-    ensures apart { members.meet_of (at_places 3 (0 ∷ [])) (at_places 3 (1 ∷ 2 ∷ []))
-        ≡ members.empty 3 }
+    ensures meet { MembersExampleMeet }
+    ensures apart { MembersExampleApart }
     ensures sizes { ¬ (members.full 2 ≡ members.full 3) }
 {}
 
@@ -117,8 +117,7 @@ pub fn merge_of_exact_values_is_intersection()
     ensures one { (n : ℤ) → is_in_exact_range n ≡ true → exact.IsOne (exact.one n) n }
     ensures any { (v : ℤ) → exact.allows exact.any v ≡ is_in_exact_range v }
     ensures empty { exact.IsEmpty exact.empty }
-    ensures meet { (e f : Exact) (v : ℤ)
-        → exact.allows (exact.meet_of e f) v ≡ (exact.allows e v && exact.allows f v) }
+    ensures meet { MergeOfExactValuesAllowsWhatBothAllow }
     ensures range { (e : Exact) (v : ℤ) → exact.allows e v ≡ true → is_in_exact_range v ≡ true }
 {}
 
@@ -127,8 +126,7 @@ pub fn exact_examples()
     ensures same { exact.meet_of (exact.one (pos 7)) (exact.one (pos 7)) ≡ exact.one (pos 7) }
     ensures other { exact.meet_of (exact.one (pos 7)) (exact.one (pos 8)) ≡ exact.empty }
     ensures closest_one { exact.closest (λ v. int_eq v (pos 7)) ≡ exact.one (pos 7) }
-    ensures closest_two { (p : ℤ → Bool)
-        → p (pos 2) ≡ true → p (pos 5) ≡ true → exact.closest p ≡ exact.any }
+    ensures closest_two { ExactExampleClosestToTwo }
     ensures none_in_range { exact.closest (λ v. le_z (pos 1000000001) v) ≡ exact.empty }
     ensures apart { ¬ (exact.any ≡ exact.empty) }
 {}

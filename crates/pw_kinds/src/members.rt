@@ -24,10 +24,12 @@ fn full_mask(size: u8) -> u64
 }
 
 impl Members {
-    ghost use Rattle.std.specs.Prelude.{ℕ, ℤ, pos, ◌<◌, ◌≤◌, ◌↔◌, ◌&&◌, ◌||◌, Bool, true, false, Some, IsTrue, IsSome, IfSome, IsBitSet};
+    ghost use Rattle.std.specs.Prelude.{ℕ, ℤ, pos, ◌<◌, ◌≤◌, ◌↔◌, ◌&&◌, ◌||◌, Bool, true, false};
+    ghost use Rattle.std.specs.Prelude.{Some, IsTrue, IsSome, IfSome, IsBitSet};
     ghost use Rattle.std.specs.Ordering.{int_eq};
     ghost use Rattle.pw_kinds.specs.Places.{is_place, PassesBitsOf};
-    ghost use Rattle.pw_kinds.specs.Members.{size_of, allows, IsEmpty, IsFull, IsWithin, full, empty, meet_of};
+    ghost use Rattle.pw_kinds.specs.Members.{size_of, allows, IsEmpty, IsFull, IsWithin, full};
+    ghost use Rattle.pw_kinds.specs.Members.{empty, meet_of};
 
     /// Every member of a set of `size` members, which is 2 to 64.
     pub fn full(size: u8) -> Members

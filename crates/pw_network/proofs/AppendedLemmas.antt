@@ -3,7 +3,7 @@ use Rattle.std.proofs.Common.{◌≡◌, ℕ, ◌+◌, ◌<◌, inl, inr, Bool, 
 use Rattle.std.specs.List.{list_any}
 use Rattle.std.proofs.lemmas.Bool.Decides.{eqb_tells}
 use Rattle.std.proofs.lemmas.List.Folds.{list_any_more}
-use Rattle.pw_network.specs.ReaderLists.{Reading, number_for, numbers_of}
+use Rattle.pw_network.specs.Readers.{Reading, number_for, reader_numbers}
 use Rattle.pw_network.proofs.LinkLemmas.{numbers_push}
 
 -- the number, where this is so
@@ -17,7 +17,7 @@ once_new number false t new = refl
 
 module _ (old now : List Reading) (number : ℕ) (cells : List ℕ) (place cell : ℕ) (known : Bool) (there : place < length cells) (read : get_or cells place 0 ≡ cell)
     (tells : known ≡ list_any (eqb cell) (take place cells))
-    (so_far : (c : ℕ) → numbers_of c now ≡ numbers_of c old ++ once number (list_any (eqb c) (take place cells))) where
+    (so_far : (c : ℕ) → reader_numbers c now ≡ reader_numbers c old ++ once number (list_any (eqb c) (take place cells))) where
   one_more : (c : ℕ) → list_any (eqb c) (take (place + 1) cells) ≡ (list_any (eqb c) (take place cells) || eqb c cell)
   one_more c = list_any_more (eqb c) cells place 0 there ∙ ap (λ n. list_any (eqb c) (take place cells) || eqb c n) read
 
@@ -30,12 +30,12 @@ module _ (old now : List Reading) (number : ℕ) (cells : List ℕ) (place cell 
 
   -- a cell that was not named before
   pub appended_now : (after : List Reading) → known ≡ false → after ≡ now ++ record { cell = cell; number = number } ∷ [] →
-      (c : ℕ) → numbers_of c after ≡ numbers_of c old ++ once number (list_any (eqb c) (take (place + 1) cells))
+      (c : ℕ) → reader_numbers c after ≡ reader_numbers c old ++ once number (list_any (eqb c) (take (place + 1) cells))
   appended_now after is pushed c =
       let x : Reading = record { cell = cell; number = number } in
-      ap (numbers_of c) pushed ∙ numbers_push c now x
+      ap (reader_numbers c) pushed ∙ numbers_push c now x
       ∙ ap (λ l. l ++ number_for c x) (so_far c)
-      ∙ append_assoc (numbers_of c old) (once number (list_any (eqb c) (take place cells))) (once number (eqb c cell))
-      ∙ ap (λ l. numbers_of c old ++ l)
+      ∙ append_assoc (reader_numbers c old) (once number (list_any (eqb c) (take place cells))) (once number (eqb c cell))
+      ∙ ap (λ l. reader_numbers c old ++ l)
       (once_new number (list_any (eqb c) (take place cells)) (eqb c cell) (λ same. same_cell c same ∙ is)
       ∙ ap (once number) (sym (one_more c)))

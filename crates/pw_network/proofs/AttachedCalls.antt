@@ -5,7 +5,7 @@ use Rattle.std.proofs.lemmas.List.{length-map, map_push}
 use Rattle.std.proofs.lemmas.List.Elements.{All-tail, All-weaker}
 use Rattle.pw_info.specs.declared.kind.Kind.{Kind}
 use Rattle.pw_premises.specs.Premises.{Premises}
-use Rattle.pw_procs.specs.Arguments.{cells_of}
+use Rattle.pw_procs.specs.Registry.{cells_of}
 use Rattle.pw_decl.specs.declared.flat_call.FlatCall.{FlatCall}
 use Rattle.pw_decl.specs.declared.step.Callable.{Callable}
 use Rattle.pw_decl.specs.declared.step.Callable.TheVariants as callables
@@ -13,12 +13,12 @@ use Rattle.pw_decl.specs.Compound.{Compound, kinds_at}
 use Rattle.pw_decl.specs.Declaration.{Declared, Takes}
 use Rattle.pw_decl.specs.Expansion.{instance_on, expansion_of, inner_kinds_of, on_places, at_place, renamed}
 use Rattle.pw_decl.specs.Limits.{most_inner_cells}
-use Rattle.pw_network.specs.declared.inner_cell.InnerCell.{InnerCell as InnerKept}
-use Rattle.pw_network.specs.declared.instance.Instance.{Instance as InstanceKept}
-use Rattle.pw_decl.specs.Flat.{AreCallsOf, IsBelow, instances_of}
-use Rattle.pw_network.specs.Kept.{attached_of, inner_of, network_from}
+use Rattle.pw_network.specs.declared.network.InnerCell.{InnerCell as InnerType}
+use Rattle.pw_network.specs.declared.instance.Instance.{Instance as InstanceType}
+use Rattle.pw_decl.specs.inside.Held.{AreCallsOf, IsBelow, instances_of}
+use Rattle.pw_network.specs.inside.Held.{attachment, inner_of, wiring_from}
 use Rattle.pw_network.specs.Network.{MayAttach}
-use Rattle.pw_network.specs.Limits.{most_lines}
+use Rattle.pw_network.specs.Network.{last_attachment_line}
 use Rattle.pw_network.specs.Network.{Network, IsWellNetwork, attached_at, cells_in, inner_cells_from, kind_in, with_attached}
 use Rattle.pw_decl.proofs.ExpansionLemmas.{expansion_placed}
 use Rattle.pw_network.proofs.WellNetworks.{kinds_of_cells}
@@ -74,43 +74,43 @@ calls_here network line number calls cells support well are may few first many i
     calls are.below
 
 -- what the code has after it appended is the network with the compound attached
-pub compound_attached : (declared : Declared) (inner inner_room inner_after : List InnerKept) (instances instances_room instances_after : List InstanceKept)
+pub compound_attached : (declared : Declared) (inner inner_room inner_after : List InnerType) (instances instances_room instances_after : List InstanceType)
     (last line number : ℕ) (calls : List FlatCall) (kinds : List Kind) (cells : List ℕ) (support : Premises) →
-    IsWellNetwork (network_from declared inner instances last) → AreCallsOf declared.compounds number calls →
-    MayAttach (network_from declared inner instances last) line (callables.Compound number) cells →
+    IsWellNetwork (wiring_from declared inner instances last) → AreCallsOf declared.compounds number calls →
+    MayAttach (wiring_from declared inner instances last) line (callables.Compound number) cells →
     kinds ≡ inner_kinds_of declared.compounds (callables.Compound number) → length kinds ≤ most_inner_cells →
-    (first : ℕ) → first ≡ cells_in (network_from declared inner instances last) →
+    (first : ℕ) → first ≡ cells_in (wiring_from declared inner instances last) →
     inner_room ≡ inner → map inner_of inner_after ≡ map inner_of inner_room ++ inner_cells_from line 0 kinds →
-    instances_room ≡ instances → map attached_of instances_after ≡ map attached_of instances_room
+    instances_room ≡ instances → map attachment instances_after ≡ map attachment instances_room
     ++ map (attached_at line support) (map (renamed (at_place cells (λ j. first + j))) (instances_of calls)) →
-    network_from declared inner_after instances_after line ≡ with_attached (network_from declared inner instances last) line (callables.Compound number) cells support
+    wiring_from declared inner_after instances_after line ≡ with_attached (wiring_from declared inner instances last) line (callables.Compound number) cells support
 compound_attached declared inner inner_room inner_after instances instances_room instances_after last line number calls kinds cells support
     well are may are_kinds few first is same_inner more_inner same_instances more_instances =
-    let network = network_from declared inner instances last in
+    let network = wiring_from declared inner instances last in
     let few : length (inner_kinds_of declared.compounds (callables.Compound number)) ≤ most_inner_cells = let l = ap length are_kinds in omega arith in
     let inners = more_inner ∙ ap (λ l. map inner_of l ++ inner_cells_from line 0 kinds) same_inner ∙ ap (λ l. map inner_of inner ++ inner_cells_from line 0 l) are_kinds in
     let attaches = more_instances
-    ∙ ap (λ l. map attached_of l ++ map (attached_at line support) (map (renamed (at_place cells (λ j. first + j))) (instances_of calls))) same_instances
-    ∙ ap (λ l. map attached_of instances ++ map (attached_at line support) l) (calls_placed network line number calls cells support well are may few first is) in
+    ∙ ap (λ l. map attachment l ++ map (attached_at line support) (map (renamed (at_place cells (λ j. first + j))) (instances_of calls))) same_instances
+    ∙ ap (λ l. map attachment instances ++ map (attached_at line support) l) (calls_placed network line number calls cells support well are may few first is) in
     λ i. record { declared = declared; inner = inners i; attached = attaches i; last_line = line }
 
 -- and so for a procedure
-pub procedure_attached : (declared : Declared) (inner : List InnerKept) (instances instances_room instances_after : List InstanceKept)
-    (last line number : ℕ) (cells : List ℕ) (support : Premises) (x : InstanceKept) →
+pub procedure_attached : (declared : Declared) (inner : List InnerType) (instances instances_room instances_after : List InstanceType)
+    (last line number : ℕ) (cells : List ℕ) (support : Premises) (x : InstanceType) →
     instances_room ≡ instances → instances_after ≡ instances_room ++ x ∷ [] →
-    instance_on number cells ≡ (attached_of x).instance ∷ [] → x.line ≡ line → x.support ≡ support →
-    network_from declared inner instances_after line ≡ with_attached (network_from declared inner instances last) line (callables.Stored number) cells support
+    instance_on number cells ≡ (attachment x).instance ∷ [] → x.line ≡ line → x.support ≡ support →
+    wiring_from declared inner instances_after line ≡ with_attached (wiring_from declared inner instances last) line (callables.Stored number) cells support
 procedure_attached declared inner instances instances_room instances_after last line number cells support x same_instances pushed made lines supports =
-    let one : attached_of x ∷ [] ≡ map (attached_at line support) (instance_on number cells) =
-    (λ i. record { instance = (attached_of x).instance; line = lines i; support = supports i } ∷ []) ∙ ap (map (attached_at line support)) (sym made) in
-    let attaches = ap (map attached_of) pushed ∙ map_push attached_of instances_room x
-    ∙ ap (λ l. map attached_of l ++ attached_of x ∷ []) same_instances ∙ ap (λ l. map attached_of instances ++ l) one in
+    let one : attachment x ∷ [] ≡ map (attached_at line support) (instance_on number cells) =
+    (λ i. record { instance = (attachment x).instance; line = lines i; support = supports i } ∷ []) ∙ ap (map (attached_at line support)) (sym made) in
+    let attaches = ap (map attachment) pushed ∙ map_push attachment instances_room x
+    ∙ ap (λ l. map attachment l ++ attachment x ∷ []) same_instances ∙ ap (λ l. map attachment instances ++ l) one in
     λ i. record { declared = declared; inner = sym (append-nil (map inner_of inner)) i; attached = attaches i; last_line = line }
 
 -- what a declaration says about a callable and cells, if it takes them, allows their attachment
 pub may_attach : (network : Network) (line : ℕ) (callable other : Callable) (cells : List ℕ) (kinds : List Kind) (takes : Bool) →
     IsTrue takes ↔ Takes network.declared callable (kinds_at kinds cells) → takes ≡ true → kinds ≡ network.declared.kinds →
-    All (λ cell. cell < length network.declared.cells) cells → network.last_line < line → line ≤ most_lines → callable ≡ other → MayAttach network line other cells
+    All (λ cell. cell < length network.declared.cells) cells → network.last_line < line → line ≤ last_attachment_line → callable ≡ other → MayAttach network line other cells
 may_attach network line callable other cells kinds takes same done are_kinds here next most is =
     record {
       takes = subst (λ (c : Callable). Takes network.declared c (kinds_at network.declared.kinds cells)) is

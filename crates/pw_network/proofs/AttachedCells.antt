@@ -4,13 +4,13 @@ use Rattle.std.proofs.lemmas.List.{map-append, append_assoc, take_more, map_push
 use Rattle.std.proofs.Math.ListN.{get_or-map}
 use Rattle.pw_info.specs.declared.kind.Kind.{Kind}
 use Rattle.pw_premises.specs.Premises.{Premises}
-use Rattle.pw_procs.specs.Arguments.{cells_of}
+use Rattle.pw_procs.specs.Registry.{cells_of}
 use Rattle.pw_decl.specs.declared.flat_call.FlatCall.{FlatCall}
 use Rattle.pw_decl.specs.Expansion.{Instance, instance_on, renamed}
-use Rattle.pw_decl.specs.Flat.{instances_of}
-use Rattle.pw_network.specs.declared.inner_cell.InnerCell.{InnerCell as InnerKept}
-use Rattle.pw_network.specs.declared.instance.Instance.{Instance as InstanceKept}
-use Rattle.pw_network.specs.Kept.{attached_of, inner_of}
+use Rattle.pw_decl.specs.inside.Held.{instances_of}
+use Rattle.pw_network.specs.declared.network.InnerCell.{InnerCell as InnerType}
+use Rattle.pw_network.specs.declared.instance.Instance.{Instance as InstanceType}
+use Rattle.pw_network.specs.inside.Held.{attachment, inner_of}
 use Rattle.pw_network.specs.Network.{InnerCell, Attached, attached_at, inner_cells_from}
 
 -- ---- inner cells
@@ -22,7 +22,7 @@ inner_push line number (k ∷ kinds) kind at is =
     ap (λ cells. record { line = line; number = number; kind = k } ∷ cells) (inner_push line (number + 1) kinds kind at (omega arith))
 
 -- one more inner cell
-pub inner_more : (line : ℕ) (old : List InnerCell) (before after : List InnerKept) (kinds : List Kind) (i : ℕ) (x : InnerKept) →
+pub inner_more : (line : ℕ) (old : List InnerCell) (before after : List InnerType) (kinds : List Kind) (i : ℕ) (x : InnerType) →
     i < length kinds → after ≡ before ++ x ∷ [] → x.line ≡ line → x.number ≡ i → x.kind ≡ get_or kinds i x.kind →
     map inner_of before ≡ old ++ inner_cells_from line 0 (take i kinds) →
     map inner_of after ≡ old ++ inner_cells_from line 0 (take (i + 1) kinds)
@@ -56,23 +56,23 @@ instances_push (first ∷ calls) call =
     ∙ sym (append_assoc (instance_on first.procedure (cells_of first.places)) (instances_of calls) (instance_on call.procedure (cells_of call.places)))
 
 -- the instance of one more call
-pub instances_more : (line : ℕ) (support : Premises) (name : ℕ → ℕ) (old : List Attached) (before after : List InstanceKept)
-    (calls : List FlatCall) (i : ℕ) (call : FlatCall) (placed : List ℕ) (x : InstanceKept) →
+pub instances_more : (line : ℕ) (support : Premises) (name : ℕ → ℕ) (old : List Attached) (before after : List InstanceType)
+    (calls : List FlatCall) (i : ℕ) (call : FlatCall) (placed : List ℕ) (x : InstanceType) →
     i < length calls → call ≡ get_or calls i call → after ≡ before ++ x ∷ [] →
-    placed ≡ map name (cells_of call.places) → instance_on call.procedure placed ≡ (attached_of x).instance ∷ [] →
+    placed ≡ map name (cells_of call.places) → instance_on call.procedure placed ≡ (attachment x).instance ∷ [] →
     x.line ≡ line → x.support ≡ support →
-    map attached_of before ≡ old ++ map (attached_at line support) (map (renamed name) (instances_of (take i calls))) →
-    map attached_of after ≡ old ++ map (attached_at line support) (map (renamed name) (instances_of (take (i + 1) calls)))
+    map attachment before ≡ old ++ map (attached_at line support) (map (renamed name) (instances_of (take i calls))) →
+    map attachment after ≡ old ++ map (attached_at line support) (map (renamed name) (instances_of (take (i + 1) calls)))
 instances_more line support name old before after calls i call placed x there read pushed at made lines supports so_far =
     let become : List (Instance ℕ) → List Attached = λ instances. map (attached_at line support) (map (renamed name) instances) in
     let own = instance_on call.procedure (cells_of call.places) in
-    let one : become own ≡ attached_of x ∷ [] =
+    let one : become own ≡ attachment x ∷ [] =
     ap (map (attached_at line support)) (sym (instance_on_renamed call.procedure name (cells_of call.places))
     ∙ ap (instance_on call.procedure) (sym at) ∙ made)
-    ∙ (λ j. record { instance = (attached_of x).instance; line = sym lines j; support = sym supports j } ∷ []) in
-    ap (map attached_of) pushed ∙ map_push attached_of before x
-    ∙ ap (λ xs. xs ++ attached_of x ∷ []) so_far
-    ∙ append_assoc old (become (instances_of (take i calls))) (attached_of x ∷ [])
+    ∙ (λ j. record { instance = (attachment x).instance; line = sym lines j; support = sym supports j } ∷ []) in
+    ap (map attachment) pushed ∙ map_push attachment before x
+    ∙ ap (λ xs. xs ++ attachment x ∷ []) so_far
+    ∙ append_assoc old (become (instances_of (take i calls))) (attachment x ∷ [])
     ∙ ap (λ xs. old ++ xs) (
     ap (λ xs. become (instances_of (take i calls)) ++ xs) (sym one)
     ∙ sym (ap (map (attached_at line support)) (map-append (renamed name) (instances_of (take i calls)) own)

@@ -1,18 +1,18 @@
 -- The cells of a network by number: the declared ones, and after them the inner ones.
 use Rattle.std.proofs.Common.{◌≡◌, ℕ, zero, suc, ◌-◌, ◌<◌, ◌≤◌, List, [], ◌∷◌, ◌++◌, length, map, get_or, refl, sym, ap, ◌∙◌, arith}
 use Rattle.std.proofs.lemmas.List.{length-map, get_or-append_right, get_or_append_left}
-use Rattle.pw_network.specs.declared.inner_cell.InnerCell.{InnerCell as InnerKept}
+use Rattle.pw_network.specs.declared.network.InnerCell.{InnerCell as InnerType}
 use Rattle.pw_network.specs.Network.{InnerCell}
-use Rattle.pw_network.specs.Kept.{inner_of}
+use Rattle.pw_network.specs.inside.Held.{inner_of}
 
-get-kept : {C : Type 0} (f : InnerCell → C) (inner : List InnerKept) (place : ℕ) (x : InnerKept) (e : C) →
+get-kept : {C : Type 0} (f : InnerCell → C) (inner : List InnerType) (place : ℕ) (x : InnerType) (e : C) →
     place < length inner → x ≡ get_or inner place x → get_or (map f (map inner_of inner)) place e ≡ f (inner_of x)
 get-kept f [] place x e there read = absurd (omega arith)
 get-kept f (y ∷ inner) zero x e there read = ap (λ z. f (inner_of z)) (sym read)
 get-kept f (y ∷ inner) (suc place) x e there read = get-kept f inner place x e (omega arith) read
 
 -- past the declared cells comes what is kept of the inner cells
-pub after_declared : {C : Type 0} (f : InnerCell → C) (declared : List C) (inner : List InnerKept) (n cell place : ℕ) (x : InnerKept) (e : C) →
+pub after_declared : {C : Type 0} (f : InnerCell → C) (declared : List C) (inner : List InnerType) (n cell place : ℕ) (x : InnerType) (e : C) →
     length declared ≡ n → n ≤ cell → cell - n ≡ place → place < length inner → x ≡ get_or inner place x →
     f (inner_of x) ≡ get_or (declared ++ map f (map inner_of inner)) cell e
 after_declared f declared inner n cell place x e long past at there read =

@@ -7,9 +7,9 @@ use Rattle.std.proofs.lemmas.Bool.{cases_lt, ne_eqb}
 use Rattle.std.proofs.lemmas.Bool.Decides.{eqb_tells}
 use Rattle.std.proofs.lemmas.List.{at_drop_all, drop-append-le, get_or_append_left, get_or-append_right, get_or_push, get_or-replicate, get_or-set_other, get_or-set_same, length-map, length-replicate, length-set, length_push, map_push, take_all}
 use Rattle.std.proofs.lemmas.List.Elements.{All-push, All-weaker}
-use Rattle.pw_network.specs.declared.link.Ends.{Ends}
-use Rattle.pw_network.specs.declared.link.Link.{Link}
-use Rattle.pw_network.specs.ReaderLists.{AreLinked, EndsAt, LeadsTo, Reading, next_of, no_place, number_for, numbers_of, reading_of}
+use Rattle.pw_network.specs.declared.reader_lists.Ends.{Ends}
+use Rattle.pw_network.specs.declared.reader_lists.Link.{Link}
+use Rattle.pw_network.specs.Readers.{AreLinked, EndsAt, LeadsTo, Reading, next_of, no_place, number_for, reader_numbers, link_reading}
 
 -- ---- the numbers for a cell
 
@@ -19,37 +19,37 @@ number_same cell x same = ap (λ b. cond b (x.number ∷ []) []) (eq-eqb cell x.
 pub number_other : (cell : ℕ) (x : Reading) → (x.cell ≡ cell → ⊥) → number_for cell x ≡ []
 number_other cell x other = ap (λ b. cond b (x.number ∷ []) []) (ne_eqb cell x.cell (λ same. other (sym same)))
 
-pub numbers_push : (cell : ℕ) (readings : List Reading) (x : Reading) → numbers_of cell (readings ++ x ∷ []) ≡ numbers_of cell readings ++ number_for cell x
+pub numbers_push : (cell : ℕ) (readings : List Reading) (x : Reading) → reader_numbers cell (readings ++ x ∷ []) ≡ reader_numbers cell readings ++ number_for cell x
 numbers_push cell [] x = append-nil (number_for cell x)
 numbers_push cell (y ∷ readings) x =
     ap (λ l. number_for cell y ++ l) (numbers_push cell readings x)
-    ∙ sym (append_assoc (number_for cell y) (numbers_of cell readings) (number_for cell x))
+    ∙ sym (append_assoc (number_for cell y) (reader_numbers cell readings) (number_for cell x))
 
 rest_push : (cell from : ℕ) (readings : List Reading) (x : Reading) → from ≤ length readings →
-    numbers_of cell (drop from (readings ++ x ∷ [])) ≡ numbers_of cell (drop from readings) ++ number_for cell x
+    reader_numbers cell (drop from (readings ++ x ∷ [])) ≡ reader_numbers cell (drop from readings) ++ number_for cell x
 rest_push cell from readings x within =
-    ap (numbers_of cell) (drop-append-le from readings (x ∷ []) within) ∙ numbers_push cell (drop from readings) x
+    ap (reader_numbers cell) (drop-append-le from readings (x ∷ []) within) ∙ numbers_push cell (drop from readings) x
 
-pub rest_past : (cell at : ℕ) (readings : List Reading) → length readings ≤ at → numbers_of cell (drop at readings) ≡ []
-rest_past cell at readings past = at_drop_all (numbers_of cell) readings at past
+pub rest_past : (cell at : ℕ) (readings : List Reading) → length readings ≤ at → reader_numbers cell (drop at readings) ≡ []
+rest_past cell at readings past = at_drop_all (reader_numbers cell) readings at past
 
 -- what reads the cell is among the numbers from any place before it
 some_left : (cell from at : ℕ) (readings : List Reading) (d : Reading) → from ≤ at → at < length readings →
-    (get_or readings at d).cell ≡ cell → 1 ≤ length (numbers_of cell (drop from readings))
+    (get_or readings at d).cell ≡ cell → 1 ≤ length (reader_numbers cell (drop from readings))
 some_left cell from at [] d upto there reads = absurd (omega arith)
 some_left cell zero zero (x ∷ readings) d upto there reads =
     let one = ap length (number_same cell x reads) in
-    let all = length-append (number_for cell x) (numbers_of cell readings) in
+    let all = length-append (number_for cell x) (reader_numbers cell readings) in
     omega arith
 some_left cell zero (suc at) (x ∷ readings) d upto there reads =
     let later = some_left cell zero at readings d (omega arith) (omega arith) reads in
-    let all = length-append (number_for cell x) (numbers_of cell readings) in
+    let all = length-append (number_for cell x) (reader_numbers cell readings) in
     omega arith
 some_left cell (suc from) zero (x ∷ readings) d upto there reads = absurd (omega arith)
 some_left cell (suc from) (suc at) (x ∷ readings) d upto there reads = some_left cell from at readings d (omega arith) (omega arith) reads
 
 pub none_left : (cell from at : ℕ) (readings : List Reading) (d : Reading) → from ≤ at → at < length readings →
-    (get_or readings at d).cell ≡ cell → numbers_of cell (drop from readings) ≡ [] → ⊥
+    (get_or readings at d).cell ≡ cell → reader_numbers cell (drop from readings) ≡ [] → ⊥
 none_left cell from at readings d upto there reads none =
     let some = some_left cell from at readings d upto there reads in
     let long = ap length none in
@@ -89,8 +89,8 @@ module _ (readings : List Reading) (x : Reading) (few : length readings + 1 ≤ 
       let none = leads.none past in
       record {
         same = rest_past cell at more (let l = long in omega arith)
-            ∙ sym (rest_push cell from readings x within ∙ ap (λ l. numbers_of cell (drop from readings) ++ l) (number_other cell x other)
-            ∙ append-nil (numbers_of cell (drop from readings)) ∙ sym leads.same ∙ rest_past cell at readings past);
+            ∙ sym (rest_push cell from readings x within ∙ ap (λ l. reader_numbers cell (drop from readings) ++ l) (number_other cell x other)
+            ∙ append-nil (reader_numbers cell (drop from readings)) ∙ sym leads.same ∙ rest_past cell at readings past);
         reads = λ d upto. absurd (let l = long in omega arith);
         none = λ p. none;
       }
@@ -157,7 +157,7 @@ module _ (readings : List Reading) (x : Reading) (few : length readings + 1 ≤ 
   not_last : (last at n : ℕ) (d : Reading) → EndsAt readings x.cell last → at < length readings → (get_or readings at d).cell ≡ x.cell → (at ≡ last → ⊥) →
       LeadsTo readings x.cell (at + 1) n → length readings ≤ n → ⊥
   not_last last at n d ends there reads other leads past =
-      let none_after : numbers_of x.cell (drop (at + 1) readings) ≡ [] = sym leads.same ∙ rest_past x.cell n readings past in
+      let none_after : reader_numbers x.cell (drop (at + 1) readings) ≡ [] = sym leads.same ∙ rest_past x.cell n readings past in
       elim (cases_lt last (length readings)) [
         | inl here ↦ elim (cases_lt at last) [
           | inl before ↦ none_left x.cell (at + 1) last readings d (omega arith) here (ends.reads d here) none_after
@@ -170,7 +170,7 @@ module _ (readings : List Reading) (x : Reading) (few : length readings + 1 ≤ 
   -- the last leads past the end
   last_leads : (last at n : ℕ) → at ≡ last → EndsAt readings x.cell last → LeadsTo readings x.cell (at + 1) n → length readings ≤ n
   last_leads last at n is ends leads =
-      let none_after : numbers_of x.cell (drop (at + 1) readings) ≡ [] = ap (λ k. numbers_of x.cell (drop (k + 1) readings)) is ∙ ends.rest in
+      let none_after : reader_numbers x.cell (drop (at + 1) readings) ≡ [] = ap (λ k. reader_numbers x.cell (drop (k + 1) readings)) is ∙ ends.rest in
       elim (cases_lt n (length readings)) [
         | inl there ↦ absurd (none_left x.cell n n readings x (omega arith) there (leads.reads x there) (leads.same ∙ none_after))
         | inr past ↦ past
@@ -278,11 +278,11 @@ module _ (readings : List Reading) (x : Reading) (few : length readings + 1 ≤ 
 -- ---- more cells
 
 -- nothing reads a cell past the last
-pub none_past : (readings : List Reading) (cells cell : ℕ) → All (λ reading. reading.cell < cells) readings → cells ≤ cell → numbers_of cell readings ≡ []
+pub none_past : (readings : List Reading) (cells cell : ℕ) → All (λ reading. reading.cell < cells) readings → cells ≤ cell → reader_numbers cell readings ≡ []
 none_past [] cells cell below past = refl
 none_past (x ∷ readings) cells cell below past =
     let first = below 0 x (omega arith) in
-    ap (λ l. l ++ numbers_of cell readings) (number_other cell x (λ same. omega arith))
+    ap (λ l. l ++ reader_numbers cell readings) (number_other cell x (λ same. omega arith))
     ∙ none_past readings cells cell (λ k d within. below (suc k) d (omega arith)) past
 
 module _ (readings : List Reading) (nexts : List ℕ) (ends : List Ends) (count : ℕ) (e : Ends) (few : length readings ≤ no_place)
@@ -339,33 +339,33 @@ module _ (readings : List Reading) (nexts : List ℕ) (ends : List Ends) (count 
 -- the last leads to the new one, which is pushed
 pub linked_after : (links led after : List Link) (ends : List Ends) (e : Ends) (x : Reading) (at first : ℕ) → at + 1 ≤ no_place →
     length links ≡ at → x.cell < length ends → e ≡ get_or ends x.cell e →
-    map reading_of led ≡ map reading_of links → map next_of led ≡ set (map next_of links) e.last at →
+    map link_reading led ≡ map link_reading links → map next_of led ≡ set (map next_of links) e.last at →
     after ≡ led ++ record { cell = x.cell; number = x.number; next = no_place } ∷ [] → first ≡ min e.first at →
-    AreLinked (map reading_of links) (map next_of links) ends →
-    AreLinked (map reading_of after) (map next_of after) (set ends x.cell (record { first = first; last = at }))
+    AreLinked (map link_reading links) (map next_of links) ends →
+    AreLinked (map link_reading after) (map next_of after) (set ends x.cell (record { first = first; last = at }))
 linked_after links led after ends e x at first few long here read same_readings nexts pushed least linked =
     let made : Link = record { cell = x.cell; number = x.number; next = no_place } in
-    let many : length (map reading_of links) ≡ at = length-map links reading_of ∙ long in
-    let more_readings = ap (map reading_of) pushed ∙ map_push reading_of led made ∙ ap (λ l. l ++ x ∷ []) same_readings in
+    let many : length (map link_reading links) ≡ at = length-map links link_reading ∙ long in
+    let more_readings = ap (map link_reading) pushed ∙ map_push link_reading led made ∙ ap (λ l. l ++ x ∷ []) same_readings in
     let more_nexts = ap (map next_of) pushed ∙ map_push next_of led made
     ∙ ap (λ l. l ++ no_place ∷ []) (nexts ∙ ap (λ n. set (map next_of links) e.last n) (sym many)) in
-    let before : Ends = record { first = min e.first (length (map reading_of links)); last = length (map reading_of links) } in
+    let before : Ends = record { first = min e.first (length (map link_reading links)); last = length (map link_reading links) } in
     let placed : Ends = record { first = first; last = at } in
     let places : before ≡ placed = (λ i. record { first = (ap (min e.first) many ∙ sym least) i; last = many i }) in
-    subst (λ a. AreLinked (map reading_of after) (map next_of after) (set ends x.cell a)) places
-    (subst (λ l. AreLinked (map reading_of after) l (set ends x.cell before)) (sym more_nexts)
-    (subst (λ l. AreLinked l (set (map next_of links) e.last (length (map reading_of links)) ++ no_place ∷ []) (set ends x.cell before)) (sym more_readings)
-    (linked_push (map reading_of links) x (omega (arith, many, few)) (map next_of links) ends e
-    (length-map links next_of ∙ sym (length-map links reading_of)) here read linked)))
+    subst (λ a. AreLinked (map link_reading after) (map next_of after) (set ends x.cell a)) places
+    (subst (λ l. AreLinked (map link_reading after) l (set ends x.cell before)) (sym more_nexts)
+    (subst (λ l. AreLinked l (set (map next_of links) e.last (length (map link_reading links)) ++ no_place ∷ []) (set ends x.cell before)) (sym more_readings)
+    (linked_push (map link_reading links) x (omega (arith, many, few)) (map next_of links) ends e
+    (length-map links next_of ∙ sym (length-map links link_reading)) here read linked)))
 
 -- more ends follow
 pub linked_resized : (links : List Link) (ends after : List Ends) (e : Ends) (held size count : ℕ) → length links ≤ no_place →
     e.first ≡ no_place → e.last ≡ no_place → held ≡ length ends → size ≡ held + count →
     after ≡ take size ends ++ replicate (size - held) e →
-    AreLinked (map reading_of links) (map next_of links) ends → AreLinked (map reading_of links) (map next_of links) after
+    AreLinked (map link_reading links) (map next_of links) ends → AreLinked (map link_reading links) (map next_of links) after
 linked_resized links ends after e held size count few no_first no_last long sizes resized linked =
     let within : length ends ≤ size = omega (arith, long, sizes) in
     let added : size - held ≡ count = omega (arith, sizes) in
     let all : after ≡ ends ++ replicate count e = resized ∙ (λ i. take_all size ends within i ++ replicate (added i) e) in
-    subst (λ l. AreLinked (map reading_of links) (map next_of links) l) (sym all)
-    (linked_wider (map reading_of links) (map next_of links) ends count e (let l = length-map links reading_of in omega (arith, few, l)) no_first no_last linked)
+    subst (λ l. AreLinked (map link_reading links) (map next_of links) l) (sym all)
+    (linked_wider (map link_reading links) (map next_of links) ends count e (let l = length-map links link_reading in omega (arith, few, l)) no_first no_last linked)

@@ -7,7 +7,7 @@ use Rattle.pw_premises.specs.Premises.{Premises}
 use Rattle.pw_decl.specs.declared.step.Callable.{Callable}
 use Rattle.pw_decl.specs.Expansion.{expansion_of, renamed, inner_kinds_of}
 use Rattle.pw_network.specs.Network.{Network, InnerCell, cells_in, with_attached, inner_cells_from}
-use Rattle.pw_network.specs.Names.{Name, DeclaredCell, InnerCellOf, name_from, name_in}
+use Rattle.pw_network.specs.Wiring.{Name, DeclaredCell, InnerCellOf, name_from, name_in}
 use Rattle.pw_decl.proofs.ExpansionLemmas.{expansion_renamed}
 
 -- ---- places of joined lists

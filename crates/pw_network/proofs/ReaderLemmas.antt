@@ -4,12 +4,12 @@ use Rattle.std.specs.Prelude.{All, filter}
 use Rattle.std.specs.List.{list_any, range_with_len}
 use Rattle.std.proofs.lemmas.List.{get_or_append_left, get_or_push, length-map, length_push, map_push}
 use Rattle.std.proofs.lemmas.List.Elements.{All-map, All-same, All-take}
-use Rattle.pw_procs.specs.Arguments.{cells_of}
+use Rattle.pw_procs.specs.Registry.{cells_of}
 use Rattle.pw_decl.specs.declared.flat_call.FlatCall.{FlatCall}
-use Rattle.pw_network.specs.declared.instance.Instance.{Instance as InstanceKept}
-use Rattle.pw_network.specs.Kept.{attached_of}
+use Rattle.pw_network.specs.declared.instance.Instance.{Instance as InstanceType}
+use Rattle.pw_network.specs.inside.Held.{attachment}
 use Rattle.pw_network.specs.Network.{Attached}
-use Rattle.pw_network.specs.ReaderLists.{Reading, numbers_of}
+use Rattle.pw_network.specs.Readers.{Reading, reader_numbers}
 use Rattle.pw_network.specs.Readers.{AreReaders, reads, readers_from}
 
 -- ---- numbers that pass a test, of those in a row
@@ -56,15 +56,15 @@ readers_push attached x cell number is =
     ∙ ap (λ n. filter before (range_with_len 0 n) ++ cond (reads cell x) (number ∷ []) []) as_many
 
 -- lists that an instance is appended to, as its inputs say, list the readers with it
-pub readers_more : (old new : List Reading) (instances after : List InstanceKept) (x : InstanceKept) (number : ℕ) (inputs : List ℕ) →
+pub readers_more : (old new : List Reading) (instances after : List InstanceType) (x : InstanceType) (number : ℕ) (inputs : List ℕ) →
     number ≡ length instances → inputs ≡ x.inputs.items → after ≡ instances ++ x ∷ [] →
-    ((cell : ℕ) → numbers_of cell new ≡ numbers_of cell old ++ cond (list_any (eqb cell) inputs) (number ∷ []) []) →
-    AreReaders old (map attached_of instances) → AreReaders new (map attached_of after)
+    ((cell : ℕ) → reader_numbers cell new ≡ reader_numbers cell old ++ cond (list_any (eqb cell) inputs) (number ∷ []) []) →
+    AreReaders old (map attachment instances) → AreReaders new (map attachment after)
 readers_more old new instances after x number inputs numbered are_inputs pushed appended readers cell =
     appended cell
     ∙ (λ i. readers cell i ++ cond (list_any (eqb cell) (are_inputs i)) (number ∷ []) [])
-    ∙ sym (ap (λ l. readers_from l cell 0) (ap (map attached_of) pushed ∙ map_push attached_of instances x)
-    ∙ readers_push (map attached_of instances) (attached_of x) cell number (numbered ∙ sym (length-map instances attached_of)))
+    ∙ sym (ap (λ l. readers_from l cell 0) (ap (map attachment) pushed ∙ map_push attachment instances x)
+    ∙ readers_push (map attachment instances) (attachment x) cell number (numbered ∙ sym (length-map instances attachment)))
 
 -- ---- the cells that are read are there
 

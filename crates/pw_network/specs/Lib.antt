@@ -1,7 +1,4 @@
-pub mod Fields
-pub mod Kept
-pub mod Limits
-pub mod Names
 pub mod Network
-pub mod ReaderLists
 pub mod Readers
+pub mod Wiring
+pub mod inside

@@ -1,16 +1,25 @@
--- What a network is, and what an attachment adds to it.
-use Rattle.std.specs.Prelude.{ℕ, ◌+◌, ◌*◌, ◌<◌, ◌≤◌, List, [], ◌∷◌, ◌++◌, All, Option, Some, None, length, map, slice_index_or}
+-- What a network is, its limits, and what an attachment adds to it.
+use Rattle.std.specs.Prelude.{ℕ, ◌+◌, ◌*◌, ◌<◌, ◌≤◌, List, [], ◌∷◌, ◌++◌, All, Option, Some, None}
+use Rattle.std.specs.Prelude.{length, map, slice_index_or}
+use Rattle.pw_decl.specs.Limits.{most_cells, most_inner_cells}
 use Rattle.std.specs.List.Sorted.{IsNonDecreasingBy}
 use Rattle.pw_info.specs.declared.kind.Kind.{Kind}
-use Rattle.pw_info.specs.declared.kind.Kind.TheVariants as kinds
 use Rattle.pw_premises.specs.Premises.{Premises}
 use Rattle.pw_decl.specs.declared.step.Callable.{Callable}
 use Rattle.pw_decl.specs.Compound.{kinds_at}
 use Rattle.pw_decl.specs.Declaration.{Declared, Takes}
 use Rattle.pw_decl.specs.Expansion.{Instance, SpeaksOf, FitsCells, expansion_of, inner_kinds_of}
-use Rattle.pw_decl.specs.Limits.{most_inner_cells}
 use Rattle.pw_decl.specs.WellDeclared.{IsWellDeclared}
-use Rattle.pw_network.specs.Limits.{most_lines}
+use Rattle.pw_info.specs.declared.kind.Kind.TheVariants as kinds
+
+-- the line of an attachment is at most this
+abbrev pub last_attachment_line : ℕ
+last_attachment_line = 1000000
+
+-- the greatest number of cells: the declared ones, and for each line the inner ones of an
+-- attachment
+abbrev pub most_cells_in : ℕ
+most_cells_in = most_cells + most_inner_cells * last_attachment_line
 
 -- an instance, the line at which it was attached, and the premises under which it was attached
 pub record Attached : Type 0 where
@@ -44,13 +53,15 @@ cells_in network = length network.declared.cells + length network.inner
 
 -- the kind of a cell, by its number
 abbrev pub kind_in : Network → ℕ → Kind
-kind_in network cell = slice_index_or (network.declared.kinds ++ map (λ inner. inner.kind) network.inner) cell kinds.Interval
+kind_in network cell = slice_index_or (network.declared.kinds
+    ++ map (λ inner. inner.kind) network.inner) cell kinds.Interval
 
 -- where a cell comes from, by its number: an inner cell from a line, in which it has a number; a
 -- declared cell from none
 abbrev pub origin_in : Network → ℕ → Option (ℕ × ℕ)
 origin_in network cell =
-    slice_index_or (map (λ name. None) network.declared.cells ++ map (λ inner. Some (inner.line, inner.number)) network.inner) cell None
+    slice_index_or (map (λ name. None) network.declared.cells
+    ++ map (λ inner. Some (inner.line, inner.number)) network.inner) cell None
 
 -- ---- attachments
 
@@ -69,9 +80,11 @@ attached_at line support instance = record { instance = instance; line = line; s
 abbrev pub with_attached : Network → ℕ → Callable → List ℕ → Premises → Network
 with_attached network line callable cells support =
     record network {
-      inner = network.inner ++ inner_cells_from line 0 (inner_kinds_of network.declared.compounds callable);
+      inner = network.inner ++ inner_cells_from line 0
+          (inner_kinds_of network.declared.compounds callable);
       attached = network.attached
-          ++ map (attached_at line support) (expansion_of network.declared.compounds callable cells (λ j. cells_in network + j));
+          ++ map (attached_at line support) (expansion_of network.declared.compounds callable cells
+          (λ j. cells_in network + j));
       last_line = line;
     }
 
@@ -79,12 +92,14 @@ with_attached network line callable cells support =
 
 -- each instance reads and writes existing cells
 abbrev pub InstancesStay : Network → Type 0
-InstancesStay network = All (λ attached. SpeaksOf (λ cell. cell < cells_in network) attached.instance) network.attached
+InstancesStay network = All (λ attached. SpeaksOf (λ cell.
+    cell < cells_in network) attached.instance) network.attached
 
 -- the procedure of each instance accepts the kinds of its cells
 abbrev pub InstancesFit : Network → Type 0
 InstancesFit network =
-    All (λ attached. ∥ FitsCells network.declared.procedures (kind_in network) attached.instance ∥₁) network.attached
+    All (λ attached. ∥ FitsCells network.declared.procedures (kind_in network) attached.instance ∥₁)
+    network.attached
 
 -- the lines of the inner cells do not fall, in the order of the cells
 abbrev pub LinesInOrder : Network → Type 0
@@ -97,7 +112,7 @@ LinesReached network = All (λ inner. inner.line ≤ network.last_line) network.
 -- all of this holds, and the limits are kept
 pub record IsWellNetwork (network : Network) : Type 0 where
   pub declared : IsWellDeclared network.declared
-  pub lines : network.last_line ≤ most_lines
+  pub lines : network.last_line ≤ last_attachment_line
   pub few : length network.inner ≤ most_inner_cells * network.last_line
   pub here : InstancesStay network
   pub fits : InstancesFit network
@@ -112,12 +127,14 @@ AreDeclared network cells = All (λ cell. cell < length network.declared.cells) 
 
 -- the callable takes cells of these cells' kinds
 abbrev pub TakesCells : Network → Callable → List ℕ → Type 0
-TakesCells network callable cells = Takes network.declared callable (kinds_at network.declared.kinds cells)
+TakesCells network callable cells = Takes network.declared callable
+    (kinds_at network.declared.kinds cells)
 
 -- the callable may be attached to the cells at this line: it takes them, they are declared, and the
 -- line comes next
-pub record MayAttach (network : Network) (line : ℕ) (callable : Callable) (cells : List ℕ) : Type 0 where
+pub record MayAttach (network : Network) (line : ℕ) (callable : Callable) (cells : List ℕ)
+    : Type 0 where
   pub takes : TakesCells network callable cells
   pub here : AreDeclared network cells
   pub next : network.last_line < line
-  pub most : line ≤ most_lines
+  pub most : line ≤ last_attachment_line

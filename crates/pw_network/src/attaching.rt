@@ -1,15 +1,16 @@
 //! Growing the lists of a network, where there is room.
-ghost use Rattle.std.specs.Prelude.{◌≡◌, ◌+◌, ◌*◌, ◌<◌, ◌≤◌, ◌++◌, ◌∷◌, [], All, length, map, vec_len, vec_capacity};
-ghost use Rattle.pw_procs.specs.Arguments.{cells_of};
-ghost use Rattle.pw_decl.specs.Expansion.{at_place, renamed};
-ghost use Rattle.pw_decl.specs.Flat.{instances_of};
-ghost use Rattle.pw_network.specs.Kept.{attached_of, inner_of};
-ghost use Rattle.pw_network.specs.Network.{attached_at, inner_cells_from};
-ghost use Rattle.pw_network.specs.ReaderLists.{reading_of};
+ghost use Rattle.std.specs.Prelude.{◌≡◌, ◌+◌, ◌*◌, ◌<◌, ◌≤◌, ◌++◌, ◌∷◌, [], All, length, map};
+ghost use Rattle.std.specs.Prelude.{vec_len, vec_capacity};
+ghost use Rattle.pw_procs.specs.Registry.{cells_of};
+ghost use Rattle.pw_decl.specs.Expansion.{at_place};
+ghost use Rattle.pw_network.specs.inside.Held.{attachment, inner_of};
+ghost use Rattle.pw_network.specs.Network.{inner_cells_from};
+ghost use Rattle.pw_network.specs.Readers.{link_reading};
 ghost use Rattle.pw_network.specs.Readers.{AreReaders};
+ghost use Rattle.pw_network.specs.inside.Held.{attached_on};
 
-use crate::inner_cell::InnerCell;
 use crate::instance::Instance;
+use crate::network::InnerCell;
 use crate::reader_lists::ReaderLists;
 use pw_decl::{FlatCall, place_cells};
 use pw_info::Kind;
@@ -26,11 +27,11 @@ pub(crate) fn append_instance<A: Allocator + Copy>(
     requires list_room { vec_len lists.old.links + 8 ≤ vec_capacity lists.old.links }
     requires few { length instance.inputs.items ≤ 8 }
     requires here { All (λ cell. cell < vec_len lists.old.ends) instance.inputs.items }
-    requires readers { AreReaders (map reading_of lists.old.links.items)
-        (map attached_of instances.old.items) }
+    requires readers { AreReaders (map link_reading lists.old.links.items)
+        (map attachment instances.old.items) }
     ensures items { instances.new.items ≡ instances.old.items ++ instance ∷ [] }
-    ensures readers { AreReaders (map reading_of lists.new.links.items)
-        (map attached_of instances.new.items) }
+    ensures readers { AreReaders (map link_reading lists.new.links.items)
+        (map attachment instances.new.items) }
     ensures cells { vec_len lists.new.ends ≡ vec_len lists.old.ends }
     ensures links { vec_len lists.new.links ≤ vec_len lists.old.links + 8 }
     ensures list_room { vec_capacity lists.old.links ≤ vec_capacity lists.new.links }
@@ -60,13 +61,12 @@ pub(crate) fn append_instances<A: Allocator + Copy>(
         ≤ vec_capacity lists.old.links }
     requires here { All (λ call. All (λ place. at_place cells.now (λ j. first + j) place
         < vec_len lists.old.ends) (cells_of call.places)) calls.now }
-    requires readers { AreReaders (map reading_of lists.old.links.items)
-        (map attached_of instances.old.items) }
-    ensures items { map attached_of instances.new.items ≡ map attached_of instances.old.items
-        ++ map (attached_at line support)
-        (map (renamed (at_place cells.now (λ j. first + j))) (instances_of calls.now)) }
-    ensures readers { AreReaders (map reading_of lists.new.links.items)
-        (map attached_of instances.new.items) }
+    requires readers { AreReaders (map link_reading lists.old.links.items)
+        (map attachment instances.old.items) }
+    ensures items { map attachment instances.new.items ≡ map attachment instances.old.items ++
+        attached_on line support cells.now first calls.now }
+    ensures readers { AreReaders (map link_reading lists.new.links.items)
+        (map attachment instances.new.items) }
     ensures cells { vec_len lists.new.ends ≡ vec_len lists.old.ends }
 {
     for call in calls {

@@ -1,8 +1,8 @@
 //! Procedures between cells, as attachments make them.
 ghost use Rattle.std.specs.Prelude.{◌≡◌, ◌-◌, ◌≤◌, ◌∷◌, [], length, take};
-ghost use Rattle.pw_procs.specs.Arguments.{cells_of};
+ghost use Rattle.pw_procs.specs.Registry.{cells_of};
 ghost use Rattle.pw_decl.specs.Expansion.{instance_on};
-ghost use Rattle.pw_network.specs.Kept.{attached_of};
+ghost use Rattle.pw_network.specs.inside.Held.{attachment};
 ghost use Rattle.pw_network.specs.Readers.{reads as reads_cell};
 
 use pw_premises::PremiseSet;
@@ -39,7 +39,7 @@ impl Instance {
         line: u32,
     ) -> Instance
         ensures instance { instance_on procedure (cells_of cells)
-            ≡ (attached_of result).instance ∷ [] }
+            ≡ (attachment result).instance ∷ [] }
         ensures inputs { result.inputs.items ≡ take (length (cells_of cells) - 1) (cells_of cells) }
         ensures few { length result.inputs.items ≤ 8 }
         ensures line { result.line ≡ line }
@@ -61,7 +61,7 @@ impl Instance {
 
     /// Whether it reads the cell.
     pub fn reads(&self, cell: u32) -> bool
-        ensures { result ≡ reads_cell cell (attached_of self.now) }
+        ensures { result ≡ reads_cell cell (attachment self.now) }
     {
         self.inputs.as_slice().iter().any(|input| cell == *input)
     }

@@ -3,16 +3,12 @@
 #![tactic(auto)]
 
 mod attaching;
-mod inner_cell;
 mod instance;
 pub mod laws;
-mod link;
 mod network;
-mod network_fault;
 mod reader_lists;
 mod readers;
 
 pub use instance::Instance;
-pub use network::Network;
-pub use network_fault::NetworkFault;
+pub use network::{Network, NetworkFault};
 pub use readers::Readers;

@@ -1,32 +1,30 @@
 //! What is attached to the cells of a declaration: instances of procedures, between its cells and
-//! inner cells.
+//! inner ones.
 ghost use Rattle.std.specs.Prelude.{◌≡◌, ◌<◌, ◌≤◌, length, map, IfOk, IfErr, OnOk, OnErr};
-ghost use Rattle.pw_procs.specs.Arguments.{cells_of};
+ghost use Rattle.pw_procs.specs.Registry.{cells_of};
 ghost use Rattle.pw_decl.specs.declared.step.Callable.TheVariants as callables;
 ghost use Rattle.pw_decl.specs.Expansion.{inner_kinds_of};
-ghost use Rattle.pw_decl.specs.Fields.{declared_by};
-ghost use Rattle.pw_decl.specs.Flat.{AreCallsOf};
+ghost use Rattle.pw_decl.specs.inside.Fields.{declared};
+ghost use Rattle.pw_decl.specs.inside.Held.{AreCallsOf};
 ghost use Rattle.pw_decl.specs.Limits.{most_inner_cells};
 ghost use Rattle.pw_decl.specs.Declaration.{IsCallable};
-ghost use Rattle.pw_network.specs.declared.network_fault.NetworkFault.TheVariants as faults;
-ghost use Rattle.pw_network.specs.Kept.{attached_of};
-ghost use Rattle.pw_network.specs.Limits.{most_cells_in, most_lines};
+ghost use Rattle.pw_network.specs.declared.network.NetworkFault.TheVariants as faults;
+ghost use Rattle.pw_network.specs.inside.Held.{attachment};
+ghost use Rattle.pw_network.specs.Network.{most_cells_in, last_attachment_line};
 ghost use Rattle.pw_network.specs.Network.{bare, cells_in, kind_in, origin_in, with_attached};
 ghost use Rattle.pw_network.specs.Network.{AreDeclared, InstancesFit, InstancesStay, LinesInOrder};
 ghost use Rattle.pw_network.specs.Network.{MayAttach, TakesCells};
 ghost use Rattle.pw_network.specs.Readers.{readers_of};
 ghost use Rattle.std.proofs.Props.{props};
 ghost use Rattle.std.specs.Prelude.{vec_len};
-ghost use Rattle.pw_decl.specs.Props.{named_prop};
-ghost use Rattle.pw_network.specs.Kept.{network_from};
+ghost use Rattle.pw_decl.specs.inside.Held.{named_prop};
+ghost use Rattle.pw_network.specs.inside.Held.{wiring_from};
 ghost use Rattle.pw_network.specs.Network.{IsWellNetwork};
-ghost use Rattle.pw_network.specs.ReaderLists.{reading_of};
+ghost use Rattle.pw_network.specs.Readers.{link_reading};
 ghost use Rattle.pw_network.specs.Readers.{AreReaders};
 
 use crate::attaching::{append_inner, append_instance, append_instances};
-use crate::inner_cell::InnerCell;
 use crate::instance::{Instance, MOST_INPUTS};
-use crate::network_fault::NetworkFault;
 use crate::reader_lists::ReaderLists;
 use crate::readers::Readers;
 use pw_decl::{Callable, Declaration, FlatCall};
@@ -34,6 +32,25 @@ use pw_info::Kind;
 use pw_premises::PremiseSet;
 use pw_procs::Arguments;
 use std::alloc::{AllocError, Allocator, Global};
+
+/// A cell that an attachment made for itself.
+#[derive(Clone, Copy, Debug)]
+pub(crate) struct InnerCell {
+    // The line of the attachment.
+    pub(crate) line: u32,
+    // The number of the cell among the inner cells of the attachment, from 0.
+    pub(crate) number: u16,
+    pub(crate) kind: Kind,
+}
+
+/// Why nothing was attached.
+#[derive(Clone, Copy, Debug, PartialEq, Eq)]
+pub enum NetworkFault {
+    /// The callable does not take cells of these kinds.
+    WrongArguments,
+    /// Out of memory.
+    Memory,
+}
 
 /// The cells of a declaration, after them the inner cells that attachments made for themselves, and
 /// the instances between them, in the order of the attachments.
@@ -46,22 +63,22 @@ pub struct Network<'d, 'r, A: Allocator = Global> {
     lists: ReaderLists<A>,
     // The line of the last attachment, 0 before the first.
     last_line: u32,
-    ghost well: { IsWellNetwork (network_from (declared_by declaration.now) inner.items instances.items
+    ghost well: { IsWellNetwork (wiring_from (declared declaration.now) inner.items instances.items
         last_line) } by { Prim.hlevel (props, named_prop) },
     ghost cells: { vec_len lists.ends
-        ≡ cells_in (network_from (declared_by declaration.now) inner.items instances.items last_line) },
-    ghost readers: { AreReaders (map reading_of lists.links.items) (map attached_of instances.items) } by { Prim.hlevel props },
+        ≡ cells_in (wiring_from (declared declaration.now) inner.items instances.items last_line) },
+    ghost readers: { AreReaders (map link_reading lists.links.items) (map attachment instances.items) } by { Prim.hlevel props },
 }
 
 impl<'d, 'r, A: Allocator + Copy> Network<'d, 'r, A> {
-    ghost use Rattle.pw_network.specs.Fields.{network_by};
+    ghost use Rattle.pw_network.specs.Wiring.{wiring};
 
     /// The cells of the declaration, with nothing attached. Fails only when out of memory.
     pub fn new(
         alloc: A,
         declaration: &'d Declaration<'r, A>,
     ) -> Result<Network<'d, 'r, A>, AllocError>
-        ensures bare { IfOk result (λ network. network_by network ≡ bare (declared_by declaration.now)) }
+        ensures bare { IfOk result (λ network. wiring network ≡ bare (declared declaration.now)) }
     {
         declaration.limits();
         Ok(Network {
@@ -75,7 +92,7 @@ impl<'d, 'r, A: Allocator + Copy> Network<'d, 'r, A> {
 
     /// The declaration that the cells come from.
     pub fn declaration(&self) -> &'d Declaration<'r, A>
-        ensures { declared_by result.now ≡ (network_by self.now).declared }
+        ensures { declared result.now ≡ (wiring self.now).declared }
     {
         self.declaration
     }
@@ -83,16 +100,16 @@ impl<'d, 'r, A: Allocator + Copy> Network<'d, 'r, A> {
     /// The instances, in the order in which they were attached. Each reads and writes existing
     /// cells, of kinds that its procedure accepts.
     pub fn instances(&self) -> &[Instance]
-        ensures instances { map attached_of result.now ≡ (network_by self.now).attached }
-        ensures here { InstancesStay (network_by self.now) }
-        ensures fits { InstancesFit (network_by self.now) }
+        ensures instances { map attachment result.now ≡ (wiring self.now).attached }
+        ensures here { InstancesStay (wiring self.now) }
+        ensures fits { InstancesFit (wiring self.now) }
     {
         &self.instances
     }
 
     /// The number of cells, declared and inner.
     pub fn cells(&self) -> u32
-        ensures count { result ≡ cells_in (network_by self.now) }
+        ensures count { result ≡ cells_in (wiring self.now) }
         ensures most { result ≤ most_cells_in }
     {
         self.declaration.cells() + self.inner.len() as u32
@@ -100,8 +117,8 @@ impl<'d, 'r, A: Allocator + Copy> Network<'d, 'r, A> {
 
     /// The kind of the cell of this number.
     pub fn kind(&self, cell: u32) -> Kind
-        requires { cell < cells_in (network_by self.now) }
-        ensures { result ≡ kind_in (network_by self.now) cell }
+        requires { cell < cells_in (wiring self.now) }
+        ensures { result ≡ kind_in (wiring self.now) cell }
     {
         let declared = self.declaration.cells();
         if cell < declared {
@@ -113,9 +130,9 @@ impl<'d, 'r, A: Allocator + Copy> Network<'d, 'r, A> {
     /// The line of an inner cell's attachment and the cell's number there, from 0. None for a
     /// declared cell. In the order of the cells, the lines never fall.
     pub fn inner(&self, cell: u32) -> Option<(u32, u16)>
-        requires { cell < cells_in (network_by self.now) }
-        ensures origin { result ≡ origin_in (network_by self.now) cell }
-        ensures order { LinesInOrder (network_by self.now) }
+        requires { cell < cells_in (wiring self.now) }
+        ensures origin { result ≡ origin_in (wiring self.now) cell }
+        ensures order { LinesInOrder (wiring self.now) }
     {
         let declared = self.declaration.cells();
         if cell < declared {
@@ -127,15 +144,15 @@ impl<'d, 'r, A: Allocator + Copy> Network<'d, 'r, A> {
 
     /// The line of the last attachment, 0 before the first.
     pub fn last_line(&self) -> u32
-        ensures line { result ≡ (network_by self.now).last_line }
-        ensures most { result ≤ most_lines }
+        ensures line { result ≡ (wiring self.now).last_line }
+        ensures most { result ≤ last_attachment_line }
     {
         self.last_line
     }
 
     /// The numbers of the instances that read the cell, in rising order.
     pub fn readers(&self, cell: u32) -> Readers<'_>
-        ensures { result ≡ readers_of (network_by self.now) cell }
+        ensures { result ≡ readers_of (wiring self.now) cell }
     {
         self.lists.readers(cell)
     }
@@ -151,18 +168,18 @@ impl<'d, 'r, A: Allocator + Copy> Network<'d, 'r, A> {
         cells: Arguments,
         support: PremiseSet,
     ) -> Result<(), NetworkFault>
-        requires there { IsCallable (network_by self.old).declared callable }
-        requires cells { AreDeclared (network_by self.old) (cells_of cells) }
-        requires next { (network_by self.old).last_line < line }
-        requires most { line ≤ most_lines }
-        ensures ok { OnOk result (network_by self.new
-            ≡ with_attached (network_by self.old) line callable (cells_of cells) support) }
-        ensures takes { OnOk result (TakesCells (network_by self.old) callable (cells_of cells)) }
+        requires there { IsCallable (wiring self.old).declared callable }
+        requires cells { AreDeclared (wiring self.old) (cells_of cells) }
+        requires next { (wiring self.old).last_line < line }
+        requires most { line ≤ last_attachment_line }
+        ensures ok { OnOk result (wiring self.new
+            ≡ with_attached (wiring self.old) line callable (cells_of cells) support) }
+        ensures takes { OnOk result (TakesCells (wiring self.old) callable (cells_of cells)) }
         ensures wrong { IfErr result (λ fault. fault ≡ faults.WrongArguments
-            → TakesCells (network_by self.old) callable (cells_of cells) → ⊥) }
+            → TakesCells (wiring self.old) callable (cells_of cells) → ⊥) }
         ensures memory { IfErr result (λ fault. fault ≡ faults.Memory
-            → TakesCells (network_by self.old) callable (cells_of cells)) }
-        ensures err { OnErr result (network_by self.new ≡ network_by self.old) }
+            → TakesCells (wiring self.old) callable (cells_of cells)) }
+        ensures err { OnErr result (wiring self.new ≡ wiring self.old) }
     {
         let declaration = self.declaration;
         if !declaration.accepts_at(callable, declaration.kinds(), cells) {
@@ -190,12 +207,12 @@ impl<'d, 'r, A: Allocator + Copy> Network<'d, 'r, A> {
         cells: Arguments,
         support: PremiseSet,
     ) -> Result<(), AllocError>
-        requires { MayAttach (network_by self.old) line (callables.Stored procedure)
+        requires { MayAttach (wiring self.old) line (callables.Stored procedure)
             (cells_of cells) }
-        ensures ok { OnOk result (network_by self.new
-            ≡ with_attached (network_by self.old) line (callables.Stored procedure)
+        ensures ok { OnOk result (wiring self.new
+            ≡ with_attached (wiring self.old) line (callables.Stored procedure)
             (cells_of cells) support) }
-        ensures err { OnErr result (network_by self.new ≡ network_by self.old) }
+        ensures err { OnErr result (wiring self.new ≡ wiring self.old) }
     {
         self.instances.reserve(1)?;
         self.lists.reserve(0, MOST_INPUTS)?;
@@ -217,17 +234,17 @@ impl<'d, 'r, A: Allocator + Copy> Network<'d, 'r, A> {
         cells: Arguments,
         support: PremiseSet,
     ) -> Result<(), AllocError>
-        requires may { MayAttach (network_by self.old) line (callables.Compound compound)
+        requires may { MayAttach (wiring self.old) line (callables.Compound compound)
             (cells_of cells) }
-        requires calls { AreCallsOf (network_by self.old).declared.compounds compound calls.now }
+        requires calls { AreCallsOf (wiring self.old).declared.compounds compound calls.now }
         requires kinds { kinds.now
-            ≡ inner_kinds_of (network_by self.old).declared.compounds
+            ≡ inner_kinds_of (wiring self.old).declared.compounds
             (callables.Compound compound) }
         requires few { length kinds.now ≤ most_inner_cells }
-        ensures ok { OnOk result (network_by self.new
-            ≡ with_attached (network_by self.old) line (callables.Compound compound)
+        ensures ok { OnOk result (wiring self.new
+            ≡ with_attached (wiring self.old) line (callables.Compound compound)
             (cells_of cells) support) }
-        ensures err { OnErr result (network_by self.new ≡ network_by self.old) }
+        ensures err { OnErr result (wiring self.new ≡ wiring self.old) }
     {
         let first = self.cells();
         self.inner.reserve(kinds.len())?;

@@ -1,13 +1,31 @@
 //! The readers of each cell, listed as instances are attached.
 ghost use Rattle.std.proofs.Props.{props};
-ghost use Rattle.std.specs.Prelude.{◌≡◌, ℕ, ◌+◌, ◌<◌, ◌≤◌, ◌++◌, ◌∷◌, [], All, cond, drop, length, map, slice_set};
+ghost use Rattle.std.specs.Prelude.{◌≡◌, ◌+◌, ◌<◌, ◌≤◌, ◌++◌, ◌∷◌, [], All, drop, length, map};
+ghost use Rattle.std.specs.Prelude.{slice_set};
 ghost use Rattle.std.specs.Prelude.{IfOk, OnOk, nat_eq, vec_len, vec_capacity};
 ghost use Rattle.std.specs.List.{list_any};
-ghost use Rattle.pw_network.specs.ReaderLists.{AreLinked, IsWalk, Reading, next_of, numbers_of, reading_of};
+ghost use Rattle.pw_network.specs.Readers.{AreLinked, IsWalk, next_of, reader_numbers};
+ghost use Rattle.pw_network.specs.Readers.{link_reading};
+ghost use Rattle.pw_network.specs.Readers.{AddsReader};
 
-use crate::link::{Ends, Link};
 use crate::readers::Readers;
 use std::alloc::{AllocError, Allocator, Global};
+
+#[derive(Clone, Copy, Debug)]
+pub(crate) struct Link {
+    pub(crate) cell: u32,
+    // The number of the instance.
+    pub(crate) number: usize,
+    pub(crate) next: usize,
+}
+
+// The places of the first and the last reader of a cell among the links. They are past the end if
+// the cell has no readers.
+#[derive(Clone, Copy, Debug)]
+pub(crate) struct Ends {
+    pub(crate) first: usize,
+    pub(crate) last: usize,
+}
 
 // Means no link: no table is this long.
 const NONE: usize = usize::MAX;
@@ -18,7 +36,7 @@ const NONE: usize = usize::MAX;
 pub(crate) struct ReaderLists<A: Allocator = Global> {
     links: Vec<Link, A>,
     ends: Vec<Ends, A>,
-    ghost linked: { AreLinked (map reading_of links.items) (map next_of links.items) ends.items } by { Prim.hlevel props },
+    ghost linked: { AreLinked (map link_reading links.items) (map next_of links.items) ends.items } by { Prim.hlevel props },
 }
 
 impl<A: Allocator + Copy> ReaderLists<A> {
@@ -42,8 +60,10 @@ impl<A: Allocator + Copy> ReaderLists<A> {
     pub(crate) fn reserve(&mut self, cells: usize, readers: usize) -> Result<(), AllocError>
         ensures links { self.new.links.items ≡ self.old.links.items }
         ensures cells { vec_len self.new.ends ≡ vec_len self.old.ends }
-        ensures room_for_links { OnOk result (vec_len self.new.links + readers ≤ vec_capacity self.new.links) }
-        ensures room_for_cells { OnOk result (vec_len self.new.ends + cells ≤ vec_capacity self.new.ends) }
+        ensures room_for_links { OnOk result (vec_len self.new.links + readers ≤ vec_capacity
+            self.new.links) }
+        ensures room_for_cells { OnOk result (vec_len self.new.ends + cells ≤ vec_capacity
+            self.new.ends) }
     {
         self.links.reserve(readers)?;
         self.ends.reserve(cells)?;
@@ -67,9 +87,8 @@ impl<A: Allocator + Copy> ReaderLists<A> {
     pub(crate) fn append(&mut self, number: usize, cells: &[u32])
         requires here { All (λ cell. cell < vec_len self.old.ends) cells.now }
         requires room { vec_len self.old.links + length cells.now ≤ vec_capacity self.old.links }
-        ensures lists { (cell : ℕ) → numbers_of cell (map reading_of self.new.links.items)
-            ≡ numbers_of cell (map reading_of self.old.links.items)
-            ++ cond (list_any (nat_eq cell) cells.now) (number ∷ []) [] }
+        ensures lists { AddsReader cells.now number (map link_reading self.old.links.items) (map
+            link_reading self.new.links.items) }
         ensures cells { vec_len self.new.ends ≡ vec_len self.old.ends }
         ensures ends_room { vec_capacity self.old.ends ≤ vec_capacity self.new.ends }
         ensures links { vec_len self.new.links ≤ vec_len self.old.links + length cells.now }
@@ -88,8 +107,8 @@ impl<A: Allocator + Copy> ReaderLists<A> {
     fn link(&mut self, number: usize, cell: u32)
         requires here { cell < vec_len self.old.ends }
         requires room { vec_len self.old.links < vec_capacity self.old.links }
-        ensures readings { map reading_of self.new.links.items
-            ≡ map reading_of self.old.links.items ++ record { cell = cell; number = number } ∷ [] }
+        ensures readings { map link_reading self.new.links.items ≡ map link_reading
+            self.old.links.items ++ record { cell = cell; number = number } ∷ [] }
         ensures cells { vec_len self.new.ends ≡ vec_len self.old.ends }
         ensures ends_room { vec_capacity self.old.ends ≤ vec_capacity self.new.ends }
         ensures links { vec_len self.new.links ≡ vec_len self.old.links + 1 }
@@ -111,7 +130,7 @@ impl<A: Allocator + Copy> ReaderLists<A> {
 
     // The readers of a cell, in the order in which they were appended.
     pub(crate) fn readers(&self, cell: u32) -> Readers<'_>
-        ensures { result ≡ numbers_of cell (map reading_of self.now.links.items) }
+        ensures { result ≡ reader_numbers cell (map link_reading self.now.links.items) }
     {
         let first = self.first(cell);
         Readers::new(&self.links, cell, first)
@@ -119,9 +138,10 @@ impl<A: Allocator + Copy> ReaderLists<A> {
 
     // The place of the first reader of a cell among the links.
     fn first(&self, cell: u32) -> usize
-        ensures walk { IsWalk (map reading_of self.now.links.items) (map next_of self.now.links.items) cell result }
-        ensures all { numbers_of cell (drop result (map reading_of self.now.links.items))
-            ≡ numbers_of cell (map reading_of self.now.links.items) }
+        ensures walk { IsWalk (map link_reading self.now.links.items) (map next_of
+            self.now.links.items) cell result }
+        ensures all { reader_numbers cell (drop result (map link_reading self.now.links.items))
+            ≡ reader_numbers cell (map link_reading self.now.links.items) }
     {
         if cell as usize >= self.ends.len() {
             return NONE;
@@ -139,7 +159,7 @@ fn has(cells: &[u32], cell: u32) -> bool
 
 // Sets the next place of the link at a place, if there is a link at that place.
 fn lead<A: Allocator>(links: &mut Vec<Link, A>, place: usize, next: usize)
-    ensures readings { map reading_of links.new.items ≡ map reading_of links.old.items }
+    ensures readings { map link_reading links.new.items ≡ map link_reading links.old.items }
     ensures nexts { map next_of links.new.items ≡ slice_set (map next_of links.old.items) place next }
     ensures len { vec_len links.new ≡ vec_len links.old }
     ensures room { vec_capacity links.new ≡ vec_capacity links.old }

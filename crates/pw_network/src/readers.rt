@@ -1,9 +1,9 @@
 //! The readers of a cell, one after another.
 ghost use Rattle.std.specs.Prelude.{◌≡◌, drop, map};
 ghost use Rattle.std.specs.Iterator.{YieldsFirst, item_count};
-ghost use Rattle.pw_network.specs.ReaderLists.{IsWalk, next_of, numbers_of, reading_of};
+ghost use Rattle.pw_network.specs.Readers.{IsWalk, next_of, reader_numbers, link_reading};
 
-use crate::link::Link;
+use crate::reader_lists::Link;
 use std::marker::Model;
 
 /// The remaining numbers of the instances that read a cell, in rising order.
@@ -20,19 +20,19 @@ impl<'n> Model for Readers<'n> {
 
     ghost Value = { List ℕ };
 
-    ghost use Rattle.pw_network.specs.ReaderLists.{IsWalk, next_of, numbers_of, reading_of};
+    ghost use Rattle.pw_network.specs.Readers.{IsWalk, next_of, reader_numbers, link_reading};
 
-    ghost view = { λ a. numbers_of a.cell (drop a.at (map reading_of a.links.now)) };
+    ghost view = { λ a. reader_numbers a.cell (drop a.at (map link_reading a.links.now)) };
 
-    ghost invariant = { λ a. IsWalk (map reading_of a.links.now) (map next_of a.links.now) a.cell a.at };
+    ghost invariant = { λ a. IsWalk (map link_reading a.links.now) (map next_of a.links.now) a.cell a.at };
 }
 
 impl<'n> Readers<'n> {
     // The numbers of the instances that read the cell, from this place on. It is the place of one
     // of them, if any is left.
     pub(crate) fn new(links: &'n [Link], cell: u32, at: usize) -> Readers<'n>
-        requires { IsWalk (map reading_of links.now) (map next_of links.now) cell at }
-        ensures { result ≡ numbers_of cell (drop at (map reading_of links.now)) }
+        requires { IsWalk (map link_reading links.now) (map next_of links.now) cell at }
+        ensures { result ≡ reader_numbers cell (drop at (map link_reading links.now)) }
     {
         Readers { links, cell, at }
     }

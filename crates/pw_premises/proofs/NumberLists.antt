@@ -13,7 +13,7 @@ use Rattle.std.proofs.lemmas.List.Elements.{filter-append}
 use Rattle.std.proofs.lemmas.List.FromFn.{length-range_with_len, get_or-range_with_len}
 use Rattle.std.proofs.lemmas.List.Kept.{IsStrictlyIncreasing-filter}
 use Rattle.std.proofs.lemmas.Map.Views.{any-filter_same, Contains-from_any, list_any-from_Contains}
-use Rattle.pw_premises.specs.Numbers.{numbers_of}
+use Rattle.pw_premises.specs.Premises.{numbers_of}
 
 -- a range in two parts
 range_parts : (a m k b c : ℕ) → a + m ≡ b → m + k ≡ c → range_with_len a c ≡ range_with_len a m ++ range_with_len b k

@@ -7,9 +7,9 @@ use Rattle.std.proofs.Common.{refl, sym, ap, ◌∙◌, add-one, arith, bit_and,
 use Rattle.std.proofs.Math.Nat.{div-eq_of_lt-le, pow-succ'}
 use Rattle.std.proofs.lemmas.Bool.Decides.{nat_tests}
 use Rattle.std.proofs.lemmas.Nat.Bits.{bit_at-trailing_zeros, bit_at_above}
-use Rattle.pw_premises.specs.PremiseBits.{set_where, has_bit}
+use Rattle.pw_premises.specs.Premises.{set_where, has_bit}
 use Rattle.pw_premises.specs.PremiseSets.{contains-set_where, contains-set_where_below}
-use Rattle.pw_premises.specs.Numbers.{numbers_of}
+use Rattle.pw_premises.specs.Premises.{numbers_of}
 use Rattle.pw_premises.proofs.PremiseWords.{none_in_word, without_in_word}
 use Rattle.pw_premises.proofs.NumberLists.{first_of_numbers, last_of_numbers, numbers_of-empty, numbers_of-members}
 

@@ -9,7 +9,7 @@ use Rattle.std.proofs.lemmas.Bool.{eqb-true, eq-eqb}
 use Rattle.std.proofs.lemmas.Bool.Decides.{nat_tests}
 use Rattle.std.proofs.lemmas.Nat.{and_le_l, pow_pos, one_shl, or_lt}
 use Rattle.std.proofs.lemmas.Nat.Bits.{bit_at-lt, bit_at_or, bit_at_and, bit_at_not, bit_at-pow_same, bit_at-pow_other, bit_at-zero, bit_at_ones, bit_at_ones_above, same_from_bits_below, shr_and_one}
-use Rattle.pw_premises.specs.PremiseBits.{set_where, has_bit, number_of}
+use Rattle.pw_premises.specs.Premises.{set_where, has_bit, number_of}
 use Rattle.pw_premises.specs.PremiseSets.{contains-set_where_below, contains-set_where_past, set_where-alike, set_where-none, set_where-one, set_where-below, set_where-or, set_where-and_not, is_subset-set_where, number_of-set_where}
 use Rattle.pw_premises.specs.PremiseSubsets.{has_same_numbers, same_numbers_equal}
 use Rattle.std.specs.Bool.{Decides}

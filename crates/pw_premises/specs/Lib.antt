@@ -1,5 +1,3 @@
-pub mod Premises
-pub mod PremiseBits
 pub mod PremiseSets
 pub mod PremiseSubsets
-pub mod Numbers
+pub mod Premises

@@ -3,7 +3,9 @@ use Rattle.std.specs.Prelude.{◌≡◌, ℕ, Bool, true, false, not, ◌&&◌, 
 use Rattle.std.specs.Bool.{Decides}
 use Rattle.std.specs.Ordering.{nat_cmp, eq_by_cmp}
 use Rattle.std.specs.Cmp.{nat_cmp_total, both_ways, IsEquivalence}
-use Rattle.std.specs.FinSet.{FinSet, empty, remove, contains, union, is_subset, same_set, contains-empty, contains-remove, contains-union, contains-is_subset, is_subset-contains, nat_cmp-IsAntisymmetric}
+use Rattle.std.specs.FinSet.{FinSet, empty, remove, contains, union, is_subset, same_set}
+use Rattle.std.specs.FinSet.{contains-empty, contains-remove, contains-union, contains-is_subset}
+use Rattle.std.specs.FinSet.{is_subset-contains, nat_cmp-IsAntisymmetric}
 use Rattle.std.proofs.Common.{refl, sym, ap, ◌∙◌, inl, inr}
 use Rattle.std.proofs.lemmas.Bool.{or_cases}
 
@@ -12,18 +14,23 @@ pub is_subset_refl : (s : FinSet nat_cmp) → is_subset s s ≡ true
 is_subset_refl s = contains-is_subset nat_cmp_total s s (λ q one. one)
 
 -- a subset of a subset is a subset
-pub is_subset_trans : (s t u : FinSet nat_cmp) → is_subset s t ≡ true → is_subset t u ≡ true → is_subset s u ≡ true
-is_subset_trans s t u h k = contains-is_subset nat_cmp_total s u (λ q one. is_subset-contains nat_cmp_total t u k q (is_subset-contains nat_cmp_total s t h q one))
+pub is_subset_trans : (s t u : FinSet nat_cmp) → is_subset s t ≡ true → is_subset t u ≡ true →
+    is_subset s u ≡ true
+is_subset_trans s t u h k = contains-is_subset nat_cmp_total s u (λ q one.
+    is_subset-contains nat_cmp_total t u k q (is_subset-contains nat_cmp_total s t h q one))
 
 -- sets that are subsets of each other are equal
 pub is_subset_antisym : (s t : FinSet nat_cmp) → is_subset s t ≡ true → is_subset t s ≡ true → s ≡ t
-is_subset_antisym s t h k = same_set nat_cmp_total nat_cmp-IsAntisymmetric s t (λ q. both_ways _ _ (is_subset-contains nat_cmp_total s t h q) (is_subset-contains nat_cmp_total t s k q))
+is_subset_antisym s t h k = same_set nat_cmp_total nat_cmp-IsAntisymmetric s t (λ q.
+    both_ways _ _ (is_subset-contains nat_cmp_total s t h q)
+    (is_subset-contains nat_cmp_total t s k q))
 
 -- the empty set is a subset of every set
 pub empty_is_subset : (s : FinSet nat_cmp) → is_subset empty s ≡ true
-empty_is_subset s = contains-is_subset nat_cmp_total empty s (λ q one. absurd (not_both _ (contains-empty nat_cmp q) one)) where
-  not_both : (b : Bool) → b ≡ false → b ≡ true → ⊥
-  not_both b e h = (cc)
+empty_is_subset s = contains-is_subset nat_cmp_total empty s (λ q one.
+    absurd (not_both _ (contains-empty nat_cmp q) one)) where
+      not_both : (b : Bool) → b ≡ false → b ≡ true → ⊥
+      not_both b e h = (cc)
 
 or_left : (a b : Bool) → a ≡ true → (a || b) ≡ true
 or_left a b e = ap (λ c. c || b) e
@@ -34,18 +41,22 @@ or_right false b e = e
 
 -- a set is a subset of its union with another
 pub is_subset_union_left : (s t : FinSet nat_cmp) → is_subset s (union s t) ≡ true
-is_subset_union_left s t = contains-is_subset nat_cmp_total s _ (λ q one. contains-union nat_cmp_total s t q ∙ or_left _ _ one)
+is_subset_union_left s t = contains-is_subset nat_cmp_total s _ (λ q one.
+    contains-union nat_cmp_total s t q ∙ or_left _ _ one)
 
 -- a set is a subset of the union of another with it
 pub is_subset_union_right : (s t : FinSet nat_cmp) → is_subset t (union s t) ≡ true
-is_subset_union_right s t = contains-is_subset nat_cmp_total t _ (λ q one. contains-union nat_cmp_total s t q ∙ or_right _ _ one)
+is_subset_union_right s t = contains-is_subset nat_cmp_total t _ (λ q one.
+    contains-union nat_cmp_total s t q ∙ or_right _ _ one)
 
 -- the union is the least of the sets of which both are subsets
-pub union_is_subset : (s t u : FinSet nat_cmp) → is_subset s u ≡ true → is_subset t u ≡ true → is_subset (union s t) u ≡ true
-union_is_subset s t u h k = contains-is_subset nat_cmp_total _ u (λ q one. elim (or_cases (contains s q) (contains t q) (sym (contains-union nat_cmp_total s t q) ∙ one)) [
-  | inl e ↦ is_subset-contains nat_cmp_total s u h q e
-  | inr e ↦ is_subset-contains nat_cmp_total t u k q e
-])
+pub union_is_subset : (s t u : FinSet nat_cmp) → is_subset s u ≡ true → is_subset t u ≡ true →
+    is_subset (union s t) u ≡ true
+union_is_subset s t u h k = contains-is_subset nat_cmp_total _ u (λ q one.
+    elim (or_cases (contains s q) (contains t q) (sym (contains-union nat_cmp_total s t q) ∙ one)) [
+      | inl e ↦ is_subset-contains nat_cmp_total s u h q e
+      | inr e ↦ is_subset-contains nat_cmp_total t u k q e
+    ])
 
 and_true : (a b : Bool) → (a && b) ≡ true → (a ≡ true) × (b ≡ true)
 and_true true b e = (refl, e)
@@ -55,14 +66,18 @@ true_and : (a b : Bool) → a ≡ true → b ≡ true → (a && b) ≡ true
 true_and a b e h = ap (λ c. c && b) e ∙ h
 
 -- a union is a subset exactly if both its parts are
-pub union_is_subset_both : (s t u : FinSet nat_cmp) → is_subset (union s t) u ≡ (is_subset s u && is_subset t u)
+pub union_is_subset_both : (s t u : FinSet nat_cmp) → is_subset (union s t) u
+    ≡ (is_subset s u && is_subset t u)
 union_is_subset_both s t u = both_ways _ _
-    (λ all. true_and _ _ (is_subset_trans s _ u (is_subset_union_left s t) all) (is_subset_trans t _ u (is_subset_union_right s t) all))
-    (λ both. let parts : (is_subset s u ≡ true) × (is_subset t u ≡ true) = and_true _ _ both in union_is_subset s t u parts.0 parts.1)
+    (λ all. true_and _ _ (is_subset_trans s _ u (is_subset_union_left s t) all)
+    (is_subset_trans t _ u (is_subset_union_right s t) all))
+    (λ both. let parts : (is_subset s u ≡ true) × (is_subset t u ≡ true) = and_true _ _ both in
+    union_is_subset s t u parts.0 parts.1)
 
 -- a set without a number is a subset of the set
 pub remove_is_subset : (s : FinSet nat_cmp) (n : ℕ) → is_subset (remove s n) s ≡ true
-remove_is_subset s n = contains-is_subset nat_cmp_total _ s (λ q one. (and_true (not (eq_by_cmp nat_cmp q n)) _ (sym (contains-remove nat_cmp_total s n q) ∙ one)).1)
+remove_is_subset s n = contains-is_subset nat_cmp_total _ s (λ q one.
+    (and_true (not (eq_by_cmp nat_cmp q n)) _ (sym (contains-remove nat_cmp_total s n q) ∙ one)).1)
 
 -- whether two sets have the same numbers
 abbrev pub has_same_numbers : FinSet nat_cmp → FinSet nat_cmp → Bool
@@ -71,7 +86,8 @@ has_same_numbers s t = is_subset s t && is_subset t s
 -- it decides whether they are equal
 pub same_numbers_equal : (s t : FinSet nat_cmp) → Decides (has_same_numbers s t) (s ≡ t)
 same_numbers_equal s t = (
-  λ both. let parts : (is_subset s t ≡ true) × (is_subset t s ≡ true) = and_true _ _ both in is_subset_antisym s t parts.0 parts.1,
+  λ both. let parts : (is_subset s t ≡ true) × (is_subset t s ≡ true) = and_true _ _ both in
+      is_subset_antisym s t parts.0 parts.1,
   λ e. ap (λ u. has_same_numbers u t) e ∙ true_and _ _ (is_subset_refl t) (is_subset_refl t),
 )
 

@@ -4,7 +4,7 @@
 ghost use Rattle.std.specs.Prelude.{◌≡◌, ◌<◌, ◌↔◌, ◌&&◌, ℕ, true, Contains};
 ghost use Rattle.std.specs.List.Sorted.{IsStrictlyIncreasing};
 ghost use Rattle.std.specs.FinSet.{empty, contains, remove, union, is_subset};
-ghost use Rattle.pw_premises.specs.Numbers.{numbers_of};
+ghost use Rattle.pw_premises.specs.Premises.{numbers_of};
 ghost use Rattle.pw_premises.specs.Premises.{Premises, most_premises};
 
 /// The subset relation is a partial order, and the empty set is the least.

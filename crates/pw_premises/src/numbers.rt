@@ -12,8 +12,8 @@ pub struct Numbers {
 
 impl Model for Numbers {
     ghost use Rattle.std.specs.Prelude.{ℕ, List};
-    ghost use Rattle.pw_premises.specs.PremiseBits.{set_where, has_bit};
-    ghost use Rattle.pw_premises.specs.Numbers.{numbers_of};
+    ghost use Rattle.pw_premises.specs.Premises.{set_where, has_bit};
+    ghost use Rattle.pw_premises.specs.Premises.{numbers_of};
 
     ghost Value = { List ℕ };
 

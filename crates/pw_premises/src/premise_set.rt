@@ -3,7 +3,7 @@
 ghost use Rattle.std.specs.Prelude.{◌≡◌, ◌<◌, ◌≤◌, ◌↔◌, ℕ, true, IsTrue, Contains, length};
 ghost use Rattle.std.specs.List.{range_with_len};
 ghost use Rattle.std.specs.FinSet as set;
-ghost use Rattle.pw_premises.specs.Numbers.{numbers_of};
+ghost use Rattle.pw_premises.specs.Premises.{numbers_of};
 ghost use Rattle.pw_premises.specs.Premises.{most_premises};
 
 use crate::numbers::Numbers;
@@ -21,7 +21,7 @@ impl Model for PremiseSet {
     ghost use Rattle.std.specs.FinSet as set;
     ghost use Rattle.std.specs.Coded.{coded_ℕ};
     ghost use Rattle.pw_premises.specs.Premises.{Premises};
-    ghost use Rattle.pw_premises.specs.PremiseBits.{set_where, has_bit, number_of};
+    ghost use Rattle.pw_premises.specs.Premises.{set_where, has_bit, number_of};
     ghost use Rattle.pw_premises.specs.PremiseSets.{number_of-set_where};
     ghost use Rattle.std.proofs.Common.{ap};
 
@@ -161,7 +161,7 @@ impl Eq for PremiseSet {
 impl Hash for PremiseSet {
     ghost use Rattle.std.specs.Hash as fed;
     ghost use Rattle.std.proofs.Common.{ap};
-    ghost use Rattle.pw_premises.specs.PremiseBits.{number_of};
+    ghost use Rattle.pw_premises.specs.Premises.{number_of};
     ghost use Rattle.pw_premises.specs.PremiseSubsets.{same_numbers_equal};
 
     ghost hash_input = { λ s. fed.u64 (number_of 64 s) };

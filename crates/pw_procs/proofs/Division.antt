@@ -17,7 +17,7 @@ use Rattle.pw_info.specs.declared.info.Info.{Info}
 use Rattle.pw_info.specs.declared.info.Info.TheVariants as info
 use Rattle.pw_info.specs.Information.{allows, nothing}
 use Rattle.pw_procs.specs.Values.{some, is_possible}
-use Rattle.pw_procs.specs.Quotient.{is_quotient_at_most, is_quotient_at_least, between_quotients, quotient_of}
+use Rattle.pw_procs.specs.Meaning.{is_quotient_at_most, is_quotient_at_least, between_quotients, quotient_of}
 use Rattle.pw_procs.proofs.Possible.{some_true, true_some, some_same}
 
 -- ---- products, and a quotient rounded down

@@ -7,18 +7,18 @@ use Rattle.pw_info.specs.declared.info.Info.TheVariants as info
 use Rattle.pw_kinds.specs.declared.members.Members.{Members}
 use Rattle.pw_kinds.specs.Members.{size_of}
 use Rattle.pw_info.specs.Information.{kind_of}
-use Rattle.pw_procs.specs.declared.slot.Slot.{Slot}
-use Rattle.pw_procs.specs.Slots.{FitSlots, kind_in}
+use Rattle.pw_procs.specs.declared.signature.Slot.{Slot}
+use Rattle.pw_procs.specs.Slots.{FitSlots, kind_in_slot}
 use Rattle.pw_procs.specs.Values.{input, bool}
 
 -- one input
-pub one_fits : (s : Slot) (inputs : List Info) → (f : FitSlots (s ∷ []) inputs) → (length inputs ≡ 1) × (kind_of (input inputs 0) ≡ kind_in f.0 s)
+pub one_fits : (s : Slot) (inputs : List Info) → (f : FitSlots (s ∷ []) inputs) → (length inputs ≡ 1) × (kind_of (input inputs 0) ≡ kind_in_slot f.0 s)
 one_fits s (x ∷ []) (same, k) = (refl, cc)
 one_fits s [] (same, k) = absurd (cc)
 one_fits s (x ∷ y ∷ rest) (same, k) = absurd (cc)
 
 -- two inputs
-pub two_fit : (s t : Slot) (inputs : List Info) → (f : FitSlots (s ∷ t ∷ []) inputs) → (length inputs ≡ 2) × (kind_of (input inputs 0) ≡ kind_in f.0 s) × (kind_of (input inputs 1) ≡ kind_in f.0 t)
+pub two_fit : (s t : Slot) (inputs : List Info) → (f : FitSlots (s ∷ t ∷ []) inputs) → (length inputs ≡ 2) × (kind_of (input inputs 0) ≡ kind_in_slot f.0 s) × (kind_of (input inputs 1) ≡ kind_in_slot f.0 t)
 two_fit s t (x ∷ y ∷ []) (same, k) = (refl, cc, cc)
 two_fit s t [] (same, k) = absurd (cc)
 two_fit s t (x ∷ []) (same, k) = absurd (cc)

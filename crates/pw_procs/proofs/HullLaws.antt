@@ -6,7 +6,7 @@ use Rattle.std.specs.Ordering.{int_eq}
 use Rattle.std.proofs.lemmas.Int.{ints, clamps, by_lt_z}
 use Rattle.pw_kinds.specs.declared.interval.Interval.{Interval}
 use Rattle.pw_kinds.specs.Ranges.{interval_lowest, interval_highest, is_in_interval_range}
-use Rattle.pw_kinds.specs.Span.{IsSpan}
+use Rattle.pw_kinds.specs.Ranges.{IsSpan}
 use Rattle.pw_kinds.specs.Places.{IsSize, is_place}
 use Rattle.pw_kinds.specs.Interval as interval
 use Rattle.pw_kinds.specs.Members as members

@@ -25,7 +25,7 @@ use Rattle.pw_info.specs.Information.{allows, kind_of, closest, nothing, contrad
 use Rattle.pw_info.proofs.Informations.{closest_is, same_values, allows-nothing, allows-contradiction}
 use Rattle.pw_procs.specs.declared.rule.Rule.{Rule}
 use Rattle.pw_procs.specs.Values.{NumberSet, IsSetOf, some, is_possible, image_of_one, image_of_two, hull_of, truths_of, truth, bool, just, from_to, two_is_size}
-use Rattle.pw_procs.specs.Quotient.{is_quotient_at_most, is_quotient_at_least, between_quotients, quotient_of}
+use Rattle.pw_procs.specs.Meaning.{is_quotient_at_most, is_quotient_at_least, between_quotients, quotient_of}
 use Rattle.pw_procs.specs.Rules.{includes, all_include, rules_allow, value_of_rules}
 use Rattle.pw_procs.specs.Meaning.{negation_of, switched, point_of, fixed_of}
 use Rattle.pw_procs.proofs.Possible.{some_true, true_some, none_some}

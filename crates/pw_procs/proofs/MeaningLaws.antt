@@ -13,12 +13,12 @@ use Rattle.pw_info.specs.declared.info.Info.{Info}
 use Rattle.pw_info.specs.Information.{is_value, allows, kind_of, closest, nothing, contradiction, Implies, IsContradiction}
 use Rattle.pw_info.proofs.Informations.{allows_value, allows-nothing, allows-contradiction, kind-closest}
 use Rattle.pw_procs.specs.declared.rule.Rule.{Rule}
-use Rattle.pw_procs.specs.declared.slot.Slot.{Slot}
+use Rattle.pw_procs.specs.declared.signature.Slot.{Slot}
 use Rattle.pw_procs.specs.declared.meaning.Meaning.{Meaning}
 use Rattle.pw_procs.specs.declared.meaning.Meaning.TheVariants as meanings
-use Rattle.pw_procs.specs.Slots.{FitSlots, kind_in}
+use Rattle.pw_procs.specs.Slots.{FitSlots, kind_in_slot}
 use Rattle.pw_procs.specs.Values.{some, is_possible, input, truth, image_of_two, hull_of, truths_of}
-use Rattle.pw_procs.specs.Quotient.{is_quotient_at_most, is_quotient_at_least, between_quotients, quotient_of}
+use Rattle.pw_procs.specs.Meaning.{is_quotient_at_most, is_quotient_at_least, between_quotients, quotient_of}
 use Rattle.pw_procs.specs.Rules.{includes, all_include, rules_allow, value_of_rules}
 use Rattle.pw_procs.specs.Meaning.{AreSlotsOf, value_of_meaning, switched}
 use Rattle.pw_procs.proofs.Possible.{true_some, some_mono, contradiction_none}
@@ -171,7 +171,7 @@ module _ (output : Slot) (ys xs : List Info) (same : map kind_of ys ≡ map kind
   value_mono meanings.Copy = input_implied ys xs implied 0
   value_mono meanings.Point = hull_mono _ _ (λ passes. some_mono (input ys 0) (input xs 0) passes passes (input_implied ys xs implied 0) (λ v e. e))
   value_mono meanings.Fixed = closest_mono kinds.Exact _ _ (λ v r e. input_implied ys xs implied 0 v e)
-  value_mono (meanings.Rules rules) = value_of_rules_mono (kind_in kinds.Interval output) rules.items ys xs implied
+  value_mono (meanings.Rules rules) = value_of_rules_mono (kind_in_slot kinds.Interval output) rules.items ys xs implied
 
 -- ---- contradictory inputs
 
@@ -228,7 +228,7 @@ value_none output meanings.Copy slots xs other are f k l none = contradictory_on
 value_none output meanings.Point slots xs other are f k l none = hull_none _ (contradiction_none (input xs 0) (contradictory_one _ slots xs are.0 f k l none))
 value_none output meanings.Fixed slots xs other are f k l none = closest_none kinds.Exact _ (contradictory_one _ slots xs are.0 f k l none)
 value_none output (meanings.Rules rules) slots xs other are f k l none =
-    value_of_rules_none (kind_in kinds.Interval output) rules.items xs
+    value_of_rules_none (kind_in_slot kinds.Interval output) rules.items xs
     (list_all_at is_possible xs k (nothing kinds.Interval) l (contradiction_none (input xs k) none (λ v. true)))
 
 -- ---- solutions of quotients

@@ -9,7 +9,7 @@ use Rattle.std.proofs.lemmas.Map.Keys.{IsDistinct-head, IsDistinct-tail}
 use Rattle.std.specs.Str.{bytes_eq, IsUtf8}
 use Rattle.std.proofs.lemmas.Slice.Eq.{bytes_eq-Decides}
 use Rattle.std.specs.Prelude.{if◌then◌else◌, option_map}
-use Rattle.pw_procs.specs.Place.{place_of_name}
+use Rattle.pw_procs.specs.Registering.{place_of_name}
 
 -- a place in a mapped list is the place of what is mapped to it
 position_from-map : {K X : Type 0} (f : K → X) (t : X → Bool) (i : ℕ) (ks : List K) → position_from (λ k. t (f k)) i ks ≡ position_from t i (map f ks)

@@ -11,7 +11,7 @@ use Rattle.std.proofs.lemmas.Option.{slice_get_read, slice_get-map}
 use Rattle.std.proofs.lemmas.Slice.Eq.{bytes_eq-Decides}
 use Rattle.pw_kinds.proofs.Order.{true_both, not_both}
 use Rattle.pw_info.specs.Name.{is_name}
-use Rattle.pw_procs.specs.Place.{place_of_name}
+use Rattle.pw_procs.specs.Registering.{place_of_name}
 use Rattle.pw_procs.specs.Registering.{taken_names, IsFaultAfter, AreFreeBelow, AreRegistered, IsRegistryFault}
 use Rattle.pw_procs.specs.declared.registry.RegistryFault.{RegistryFault}
 use Rattle.pw_procs.specs.declared.registry.RegistryFault.TheVariants.{DuplicateName, BadName, TooMany, Memory}

@@ -7,9 +7,9 @@ use Rattle.pw_info.specs.declared.kind.Kind.{Kind}
 use Rattle.pw_info.specs.declared.kind.SetKind.{SetKind}
 use Rattle.pw_info.specs.declared.kind.Kind.TheVariants as kinds
 use Rattle.pw_info.proofs.Informations.{same_set}
-use Rattle.pw_procs.specs.declared.slot.Slot.{Slot}
-use Rattle.pw_procs.specs.declared.slot.Slot.TheVariants.{Fixed, Same}
-use Rattle.pw_procs.specs.Slots.{kind_in, KindsFit}
+use Rattle.pw_procs.specs.declared.signature.Slot.{Slot}
+use Rattle.pw_procs.specs.declared.signature.Slot.TheVariants.{Fixed, Same}
+use Rattle.pw_procs.specs.Slots.{kind_in_slot, KindsFit}
 
 -- the items after the first, as code takes them
 abbrev pub after : {A : Type 0} → List A → List A
@@ -20,44 +20,44 @@ after_first x xs = take_all (length (x ∷ xs) - 1) xs (omega arith)
 
 -- kinds are those in slots if the first is, and those after it are
 pub kinds_from_first : (same : Kind) (slots : List Slot) (kinds : List Kind) (slot : Slot) (kind : Kind) (rest : Bool) →
-    0 < length slots → 0 < length kinds → slot ≡ get_or slots 0 slot → kind ≡ get_or kinds 0 kind → kind ≡ kind_in same slot →
-    IsTrue rest ↔ (after kinds ≡ map (kind_in same) (after slots)) → IsTrue rest ↔ (kinds ≡ map (kind_in same) slots)
+    0 < length slots → 0 < length kinds → slot ≡ get_or slots 0 slot → kind ≡ get_or kinds 0 kind → kind ≡ kind_in_slot same slot →
+    IsTrue rest ↔ (after kinds ≡ map (kind_in_slot same) (after slots)) → IsTrue rest ↔ (kinds ≡ map (kind_in_slot same) slots)
 kinds_from_first same [] kinds slot kind rest few more slot_is kind_is here rests = absurd (omega arith)
 kinds_from_first same (s ∷ slots) [] slot kind rest few more slot_is kind_is here rests = absurd (omega arith)
 kinds_from_first same (s ∷ slots) (k ∷ kinds) slot kind rest few more slot_is kind_is here rests =
     let kinds_after = after_first k kinds in
-    let slots_after = ap (map (kind_in same)) (after_first s slots) in
-    let first : k ≡ kind_in same s = sym kind_is ∙ here ∙ ap (kind_in same) slot_is in (
-      λ t. let tail : kinds ≡ map (kind_in same) slots = sym kinds_after ∙ rests.0 t ∙ slots_after in cc,
-      λ e. let tail : kinds ≡ map (kind_in same) slots = cc in rests.1 (kinds_after ∙ tail ∙ sym slots_after),
+    let slots_after = ap (map (kind_in_slot same)) (after_first s slots) in
+    let first : k ≡ kind_in_slot same s = sym kind_is ∙ here ∙ ap (kind_in_slot same) slot_is in (
+      λ t. let tail : kinds ≡ map (kind_in_slot same) slots = sym kinds_after ∙ rests.0 t ∙ slots_after in cc,
+      λ e. let tail : kinds ≡ map (kind_in_slot same) slots = cc in rests.1 (kinds_after ∙ tail ∙ sym slots_after),
     )
 
 -- a first slot of a fixed kind says nothing of the others
 pub same_after_fixed : (slots : List Slot) (kinds : List Kind) (slot : Slot) (fixed found : Kind) →
     0 < length slots → 0 < length kinds → slot ≡ get_or slots 0 slot → slot ≡ Fixed fixed →
-    ((same : Kind) → after kinds ≡ map (kind_in same) (after slots) → after kinds ≡ map (kind_in found) (after slots)) →
-    (same : Kind) → kinds ≡ map (kind_in same) slots → kinds ≡ map (kind_in found) slots
+    ((same : Kind) → after kinds ≡ map (kind_in_slot same) (after slots) → after kinds ≡ map (kind_in_slot found) (after slots)) →
+    (same : Kind) → kinds ≡ map (kind_in_slot same) slots → kinds ≡ map (kind_in_slot found) slots
 same_after_fixed [] kinds slot fixed found few more slot_is fixed_is rests same e = absurd (omega arith)
 same_after_fixed (s ∷ slots) [] slot fixed found few more slot_is fixed_is rests same e = absurd (omega arith)
 same_after_fixed (s ∷ slots) (k ∷ kinds) slot fixed found few more slot_is fixed_is rests same e =
     let kinds_after = after_first k kinds in
     let slots_after = after_first s slots in
     let s_is : s ≡ Fixed fixed = sym slot_is ∙ fixed_is in
-    let tail : kinds ≡ map (kind_in same) slots = cc in
-    let first : k ≡ kind_in found s = let h : k ≡ kind_in same s = cc in h ∙ ap (kind_in same) s_is ∙ ap (kind_in found) (sym s_is) in
-    let others : kinds ≡ map (kind_in found) slots = sym kinds_after ∙ rests same (kinds_after ∙ tail ∙ ap (map (kind_in same)) (sym slots_after)) ∙ ap (map (kind_in found)) slots_after in
+    let tail : kinds ≡ map (kind_in_slot same) slots = cc in
+    let first : k ≡ kind_in_slot found s = let h : k ≡ kind_in_slot same s = cc in h ∙ ap (kind_in_slot same) s_is ∙ ap (kind_in_slot found) (sym s_is) in
+    let others : kinds ≡ map (kind_in_slot found) slots = sym kinds_after ∙ rests same (kinds_after ∙ tail ∙ ap (map (kind_in_slot same)) (sym slots_after)) ∙ ap (map (kind_in_slot found)) slots_after in
     cc
 
 -- a first slot of any kind settles that kind
 pub same_is_first : (slots : List Slot) (kinds : List Kind) (slot : Slot) (kind : Kind) →
     0 < length slots → 0 < length kinds → slot ≡ get_or slots 0 slot → kind ≡ get_or kinds 0 kind → slot ≡ Same →
-    (same : Kind) → kinds ≡ map (kind_in same) slots → kinds ≡ map (kind_in kind) slots
+    (same : Kind) → kinds ≡ map (kind_in_slot same) slots → kinds ≡ map (kind_in_slot kind) slots
 same_is_first [] kinds slot kind few more slot_is kind_is any same e = absurd (omega arith)
 same_is_first (s ∷ slots) [] slot kind few more slot_is kind_is any same e = absurd (omega arith)
 same_is_first (s ∷ slots) (k ∷ kinds) slot kind few more slot_is kind_is any same e =
-    let first : k ≡ kind_in same s = cc in
-    let settled : same ≡ kind = sym (kind_is ∙ first ∙ ap (kind_in same) (sym slot_is ∙ any)) in
-    subst (λ (x : Kind). k ∷ kinds ≡ map (kind_in x) (s ∷ slots)) settled e
+    let first : k ≡ kind_in_slot same s = cc in
+    let settled : same ≡ kind = sym (kind_is ∙ first ∙ ap (kind_in_slot same) (sym slot_is ∙ any)) in
+    subst (λ (x : Kind). k ∷ kinds ≡ map (kind_in_slot x) (s ∷ slots)) settled e
 
 -- the size of a set kind, of another kind 0
 abbrev size_of_kind : Kind → ℕ

@@ -1,20 +1,41 @@
--- The table of meanings: for each its inputs, its output, and its value over all possible values of
--- the inputs.
-use Rattle.std.specs.Prelude.{◌≡◌, Bool, true, false, not, ◌&&◌, ◌||◌, ◌+ℤ◌, ◌-ℤ◌, ◌*ℤ◌, List, [], ◌∷◌, map, if◌then◌else◌}
-use Rattle.std.specs.Int.Signed.{le_z}
+-- The table of meanings: of each its inputs, its output, and its value over all values that the
+-- inputs leave possible; division too, between the ends that true quotients set.
+use Rattle.std.specs.Prelude.{ℤ, pos, Bool, ◌&&◌, ◌*ℤ◌, if◌then◌else◌, ◌≡◌, true, false, not, ◌||◌}
+use Rattle.std.specs.Prelude.{◌+ℤ◌, ◌-ℤ◌, List, [], ◌∷◌, map}
+use Rattle.std.specs.Int.Signed.{le_z, lt_z}
+use Rattle.pw_info.specs.declared.info.Info.{Info}
+use Rattle.pw_info.specs.Information.{allows, closest, nothing, kind_of, contradiction}
+use Rattle.pw_procs.specs.Values.{some, is_possible, input, image_of_one, image_of_two, hull_of}
+use Rattle.pw_procs.specs.Values.{truths_of, truth, is_true, bool}
 use Rattle.std.specs.Ordering.{int_eq}
 use Rattle.pw_info.specs.declared.kind.Kind.{Kind}
-use Rattle.pw_info.specs.declared.kind.Kind.TheVariants as kinds
-use Rattle.pw_info.specs.declared.info.Info.{Info}
-use Rattle.pw_info.specs.Information.{allows, kind_of, closest, nothing, contradiction}
-use Rattle.pw_procs.specs.declared.slot.Slot.{Slot}
-use Rattle.pw_procs.specs.declared.slot.Slot.TheVariants as slots
+use Rattle.pw_procs.specs.declared.signature.Slot.{Slot}
 use Rattle.pw_procs.specs.declared.meaning.Meaning.{Meaning}
-use Rattle.pw_procs.specs.declared.meaning.Meaning.TheVariants as meanings
-use Rattle.pw_procs.specs.Slots.{kind_in, FitSlots}
-use Rattle.pw_procs.specs.Values.{some, is_possible, input, image_of_one, image_of_two, hull_of, truths_of, truth, is_true, bool}
-use Rattle.pw_procs.specs.Quotient.{quotient_of}
+use Rattle.pw_procs.specs.Slots.{kind_in_slot, FitSlots}
 use Rattle.pw_procs.specs.Rules.{value_of_rules, AreRules}
+use Rattle.pw_info.specs.declared.kind.Kind.TheVariants as kinds
+use Rattle.pw_procs.specs.declared.signature.Slot.TheVariants as slots
+use Rattle.pw_procs.specs.declared.meaning.Meaning.TheVariants as meanings
+
+-- the true quotient of t by x, which is not 0, is at most q
+abbrev pub is_quotient_at_most : ℤ → ℤ → ℤ → Bool
+is_quotient_at_most q t x = if lt_z (pos 0) x then le_z t (q *ℤ x) else le_z (q *ℤ x) t
+
+-- the true quotient of t by x, which is not 0, is at least q
+abbrev pub is_quotient_at_least : ℤ → ℤ → ℤ → Bool
+is_quotient_at_least q t x = if lt_z (pos 0) x then le_z (q *ℤ x) t else le_z t (q *ℤ x)
+
+-- the whole numbers at or above some true quotient and at or below some true quotient, over all
+-- possible values: from the least quotient rounded up to the greatest rounded down
+abbrev pub between_quotients : Info → Info → Info
+between_quotients t x = closest kinds.Interval (λ q.
+    some t (λ a. some x (λ b. is_quotient_at_most q a b))
+    && some t (λ a. some x (λ b. is_quotient_at_least q a b)))
+
+-- nothing if the divisor may be 0
+abbrev pub quotient_of : Info → Info → Info
+quotient_of t x = if is_possible t && allows x (pos 0) then nothing kinds.Interval else
+    between_quotients t x
 
 -- the hull of all sums
 abbrev pub sum_of : Info → Info → Info
@@ -107,33 +128,46 @@ output_of_meaning _ = slots.Fixed kinds.Interval
 -- kinds that the rules have
 abbrev pub AreSlotsOf : Meaning → List Slot → Slot → Type 0
 AreSlotsOf (meanings.Rules rules) inputs output =
-    (kinds : List Kind) × (kind : Kind) × (inputs ≡ map slots.Fixed kinds) × (output ≡ slots.Fixed kind) × AreRules kinds kind rules.items
-AreSlotsOf meaning inputs output = (inputs ≡ inputs_of_meaning meaning) × (output ≡ output_of_meaning meaning)
+    (kinds : List Kind) × (kind : Kind) × (inputs ≡ map slots.Fixed kinds)
+    × (output ≡ slots.Fixed kind) × AreRules kinds kind rules.items
+AreSlotsOf meaning inputs output = (inputs ≡ inputs_of_meaning meaning)
+    × (output ≡ output_of_meaning meaning)
 
 -- the value of a meaning whose output has this slot: the hull of all sums, of all differences, of
 -- all products, of all squares, of all quotients; everything that `at most`, `equal`, `not`, `and`
 -- and `or` give; what passes a switch; the input itself; the interval of an exact number; the exact
 -- number of an interval that allows just one. For rules the slot is of a fixed kind.
 abbrev pub value_of_meaning : Slot → Meaning → List Info → Info
-value_of_meaning output meanings.Adder inputs = hull_of (image_of_two (λ a b. a +ℤ b) (input inputs 0) (input inputs 1))
-value_of_meaning output meanings.Subtractor inputs = hull_of (image_of_two (λ a b. a -ℤ b) (input inputs 0) (input inputs 1))
-value_of_meaning output meanings.Multiplier inputs = hull_of (image_of_two (λ a b. a *ℤ b) (input inputs 0) (input inputs 1))
-value_of_meaning output meanings.Squarer inputs = hull_of (image_of_one (λ a. a *ℤ a) (input inputs 0))
+value_of_meaning output meanings.Adder inputs =
+    hull_of (image_of_two (λ a b. a +ℤ b) (input inputs 0) (input inputs 1))
+value_of_meaning output meanings.Subtractor inputs =
+    hull_of (image_of_two (λ a b. a -ℤ b) (input inputs 0) (input inputs 1))
+value_of_meaning output meanings.Multiplier inputs =
+    hull_of (image_of_two (λ a b. a *ℤ b) (input inputs 0) (input inputs 1))
+value_of_meaning output meanings.Squarer inputs =
+    hull_of (image_of_one (λ a. a *ℤ a) (input inputs 0))
 value_of_meaning output meanings.Divider inputs = quotient_of (input inputs 0) (input inputs 1)
-value_of_meaning output meanings.AtMost inputs = truths_of (image_of_two (λ a b. truth (le_z a b)) (input inputs 0) (input inputs 1))
-value_of_meaning output meanings.Equal inputs = truths_of (image_of_two (λ a b. truth (int_eq a b)) (input inputs 0) (input inputs 1))
-value_of_meaning output meanings.Inverter inputs = truths_of (image_of_one (λ a. truth (not (is_true a))) (input inputs 0))
+value_of_meaning output meanings.AtMost inputs =
+    truths_of (image_of_two (λ a b. truth (le_z a b)) (input inputs 0) (input inputs 1))
+value_of_meaning output meanings.Equal inputs =
+    truths_of (image_of_two (λ a b. truth (int_eq a b)) (input inputs 0) (input inputs 1))
+value_of_meaning output meanings.Inverter inputs =
+    truths_of (image_of_one (λ a. truth (not (is_true a))) (input inputs 0))
 value_of_meaning output meanings.Conjoiner inputs =
-    truths_of (image_of_two (λ a b. truth (is_true a && is_true b)) (input inputs 0) (input inputs 1))
+    truths_of (image_of_two (λ a b. truth (is_true a
+    && is_true b)) (input inputs 0) (input inputs 1))
 value_of_meaning output meanings.Disjoiner inputs =
-    truths_of (image_of_two (λ a b. truth (is_true a || is_true b)) (input inputs 0) (input inputs 1))
+    truths_of (image_of_two (λ a b. truth (is_true a
+    || is_true b)) (input inputs 0) (input inputs 1))
 value_of_meaning output meanings.Switch inputs = switched (input inputs 0) (input inputs 1)
 value_of_meaning output meanings.Copy inputs = input inputs 0
 value_of_meaning output meanings.Point inputs = hull_of (some (input inputs 0))
 value_of_meaning output meanings.Fixed inputs = closest kinds.Exact (allows (input inputs 0))
-value_of_meaning output (meanings.Rules rules) inputs = value_of_rules (kind_in kinds.Interval output) rules.items inputs
+value_of_meaning output (meanings.Rules rules) inputs =
+    value_of_rules (kind_in_slot kinds.Interval output) rules.items inputs
 
 -- the value of a meaning of the table, on inputs that fit it
 abbrev pub IsValueOfTable : Meaning → List Info → Info → Type 0
 IsValueOfTable meaning inputs value =
-    FitSlots (inputs_of_meaning meaning) inputs → value ≡ value_of_meaning (output_of_meaning meaning) meaning inputs
+    FitSlots (inputs_of_meaning meaning) inputs → value
+    ≡ value_of_meaning (output_of_meaning meaning) meaning inputs

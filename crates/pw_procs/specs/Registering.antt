@@ -1,8 +1,17 @@
--- Which lists of procedures make a registry, and the faults of the others.
-use Rattle.std.specs.Prelude.{◌≡◌, ◌<◌, ◌≤◌, ◌⊎◌, ℕ, List, [], ◌∷◌, codes, length, take, slice_get, Some, false, Contains}
+-- Which lists of procedures make a registry, what is wrong with the others, and the place of a name
+-- in a list.
+use Rattle.std.specs.Prelude.{ℕ, List, Option, ◌≡◌, ◌<◌, ◌≤◌, ◌⊎◌, [], ◌∷◌, codes, length, take}
+use Rattle.std.specs.Prelude.{slice_get, Some, false, Contains}
+use Rattle.std.specs.List.{position_from}
+use Rattle.std.specs.Str.{bytes_eq}
 use Rattle.pw_info.specs.Name.{is_name}
 use Rattle.pw_procs.specs.declared.registry.RegistryFault.{RegistryFault}
-use Rattle.pw_procs.specs.declared.registry.RegistryFault.TheVariants.{DuplicateName, BadName, TooMany, Memory}
+use Rattle.pw_procs.specs.declared.registry.RegistryFault.TheVariants.{DuplicateName, BadName}
+use Rattle.pw_procs.specs.declared.registry.RegistryFault.TheVariants.{TooMany, Memory}
+
+-- the position, from 0, of the first name that is equal to the word
+abbrev pub place_of_name : List (List ℕ) → List ℕ → Option ℕ
+place_of_name names word = position_from (bytes_eq word) 0 names
 
 -- the greatest number of procedures in a registry
 abbrev pub most_procedures : ℕ
@@ -28,7 +37,8 @@ IsFaultlessAfter before name = (fault : RegistryFault) → IsFaultAfter before n
 
 -- the names up to place n have no fault
 abbrev pub AreFreeBelow : List (List ℕ) → ℕ → Type 0
-AreFreeBelow names n = (k : ℕ) (name : List ℕ) (fault : RegistryFault) → k < n → slice_get names k ≡ Some name → IsFaultAfter (take k names) name fault → ⊥
+AreFreeBelow names n = (k : ℕ) (name : List ℕ) (fault : RegistryFault) → k < n → slice_get names k
+    ≡ Some name → IsFaultAfter (take k names) name fault → ⊥
 
 -- these are the names of a registry's procedures
 pub record AreRegistered (names : List (List ℕ)) : Type 0 where
@@ -36,7 +46,7 @@ pub record AreRegistered (names : List (List ℕ)) : Type 0 where
   pub free : AreFreeBelow names (length names)
 
 -- there are not too many names, and this is the first fault of a name
-pub record IsFirstFault (names : List (List ℕ)) (fault : RegistryFault) : Type 0 where
+pub record IsFirstNameFault (names : List (List ℕ)) (fault : RegistryFault) : Type 0 where
   pub most : length names ≤ most_procedures
   pub place : ℕ
   pub name : List ℕ
@@ -48,4 +58,4 @@ pub record IsFirstFault (names : List (List ℕ)) (fault : RegistryFault) : Type
 abbrev pub IsRegistryFault : List (List ℕ) → RegistryFault → Type 0
 IsRegistryFault names TooMany = most_procedures < length names
 IsRegistryFault names Memory = AreRegistered names
-IsRegistryFault names fault = IsFirstFault names fault
+IsRegistryFault names fault = IsFirstNameFault names fault

@@ -1,5 +1,6 @@
 -- Meanings given by rules.
-use Rattle.std.specs.Prelude.{◌≡◌, ℤ, Bool, true, not, ◌&&◌, ◌||◌, List, [], ◌∷◌, map, if◌then◌else◌}
+use Rattle.std.specs.Prelude.{◌≡◌, ℤ, Bool, true, not, ◌&&◌, ◌||◌, List, [], ◌∷◌, map}
+use Rattle.std.specs.Prelude.{if◌then◌else◌}
 use Rattle.std.specs.List.{list_all, All}
 use Rattle.pw_info.specs.declared.kind.Kind.{Kind}
 use Rattle.pw_info.specs.declared.info.Info.{Info}
@@ -19,12 +20,14 @@ all_include (guard ∷ guards) (input ∷ inputs) = includes guard input && all_
 
 -- a value stays possible if each rule that applies leaves it possible
 abbrev pub rules_allow : List Rule → List Info → ℤ → Bool
-rules_allow rules inputs v = list_all (λ rule. not (all_include rule.guards.items inputs) || allows rule.result v) rules
+rules_allow rules inputs v = list_all (λ rule. not (all_include rule.guards.items inputs)
+    || allows rule.result v) rules
 
 -- the value of rules: the common part of the results of all rules that apply; the contradiction if
 -- an input is contradictory
 abbrev pub value_of_rules : Kind → List Rule → List Info → Info
-value_of_rules kind rules inputs = if list_all is_possible inputs then closest kind (rules_allow rules inputs) else contradiction kind
+value_of_rules kind rules inputs = if list_all is_possible inputs then closest kind
+    (rules_allow rules inputs) else contradiction kind
 
 -- each rule has one guard for each input, of its kind, and a result of the output's kind
 pub record AreRules (inputs : List Kind) (output : Kind) (rules : List Rule) : Type 0 where
@@ -44,7 +47,9 @@ AreRulesLike guard result rules = AreRules (kind_of guard ∷ []) (kind_of resul
 
 -- the others are rules of all kinds that these are rules of, and have the same values
 abbrev pub AreRulesAsWell : List Rule → List Rule → Type 0
-AreRulesAsWell rules others = (inputs : List Kind) (output : Kind) → AreRules inputs output rules → AreRules inputs output others
+AreRulesAsWell rules others = (inputs : List Kind) (output : Kind) → AreRules inputs output rules →
+    AreRules inputs output others
 
 abbrev pub HaveTheSameValues : List Rule → List Rule → Type 0
-HaveTheSameValues rules others = (output : Kind) (inputs : List Info) → value_of_rules output others inputs ≡ value_of_rules output rules inputs
+HaveTheSameValues rules others = (output : Kind) (inputs : List Info) →
+    value_of_rules output others inputs ≡ value_of_rules output rules inputs

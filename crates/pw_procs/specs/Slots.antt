@@ -4,18 +4,18 @@ use Rattle.std.specs.List.{list_any}
 use Rattle.pw_info.specs.declared.kind.Kind.{Kind}
 use Rattle.pw_info.specs.declared.info.Info.{Info}
 use Rattle.pw_info.specs.Information.{kind_of}
-use Rattle.pw_procs.specs.declared.slot.Slot.{Slot}
-use Rattle.pw_procs.specs.declared.slot.Slot.TheVariants.{Fixed, Same}
+use Rattle.pw_procs.specs.declared.signature.Slot.{Slot}
+use Rattle.pw_procs.specs.declared.signature.Slot.TheVariants.{Fixed, Same}
 
 -- the kind of a slot, where `same` is the kind of the slots that take any kind
-abbrev pub kind_in : Kind → Slot → Kind
-kind_in same (Fixed kind) = kind
-kind_in same Same = same
+abbrev pub kind_in_slot : Kind → Slot → Kind
+kind_in_slot same (Fixed kind) = kind
+kind_in_slot same Same = same
 
 -- these are the kinds in slots, one for each, where `same` is the kind of the slots that take any
 -- kind
 abbrev pub AreKindsIn : List Slot → List Kind → Kind → Type 0
-AreKindsIn slots kinds same = kinds ≡ map (kind_in same) slots
+AreKindsIn slots kinds same = kinds ≡ map (kind_in_slot same) slots
 
 -- kinds fit slots: they are the kinds in them, for some kind of the slots that take any kind
 abbrev pub KindsFit : List Slot → List Kind → Type 0

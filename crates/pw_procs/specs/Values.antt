@@ -1,12 +1,13 @@
 -- The values that informations leave possible, what an operation gives on all of them, and the
 -- information nearest to a set of numbers. A set of whole numbers is given by its test: does some
 -- number of the set pass?
-use Rattle.std.specs.Prelude.{◌≡◌, ◌<◌, ℕ, ℤ, pos, neg_ℤ, Bool, true, false, ◌&&◌, List, ◌≤ℤ◌, is_some, slice_index_or}
+use Rattle.std.specs.Prelude.{◌≡◌, ◌<◌, ℕ, ℤ, pos, neg_ℤ, Bool, true, false, ◌&&◌, List, ◌≤ℤ◌}
+use Rattle.std.specs.Prelude.{is_some, slice_index_or}
 use Rattle.std.specs.Int.{IsBitSet}
 use Rattle.std.specs.Int.Signed.{le_z}
 use Rattle.std.specs.Ordering.{int_eq}
 use Rattle.pw_kinds.specs.Ranges.{is_in_interval_range, exact_lowest, exact_numbers}
-use Rattle.pw_kinds.specs.Search.{least}
+use Rattle.pw_kinds.specs.Ranges.{least}
 use Rattle.pw_kinds.specs.Places.{IsSize}
 use Rattle.std.proofs.Common.{arith}
 use Rattle.pw_info.specs.declared.kind.Kind.{Kind}
@@ -42,7 +43,8 @@ abbrev pub IsImageOfOne : (ℤ → ℤ) → Info → ℤ → Type 0
 IsImageOfOne operation x z = (a : ℤ) × (allows x a ≡ true) × (z ≡ operation a)
 
 abbrev pub IsImageOfTwo : (ℤ → ℤ → ℤ) → Info → Info → ℤ → Type 0
-IsImageOfTwo operation x y z = (a b : ℤ) × (allows x a ≡ true) × (allows y b ≡ true) × (z ≡ operation a b)
+IsImageOfTwo operation x y z = (a b : ℤ) × (allows x a ≡ true) × (allows y b ≡ true)
+    × (z ≡ operation a b)
 
 -- the hull of a set of numbers, cut to the range of intervals: a number is in it if some number of
 -- the set is at or below it, and some is at or above it
@@ -71,7 +73,8 @@ truths_of set = closest bool (λ v. set (int_eq v))
 -- say so
 abbrev pub HasTruths : Bool → Bool → Info → Type 0
 HasTruths has_false has_true info = (set : NumberSet)
-    → set (int_eq (truth false)) ≡ has_false → set (int_eq (truth true)) ≡ has_true → info ≡ truths_of set
+    → set (int_eq (truth false)) ≡ has_false → set (int_eq (truth true)) ≡ has_true → info
+    ≡ truths_of set
 
 -- the numbers in range from lo to hi
 abbrev pub from_to : ℤ → ℤ → Info
@@ -121,6 +124,7 @@ LiesWithin numbers v = (lo hi : ℤ) × numbers lo × numbers hi × (lo ≤ℤ v
 -- and then cut.)
 pub record IsHull (numbers : ℤ → Type 0) (hull : Info) : Type 0 where
   pub holds : (v : ℤ) → is_in_interval_range v ≡ true → LiesWithin numbers v → allows hull v ≡ true
-  pub known : (v : ℤ) → allows hull v ≡ true → (is_in_interval_range v ≡ true) × LiesWithin numbers v
+  pub known : (v : ℤ) → allows hull v ≡ true → (is_in_interval_range v ≡ true)
+      × LiesWithin numbers v
   pub smallest : (lo hi : ℤ) → ((z : ℤ) → numbers z → (lo ≤ℤ z) × (z ≤ℤ hi))
       → (v : ℤ) → allows hull v ≡ true → (lo ≤ℤ v) × (v ≤ℤ hi)

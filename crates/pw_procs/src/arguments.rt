@@ -1,5 +1,5 @@
 //! The cells that a procedure is put between.
-ghost use Rattle.pw_procs.specs.Shapes.{AreArguments};
+ghost use Rattle.pw_procs.specs.inside.Shapes.{AreArguments};
 
 const MOST_CELLS: usize = 9;
 
@@ -14,12 +14,13 @@ pub struct Arguments {
 
 impl Arguments {
     ghost use Rattle.std.specs.Prelude.{◌≡◌, ◌↔◌, ◌≤◌, length, IsSome, IfSome};
-    ghost use Rattle.pw_procs.specs.Arguments.{cells_of};
-    ghost use Rattle.pw_procs.specs.Shapes.{most_cells};
+    ghost use Rattle.pw_procs.specs.Registry.{cells_of};
+    ghost use Rattle.pw_procs.specs.inside.Shapes.{most_arguments};
 
     /// These cells, in order. None unless there are one to nine.
     pub fn of(cells: &[u32]) -> Option<Arguments>
-        ensures some { IsSome result ↔ ((1 ≤ length cells.now) × (length cells.now ≤ most_cells)) }
+        ensures some { IsSome result ↔ ((1 ≤ length cells.now) × (length cells.now ≤
+            most_arguments)) }
         ensures cells { IfSome result (λ arguments. cells_of arguments ≡ cells.now) }
     {
         if cells.is_empty() || cells.len() > MOST_CELLS {
@@ -37,7 +38,7 @@ impl Arguments {
     pub fn cells(&self) -> &[u32]
         ensures cells { result.now ≡ cells_of self.now }
         ensures some { 1 ≤ length result.now }
-        ensures most { length result.now ≤ most_cells }
+        ensures most { length result.now ≤ most_arguments }
     {
         &self.held[..self.count]
     }

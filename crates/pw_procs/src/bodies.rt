@@ -3,8 +3,11 @@
 ghost use Rattle.std.specs.Prelude.{◌≡◌};
 ghost use Rattle.pw_procs.specs.Slots.{FitSlots};
 ghost use Rattle.pw_procs.specs.Values.{input};
-ghost use Rattle.pw_procs.specs.Meaning.{inputs_of_meaning, sum_of, difference_of, product_of, square_of, at_most_of, equality_of, negation_of, conjunction_of, disjunction_of, switched, point_of, fixed_of};
-ghost use Rattle.pw_procs.specs.Quotient.{quotient_of};
+ghost use Rattle.pw_procs.specs.Meaning.{inputs_of_meaning, sum_of, difference_of, product_of};
+ghost use Rattle.pw_procs.specs.Meaning.{square_of, at_most_of, equality_of, negation_of};
+ghost use Rattle.pw_procs.specs.Meaning.{conjunction_of, disjunction_of, switched, point_of};
+ghost use Rattle.pw_procs.specs.Meaning.{fixed_of};
+ghost use Rattle.pw_procs.specs.Meaning.{quotient_of};
 
 mod exact_numbers;
 mod inputs;

@@ -1,69 +1,64 @@
 //! Laws of the meanings. Each is the contract of a function that does nothing, and holds of every
 //! meaning and all inputs.
 
-ghost use Rattle.std.specs.Prelude.{◌≡◌, ◌≢◌, ◌↔◌, ℕ, ℤ, pos, ◌+ℤ◌, ◌-ℤ◌, ◌*ℤ◌, Bool, true, false, not, List, [], ◌∷◌, ◌++◌};
-ghost use Rattle.pw_info.specs.declared.kind.Kind.{Kind};
+ghost use Rattle.std.specs.Prelude.{◌≡◌, ℤ, pos, ◌+ℤ◌, ◌-ℤ◌, ◌*ℤ◌, Bool, true, false, not};
 ghost use Rattle.pw_info.specs.declared.info.Info.{Info};
-ghost use Rattle.pw_info.specs.Information.{nothing, contradiction, IsContradiction};
+ghost use Rattle.pw_info.specs.Information.{nothing, contradiction};
 ghost use Rattle.pw_procs.specs.declared.rule.Rule.{Rule};
-ghost use Rattle.pw_procs.specs.declared.slot.Slot.{Slot};
-ghost use Rattle.pw_procs.specs.declared.signature.Signature.{Signature};
-ghost use Rattle.pw_procs.specs.declared.registry.RegistryFault.{RegistryFault};
-ghost use Rattle.pw_procs.specs.declared.registry.RegistryFault.TheVariants.{Memory};
+ghost use Rattle.pw_procs.specs.declared.signature.Slot.{Slot};
 ghost use Rattle.pw_procs.specs.declared.meaning.Meaning.{Meaning};
-ghost use Rattle.pw_procs.specs.declared.meaning.Meaning.TheVariants.{Adder, Subtractor, Multiplier, Squarer, Divider, Switch};
-ghost use Rattle.pw_procs.specs.Signature.{Accepts, AcceptsApart, IsOfOutputKind};
-ghost use Rattle.pw_procs.specs.Procedure.{Procedure, GivesWhatItAccepts};
-ghost use Rattle.pw_procs.specs.Registering.{AreRegistered, IsRegistryFault};
-ghost use Rattle.pw_procs.specs.Values.{NumberSet, IsSetOf, IsImageOfOne, IsImageOfTwo, IsHull, image_of_one, image_of_two, hull_of};
-ghost use Rattle.pw_procs.specs.Values.{range, from_minus_to, any_number, no_number, just, exactly, bool, input};
-ghost use Rattle.pw_procs.specs.Quotient.{quotient_of};
-ghost use Rattle.pw_procs.specs.Meaning.{AreSlotsOf, value_of_meaning, sum_of, difference_of, product_of, square_of};
-ghost use Rattle.pw_procs.specs.Meaning.{at_most_of, equality_of, negation_of, conjunction_of, disjunction_of, point_of, fixed_of};
-ghost use Rattle.pw_procs.specs.MeaningLaws.{IsOfSlotKind, IsMonotone, IsContradictedByInputs, KeepsSolutionsOfOne, KeepsSolutionsOfTwo};
+ghost use Rattle.pw_procs.specs.declared.meaning.Meaning.TheVariants.{Adder, Subtractor};
+ghost use Rattle.pw_procs.specs.declared.meaning.Meaning.TheVariants.{Multiplier, Squarer, Divider};
+ghost use Rattle.pw_procs.specs.Signature.{IsOfOutputKind};
+ghost use Rattle.pw_procs.specs.Procedure.{Procedure};
+ghost use Rattle.pw_procs.specs.Values.{image_of_one, image_of_two};
+ghost use Rattle.pw_procs.specs.Values.{range, from_minus_to, any_number, no_number, just, exactly};
+ghost use Rattle.pw_procs.specs.Values.{bool};
+ghost use Rattle.pw_procs.specs.Meaning.{quotient_of};
+ghost use Rattle.pw_procs.specs.Meaning.{sum_of, difference_of, product_of, square_of};
+ghost use Rattle.pw_procs.specs.Meaning.{at_most_of, equality_of, negation_of, conjunction_of};
+ghost use Rattle.pw_procs.specs.Meaning.{disjunction_of, point_of, fixed_of};
+ghost use Rattle.pw_procs.specs.MeaningLaws.{IsMonotone, KeepsSolutionsOfOne, KeepsSolutionsOfTwo};
 ghost use Rattle.pw_procs.specs.MeaningLaws.{SwitchPasses, SwitchWaits, RuleApplies, RuleWaits};
+ghost use Rattle.pw_procs.specs.Laws.{ImageOfOneIsASet, ImageOfTwoIsASet, HullOfASet, HullOfOne};
+ghost use Rattle.pw_procs.specs.Laws.{HullOfTwo, ValuesHaveTheOutputKind, KindsFitApart};
+ghost use Rattle.pw_procs.specs.Laws.{AcceptedKindsGiveTheOutputKind};
+ghost use Rattle.pw_procs.specs.Laws.{GoodNamesAreRefusedForMemoryAlone};
+ghost use Rattle.pw_procs.specs.Laws.{ContradictoryInputsContradict};
+ghost use Rattle.pw_procs.specs.Laws.{ContradictoryControlContradicts};
 
 /// The hull of a set of numbers leaves exactly the numbers in range possible that lie between two
 /// numbers of the set, or on one; and what an operation gives on possible values is a set of
 /// exactly these numbers.
 pub fn hull_lies_between()
-    ensures image_of_one { (op : ℤ → ℤ) (x : Info)
-        → IsSetOf (IsImageOfOne op x) (image_of_one op x) }
-    ensures image_of_two { (op : ℤ → ℤ → ℤ) (x y : Info)
-        → IsSetOf (IsImageOfTwo op x y) (image_of_two op x y) }
-    ensures hull { (numbers : ℤ → Bool) (set : NumberSet)
-        → IsSetOf (λ z. numbers z ≡ true) set → IsHull (λ z. numbers z ≡ true) (hull_of set) }
-    ensures hull_of_one { (op : ℤ → ℤ) (x : Info)
-        → IsHull (IsImageOfOne op x) (hull_of (image_of_one op x)) }
-    ensures hull_of_two { (op : ℤ → ℤ → ℤ) (x y : Info)
-        → IsHull (IsImageOfTwo op x y) (hull_of (image_of_two op x y)) }
+    ensures image_of_one { ImageOfOneIsASet }
+    ensures image_of_two { ImageOfTwoIsASet }
+    ensures hull { HullOfASet }
+    ensures hull_of_one { HullOfOne }
+    ensures hull_of_two { HullOfTwo }
 {}
 
 /// The value of a meaning is of the kind of its output, if the inputs fit.
 pub fn values_have_the_output_kind()
-    ensures { (output : Slot) (meaning : Meaning) (slots : List Slot)
-        → AreSlotsOf meaning slots output → IsOfSlotKind output meaning slots }
+    ensures { ValuesHaveTheOutputKind }
 {}
 
 /// Kinds fit a signature if the kinds of the inputs and the kind of the output do, with one kind
 /// for all slots of any kind.
 pub fn kinds_fit_apart()
-    ensures { (signature : Signature) (xs : List Kind) (k : Kind)
-        → Accepts signature (xs ++ k ∷ []) ↔ AcceptsApart signature xs k }
+    ensures { KindsFitApart }
 {}
 
 /// A procedure gives values of the kind of its output. So if it accepts the kinds of some inputs
 /// followed by one more kind, the inputs fit and its value is of that last kind.
 pub fn procedures_give_their_output_kind()
     ensures kind { (procedure : Procedure) → IsOfOutputKind procedure.signature procedure.meaning }
-    ensures accepted { (procedure : Procedure) (xs : List Info) (k : Kind)
-        → GivesWhatItAccepts procedure xs k }
+    ensures accepted { AcceptedKindsGiveTheOutputKind }
 {}
 
 /// A list of procedures under names that a registry allows is refused only when out of memory.
 pub fn good_names_are_refused_for_memory_alone()
-    ensures { (names : List (List ℕ)) (fault : RegistryFault)
-        → AreRegistered names → IsRegistryFault names fault → fault ≡ Memory }
+    ensures { GoodNamesAreRefusedForMemoryAlone }
 {}
 
 /// More informed inputs give a value that is at least as informed.
@@ -74,10 +69,8 @@ pub fn meanings_are_monotone()
 /// If some input is contradictory, the value is the contradiction; for a switch, if its truth is
 /// contradictory.
 pub fn contradictory_inputs_give_contradictions()
-    ensures value { (output : Slot) (meaning : Meaning) (slots : List Slot) → (meaning ≢ Switch)
-        → AreSlotsOf meaning slots output → IsContradictedByInputs output meaning slots }
-    ensures switch { (output : Slot) (xs : List Info)
-        → IsContradiction (input xs 0) → IsContradiction (value_of_meaning output Switch xs) }
+    ensures value { ContradictoryInputsContradict }
+    ensures switch { ContradictoryControlContradicts }
 {}
 
 /// Numbers in range that satisfy the relation of an arithmetic meaning stay possible: if the inputs

@@ -14,7 +14,6 @@ mod registry;
 mod rule;
 mod rule_tables;
 mod signature;
-mod slot;
 mod stored;
 mod table;
 
@@ -26,7 +25,6 @@ pub use procedures::{add_by_rules, add_of_table};
 pub use registry::{Registry, RegistryFault};
 pub use rule::Rule;
 pub use rule_tables::{add_rule, copied};
-pub use signature::{Signature, are_equal_kinds};
-pub use slot::Slot;
+pub use signature::{Signature, Slot, are_equal_kinds};
 pub use stored::{Body, Stored};
 pub use table::signature_of;

@@ -5,7 +5,7 @@ ghost use Rattle.std.specs.Cmp.Lexicographic.{nat_list_eq_equiv};
 ghost use Rattle.std.specs.Cmp.Rules.{hashing};
 ghost use Rattle.std.specs.Str.{bytes_eq};
 ghost use Rattle.std.proofs.Common.{rules};
-ghost use Rattle.pw_procs.specs.Name.{name_bytes};
+ghost use Rattle.pw_procs.specs.inside.Shapes.{name_bytes};
 
 use std::alloc::Allocator;
 use std::hash::{Hash, Hasher};

@@ -1,9 +1,10 @@
 //! Names in the order in which they were added.
-ghost use Rattle.std.specs.Prelude.{◌≡◌, None, Some, [], ◌∷◌, ◌++◌, ◌<◌, length, slice_get, IfSome, OnOk, OnErr};
+ghost use Rattle.std.specs.Prelude.{◌≡◌, None, Some, [], ◌∷◌, ◌++◌, ◌<◌, length, slice_get, IfSome};
+ghost use Rattle.std.specs.Prelude.{OnOk, OnErr};
 ghost use Rattle.std.specs.List.{position};
 ghost use Rattle.std.specs.Str.{bytes_eq};
-ghost use Rattle.pw_procs.specs.Name.{name_bytes};
-ghost use Rattle.pw_procs.specs.Place.{place_of_name};
+ghost use Rattle.pw_procs.specs.inside.Shapes.{name_bytes};
+ghost use Rattle.pw_procs.specs.Registering.{place_of_name};
 
 use crate::name::Name;
 use indexmap::IndexSet;
@@ -32,7 +33,7 @@ pub struct NameTable<A: Allocator = Global> {
 impl<A: Allocator> Model for NameTable<A> {
     ghost use Rattle.std.specs.Prelude.{List, ℕ, map, All};
     ghost use Rattle.std.specs.Str.{IsUtf8};
-    ghost use Rattle.pw_procs.specs.Name.{name_bytes};
+    ghost use Rattle.pw_procs.specs.inside.Shapes.{name_bytes};
 
     ghost Value = { List (List ℕ) };
 

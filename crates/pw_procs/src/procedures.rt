@@ -8,8 +8,7 @@ ghost use Rattle.pw_procs.specs.Procedure.{IsAdded, IsTableAdded};
 
 use crate::meaning::Meaning;
 use crate::rule::Rule;
-use crate::signature::Signature;
-use crate::slot::Slot;
+use crate::signature::{Signature, Slot};
 use crate::stored::{Body, Stored};
 use crate::table::signature_of;
 use pw_info::Kind;

@@ -1,8 +1,10 @@
 //! The procedures of a program, by name and by number.
-ghost use Rattle.std.specs.Prelude.{◌≡◌, ◌↔◌, ◌<◌, length, slice_get, Some, IsTrue, IfOk, IfErr, IfSome, IfNone, Contains};
-ghost use Rattle.pw_procs.specs.Place.{place_of_name};
+ghost use Rattle.std.specs.Prelude.{◌≡◌, ◌↔◌, ◌<◌, length, slice_get, Some, IsTrue, IfOk, IfErr};
+ghost use Rattle.std.specs.Prelude.{IfSome, IfNone, Contains};
+ghost use Rattle.pw_procs.specs.Registering.{place_of_name};
 ghost use Rattle.pw_procs.specs.Procedure.{procedure_of, procedures_of, stored_names};
-ghost use Rattle.pw_procs.specs.Registering.{IsBadName, IsFaultAfter, IsFaultlessAfter, AreRegistered, IsRegistryFault};
+ghost use Rattle.pw_procs.specs.Registering.{IsBadName, IsFaultAfter, IsFaultlessAfter};
+ghost use Rattle.pw_procs.specs.Registering.{AreRegistered, IsRegistryFault};
 
 use crate::name_table::NameTable;
 use crate::stored::Stored;

@@ -1,7 +1,8 @@
 //! Lists of rules: making them, and copying them for a body that owns the table that its meaning
 //! describes.
 ghost use Rattle.std.specs.Prelude.{◌≡◌, ◌++◌, ◌∷◌, [], IfOk, OnOk};
-ghost use Rattle.pw_procs.specs.Rules.{AreRulesLike, AreRulesAsWell, HaveTheSameValues, guards_of, results_of};
+ghost use Rattle.pw_procs.specs.Rules.{AreRulesLike, AreRulesAsWell, HaveTheSameValues, guards_of};
+ghost use Rattle.pw_procs.specs.Rules.{results_of};
 
 use crate::rule::Rule;
 use pw_info::Info;

@@ -1,15 +1,24 @@
+//! What a procedure takes and gives.
 ghost use Rattle.std.specs.Prelude.{◌≡◌, ◌↔◌, IsTrue};
-ghost use Rattle.pw_procs.specs.Shapes.{IsSignature};
+ghost use Rattle.pw_procs.specs.inside.Shapes.{IsSignature};
 ghost use Rattle.pw_procs.specs.Slots as spec;
 
-use crate::slot::Slot;
 use pw_info::{Info, Kind};
+
+/// What a procedure takes in one place, or gives.
+#[derive(Clone, Copy, Debug, PartialEq, Eq)]
+pub enum Slot {
+    /// Information of this kind.
+    Fixed(Kind),
+    /// Information of any kind, the same kind in all these places of one procedure.
+    Same,
+}
 
 const MOST_INPUTS: usize = 8;
 
 // The kind in a slot, where `same` is the kind in the slots of any kind.
 fn kind_in(slot: Slot, same: Kind) -> Kind
-    ensures { result ≡ spec.kind_in same slot }
+    ensures { result ≡ spec.kind_in_slot same slot }
 {
     match slot {
         Slot::Fixed(kind) => kind,
@@ -90,7 +99,8 @@ pub struct Signature {
 impl Signature {
     ghost use Rattle.std.specs.Prelude.{IsSome, IfSome};
     ghost use Rattle.pw_procs.specs.Slots.{AreSlots};
-    ghost use Rattle.pw_procs.specs.Signature.{input_slots_of, output_slot_of, FitSignature, Accepts};
+    ghost use Rattle.pw_procs.specs.Signature.{input_slots_of, output_slot_of, FitSignature};
+    ghost use Rattle.pw_procs.specs.Signature.{Accepts};
 
     /// The signature with these slots. None unless there are one to eight inputs, and None if the
     /// output is `Same` and no input is.

@@ -1,7 +1,8 @@
 //! Procedures as a registry holds them: a name, a signature, a meaning and a body.
 ghost use Rattle.std.specs.Prelude.{◌≡◌};
 ghost use Rattle.std.specs.String.{string_bytes};
-ghost use Rattle.pw_procs.specs.Signature.{FitSignature, IsSignatureOf, IsOfOutputKind, IsValueUnder, value_under};
+ghost use Rattle.pw_procs.specs.Signature.{FitSignature, IsSignatureOf, IsOfOutputKind};
+ghost use Rattle.pw_procs.specs.Signature.{IsValueUnder, signature_value};
 
 use crate::meaning::Meaning;
 use crate::signature::Signature;
@@ -48,7 +49,7 @@ impl Stored {
     /// The value of its meaning on inputs that fit.
     pub fn call(&self, inputs: &[Info]) -> Info
         requires { FitSignature self.now.signature inputs.now }
-        ensures { result ≡ value_under self.now.signature self.now.meaning inputs.now }
+        ensures { result ≡ signature_value self.now.signature self.now.meaning inputs.now }
     {
         (self.body)(inputs)
     }

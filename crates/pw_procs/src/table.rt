@@ -5,8 +5,7 @@ ghost use Rattle.pw_procs.specs.Signature.{input_slots_of, output_slot_of};
 
 use crate::kinds::truth_kind;
 use crate::meaning::Meaning;
-use crate::signature::Signature;
-use crate::slot::Slot;
+use crate::signature::{Signature, Slot};
 use pw_info::Kind;
 
 const NUMBER: Slot = Slot::Fixed(Kind::Interval);

@@ -14,7 +14,7 @@ use Rattle.pw_settle.specs.Values.{kinds_in, value_in}
 use Rattle.pw_settle.proofs.Growing.{same_value}
 use Rattle.pw_settle.proofs.KeptFacts.{also_implies, implies_also}
 use Rattle.pw_settle.proofs.SettledValues.{kinds_many}
-use Rattle.pw_reasons.specs.Enough.{AreEnough}
+use Rattle.pw_reasons.specs.inside.Reasoning.{AreEnough}
 use Rattle.pw_reasons.specs.Reason.{Grows, tried}
 use Rattle.pw_reasons.proofs.ReasonLemmas.{part_without, tried_in, tried_out}
 

@@ -12,14 +12,14 @@ use Rattle.pw_premises.specs.PremiseSubsets.{is_subset_refl, is_subset_trans}
 use Rattle.pw_cells.specs.Cells.{Store, kinds_of, told_in}
 use Rattle.pw_network.specs.Network.{Network, IsWellNetwork, cells_in}
 use Rattle.pw_settle.specs.Values.{kinds_in, value_in}
-use Rattle.pw_settle.specs.Wider.{IsWider}
+use Rattle.pw_settle.specs.Growth.{IsWider}
 use Rattle.pw_settle.proofs.Growing.{same_value}
 use Rattle.pw_settle.proofs.Membership.{each_member}
 use Rattle.pw_settle.proofs.SettledValues.{kinds_many}
 use Rattle.pw_settle.proofs.ValueGrows.{value_grows}
 use Rattle.pw_settle.proofs.WiderNetworks.{value_wider}
 use Rattle.pw_reasons.specs.Nogood.{AreNogoods, IsNogood}
-use Rattle.pw_reasons.specs.Nogoods.{covers}
+use Rattle.pw_reasons.specs.Nogood.{covers}
 
 -- ---- nogoods stay nogoods
 

@@ -16,7 +16,7 @@ use Rattle.std.proofs.lemmas.Iterator.Consumers.{YieldsList-from_shown}
 use Rattle.pw_info.specs.declared.info.Info.{Info}
 use Rattle.pw_info.specs.Information.{allows, Implies}
 use Rattle.pw_info.proofs.Informations.{Implies-antisym}
-use Rattle.pw_premises.specs.Numbers.{numbers_of}
+use Rattle.pw_premises.specs.Premises.{numbers_of}
 use Rattle.pw_premises.specs.Premises.{Premises, most_premises}
 use Rattle.pw_premises.specs.PremiseSubsets.{is_subset_refl, is_subset_trans, remove_is_subset}
 use Rattle.pw_reasons.specs.Reason.{Grows, tried, left_of, reason_of, before_and_after}

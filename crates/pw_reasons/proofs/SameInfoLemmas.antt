@@ -14,7 +14,7 @@ use Rattle.pw_info.specs.declared.info.Info.{Info}
 use Rattle.pw_info.specs.declared.info.Info.TheVariants as info
 use Rattle.pw_info.specs.Information.{kind_of, contradiction, allows, IsContradiction}
 use Rattle.pw_info.proofs.Informations as informations
-use Rattle.pw_settle.specs.NumberTest.{nat_eq_decides}
+use Rattle.pw_settle.specs.Values.{nat_eq_decides}
 use Rattle.pw_reasons.specs.SameInfo.{same_interval, same_members, same_exact, same_info, is_contradiction}
 
 -- ---- what passes the test is one

@@ -22,7 +22,14 @@ pub record HasConflict (network : Network) (value : ℕ → Info) (line : ℕ) :
 -- given the values of its cells, these are the conflicts of the network: the declared cells whose
 -- value is a contradiction, in order; and the lines of the attachments with an inner cell like
 -- that, in rising order, each once
-pub record AreConflicts (network : Network) (value : ℕ → Info) (conflicts : Conflicts) : Type 0 where
-  pub cells : conflicts.cells ≡ filter (λ cell. is_contradiction (value cell)) (range_with_len 0 (length network.declared.cells))
+pub record AreConflicts (network : Network) (value : ℕ → Info) (conflicts : Conflicts)
+    : Type 0 where
+  pub cells : conflicts.cells ≡ filter (λ cell.
+      is_contradiction (value cell)) (range_with_len 0 (length network.declared.cells))
   pub rising : IsStrictlyIncreasing conflicts.lines
   pub lines : (line : ℕ) → Contains conflicts.lines line ↔ HasConflict network value line
+
+-- the declared cells of which this says a contradiction, in declared order
+abbrev pub contradictory_cells : Network → (ℕ → Info) → List ℕ
+contradictory_cells network info =
+    filter (λ cell. is_contradiction (info cell)) (range_with_len 0 (length network.declared.cells))

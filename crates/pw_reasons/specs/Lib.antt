@@ -1,7 +1,6 @@
 pub mod Conflicts
-pub mod ConflictsCode
-pub mod Enough
 pub mod Nogood
-pub mod Nogoods
 pub mod Reason
 pub mod SameInfo
+pub mod Laws
+pub mod inside

@@ -3,7 +3,7 @@ use Rattle.std.specs.Prelude.{◌≡◌, ℕ, true, List, [], ◌∷◌, nat_lt,
 use Rattle.std.specs.FinSet.{remove, retain, union, is_subset}
 use Rattle.pw_info.specs.declared.info.Info.{Info}
 use Rattle.pw_info.specs.Information.{Implies, kind_of}
-use Rattle.pw_premises.specs.Numbers.{numbers_of}
+use Rattle.pw_premises.specs.Premises.{numbers_of}
 use Rattle.pw_premises.specs.Premises.{Premises}
 use Rattle.pw_reasons.specs.SameInfo.{same_info}
 
@@ -22,7 +22,8 @@ tried value worldview left premise =
 -- first
 abbrev pub left_of : (Premises → Info) → Premises → List ℕ → Premises
 left_of value worldview [] = worldview
-left_of value worldview (premise ∷ later) = tried value worldview (left_of value worldview later) premise
+left_of value worldview (premise ∷ later) = tried value worldview (left_of value worldview later)
+    premise
 
 -- the reason of the value in a worldview: the remaining premises after each was tried, from the
 -- last to the first

@@ -27,7 +27,8 @@ same_exact a b = false
 -- whether two informations are the same
 abbrev pub same_info : Info → Info → Bool
 same_info (info.Interval a) (info.Interval b) = int_eq a.lo b.lo && int_eq a.hi b.hi
-same_info (info.Members number a) (info.Members other b) = nat_eq number other && (nat_eq a.size b.size && nat_eq a.mask b.mask)
+same_info (info.Members number a) (info.Members other b) = nat_eq number other
+    && (nat_eq a.size b.size && nat_eq a.mask b.mask)
 same_info (info.Exact a) (info.Exact b) = same_exact a b
 same_info a b = false
 

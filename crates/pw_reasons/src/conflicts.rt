@@ -13,7 +13,7 @@ pub struct Conflicts<A: Allocator = Global> {
 
 impl<A: Allocator> Model for Conflicts<A> {
     ghost use Rattle.pw_reasons.specs.Conflicts.{Conflicts};
-    ghost use Rattle.pw_reasons.specs.ConflictsCode.{conflicts_code};
+    ghost use Rattle.pw_reasons.specs.inside.Reasoning.{conflicts_code};
 
     ghost Value = { Conflicts };
 

@@ -1,12 +1,11 @@
 //! The contradictory cells, and the attachments that have such inner cells.
-ghost use Rattle.std.specs.Prelude.{◌≡◌, ◌↔◌, ℕ, Contains, filter, length, IfOk};
-ghost use Rattle.std.specs.List.{range_with_len};
+ghost use Rattle.std.specs.Prelude.{◌≡◌, ◌↔◌, ℕ, Contains, length, IfOk};
 ghost use Rattle.std.specs.List.Sorted.{IsStrictlyIncreasing};
-ghost use Rattle.pw_network.specs.Fields.{network_by};
+ghost use Rattle.pw_network.specs.Wiring.{wiring};
 ghost use Rattle.pw_network.specs.Network.{cells_in};
 ghost use Rattle.pw_reasons.specs.Conflicts.{AreConflicts, HasConflict};
-ghost use Rattle.pw_reasons.specs.SameInfo.{is_contradiction};
 ghost use Rattle.pw_settle.specs.Settled.{info_at};
+ghost use Rattle.pw_reasons.specs.Conflicts.{contradictory_cells};
 
 use crate::conflicts::Conflicts;
 use pw_network::Network;
@@ -24,9 +23,9 @@ pub fn list_conflicts<A: Allocator + Copy>(
     network: &Network<'_, '_, A>,
     settled: &Settled<A>,
 ) -> Result<Conflicts<A>, AllocError>
-    requires { length settled.now.infos ≡ cells_in (network_by network.now) }
+    requires { length settled.now.infos ≡ cells_in (wiring network.now) }
     ensures { IfOk result (λ conflicts.
-        AreConflicts (network_by network.now) (info_at settled.now.infos) conflicts) }
+        AreConflicts (wiring network.now) (info_at settled.now.infos) conflicts) }
 {
     let cells = contradictory_cells(alloc, network, settled)?;
     let lines = contradictory_lines(alloc, network, settled)?;
@@ -39,10 +38,9 @@ fn contradictory_cells<A: Allocator + Copy>(
     network: &Network<'_, '_, A>,
     settled: &Settled<A>,
 ) -> Result<Vec<u32, A>, AllocError>
-    requires { length settled.now.infos ≡ cells_in (network_by network.now) }
-    ensures { IfOk result (λ cells. cells.items
-        ≡ filter (λ cell. is_contradiction (info_at settled.now.infos cell))
-        (range_with_len 0 (length (network_by network.now).declared.cells))) }
+    requires { length settled.now.infos ≡ cells_in (wiring network.now) }
+    ensures { IfOk result (λ cells. cells.items ≡ contradictory_cells (wiring network.now) (info_at
+        settled.now.infos)) }
 {
     let mut cells = Vec::new(alloc);
     for cell in 0..network.declaration().cells() {
@@ -61,10 +59,10 @@ fn contradictory_lines<A: Allocator + Copy>(
     network: &Network<'_, '_, A>,
     settled: &Settled<A>,
 ) -> Result<Vec<u32, A>, AllocError>
-    requires { length settled.now.infos ≡ cells_in (network_by network.now) }
+    requires { length settled.now.infos ≡ cells_in (wiring network.now) }
     ensures rising { IfOk result (λ lines. IsStrictlyIncreasing lines.items) }
     ensures lines { IfOk result (λ lines. (line : ℕ) → Contains lines.items line
-        ↔ HasConflict (network_by network.now) (info_at settled.now.infos) line) }
+        ↔ HasConflict (wiring network.now) (info_at settled.now.infos) line) }
 {
     let mut lines: Vec<u32, A> = Vec::new(alloc);
     for cell in network.declaration().cells()..network.cells() {

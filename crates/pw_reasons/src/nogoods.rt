@@ -1,8 +1,9 @@
 //! Nogoods: noted sets of premises that contradict themselves.
-ghost use Rattle.std.specs.Prelude.{◌≡◌, ◌↔◌, ◌⊎◌, ◌||◌, [], true, false, not, filter, vec_len, vec_capacity, ◌≤◌, Contains, OnErr, OnOk};
+ghost use Rattle.std.specs.Prelude.{◌≡◌, ◌↔◌, ◌⊎◌, ◌||◌, [], true, false, not, filter, vec_len};
+ghost use Rattle.std.specs.Prelude.{vec_capacity, ◌≤◌, Contains, OnErr, OnOk};
 ghost use Rattle.std.specs.FinSet.{is_subset};
 ghost use Rattle.pw_premises.specs.Premises.{Premises};
-ghost use Rattle.pw_reasons.specs.Nogoods.{covers};
+ghost use Rattle.pw_reasons.specs.Nogood.{covers};
 
 use pw_premises::PremiseSet;
 use std::alloc::{AllocError, Allocator, Global};
@@ -73,7 +74,8 @@ impl<A: Allocator + Copy> Nogoods<A> {
 
 // Drops the sets that include this one.
 fn drop_larger<A: Allocator>(sets: &mut Vec<PremiseSet, A>, premises: &PremiseSet)
-    ensures items { sets.new.items ≡ filter (λ noted. not (is_subset premises.now noted)) sets.old.items }
+    ensures items { sets.new.items ≡ filter (λ noted. not (is_subset premises.now noted))
+        sets.old.items }
     ensures len { vec_len sets.new ≤ vec_len sets.old }
     ensures capacity { vec_capacity sets.new ≡ vec_capacity sets.old }
 {

@@ -2,18 +2,19 @@
 ghost use Rattle.std.specs.Prelude.{◌≡◌, ◌<◌, true, IfOk, IfNone, IfSome};
 ghost use Rattle.std.specs.FinSet.{is_subset};
 ghost use Rattle.pw_cells.specs.Cells.{kinds_of};
-ghost use Rattle.pw_info.specs.Information.{Implies, IsContradiction, kind_of};
-ghost use Rattle.pw_network.specs.Fields.{network_by};
+ghost use Rattle.pw_info.specs.Information.{Implies, kind_of};
+ghost use Rattle.pw_network.specs.Wiring.{wiring};
 ghost use Rattle.pw_network.specs.Network.{cells_in};
 ghost use Rattle.pw_premises.specs.Premises.{Premises};
-ghost use Rattle.pw_reasons.specs.Enough.{AreEnough};
+ghost use Rattle.pw_reasons.specs.inside.Reasoning.{AreEnough};
 ghost use Rattle.pw_reasons.specs.Nogood.{AreNogoods};
-ghost use Rattle.pw_reasons.specs.Nogoods.{covers};
-ghost use Rattle.pw_reasons.specs.Reason.{reason_of, tried};
+ghost use Rattle.pw_reasons.specs.Nogood.{covers};
+ghost use Rattle.pw_reasons.specs.Reason.{reason_of};
 ghost use Rattle.pw_settle.specs.Growth.{KeepsMore, StaysUpstream};
 ghost use Rattle.pw_settle.specs.Settled.{IsSettled, info_at};
 ghost use Rattle.pw_settle.specs.Sound.{IsSound};
 ghost use Rattle.pw_settle.specs.Values.{kinds_in, value_in};
+ghost use Rattle.pw_reasons.specs.inside.Reasoning.{CoversContradiction, tried_in};
 
 use crate::nogoods::Nogoods;
 use pw_cells::CellStore;
@@ -39,13 +40,14 @@ fn kept_support<A: Allocator + Copy>(
     cell: u32,
     worldview: &PremiseSet,
 ) -> Option<PremiseSet>
-    requires kinds { kinds_of store.old ≡ kinds_in (network_by network.now) }
-    requires sound { IsSound (network_by network.now) store.old }
-    requires cell { cell < cells_in (network_by network.now) }
-    requires kind { kind_of (value_in (network_by network.now) store.old worldview.now cell)
+    requires kinds { kinds_of store.old ≡ kinds_in (wiring network.now) }
+    requires sound { IsSound (wiring network.now) store.old }
+    requires cell { cell < cells_in (wiring network.now) }
+    requires kind { kind_of (value_in (wiring network.now) store.old worldview.now cell)
         ≡ kind_of info.now }
     ensures unchanged { store.new ≡ store.old }
-    ensures enough { IfSome result (AreEnough (network_by network.now) store.old cell info.now worldview.now) }
+    ensures enough { IfSome result (AreEnough (wiring network.now) store.old cell info.now
+        worldview.now) }
 {
     // The network belongs to the store.
     let _instances = network.instances();
@@ -67,17 +69,17 @@ fn support_within<A: Allocator + Copy>(
     cell: u32,
     worldview: &PremiseSet,
 ) -> Result<Option<PremiseSet>, AllocError>
-    requires kinds { kinds_of store.old ≡ kinds_in (network_by network.now) }
-    requires sound { IsSound (network_by network.now) store.old }
-    requires cell { cell < cells_in (network_by network.now) }
-    requires kind { kind_of (value_in (network_by network.now) store.old worldview.now cell)
+    requires kinds { kinds_of store.old ≡ kinds_in (wiring network.now) }
+    requires sound { IsSound (wiring network.now) store.old }
+    requires cell { cell < cells_in (wiring network.now) }
+    requires kind { kind_of (value_in (wiring network.now) store.old worldview.now cell)
         ≡ kind_of info.now }
     ensures some { IfOk result (λ found. IfSome found
-        (AreEnough (network_by network.now) store.old cell info.now worldview.now)) }
+        (AreEnough (wiring network.now) store.old cell info.now worldview.now)) }
     ensures none { IfOk result (λ found. IfNone found
-        (Implies (value_in (network_by network.now) store.old worldview.now cell) info.now → ⊥)) }
-    ensures grows { KeepsMore (network_by network.now) store.old store.new }
-    ensures upstream { StaysUpstream (network_by network.now) store.old store.new }
+        (Implies (value_in (wiring network.now) store.old worldview.now cell) info.now → ⊥)) }
+    ensures grows { KeepsMore (wiring network.now) store.old store.new }
+    ensures upstream { StaysUpstream (wiring network.now) store.old store.new }
 {
     if let Some(support) = kept_support(network, store, info, cell, worldview) {
         return Ok(Some(support));
@@ -102,20 +104,19 @@ fn try_premise<A: Allocator + Copy>(
     left: Left,
     premise: u8,
 ) -> Result<Left, AllocError>
-    requires kinds { kinds_of store.old ≡ kinds_in (network_by network.now) }
-    requires sound { IsSound (network_by network.now) store.old }
-    requires settled { IsSettled (network_by network.now) store.old settled.now.worldview settled.now }
-    requires cell { cell < cells_in (network_by network.now) }
+    requires kinds { kinds_of store.old ≡ kinds_in (wiring network.now) }
+    requires sound { IsSound (wiring network.now) store.old }
+    requires settled { IsSettled (wiring network.now) store.old settled.now.worldview settled.now }
+    requires cell { cell < cells_in (wiring network.now) }
     requires part { is_subset left.premises settled.now.worldview ≡ true }
-    requires enough { AreEnough (network_by network.now) store.old cell
+    requires enough { AreEnough (wiring network.now) store.old cell
         (info_at settled.now.infos cell) left.premises left.support }
-    ensures left { IfOk result (λ after. after.premises
-        ≡ tried (λ w. value_in (network_by network.now) store.old w cell) settled.now.worldview
-        left.premises premise) }
-    ensures enough { IfOk result (λ after. AreEnough (network_by network.now) store.old cell
+    ensures left { IfOk result (λ after. after.premises ≡ tried_in (wiring network.now) store.old
+        cell settled.now.worldview left.premises premise) }
+    ensures enough { IfOk result (λ after. AreEnough (wiring network.now) store.old cell
         (info_at settled.now.infos cell) after.premises after.support) }
-    ensures grows { KeepsMore (network_by network.now) store.old store.new }
-    ensures upstream { StaysUpstream (network_by network.now) store.old store.new }
+    ensures grows { KeepsMore (wiring network.now) store.old store.new }
+    ensures upstream { StaysUpstream (wiring network.now) store.old store.new }
 {
     let premises = left.premises.without(premise);
     if !left.support.contains(premise) {
@@ -138,14 +139,14 @@ fn try_premises<A: Allocator + Copy>(
     settled: &Settled<A>,
     cell: u32,
 ) -> Result<PremiseSet, AllocError>
-    requires kinds { kinds_of store.old ≡ kinds_in (network_by network.now) }
-    requires sound { IsSound (network_by network.now) store.old }
-    requires settled { IsSettled (network_by network.now) store.old settled.now.worldview settled.now }
-    requires cell { cell < cells_in (network_by network.now) }
+    requires kinds { kinds_of store.old ≡ kinds_in (wiring network.now) }
+    requires sound { IsSound (wiring network.now) store.old }
+    requires settled { IsSettled (wiring network.now) store.old settled.now.worldview settled.now }
+    requires cell { cell < cells_in (wiring network.now) }
     ensures reason { IfOk result (λ reason. reason
-        ≡ reason_of (λ w. value_in (network_by network.now) store.old w cell) settled.now.worldview) }
-    ensures grows { KeepsMore (network_by network.now) store.old store.new }
-    ensures upstream { StaysUpstream (network_by network.now) store.old store.new }
+        ≡ reason_of (λ w. value_in (wiring network.now) store.old w cell) settled.now.worldview) }
+    ensures grows { KeepsMore (wiring network.now) store.old store.new }
+    ensures upstream { StaysUpstream (wiring network.now) store.old store.new }
 {
     let worldview = *settled.worldview();
     let mut left = Left {
@@ -181,20 +182,19 @@ pub fn reason<A: Allocator + Copy>(
     settled: &Settled<A>,
     cell: u32,
 ) -> Result<PremiseSet, AllocError>
-    requires kinds { kinds_of store.old ≡ kinds_in (network_by network.now) }
-    requires sound { IsSound (network_by network.now) store.old }
-    requires nogoods { AreNogoods (network_by network.now) store.old nogoods.old }
-    requires settled { IsSettled (network_by network.now) store.old settled.now.worldview settled.now }
-    requires cell { cell < cells_in (network_by network.now) }
+    requires kinds { kinds_of store.old ≡ kinds_in (wiring network.now) }
+    requires sound { IsSound (wiring network.now) store.old }
+    requires nogoods { AreNogoods (wiring network.now) store.old nogoods.old }
+    requires settled { IsSettled (wiring network.now) store.old settled.now.worldview settled.now }
+    requires cell { cell < cells_in (wiring network.now) }
     ensures reason { IfOk result (λ reason. reason
-        ≡ reason_of (λ w. value_in (network_by network.now) store.old w cell) settled.now.worldview) }
-    ensures covered { IfOk result (λ reason.
-        IsContradiction (value_in (network_by network.now) store.old settled.now.worldview cell)
-        → covers nogoods.new reason ≡ true) }
-    ensures nogoods { AreNogoods (network_by network.now) store.old nogoods.new }
+        ≡ reason_of (λ w. value_in (wiring network.now) store.old w cell) settled.now.worldview) }
+    ensures covered { IfOk result (CoversContradiction (wiring network.now) store.old
+        settled.now.worldview cell nogoods.new) }
+    ensures nogoods { AreNogoods (wiring network.now) store.old nogoods.new }
     ensures covers { (w : Premises) → covers nogoods.old w ≡ true → covers nogoods.new w ≡ true }
-    ensures grows { KeepsMore (network_by network.now) store.old store.new }
-    ensures upstream { StaysUpstream (network_by network.now) store.old store.new }
+    ensures grows { KeepsMore (wiring network.now) store.old store.new }
+    ensures upstream { StaysUpstream (wiring network.now) store.old store.new }
 {
     let left = try_premises(alloc, network, store, settled, cell)?;
     if settled.value(cell).info.is_contradiction() {

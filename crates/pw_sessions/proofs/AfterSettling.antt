@@ -8,10 +8,10 @@ use Rattle.pw_premises.specs.Premises.{Premises}
 use Rattle.pw_premises.specs.PremiseSubsets.{is_subset_refl}
 use Rattle.pw_cells.specs.Cells.{Store, kept_in, kinds_of}
 use Rattle.pw_network.specs.Network.{Network, IsWellNetwork}
-use Rattle.pw_settle.specs.Agenda.{tally}
+use Rattle.pw_settle.specs.inside.Progress.{tally}
 use Rattle.pw_settle.specs.Calls.{gains, visible_count}
-use Rattle.pw_settle.specs.Due.{AreDue}
-use Rattle.pw_settle.specs.Fitting.{IsFitting}
+use Rattle.pw_settle.specs.inside.Due.{AreDue}
+use Rattle.pw_settle.specs.Growth.{IsFitting}
 use Rattle.pw_settle.specs.Growth.{KeepsMore}
 use Rattle.pw_settle.specs.Settled.{IsSettled, Settled}
 use Rattle.pw_settle.specs.Sound.{IsSound}

@@ -8,8 +8,8 @@ use Rattle.pw_decl.specs.WellDeclared.{IsWellDeclared}
 use Rattle.pw_network.specs.Network.{IsWellNetwork}
 use Rattle.pw_sessions.specs.Reply as reply
 use Rattle.pw_sessions.specs.Entries.{entries_before}
-use Rattle.pw_sessions.specs.LineReading.{LineReading}
-use Rattle.pw_sessions.specs.Steps.{AnswersAsk, is_written}
+use Rattle.pw_sessions.specs.Reply.{LineReading}
+use Rattle.pw_sessions.specs.inside.Steps.{AnswersAsk, is_written}
 use Rattle.pw_sessions.specs.Workbench.{Workbench, IsLeftBy, beliefs_in}
 use Rattle.pw_sessions.proofs.EntriesRise.{rise_before}
 use Rattle.pw_sessions.proofs.WrittenCells.{unwritten_is}

@@ -4,7 +4,7 @@ use Rattle.std.proofs.lemmas.List.{map_push}
 use Rattle.pw_sessions.specs.declared.reply.Refusal.{Refusal}
 use Rattle.pw_decl.specs.Declaration.{Declared}
 use Rattle.pw_premises.specs.Premises.{Premises}
-use Rattle.pw_sessions.specs.LineReading.{LineReading, Blank, Refused, Says}
+use Rattle.pw_sessions.specs.Reply.{LineReading, Blank, Refused, Says}
 use Rattle.pw_sessions.specs.Entries.{Entry, entries_of, entries_from, entries_before}
 use Rattle.pw_sessions.specs.Beliefs.{believed_after, beliefs_at}
 use Rattle.pw_sessions.specs.Answer.{answer_to, user_of, reply_to, replies_after}

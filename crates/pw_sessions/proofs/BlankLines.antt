@@ -12,10 +12,10 @@ use Rattle.pw_sessions.specs.Answer.{answer_to, reply_to, user_of}
 use Rattle.pw_sessions.specs.Beliefs.{beliefs_at}
 use Rattle.pw_sessions.specs.Carrying.{CanBeCarriedOut, IsAnswered, IsUserOf}
 use Rattle.pw_sessions.specs.Entries.{entries_before}
-use Rattle.pw_sessions.specs.LineReading.{LineReading, Blank, Says, and_blank_lines}
-use Rattle.pw_sessions.specs.NamesDeclared.{IsDeclared}
-use Rattle.pw_sessions.specs.Steps.{CanCarryOut}
-use Rattle.pw_sessions.specs.TakesMemory.{MayBecome}
+use Rattle.pw_sessions.specs.Reply.{LineReading, Blank, Says, and_blank_lines}
+use Rattle.pw_sessions.specs.Command.{IsDeclared}
+use Rattle.pw_sessions.specs.inside.Steps.{CanCarryOut}
+use Rattle.pw_sessions.specs.Command.{MayBecome}
 use Rattle.pw_sessions.specs.Workbench.{Workbench, IsCarriedOut, IsLeftBy}
 use Rattle.pw_sessions.proofs.NextLines.{next_left}
 use Rattle.pw_sessions.proofs.WorkbenchLemmas.{left_same}

@@ -11,7 +11,7 @@ use Rattle.pw_sessions.specs.Answer.{answer_to, is_visible, reply_to, user_of, v
 use Rattle.pw_sessions.specs.Beliefs.{all_premises, believed_after, beliefs_at}
 use Rattle.pw_sessions.specs.Blanking.{blanked_for, kept_if, rests_on}
 use Rattle.pw_sessions.specs.Entries.{Entry, entries_before, entries_from, entries_of}
-use Rattle.pw_sessions.specs.LineReading.{LineReading, Blank, Refused, Says}
+use Rattle.pw_sessions.specs.Reply.{LineReading, Blank, Refused, Says}
 use Rattle.pw_sessions.proofs.EntryLemmas.{answer-visible}
 
 module _ (user : ℕ) (beliefs : Premises) where

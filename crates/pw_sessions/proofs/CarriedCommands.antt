@@ -5,7 +5,7 @@ use Rattle.pw_info.specs.declared.info.Info.{Info}
 use Rattle.pw_premises.specs.Premises.{Premises}
 use Rattle.pw_facts.specs.declared.fact.Fact.{Fact}
 use Rattle.pw_procs.specs.declared.arguments.Arguments.{Arguments}
-use Rattle.pw_procs.specs.Arguments.{cells_of}
+use Rattle.pw_procs.specs.Registry.{cells_of}
 use Rattle.pw_decl.specs.declared.step.Callable.{Callable}
 use Rattle.pw_decl.specs.Declaration.{Declared}
 use Rattle.pw_decl.specs.WellDeclared.{IsWellDeclared}
@@ -17,12 +17,12 @@ use Rattle.pw_sessions.specs.declared.command.Command.TheVariants as commands
 use Rattle.pw_sessions.specs.Reply.{Reply}
 use Rattle.pw_sessions.specs.Reply as reply
 use Rattle.pw_sessions.specs.declared.reply.Refusal.TheVariants as refusal
-use Rattle.pw_sessions.specs.Answer.{IsWritten, conflicts_of, value_in, visible_in}
+use Rattle.pw_sessions.specs.Answer.{IsWritten, conflicts_of, cell_value, visible_in}
 use Rattle.pw_sessions.specs.Beliefs.{beliefs_at}
 use Rattle.pw_sessions.specs.Entries.{entries_before}
-use Rattle.pw_sessions.specs.LineReading.{LineReading, Refused, Says}
-use Rattle.pw_sessions.specs.NamesDeclared.{IsDeclared}
-use Rattle.pw_sessions.specs.Steps.{AnswersAsk, AnswersConflicts, AnswersWhy, IsAsBefore, IsAttached, IsTold, OnlyKeepsMore, is_written}
+use Rattle.pw_sessions.specs.Reply.{LineReading, Refused, Says}
+use Rattle.pw_sessions.specs.Command.{IsDeclared}
+use Rattle.pw_sessions.specs.inside.Steps.{AnswersAsk, AnswersConflicts, AnswersWhy, IsAsBefore, IsAttached, IsTold, OnlyKeepsMore, is_written}
 use Rattle.pw_sessions.specs.Workbench.{Workbench, IsLeftBy, IsCarriedOut, beliefs_in}
 use Rattle.pw_sessions.proofs.EntriesRise.{rise_before}
 use Rattle.pw_sessions.proofs.NamedConflicts.{conflicts_named}
@@ -136,10 +136,10 @@ module _ (d : Declared) (well : IsWellDeclared d) (readings : List LineReading) 
 
   -- what settles under what the user believes is what follows from the visible entries
   value_settles : (user cell : ℕ) → user < length d.users → cell < length d.cells →
-      settled.value_in old.network old.store (beliefs_in old user) cell ≡ value_in d (visible_in (entries_before readings) (beliefs_at d user readings)) cell
+      settled.value_in old.network old.store (beliefs_in old user) cell ≡ cell_value d (visible_in (entries_before readings) (beliefs_at d user readings)) cell
   value_settles user cell there here =
       value_is d (entries_before readings) old.network old.store (beliefs_in old user) cell well left.fit (rise_before readings) left.network left.told here
-      ∙ ap (λ w. value_in d (visible_in (entries_before readings) w) cell) (left.beliefs user there)
+      ∙ ap (λ w. cell_value d (visible_in (entries_before readings) w) cell) (left.beliefs user there)
 
   -- and if an instance writes the cell, so do the visible entries
   entries_write : (user cell : ℕ) → user < length d.users → cell < length d.cells → is_written old.network.attached cell (beliefs_in old user) ≡ true →
@@ -173,7 +173,7 @@ module _ (d : Declared) (well : IsWellDeclared d) (readings : List LineReading) 
   by_number cell w = settled.value_in old.network old.store w cell
 
   abbrev by_name : ℕ → Premises → Info
-  by_name cell w = value_in d (visible_in (entries_before readings) w) cell
+  by_name cell w = cell_value d (visible_in (entries_before readings) w) cell
 
   -- what settles at the cell is what follows, for all beliefs
   settles_everywhere : (cell : ℕ) → cell < length d.cells → by_number cell ≡ by_name cell

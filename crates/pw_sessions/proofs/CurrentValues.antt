@@ -19,15 +19,16 @@ use Rattle.pw_facts.proofs.Shown.{kind-shows}
 use Rattle.pw_cells.specs.Cells.{Cell, Store, cell_at, kept_in, kept_of, kind_in_store, kinds_of, new_cell, told_in, told_of}
 use Rattle.pw_cells.proofs.Together.{kind-shown_by}
 use Rattle.pw_network.specs.Network.{Attached, Network, IsWellNetwork, cells_in}
-use Rattle.pw_settle.specs.Calls.{is_visible, visible_at}
-use Rattle.pw_settle.specs.Fitting.{IsFitting, said_of}
+use Rattle.pw_settle.specs.Calls.{is_instance_visible, visible_at}
+use Rattle.pw_settle.specs.Growth.{IsFitting, said_of}
 use Rattle.pw_settle.specs.Growth.{KeepsMore}
-use Rattle.pw_settle.specs.Known.{SaysTold}
-use Rattle.pw_settle.specs.Progress.{AreSatisfied, IsSatisfied, attached_no}
+use Rattle.pw_settle.specs.inside.Known.{SaysTold}
+use Rattle.pw_settle.specs.inside.Progress.{AreSatisfied}
+use Rattle.pw_settle.specs.Values.{IsSatisfied, attached_no}
 use Rattle.pw_settle.specs.Settled.{IsSettled, Settled, info_at}
 use Rattle.pw_settle.specs.Sound.{IsSound}
 use Rattle.pw_settle.specs.Values.{kinds_in, numbered, value_in}
-use Rattle.pw_settle.specs.Wider.{IsWider}
+use Rattle.pw_settle.specs.Growth.{IsWider}
 use Rattle.pw_settle.proofs.FittingLaws.{fits_added, fits_more, fits_wider}
 use Rattle.pw_settle.proofs.Growing.{keeps_more_same, same_value}
 use Rattle.pw_settle.proofs.KeptFacts.{also_implies, by_cell, implies_also, implies_merge, kind-in_value, kind-kept, kind_there}
@@ -35,7 +36,7 @@ use Rattle.pw_settle.proofs.KeptProgress.{visible_no}
 use Rattle.pw_settle.proofs.SettledStores.{kept_settled}
 use Rattle.pw_settle.proofs.SettledValues.{kinds_many}
 use Rattle.pw_sessions.specs.Session.{IsCurrent, KeepsValues, SayAlready}
-use Rattle.pw_sessions.specs.Steps.{TakesFact}
+use Rattle.pw_sessions.specs.inside.Steps.{TakesFact}
 use Rattle.pw_settle.proofs.SoundStores.{cell_added, cell_stays, more_kept, sound_attached, sound_told}
 use Rattle.pw_settle.proofs.WiderNetworks.{value_says_told}
 
@@ -61,7 +62,7 @@ module _ (network : Network) (well : IsWellNetwork network) (store : Store) (sam
     (told : SaysTold store settled.worldview) (sound : IsSound network store) where
   -- an instance that is visible was there
   was_there : (number : ℕ) (d : Attached) → number < length network.attached →
-      is_visible settled.worldview (attached_no network number d) ≡ true → number < settled.instances
+      is_instance_visible settled.worldview (attached_no network number d) ≡ true → number < settled.instances
   was_there number d below seen =
       elim (cases_Bool (nat_lt number settled.instances)) [
         | inl is ↦ ltb-true number settled.instances is
@@ -106,8 +107,8 @@ pub current_settled : (network : Network) (well : IsWellNetwork network) (old ne
 current_settled network well old new w settled same grows is fits all kept = record {
   fits = fits;
   none_newer = λ number past.
-      get_or_past (map (is_visible settled.worldview) network.attached) number false
-      (omega (arith, past, all, length-map network.attached (is_visible settled.worldview)));
+      get_or_past (map (is_instance_visible settled.worldview) network.attached) number false
+      (omega (arith, past, all, length-map network.attached (is_instance_visible settled.worldview)));
   said = λ cell. said_here cell ∙ now cell;
   kept = λ cell. ap (kept_in new cell) is.worldview_is ∙ kept cell ∙ now cell;
 } where
@@ -219,10 +220,10 @@ module _ (network wider : Network) (wide : IsWider network wider) (well : IsWell
   -- which others are visible is as before
   visible_before : (w : Premises) (number : ℕ) → number < length network.attached → visible_at wider w number ≡ visible_at network w number
   visible_before w number below =
-      ap (λ (l : List Attached). get_or (map (is_visible w) l) number false) wide.attached_are
-      ∙ ap (λ (l : List Bool). get_or l number false) (map-append (is_visible w) network.attached wide.more)
-      ∙ get_or_append_left (map (is_visible w) network.attached) (map (is_visible w) wide.more) false number
-      (omega (arith, below, length-map network.attached (is_visible w)))
+      ap (λ (l : List Attached). get_or (map (is_instance_visible w) l) number false) wide.attached_are
+      ∙ ap (λ (l : List Bool). get_or l number false) (map-append (is_instance_visible w) network.attached wide.more)
+      ∙ get_or_append_left (map (is_instance_visible w) network.attached) (map (is_instance_visible w) wide.more) false number
+      (omega (arith, below, length-map network.attached (is_instance_visible w)))
 
   kind_before : (c : ℕ) → here c → (numbered (kinds_in wider)).kind c ≡ (numbered (kinds_in network)).kind c
   kind_before c there =
@@ -285,15 +286,15 @@ module _ (network wider : Network) (wide : IsWider network wider) (well : IsWell
 pub hidden_after : (network wider : Network) (wide : IsWider network wider) (support w : Premises) → All (λ (a : Attached). a.support ≡ support) wide.more →
     is_subset support w ≡ false → (number : ℕ) → length network.attached ≤ number → visible_at wider w number ≡ false
 hidden_after network wider wide support w all hidden number past =
-    let before : length (map (is_visible w) network.attached) ≡ length network.attached = length-map network.attached (is_visible w) in
-    let at : number ≡ length (map (is_visible w) network.attached) + (number - length network.attached) = omega (arith, past, before) in
-    ap (λ (l : List Attached). get_or (map (is_visible w) l) number false) wide.attached_are
-    ∙ ap (λ (l : List Bool). get_or l number false) (map-append (is_visible w) network.attached wide.more)
-    ∙ ap (λ n. get_or (map (is_visible w) network.attached ++ map (is_visible w) wide.more) n false) at
-    ∙ get_or-append-add (map (is_visible w) network.attached) (map (is_visible w) wide.more) (number - length network.attached) false
+    let before : length (map (is_instance_visible w) network.attached) ≡ length network.attached = length-map network.attached (is_instance_visible w) in
+    let at : number ≡ length (map (is_instance_visible w) network.attached) + (number - length network.attached) = omega (arith, past, before) in
+    ap (λ (l : List Attached). get_or (map (is_instance_visible w) l) number false) wide.attached_are
+    ∙ ap (λ (l : List Bool). get_or l number false) (map-append (is_instance_visible w) network.attached wide.more)
+    ∙ ap (λ n. get_or (map (is_instance_visible w) network.attached ++ map (is_instance_visible w) wide.more) n false) at
+    ∙ get_or-append-add (map (is_instance_visible w) network.attached) (map (is_instance_visible w) wide.more) (number - length network.attached) false
     ∙ none_shown wide.more all (number - length network.attached)
   where
-    none_shown : (more : List Attached) → All (λ (a : Attached). a.support ≡ support) more → (n : ℕ) → get_or (map (is_visible w) more) n false ≡ false
+    none_shown : (more : List Attached) → All (λ (a : Attached). a.support ≡ support) more → (n : ℕ) → get_or (map (is_instance_visible w) more) n false ≡ false
     none_shown [] one n = refl
     none_shown (a ∷ more) one zero = ap (λ (s : Premises). is_subset s w) (All-head (λ (b : Attached). b.support ≡ support) a more one) ∙ hidden
     none_shown (a ∷ more) one (suc n) = none_shown more (All-tail (λ (b : Attached). b.support ≡ support) a more one) n

@@ -8,7 +8,7 @@ use Rattle.pw_decl.specs.declared.step.Callable.{Callable}
 use Rattle.pw_decl.specs.Declaration.{Declared}
 use Rattle.pw_decl.specs.Expansion.{inner_kinds_of}
 use Rattle.pw_sessions.specs.declared.command.Command.TheVariants as commands
-use Rattle.pw_sessions.specs.LineReading.{LineReading, Says}
+use Rattle.pw_sessions.specs.Reply.{LineReading, Says}
 use Rattle.pw_sessions.specs.Entries.{Entry, Told, Attached, RiseFrom, line_of, entries_from, entries_before}
 use Rattle.pw_sessions.specs.CellNames.{inner_kinds_at}
 

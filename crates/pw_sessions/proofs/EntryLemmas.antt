@@ -19,7 +19,7 @@ use Rattle.pw_facts.specs.Facts.{shows}
 use Rattle.pw_decl.specs.declared.step.Callable.{Callable}
 use Rattle.pw_decl.specs.Declaration.{Declared, kind_at}
 use Rattle.pw_decl.specs.Expansion.{Instance}
-use Rattle.pw_network.specs.Names.{Name, DeclaredCell, InnerCellOf}
+use Rattle.pw_network.specs.Wiring.{Name, DeclaredCell, InnerCellOf}
 use Rattle.pw_settle.specs.Sources as sources
 use Rattle.pw_settle.specs.Sources.{Source, Propagator, is_propagator}
 use Rattle.pw_settle.specs.Fixpoint.{with_source}
@@ -29,7 +29,7 @@ use Rattle.pw_reasons.proofs.ReasonLemmas.{reason_of_subsets}
 use Rattle.pw_sessions.specs.declared.command.Command.{Command}
 use Rattle.pw_sessions.specs.declared.command.Command.TheVariants as commands
 use Rattle.pw_sessions.specs.Reply as reply
-use Rattle.pw_sessions.specs.Answer.{answer_to, conflicts_of, is_visible, reason_in, sources_after, sources_of, value_in, visible_in}
+use Rattle.pw_sessions.specs.Answer.{answer_to, conflicts_of, is_visible, reason_in, sources_after, sources_of, cell_value, visible_in}
 use Rattle.pw_sessions.specs.CellNames.{named_cells, names_after, same_name}
 use Rattle.pw_sessions.specs.Entries.{Entry, Told, Attached, support_of}
 
@@ -98,7 +98,7 @@ kind-tells name info [] = refl
 kind-tells name info (source ∷ given) = kind-tells name (with_tell name info source) given ∙ kind-with_tell name info source
 
 -- the value of a declared cell has its kind
-pub kind-value_in : (d : Declared) (entries : List Entry) (cell : ℕ) → kind_of (value_in d entries cell) ≡ kind_at d cell
+pub kind-value_in : (d : Declared) (entries : List Entry) (cell : ℕ) → kind_of (cell_value d entries cell) ≡ kind_at d cell
 kind-value_in d entries cell = kind-fixpoint (named_cells d entries) (names_after d entries) (sources_after d entries) (DeclaredCell cell)
 
 -- ---- one more entry
@@ -191,16 +191,16 @@ visible_narrower entries some beliefs within =
 reason-visible : (d : Declared) (entries : List Entry) (beliefs : Premises) (cell : ℕ) →
     reason_in d (visible_in entries beliefs) beliefs cell ≡ reason_in d entries beliefs cell
 reason-visible d entries beliefs cell =
-    reason_of_subsets (λ w. value_in d (visible_in (visible_in entries beliefs) w) cell) (λ w. value_in d (visible_in entries w) cell) beliefs
-    (λ some within. ap (λ (l : List Entry). value_in d l cell) (visible_narrower entries some beliefs within))
+    reason_of_subsets (λ w. cell_value d (visible_in (visible_in entries beliefs) w) cell) (λ w. cell_value d (visible_in entries w) cell) beliefs
+    (λ some within. ap (λ (l : List Entry). cell_value d l cell) (visible_narrower entries some beliefs within))
 
 -- the answer from only the visible entries is the answer
 pub answer-visible : (d : Declared) (entries : List Entry) (beliefs : Premises) (command : Command) →
     answer_to d (visible_in entries beliefs) beliefs command ≡ answer_to d entries beliefs command
 answer-visible d entries beliefs (commands.Ask user cell) =
-    ap (λ (l : List Entry). reply.Value (value_in d l cell)) (filter_twice (is_visible beliefs) entries)
+    ap (λ (l : List Entry). reply.Value (cell_value d l cell)) (filter_twice (is_visible beliefs) entries)
 answer-visible d entries beliefs (commands.Why user cell) = λ i.
-    reply.Because (value_in d (filter_twice (is_visible beliefs) entries i) cell) (reason-visible d entries beliefs cell i)
+    reply.Because (cell_value d (filter_twice (is_visible beliefs) entries i) cell) (reason-visible d entries beliefs cell i)
 answer-visible d entries beliefs (commands.Conflicts user) =
     ap (λ (l : List Entry). reply.Listed (conflicts_of d l)) (filter_twice (is_visible beliefs) entries)
 answer-visible d entries beliefs (commands.Tell user cell fact) = refl

@@ -8,9 +8,9 @@ use Rattle.pw_info.specs.Rank.{rank_of}
 use Rattle.pw_premises.specs.Premises.{Premises}
 use Rattle.pw_cells.specs.Cells.{Store, kept_in}
 use Rattle.pw_network.specs.Network.{Network}
-use Rattle.pw_settle.specs.Agenda.{is_set, tally}
-use Rattle.pw_settle.specs.Calls.{gains, is_visible, reader_count, visible_at, visible_count}
-use Rattle.pw_settle.specs.Due.{AreDue, IsDue}
+use Rattle.pw_settle.specs.inside.Progress.{is_set, tally}
+use Rattle.pw_settle.specs.Calls.{gains, is_instance_visible, reader_count, visible_at, visible_count}
+use Rattle.pw_settle.specs.inside.Due.{AreDue, IsDue}
 use Rattle.pw_settle.specs.Settled.{Settled}
 use Rattle.pw_settle.specs.Values.{value_in}
 use Rattle.pw_settle.proofs.SettledStores.{tally_visible}
@@ -57,9 +57,9 @@ no_flags (false ∷ flags) none =
 pub due_most : (network : Network) (store : Store) (w : Premises) (settled : Settled) (due : List Bool) → AreDue network store w settled due →
     tally due ≤ visible_count network w
 due_most network store w settled due are =
-    let fewer = fewer_flags due (map (is_visible w) network.attached) (are.many ∙ sym (length-map network.attached (is_visible w)))
+    let fewer = fewer_flags due (map (is_instance_visible w) network.attached) (are.many ∙ sym (length-map network.attached (is_instance_visible w)))
     (λ n flag. ((are.are n).0 flag).0) in
-    omega (arith, fewer, tally_visible (is_visible w) network.attached)
+    omega (arith, fewer, tally_visible (is_instance_visible w) network.attached)
 
 -- with current values of the same worldview none is due
 pub none_due : (network : Network) (store : Store) (w : Premises) (settled : Settled) → settled.worldview ≡ w → IsCurrent network store settled →

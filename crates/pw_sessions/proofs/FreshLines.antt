@@ -6,23 +6,23 @@ use Rattle.pw_info.specs.Information.{kind_of}
 use Rattle.pw_premises.specs.Premises.{Premises}
 use Rattle.pw_facts.specs.declared.fact.Fact.{Fact}
 use Rattle.pw_procs.specs.declared.arguments.Arguments.{Arguments}
-use Rattle.pw_procs.specs.Arguments.{cells_of}
+use Rattle.pw_procs.specs.Registry.{cells_of}
 use Rattle.pw_cells.specs.Cells.{Cell, kind_in_store, kinds_of}
 use Rattle.pw_decl.specs.declared.step.Callable.{Callable}
 use Rattle.pw_decl.specs.Declaration.{Declared}
 use Rattle.pw_decl.specs.Expansion.{inner_kinds_of}
 use Rattle.pw_network.specs.Network.{Attached, IsWellNetwork}
 use Rattle.pw_settle.specs.Values.{kinds_in}
-use Rattle.pw_settle.specs.Wider.{IsWider}
+use Rattle.pw_settle.specs.Growth.{IsWider}
 use Rattle.pw_sessions.specs.declared.command.Command.{Command}
 use Rattle.pw_sessions.specs.declared.command.Command.TheVariants as commands
 use Rattle.pw_sessions.specs.Answer.{IsWritten, visible_in}
 use Rattle.pw_sessions.specs.Entries.{entries_before}
 use Rattle.pw_sessions.specs.Freshness.{IsFresh, MayEndFreshness, Settles}
-use Rattle.pw_sessions.specs.LineReading.{LineReading, Says}
-use Rattle.pw_sessions.specs.NamesDeclared.{IsDeclared}
+use Rattle.pw_sessions.specs.Reply.{LineReading, Says}
+use Rattle.pw_sessions.specs.Command.{IsDeclared}
 use Rattle.pw_sessions.specs.Reply as reply
-use Rattle.pw_sessions.specs.Steps.{CanCarryOut, IsAttached, StoreFits, is_written}
+use Rattle.pw_sessions.specs.inside.Steps.{CanCarryOut, IsAttached, StoreFits, is_written}
 use Rattle.pw_sessions.specs.Workbench.{IsLeftBy, IsSetUpFor, Workbench, beliefs_in}
 use Rattle.pw_sessions.proofs.AskedCells.{well_left}
 use Rattle.pw_sessions.proofs.EntriesRise.{rise_before}

@@ -18,21 +18,21 @@ use Rattle.pw_decl.specs.declared.step.Callable.{Callable}
 use Rattle.pw_decl.specs.Declaration.{Declared}
 use Rattle.pw_decl.specs.Expansion.{inner_kinds_of}
 use Rattle.pw_network.specs.Network.{Attached, Network, IsWellNetwork}
-use Rattle.pw_settle.specs.Agenda.{is_set}
+use Rattle.pw_settle.specs.inside.Progress.{is_set}
 use Rattle.pw_settle.specs.Calls.{visible_count}
 use Rattle.pw_settle.specs.Settled.{Settled, info_at}
 use Rattle.pw_settle.specs.Values.{kinds_in, value_in}
-use Rattle.pw_settle.specs.Wider.{IsWider}
+use Rattle.pw_settle.specs.Growth.{IsWider}
 use Rattle.pw_settle.proofs.KeptFacts.{also_implies}
 use Rattle.pw_sessions.specs.declared.command.Command.{Command}
 use Rattle.pw_sessions.specs.declared.reply.Refusal.TheVariants as refusal
 use Rattle.pw_sessions.specs.Answer.{user_of}
 use Rattle.pw_sessions.specs.Freshness.{CallsDueFor, CallsFew, CountsCalls, CountsSettling, IsAsked, IsFresh, KeepsFresh, MayEndFreshness, Settles}
-use Rattle.pw_sessions.specs.LineReading.{LineReading}
+use Rattle.pw_sessions.specs.Reply.{LineReading}
 use Rattle.pw_sessions.specs.Reply.{Reply}
 use Rattle.pw_sessions.specs.Reply as reply
 use Rattle.pw_sessions.specs.Session.{Becomes, IsAfterTell, IsCurrent, IsSessionOf, KeepsValues, Session, after_entry}
-use Rattle.pw_sessions.specs.Steps.{IsAsBefore, IsAttached, IsTold, OnlyKeepsMore, StoreFits}
+use Rattle.pw_sessions.specs.inside.Steps.{IsAsBefore, IsAttached, IsTold, OnlyKeepsMore, StoreFits}
 use Rattle.pw_sessions.specs.Workbench.{IsLeftBy, Workbench, beliefs_in, session_in}
 use Rattle.pw_sessions.proofs.CurrentValues.{current_attached, current_keeping, current_told, hidden_after, said_at}
 use Rattle.pw_sessions.proofs.FewCalls.{no_flags, none_due}

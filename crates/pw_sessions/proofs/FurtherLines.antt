@@ -3,7 +3,7 @@ use Rattle.std.proofs.Common.{◌≡◌, ℕ, suc, ◌+◌, List, [], ◌∷◌,
 use Rattle.std.proofs.lemmas.List.Sums.{fold-append}
 use Rattle.pw_decl.specs.Declaration.{Declared}
 use Rattle.pw_sessions.specs.Reply.{Reply}
-use Rattle.pw_sessions.specs.LineReading.{LineReading}
+use Rattle.pw_sessions.specs.Reply.{LineReading}
 use Rattle.pw_sessions.specs.Entries.{entries_of, entries_from, entries_before}
 use Rattle.pw_sessions.specs.Beliefs.{all_premises, believed_after, beliefs_at}
 use Rattle.pw_sessions.specs.Answer.{reply_to, replies_after, replies_of}

@@ -9,18 +9,18 @@ use Rattle.pw_premises.specs.Premises.{Premises}
 use Rattle.pw_premises.specs.PremiseSubsets.{is_subset_trans}
 use Rattle.pw_decl.specs.Declaration.{Declared}
 use Rattle.pw_decl.specs.WellDeclared.{IsWellDeclared}
-use Rattle.pw_network.specs.Names.{Name, DeclaredCell}
+use Rattle.pw_network.specs.Wiring.{Name, DeclaredCell}
 use Rattle.pw_settle.specs.Sources.{Source}
 use Rattle.pw_settle.specs.Fixpoint.{AreOver, fixpoint}
 use Rattle.pw_settle.proofs.FixpointLemmas.{fixpoint_more}
 use Rattle.pw_settle.proofs.Membership.{contains_filter, each_member}
 use Rattle.pw_reasons.specs.Reason.{Grows}
 use Rattle.pw_sessions.specs.declared.command.Command.TheVariants as commands
-use Rattle.pw_sessions.specs.Answer.{MeetTheLaws, is_visible, sources_after, sources_of, value_under, visible_in}
+use Rattle.pw_sessions.specs.Answer.{MeetTheLaws, is_visible, sources_after, sources_of, cell_value_under, visible_in}
 use Rattle.pw_sessions.specs.CellNames.{named_cells, names_after}
 use Rattle.pw_sessions.specs.Entries.{Entry, FitsDeclared, RiseFrom, entries_before, entries_from, entries_of, support_of}
-use Rattle.pw_sessions.specs.LineReading.{LineReading, Blank, Refused, Says}
-use Rattle.pw_sessions.specs.NamesDeclared.{IsDeclared}
+use Rattle.pw_sessions.specs.Reply.{LineReading, Blank, Refused, Says}
+use Rattle.pw_sessions.specs.Command.{IsDeclared}
 use Rattle.pw_sessions.proofs.EntriesRise.{finds_kinds, rise_before, rise_kept}
 use Rattle.pw_sessions.proofs.NameMembers.{inner_named}
 use Rattle.pw_sessions.proofs.NamedSources.{sources_over}
@@ -84,19 +84,19 @@ fit_from d number (reading ∷ readings) named =
 
 -- no less is known about a declared cell if more is believed
 pub values_grow : (d : Declared) (readings : List LineReading) (cell : ℕ) → IsWellDeclared d → All (IsDeclared d) readings → cell < length d.cells →
-    Grows (value_under d (entries_before readings) cell)
+    Grows (cell_value_under d (entries_before readings) cell)
 values_grow d readings cell well named here =
     let entries : List Entry = entries_before readings in
     let fit : All (FitsDeclared d) entries = fit_from d 1 readings named in
     let rise : RiseFrom 0 entries = rise_before readings in
     let said : Premises → List (Source Name) = λ w. sources_after d (visible_in entries w) in
     let over : (w : Premises) → AreOver (named_cells d entries) (names_after d entries) (said w) = seen_over d well entries fit rise in
-    let value : (w : Premises) → fixpoint (named_cells d entries) (names_after d entries) (said w) (DeclaredCell cell) ≡ value_under d entries cell w =
+    let value : (w : Premises) → fixpoint (named_cells d entries) (names_after d entries) (said w) (DeclaredCell cell) ≡ cell_value_under d entries cell w =
     λ w. seen_value d well entries fit rise w cell here in
     record {
       kinds = λ s t. kind-value_in d (visible_in entries s) cell ∙ sym (kind-value_in d (visible_in entries t) cell);
       more = λ s t within.
-          subst (λ (i : Info). Implies (value_under d entries cell t) i) (value s)
+          subst (λ (i : Info). Implies (cell_value_under d entries cell t) i) (value s)
           (subst (λ (i : Info). Implies i (fixpoint (named_cells d entries) (names_after d entries) (said s) (DeclaredCell cell))) (value t)
           (fixpoint_more (named_cells d entries) (names_after d entries) (names_after d entries) (said s) (said t) (over s).fit (over t)
           (some_among (sources_of d) (visible_in entries s) (visible_in entries t) (still_visible entries s t within)) (DeclaredCell cell)));

@@ -15,12 +15,12 @@ use Rattle.pw_facts.specs.declared.fact.Fact.{Fact}
 use Rattle.pw_cells.specs.Cells.{Cell, Store, kept_in, kind_in_store, kinds_of, new_cell, told_in}
 use Rattle.pw_decl.specs.Declaration.{Declared}
 use Rattle.pw_network.specs.Network.{Attached, Network, IsWellNetwork}
-use Rattle.pw_settle.specs.Fitting.{IsFitting}
+use Rattle.pw_settle.specs.Growth.{IsFitting}
 use Rattle.pw_settle.specs.Growth.{KeepsMore, StaysUpstream}
 use Rattle.pw_settle.specs.Settled.{IsSettled, Settled, info_at}
 use Rattle.pw_settle.specs.Sound.{IsSound}
 use Rattle.pw_settle.specs.Values.{kinds_in}
-use Rattle.pw_settle.specs.Wider.{IsWider}
+use Rattle.pw_settle.specs.Growth.{IsWider}
 use Rattle.pw_settle.proofs.FittingLaws.{fits_added, fits_more, fits_wider}
 use Rattle.pw_settle.proofs.Growing.{keeps_more_same, keeps_more_then}
 use Rattle.pw_settle.proofs.KeptFacts.{implies_shown, kind_there}
@@ -28,7 +28,7 @@ use Rattle.pw_settle.proofs.SettledValues.{kinds_many}
 use Rattle.pw_reasons.specs.Nogood.{AreNogoods}
 use Rattle.pw_reasons.proofs.NogoodLemmas.{nogoods_same}
 use Rattle.pw_sessions.specs.Session.{Becomes, EachBecomes, HaveValues, IsAfterTell, IsCurrent, SayAlready, Session, IsSessionOf, after_entry}
-use Rattle.pw_sessions.specs.Steps.{OnlyKeepsMore, StoreFits, TakesFact}
+use Rattle.pw_sessions.specs.inside.Steps.{OnlyKeepsMore, StoreFits, TakesFact}
 use Rattle.pw_sessions.specs.Workbench.{SessionsFit, Workbench, beliefs_in}
 use Rattle.pw_sessions.proofs.CurrentValues.{current_attached, current_keeping, current_told, hidden_after}
 use Rattle.pw_settle.proofs.SoundStores.{more_kept, sound_same}

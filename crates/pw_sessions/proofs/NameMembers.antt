@@ -6,7 +6,7 @@ use Rattle.pw_info.specs.declared.kind.Kind.{Kind}
 use Rattle.pw_info.specs.declared.kind.Kind.TheVariants as kinds
 use Rattle.pw_decl.specs.Declaration.{Declared}
 use Rattle.pw_decl.specs.Expansion.{inner_kinds_of}
-use Rattle.pw_network.specs.Names.{Name, DeclaredCell, InnerCellOf}
+use Rattle.pw_network.specs.Wiring.{Name, DeclaredCell, InnerCellOf}
 use Rattle.pw_settle.proofs.Membership.{contains_map, each_member}
 use Rattle.pw_settle.proofs.SettledValues.{contains_number}
 use Rattle.pw_sessions.specs.CellNames.{inner_names_of, kind_by_name, names_after}

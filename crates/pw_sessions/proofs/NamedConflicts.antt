@@ -18,17 +18,17 @@ use Rattle.pw_decl.specs.Declaration.{Declared}
 use Rattle.pw_decl.specs.Expansion.{inner_kinds_of}
 use Rattle.pw_decl.specs.WellDeclared.{IsWellDeclared}
 use Rattle.pw_decl.proofs.FlatKept.{range_below}
-use Rattle.pw_network.specs.Names.{Name, DeclaredCell, InnerCellOf, name_from, name_in}
+use Rattle.pw_network.specs.Wiring.{Name, DeclaredCell, InnerCellOf, name_from, name_in}
 use Rattle.pw_network.specs.Network.{Network, cells_in, origin_in}
 use Rattle.pw_settle.specs.Sources.{Cells, Source, cell_of, is_propagator, said_by}
-use Rattle.pw_settle.specs.Fixpoint.{AreOver, fixpoint, nothing_known, told_of, with_source}
+use Rattle.pw_settle.specs.Fixpoint.{AreOver, fixpoint, unknown_at, told_alone, with_source}
 use Rattle.pw_settle.specs.Values as values
 use Rattle.pw_settle.proofs.Membership.{contains_filter, contains_map}
 use Rattle.pw_settle.proofs.MergedTells.{told_merged, unwritten_told}
 use Rattle.pw_reasons.specs.Conflicts.{AreConflicts, Conflicts, HasConflict}
 use Rattle.pw_reasons.specs.SameInfo.{is_contradiction}
 use Rattle.pw_reasons.proofs.ConflictLemmas.{nothing_is_possible, same_passing}
-use Rattle.pw_sessions.specs.Answer.{conflicts_of, has_conflict, is_visible, sources_after, value_by_name, value_in, visible_in}
+use Rattle.pw_sessions.specs.Answer.{conflicts_of, has_conflict, is_visible, sources_after, value_by_name, cell_value, visible_in}
 use Rattle.pw_sessions.specs.CellNames.{inner_names_of, kind_by_name, named_cells, names_after, same_name, same_name_decides}
 use Rattle.pw_sessions.specs.Entries.{Entry, Told, Attached, FitsDeclared, RiseFrom, line_of}
 use Rattle.pw_sessions.specs.Workbench.{WasTold, network_after}
@@ -61,7 +61,7 @@ module _ {C : Type 0} (cells : Cells C) (c : C) where
       (All-weaker (λ s. cell_of s ≡ c → ⊥) (λ s. cell_of s ≡ c → is_propagator s ≡ true → ⊥)
       (λ s other same passes. other same) sources others)
       over are
-      ∙ others_leave (nothing_known cells) (nothing (cells.kind c)) (filter (λ s. not (is_propagator s)) sources)
+      ∙ others_leave (unknown_at cells) (nothing (cells.kind c)) (filter (λ s. not (is_propagator s)) sources)
       (All-filter (λ s. not (is_propagator s)) (λ s. cell_of s ≡ c → ⊥) sources others)
 
 -- ---- names of inner cells
@@ -153,7 +153,7 @@ module _ (d : Declared) (entries : List Entry) (network : Network) (store : Stor
   value_follows cell here =
       value_by_number d entries network named w store told cell here
       ∙ told_merged (named_cells d entries) (names_after d entries) said (seen_over d well entries fit rise w)
-      (told_of (named_cells d entries) said) (λ c among. refl) (name_in network cell)
+      (told_alone (named_cells d entries) said) (λ c among. refl) (name_in network cell)
 
   -- if the visible entries name it, this is their value by name
   value_shown : (cell : ℕ) → cell < cells_in network → Contains (names_after d shown) (name_in network cell) →
@@ -257,7 +257,7 @@ conflicts_named d entries network store w conflicts well fit rise is told are =
     let cells : conflicts.cells ≡ (conflicts_of d shown).cells =
     are.cells
     ∙ (λ i. filter (λ cell. is_contradiction (value cell)) (range_with_len 0 (length (named.declared i).cells)))
-    ∙ same_passing value (value_in d shown) 0 (length d.cells) (length d.cells) (omega arith)
+    ∙ same_passing value (cell_value d shown) 0 (length d.cells) (length d.cells) (omega arith)
     (λ cell here. value_is d entries network store w cell well fit rise is told here) in
     let seen_rise : RiseFrom 0 (filter (has_conflict d shown) shown) =
     rise_kept (has_conflict d shown) 0 shown (rise_kept (is_visible w) 0 entries rise) in

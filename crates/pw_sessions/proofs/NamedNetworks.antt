@@ -7,7 +7,7 @@ use Rattle.pw_premises.specs.Premises.{Premises}
 use Rattle.pw_decl.specs.Declaration.{Declared}
 use Rattle.pw_decl.specs.Expansion.{SpeaksOf, renamed}
 use Rattle.pw_decl.specs.WellDeclared.{IsWellDeclared}
-use Rattle.pw_network.specs.Names.{DeclaredCell, name_in}
+use Rattle.pw_network.specs.Wiring.{DeclaredCell, name_in}
 use Rattle.pw_network.specs.Network.{Attached as AttachedInstance, InstancesStay, Network, bare, cells_in, kind_in}
 use Rattle.pw_settle.specs.Sources.{is_propagator, source_renamed}
 use Rattle.pw_settle.specs.Values.{kinds_in, propagators_of, visible_instances}

@@ -12,18 +12,18 @@ use Rattle.pw_decl.specs.Compound.{AreCompoundsAfter}
 use Rattle.pw_decl.specs.Declaration.{Declared}
 use Rattle.pw_decl.specs.WellDeclared.{IsWellDeclared}
 use Rattle.pw_decl.proofs.FlatKept.{range_below}
-use Rattle.pw_network.specs.Names.{Name, DeclaredCell, name_in}
+use Rattle.pw_network.specs.Wiring.{Name, DeclaredCell, name_in}
 use Rattle.pw_network.specs.Network.{Network, cells_in}
 use Rattle.pw_settle.specs.Sources as sources
 use Rattle.pw_settle.specs.Sources.{Cells, Names, Propagator, Source, is_propagator, source_renamed}
-use Rattle.pw_settle.specs.Fixpoint.{AreNamesOf, AreOver, fixpoint, told_in_one, told_of}
+use Rattle.pw_settle.specs.Fixpoint.{AreNamesOf, AreOver, fixpoint, told_in_one, told_alone}
 use Rattle.pw_settle.specs.Values as values
-use Rattle.pw_settle.specs.Values.{kinds_in, numbered, numbers_of, propagators_of, sources_in, told_sources, visible_instances}
+use Rattle.pw_settle.specs.Values.{kinds_in, numbered, numbers_of_cells, propagators_of, sources_in, told_sources, visible_instances}
 use Rattle.pw_settle.proofs.FixpointLemmas.{fixpoint_wider}
 use Rattle.pw_settle.proofs.Membership.{same_on}
 use Rattle.pw_settle.proofs.MergedTells.{told_merged}
 use Rattle.pw_settle.proofs.Renaming.{fixpoint_renamed}
-use Rattle.pw_sessions.specs.Answer.{is_visible, sources_after, value_by_name, value_in, visible_in}
+use Rattle.pw_sessions.specs.Answer.{is_visible, sources_after, value_by_name, cell_value, visible_in}
 use Rattle.pw_sessions.specs.CellNames.{kind_by_name, named_cells, names_after}
 use Rattle.pw_sessions.specs.Entries.{Entry, FitsDeclared, RiseFrom}
 use Rattle.pw_sessions.specs.Workbench.{WasTold, network_after}
@@ -83,7 +83,7 @@ module _ (d : Declared) (well : IsWellDeclared d) (entries : List Entry) (fit : 
 
   -- it comes to the value of a declared cell
   pub seen_value : (cell : ℕ) → cell < length d.cells →
-      fixpoint (named_cells d entries) (names_after d entries) said (DeclaredCell cell) ≡ value_in d seen cell
+      fixpoint (named_cells d entries) (names_after d entries) said (DeclaredCell cell) ≡ cell_value d seen cell
   seen_value cell here =
       values_same d entries seen well.kinds well.steps (All-filter (is_visible w) (FitsDeclared d) entries fit)
       (All-filter (is_visible w) (FindsKinds d entries) entries (finds_kinds d 0 entries rise))
@@ -95,14 +95,14 @@ module _ (d : Declared) (entries : List Entry) (network : Network) (named : IsNa
     (store : Store) (told : WasTold d entries network store) where
   -- the told information about a cell by its name
   abbrev told_named : Name → Info
-  told_named = told_of (named_cells d entries) (sources_after d (visible_in entries w))
+  told_named = told_alone (named_cells d entries) (sources_after d (visible_in entries w))
 
   -- the names of the numbered cells, in their order
-  names_by_number : map (name_in network) (numbers_of (kinds_in network)) ≡ names_after d entries
+  names_by_number : map (name_in network) (numbers_of_cells (kinds_in network)) ≡ names_after d entries
   names_by_number = ap (λ (n : ℕ). map (name_in network) (range_with_len 0 n)) named.many ∙ named.names
 
   -- the numbers of the cells are below their number
-  numbers_here : All (λ c. c < cells_in network) (numbers_of (kinds_in network))
+  numbers_here : All (λ c. c < cells_in network) (numbers_of_cells (kinds_in network))
   numbers_here =
       let many = named.many in
       range_below (length (kinds_in network)) (cells_in network) (omega (arith, many))
@@ -116,7 +116,7 @@ module _ (d : Declared) (entries : List Entry) (network : Network) (named : IsNa
       map (λ name. sources.Told name (told_named name)) (names_after d entries)
   told_by_name =
       let name : ℕ → Name = name_in network in
-      let numbers : List ℕ = numbers_of (kinds_in network) in
+      let numbers : List ℕ = numbers_of_cells (kinds_in network) in
       let by_number : ℕ → Source Name = λ c. sources.Told (name c) (told_in store c w) in
       let by_name : ℕ → Source Name = λ c. sources.Told (name c) (told_named (name c)) in
       map-map (source_renamed name) (λ c. sources.Told c (told_in store c w)) numbers
@@ -140,7 +140,7 @@ module _ (d : Declared) (entries : List Entry) (network : Network) (named : IsNa
   sources_here =
       All-append (Names (λ c. c < cells_in network)) (told_sources store w (length (kinds_in network)))
       (propagators_of network.declared.procedures (visible_instances network.attached w))
-      (All-map (Names (λ c. c < cells_in network)) (λ c. sources.Told c (told_in store c w)) (numbers_of (kinds_in network)) numbers_here)
+      (All-map (Names (λ c. c < cells_in network)) (λ c. sources.Told c (told_in store c w)) (numbers_of_cells (kinds_in network)) numbers_here)
       (propagators_name (λ c. c < cells_in network) network.declared.procedures (visible_instances network.attached w)
       (visible_stay d entries network named w))
 
@@ -151,18 +151,18 @@ module _ (d : Declared) (entries : List Entry) (network : Network) (named : IsNa
       (told_in_one (names_after d entries) told_named (sources_after d (visible_in entries w))) (name_in network cell)
   value_by_number cell here =
       sym (fixpoint_renamed (numbered (kinds_in network)) (named_cells d entries) (λ c. c < cells_in network) (name_in network) names_are
-      (sources_in network store w) sources_here (numbers_of (kinds_in network)) cell here)
+      (sources_in network store w) sources_here (numbers_of_cells (kinds_in network)) cell here)
       ∙ (λ i. fixpoint (named_cells d entries) (names_by_number i) (sources_by_name i) (name_in network cell))
 
 -- what settles at a declared cell of the network that entries make, from a store that was told what
 -- they tell, is what follows from the visible entries
 pub value_is : (d : Declared) (entries : List Entry) (network : Network) (store : Store) (w : Premises) (cell : ℕ) → IsWellDeclared d →
     All (FitsDeclared d) entries → RiseFrom 0 entries → network ≡ network_after d entries → WasTold d entries network store →
-    cell < length d.cells → values.value_in network store w cell ≡ value_in d (visible_in entries w) cell
+    cell < length d.cells → values.value_in network store w cell ≡ cell_value d (visible_in entries w) cell
 value_is d entries network store w cell well fit rise is told here =
     let named : IsNamedAfter d entries network = named_after d entries network well fit rise is in
     let said : List (Source Name) = sources_after d (visible_in entries w) in
-    let told_named : Name → Info = told_of (named_cells d entries) said in
+    let told_named : Name → Info = told_alone (named_cells d entries) said in
     value_by_number d entries network named w store told cell (declared_here d entries network named cell here)
     ∙ ap (fixpoint (named_cells d entries) (names_after d entries) (told_in_one (names_after d entries) told_named said))
     (named.first cell here)

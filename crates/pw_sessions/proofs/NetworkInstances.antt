@@ -11,7 +11,7 @@ use Rattle.pw_decl.specs.declared.step.Callable.{Callable}
 use Rattle.pw_decl.specs.Declaration.{Declared}
 use Rattle.pw_decl.specs.Expansion.{Instance, SpeaksOf, expansion_of, renamed}
 use Rattle.pw_decl.proofs.ExpansionFits.{expansion_speaks}
-use Rattle.pw_network.specs.Names.{Name, DeclaredCell, InnerCellOf, name_in}
+use Rattle.pw_network.specs.Wiring.{Name, DeclaredCell, InnerCellOf, name_in}
 use Rattle.pw_network.specs.Network.{Attached as AttachedInstance, InstancesStay, Network, attached_at, bare, cells_in, with_attached}
 use Rattle.pw_network.proofs.NameLemmas.{attached_by_name}
 use Rattle.pw_settle.specs.Values.{visible_instances}

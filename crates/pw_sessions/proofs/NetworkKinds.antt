@@ -8,7 +8,7 @@ use Rattle.pw_premises.specs.Premises.{Premises}
 use Rattle.pw_decl.specs.declared.step.Callable.{Callable}
 use Rattle.pw_decl.specs.Declaration.{Declared}
 use Rattle.pw_decl.specs.Expansion.{inner_kinds_of}
-use Rattle.pw_network.specs.Names.{name_in}
+use Rattle.pw_network.specs.Wiring.{name_in}
 use Rattle.pw_network.specs.Network.{Network, InnerCell, bare, cells_in, kind_in, with_attached}
 use Rattle.pw_network.proofs.NameLemmas.{declared_name, kept_name}
 use Rattle.pw_settle.specs.Values.{kinds_in}

@@ -10,7 +10,7 @@ use Rattle.pw_premises.specs.Premises.{Premises}
 use Rattle.pw_decl.specs.declared.step.Callable.{Callable}
 use Rattle.pw_decl.specs.Declaration.{Declared}
 use Rattle.pw_decl.specs.Expansion.{inner_kinds_of}
-use Rattle.pw_network.specs.Names.{Name, DeclaredCell, InnerCellOf, name_in}
+use Rattle.pw_network.specs.Wiring.{Name, DeclaredCell, InnerCellOf, name_in}
 use Rattle.pw_network.specs.Network.{Network, bare, cells_in, inner_cells_from, with_attached}
 use Rattle.pw_network.proofs.NameLemmas.{declared_name, inner_name, kept_name}
 use Rattle.pw_network.proofs.WellNetworks.{length-inner_cells}

@@ -5,7 +5,7 @@ use Rattle.pw_decl.specs.Declaration.{Declared}
 use Rattle.pw_network.specs.Network.{Network, bare, with_attached}
 use Rattle.pw_sessions.specs.declared.command.Command.TheVariants as commands
 use Rattle.pw_sessions.specs.Entries.{Entry, Told, Attached, entries_before, entries_from, line_of}
-use Rattle.pw_sessions.specs.LineReading.{LineReading, Says}
+use Rattle.pw_sessions.specs.Reply.{LineReading, Says}
 use Rattle.pw_sessions.specs.Workbench.{Workbench, IsLeftBy, with_entry}
 
 -- the entries of lines are of lines that came

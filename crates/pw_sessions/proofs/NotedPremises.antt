@@ -8,13 +8,13 @@ use Rattle.pw_facts.specs.declared.fact.Fact.{Fact}
 use Rattle.pw_cells.specs.Cells.{Cell, Store, kind_in_store, kinds_of, new_cell, told_in, told_of}
 use Rattle.pw_network.specs.Network.{IsWellNetwork, Network}
 use Rattle.pw_settle.specs.Values.{kinds_in}
-use Rattle.pw_settle.specs.Wider.{IsWider}
+use Rattle.pw_settle.specs.Growth.{IsWider}
 use Rattle.pw_settle.proofs.KeptFacts.{also_implies}
 use Rattle.pw_settle.proofs.WiderNetworks.{wide_self}
 use Rattle.pw_reasons.specs.Nogood.{AreNogoods, IsNogood}
 use Rattle.pw_reasons.proofs.NogoodLemmas.{nogoods_same, wider_nogood}
 use Rattle.pw_settle.proofs.SoundStores.{cell_stays, more_told}
-use Rattle.pw_sessions.specs.Steps.{TakesFact}
+use Rattle.pw_sessions.specs.inside.Steps.{TakesFact}
 use Rattle.pw_settle.proofs.StoreCells.{cells_kept}
 
 -- if a fact is told

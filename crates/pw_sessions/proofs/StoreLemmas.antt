@@ -18,11 +18,11 @@ use Rattle.pw_cells.specs.Cells.{Cell, Store, cell_at, kind_in_store, kinds_of, 
 use Rattle.pw_decl.specs.declared.step.Callable.{Callable}
 use Rattle.pw_decl.specs.Declaration.{Declared}
 use Rattle.pw_decl.specs.Expansion.{inner_kinds_of}
-use Rattle.pw_network.specs.Names.{Name, DeclaredCell, name_in}
+use Rattle.pw_network.specs.Wiring.{Name, DeclaredCell, name_in}
 use Rattle.pw_network.specs.Network.{Network, cells_in, kind_in, with_attached}
 use Rattle.pw_network.proofs.NameLemmas.{declared_name, kept_name}
-use Rattle.pw_settle.specs.Fixpoint.{nothing_known, told_of}
-use Rattle.pw_settle.specs.NumberTest.{nat_eq_decides}
+use Rattle.pw_settle.specs.Fixpoint.{unknown_at, told_alone}
+use Rattle.pw_settle.specs.Values.{nat_eq_decides}
 use Rattle.pw_settle.specs.Values.{kinds_in}
 use Rattle.pw_sessions.specs.Answer.{sources_after, visible_in}
 use Rattle.pw_sessions.specs.CellNames.{kind_by_name, named_cells, same_name, same_name_decides}
@@ -77,10 +77,10 @@ module _ (d : Declared) (many : length d.kinds ≡ length d.cells) (entries : Li
 
   -- what the definition merges of a cell
   told_by_name : (cell : ℕ) (w : Premises) → cell < cells_in network →
-      told_of (named_cells d entries) (sources_after d (visible_in entries w)) (name_in network cell)
+      told_alone (named_cells d entries) (sources_after d (visible_in entries w)) (name_in network cell)
       ≡ told_by d entries w (name_in network cell) (nothing (kind_in_store store cell))
   told_by_name cell w within =
-      tells_alone d entries (nothing_known (named_cells d entries)) (name_in network cell) (nothing (kind_by_name d entries (name_in network cell)))
+      tells_alone d entries (unknown_at (named_cells d entries)) (name_in network cell) (nothing (kind_by_name d entries (name_in network cell)))
       (sources_after d (visible_in entries w))
       ∙ ap (λ k. told_by d entries w (name_in network cell) (nothing k)) (kind_by_its_name cell within)
 

@@ -5,11 +5,11 @@ use Rattle.pw_info.specs.Information.{IsContradiction}
 use Rattle.pw_premises.specs.Premises.{Premises}
 use Rattle.pw_cells.specs.Cells.{Cell, told_in}
 use Rattle.pw_network.specs.Network.{IsWellNetwork}
-use Rattle.pw_reasons.specs.Nogoods.{covers}
+use Rattle.pw_reasons.specs.Nogood.{covers}
 use Rattle.pw_sessions.specs.Carrying.{NotesReasons, ShowsNoChange}
 use Rattle.pw_sessions.specs.Reply.{Reply}
 use Rattle.pw_sessions.specs.Reply as reply
-use Rattle.pw_sessions.specs.Steps.{IsAsBefore, OnlyKeepsMore}
+use Rattle.pw_sessions.specs.inside.Steps.{IsAsBefore, OnlyKeepsMore}
 use Rattle.pw_sessions.specs.Workbench.{Workbench}
 use Rattle.pw_sessions.proofs.AskedCells.{well_left}
 use Rattle.pw_sessions.proofs.WorkbenchLemmas.{left_as_before, left_keeping}

@@ -6,7 +6,7 @@ use Rattle.pw_sessions.specs.declared.command.Command.{Command}
 use Rattle.pw_sessions.specs.Answer.{user_of}
 use Rattle.pw_sessions.specs.Carrying.{CanBeCarriedOut, ShowsNoChange}
 use Rattle.pw_sessions.specs.Freshness.{CountsCalls, IsFresh, KeepsFresh}
-use Rattle.pw_sessions.specs.LineReading.{LineReading}
+use Rattle.pw_sessions.specs.Reply.{LineReading}
 use Rattle.pw_sessions.specs.Reply.{Reply}
 use Rattle.pw_sessions.specs.Workbench.{IsLeftBy, Workbench}
 use Rattle.pw_sessions.proofs.AskedCells.{well_left}

@@ -15,23 +15,23 @@ use Rattle.pw_info.specs.Information.{kind_of}
 use Rattle.pw_premises.specs.Premises.{Premises}
 use Rattle.pw_facts.specs.declared.fact.Fact.{Fact}
 use Rattle.pw_procs.specs.declared.arguments.Arguments.{Arguments}
-use Rattle.pw_procs.specs.Arguments.{cells_of}
+use Rattle.pw_procs.specs.Registry.{cells_of}
 use Rattle.pw_cells.specs.Cells.{Cell, Store, kind_in_store, kinds_of, new_cell}
 use Rattle.pw_decl.specs.declared.step.Callable.{Callable}
 use Rattle.pw_decl.specs.Declaration.{Declared, kind_at}
 use Rattle.pw_decl.specs.Expansion.{inner_kinds_of}
 use Rattle.pw_network.specs.Network.{Attached as AttachedInstance, IsWellNetwork, Network, bare, with_attached}
-use Rattle.pw_settle.specs.NumberTest.{nat_eq_decides}
+use Rattle.pw_settle.specs.Values.{nat_eq_decides}
 use Rattle.pw_settle.specs.Sound.{IsSound, RestsUpstream}
 use Rattle.pw_settle.specs.Values.{kinds_in}
-use Rattle.pw_settle.specs.Wider.{IsWider}
+use Rattle.pw_settle.specs.Growth.{IsWider}
 use Rattle.pw_reasons.specs.Nogood.{AreNogoods, IsNogood}
 use Rattle.pw_sessions.specs.declared.command.Command.TheVariants as commands
 use Rattle.pw_sessions.specs.Beliefs.{premises_below, believed_after, beliefs_at}
 use Rattle.pw_sessions.specs.Entries.{Entry, Told, Attached, FitsDeclared, entries_of, entries_before}
-use Rattle.pw_sessions.specs.LineReading.{LineReading, Says}
-use Rattle.pw_sessions.specs.NamesDeclared.{IsDeclared}
-use Rattle.pw_sessions.specs.Steps.{TakesFact, IsAsBefore, IsAttached, IsTold, OnlyKeepsMore}
+use Rattle.pw_sessions.specs.Reply.{LineReading, Says}
+use Rattle.pw_sessions.specs.Command.{IsDeclared}
+use Rattle.pw_sessions.specs.inside.Steps.{TakesFact, IsAsBefore, IsAttached, IsTold, OnlyKeepsMore}
 use Rattle.pw_sessions.specs.Workbench.{Workbench, IsLeftBy, IsSetUpFor, SessionsFit, WasTold, beliefs_in, is_told_on, network_after, tells_on, with_entry}
 use Rattle.pw_sessions.proofs.EntriesRise.{rise_before}
 use Rattle.pw_sessions.proofs.FurtherLines.{entries_before-snoc, beliefs_at-snoc}

@@ -17,10 +17,10 @@ use Rattle.pw_cells.specs.Cells.{Store, told_in}
 use Rattle.pw_decl.specs.Declaration.{Declared}
 use Rattle.pw_decl.specs.Expansion.{FitsCells, Instance, SpeaksOf, renamed}
 use Rattle.pw_decl.specs.WellDeclared.{IsWellDeclared}
-use Rattle.pw_network.specs.Names.{Name, DeclaredCell, name_in}
+use Rattle.pw_network.specs.Wiring.{Name, DeclaredCell, name_in}
 use Rattle.pw_network.specs.Network.{Attached as AttachedInstance, Network, cells_in}
 use Rattle.pw_settle.specs.Sources.{Propagator, Source, cell_of, is_propagator}
-use Rattle.pw_settle.specs.Fixpoint.{AreOver, told_of}
+use Rattle.pw_settle.specs.Fixpoint.{AreOver, told_alone}
 use Rattle.pw_settle.specs.Values as values
 use Rattle.pw_settle.specs.Values.{propagator_of, propagators_of, visible_instances}
 use Rattle.pw_settle.proofs.Membership.{contains_filter, contains_first, contains_map, contains_more, each_member}
@@ -28,7 +28,7 @@ use Rattle.pw_settle.proofs.MergedTells.{unwritten_told}
 use Rattle.pw_sessions.specs.Answer.{IsWritten, is_visible, sources_after, visible_in}
 use Rattle.pw_sessions.specs.CellNames.{kind_by_name, named_cells, names_after}
 use Rattle.pw_sessions.specs.Entries.{Entry, FitsDeclared, RiseFrom}
-use Rattle.pw_sessions.specs.Steps.{is_written}
+use Rattle.pw_sessions.specs.inside.Steps.{is_written}
 use Rattle.pw_sessions.specs.Workbench.{WasTold, network_after}
 use Rattle.pw_sessions.proofs.EntriesRise.{FindsKinds, finds_kinds}
 use Rattle.pw_sessions.proofs.NameMembers.{all_flat}
@@ -213,7 +213,7 @@ unwritten_is d entries network store w cell well fit rise is told here unwritten
     let said : List (Source Name) = sources_after d (visible_in entries w) in
     let over : AreOver (named_cells d entries) (names_after d entries) said = seen_over d well entries fit rise w in
     told cell w (declared_here d entries network named cell here)
-    ∙ ap (told_of (named_cells d entries) said) (named.first cell here)
+    ∙ ap (told_alone (named_cells d entries) said) (named.first cell here)
     ∙ sym (unwritten_told (named_cells d entries) said over.fit (DeclaredCell cell)
     (unwritten_after d well entries fit rise network named w cell here unwritten) (names_after d entries) over)
     ∙ seen_value d well entries fit rise w cell here

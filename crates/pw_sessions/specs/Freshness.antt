@@ -1,6 +1,7 @@
 -- When a user's next question is answered from the results of the last one, and how many procedure
 -- calls it takes.
-use Rattle.std.specs.Prelude.{◌≡◌, ◌≢◌, ◌⊎◌, ℕ, ◌+◌, ◌≤◌, Bool, true, false, List, Option, None, Some}
+use Rattle.std.specs.Prelude.{◌≡◌, ◌≢◌, ◌⊎◌, ℕ, ◌+◌, ◌≤◌, Bool, true, false, List, Option, None}
+use Rattle.std.specs.Prelude.{Some}
 use Rattle.std.specs.FinSet.{is_subset}
 use Rattle.pw_info.specs.Information.{Implies}
 use Rattle.pw_premises.specs.Premises.{Premises}
@@ -8,9 +9,9 @@ use Rattle.pw_facts.specs.Facts.{shows}
 use Rattle.pw_cells.specs.Cells.{Store}
 use Rattle.pw_decl.specs.Declaration.{Declared}
 use Rattle.pw_network.specs.Network.{Network}
-use Rattle.pw_settle.specs.Agenda.{tally}
+use Rattle.pw_settle.specs.inside.Progress.{tally}
 use Rattle.pw_settle.specs.Calls.{gains, visible_count}
-use Rattle.pw_settle.specs.Due.{AreDue}
+use Rattle.pw_settle.specs.inside.Due.{AreDue}
 use Rattle.pw_settle.specs.Values.{value_in}
 use Rattle.pw_sessions.specs.declared.command.Command.{Command}
 use Rattle.pw_sessions.specs.declared.command.Command.TheVariants as commands
@@ -18,11 +19,13 @@ use Rattle.pw_sessions.specs.declared.reply.Refusal.TheVariants as refusal
 use Rattle.pw_sessions.specs.Answer.{IsWritten, user_of, visible_in}
 use Rattle.pw_sessions.specs.Beliefs.{beliefs_at}
 use Rattle.pw_sessions.specs.Entries.{entries_before}
-use Rattle.pw_sessions.specs.LineReading.{LineReading}
+use Rattle.pw_sessions.specs.Reply.{LineReading}
 use Rattle.pw_sessions.specs.Reply.{Reply}
 use Rattle.pw_sessions.specs.Reply as reply
-use Rattle.pw_sessions.specs.Session.{Session, IsCurrent}
+use Rattle.pw_sessions.specs.Session.{Session, IsCurrent, KeepsValues}
 use Rattle.pw_sessions.specs.Workbench.{Workbench, IsLeftBy, beliefs_in, session_in}
+use Rattle.pw_settle.specs.Settled.{Settled, IsSettled}
+use Rattle.pw_info.specs.declared.info.Info.{Info}
 
 -- a user is fresh: the values of the last session were found under the user's current beliefs, and
 -- they are current
@@ -35,18 +38,21 @@ pub record IsFresh (workbench : Workbench) (user : ℕ) : Type 0 where
 -- after lines with these readings, the command settles: it asks why or for conflicts, or for a cell
 -- that a visible instance writes
 abbrev pub Settles : Declared → List LineReading → Command → Type 0
-Settles d before (commands.Ask user cell) = IsWritten d (visible_in (entries_before before) (beliefs_at d user before)) cell
+Settles d before (commands.Ask user cell) = IsWritten d
+    (visible_in (entries_before before) (beliefs_at d user before)) cell
 Settles d before (commands.Why user cell) = Unit {0}
 Settles d before (commands.Conflicts user) = Unit {0}
 Settles d before command = ⊥
 
 -- the command attaches under premises that the user believes, or tells something that does not
 -- follow under the user's beliefs
-abbrev pub IsNews : Workbench → ℕ → Command → Type 0
-IsNews workbench user (commands.Tell own cell fact) =
-    Implies (value_in workbench.network workbench.store (beliefs_in workbench user) cell) (shows (beliefs_in workbench user) fact) → ⊥
-IsNews workbench user (commands.Attach own callable cells support) = is_subset support (beliefs_in workbench user) ≡ true
-IsNews workbench user command = ⊥
+abbrev pub IsNewsToUser : Workbench → ℕ → Command → Type 0
+IsNewsToUser workbench user (commands.Tell own cell fact) =
+    Implies (value_in workbench.network workbench.store (beliefs_in workbench user) cell)
+    (shows (beliefs_in workbench user) fact) → ⊥
+IsNewsToUser workbench user (commands.Attach own callable cells support) =
+    is_subset support (beliefs_in workbench user) ≡ true
+IsNewsToUser workbench user command = ⊥
 
 -- the line may end the freshness of the user: the user believes something else after it, or it is
 -- the user's own and was refused, or it told or attached something that is news to the user
@@ -54,14 +60,17 @@ abbrev pub MayEndFreshness : Workbench → ℕ → Command → Workbench → Rep
 MayEndFreshness old user command new answer =
     (beliefs_in new user ≢ beliefs_in old user)
     ⊎ (((user_of command ≡ user) × (answer ≡ reply.Refused refusal.Memory))
-    ⊎ ((answer ≡ reply.Done) × IsNews old user command))
+    ⊎ ((answer ≡ reply.Done) × IsNewsToUser old user command))
 
 -- after a question that settled, its user is fresh; and every user who was fresh is still fresh,
 -- except after lines that may end it
-pub record KeepsFresh (old : Workbench) (command : Command) (new : Workbench) (answer : Reply) : Type 0 where
-  pub becomes : (d : Declared) (before : List LineReading) → IsLeftBy d before old → Settles d before command →
+pub record KeepsFresh (old : Workbench) (command : Command) (new : Workbench) (answer : Reply)
+    : Type 0 where
+  pub becomes : (d : Declared) (before : List LineReading) → IsLeftBy d before old →
+      Settles d before command →
       (answer ≡ reply.Refused refusal.Memory) ⊎ IsFresh new (user_of command)
-  pub stays : (user : ℕ) → IsFresh old user → MayEndFreshness old user command new answer ⊎ IsFresh new user
+  pub stays : (user : ℕ) → IsFresh old user → MayEndFreshness old user command new answer
+      ⊎ IsFresh new user
 
 -- the number of procedure calls of a settling of the user: none if the user was fresh, and at most
 -- one for each visible instance if some user of the same beliefs was fresh
@@ -79,16 +88,21 @@ pub record AreCalls (first gained calls : ℕ) : Type 0 where
 -- one for each instance that is due; or, if there are no values, or only those of a worldview that
 -- is not within this one, one for each visible instance; and at most as many more as the kept
 -- information about cells gained, for each visible reader
-pub record CallsDue (network : Network) (old new : Store) (w : Premises) (last : Option Session) (calls : ℕ) : Type 0 where
+pub record CallsDue (network : Network) (old new : Store) (w : Premises) (last : Option Session)
+    (calls : ℕ) : Type 0 where
   pub anew : last ≡ None → AreCalls (visible_count network w) (gains network old new w) calls
-  pub other : (session : Session) → last ≡ Some session → is_subset session.values.worldview w ≡ false →
+  pub other : (session : Session) → last ≡ Some session → is_subset session.values.worldview w
+      ≡ false →
       AreCalls (visible_count network w) (gains network old new w) calls
-  pub further : (session : Session) → last ≡ Some session → is_subset session.values.worldview w ≡ true →
-      (due : List Bool) × AreDue network old w session.values due × AreCalls (tally due) (gains network old new w) calls
+  pub further : (session : Session) → last ≡ Some session → is_subset session.values.worldview w
+      ≡ true →
+      (due : List Bool) × AreDue network old w session.values due
+      × AreCalls (tally due) (gains network old new w) calls
 
 -- the same for a user, from one workbench to another
 abbrev pub CallsDueFor : Workbench → ℕ → Workbench → Type 0
-CallsDueFor old user new = CallsDue old.network old.store new.store (beliefs_in old user) (session_in old user) new.calls
+CallsDueFor old user new = CallsDue old.network old.store new.store (beliefs_in old user)
+    (session_in old user) new.calls
 
 -- a question was refused before it had settled, and no call is counted; or it settled, and this is
 -- the number of its calls
@@ -98,7 +112,8 @@ CountsSettling old user new answer =
 
 -- a question of the user was answered, which settles if this holds: then its user is fresh after
 -- it, and a user who was fresh still is, unless it was refused
-pub record IsAsked (old : Workbench) (user : ℕ) (Settling : Type 0) (new : Workbench) (answer : Reply) : Type 0 where
+pub record IsAsked (old : Workbench) (user : ℕ) (Settling : Type 0) (new : Workbench)
+    (answer : Reply) : Type 0 where
   pub becomes : Settling → (answer ≡ reply.Refused refusal.Memory) ⊎ IsFresh new user
   pub stays : IsFresh old user → (answer ≡ reply.Refused refusal.Memory) ⊎ IsFresh new user
   pub few : CallsFew old user new.calls
@@ -106,8 +121,32 @@ pub record IsAsked (old : Workbench) (user : ℕ) (Settling : Type 0) (new : Wor
   pub none : (Settling → ⊥) → new.calls ≡ 0
 
 -- the same for the command; a command that does not settle makes no calls
-pub record CountsCalls (old : Workbench) (command : Command) (new : Workbench) (answer : Reply) : Type 0 where
+pub record CountsCalls (old : Workbench) (command : Command) (new : Workbench) (answer : Reply)
+    : Type 0 where
   pub few : CallsFew old (user_of command) new.calls
-  pub due : (d : Declared) (before : List LineReading) → IsLeftBy d before old → Settles d before command →
+  pub due : (d : Declared) (before : List LineReading) → IsLeftBy d before old →
+      Settles d before command →
       CountsSettling old (user_of command) new answer
-  pub none : (d : Declared) (before : List LineReading) → IsLeftBy d before old → (Settles d before command → ⊥) → new.calls ≡ 0
+  pub none : (d : Declared) (before : List LineReading) → IsLeftBy d before old →
+      (Settles d before command → ⊥) → new.calls ≡ 0
+
+-- the values of the last session are found again without a call, where they are current
+abbrev pub CallsNoneAgain : Network → Store → Premises → Option Session → Settled → Type 0
+CallsNoneAgain network store w last settled =
+    (session : Session) → last ≡ Some session → session.values.worldview ≡ w →
+    IsCurrent network store session.values → settled.calls ≡ 0
+
+-- where what is kept is the value of each cell, each visible instance is called once at most
+abbrev pub CallsOnceIfKept : Network → Store → Premises → Settled → Type 0
+CallsOnceIfKept network store w settled =
+    KeepsValues network store w → settled.calls ≤ visible_count network w
+
+-- the value of a cell under what the user believes
+abbrev pub value_for : Workbench → ℕ → ℕ → Info
+value_for workbench user cell = value_in workbench.network workbench.store
+    (beliefs_in workbench user) cell
+
+-- what is settled under what the user believes
+abbrev pub IsSettledFor : Workbench → ℕ → Settled → Type 0
+IsSettledFor workbench user settled =
+    IsSettled workbench.network workbench.store (beliefs_in workbench user) settled

@@ -3,14 +3,11 @@ pub mod Beliefs
 pub mod Blanking
 pub mod Carrying
 pub mod CellNames
+pub mod Command
 pub mod Entries
-pub mod Fields
 pub mod Freshness
-pub mod LineReading
-pub mod NamesDeclared
 pub mod Reply
 pub mod Session
-pub mod SessionCode
-pub mod Steps
-pub mod TakesMemory
 pub mod Workbench
+pub mod Laws
+pub mod inside

@@ -1,10 +1,22 @@
--- Replies to lines.
+-- How a line of a transcript reads, once its bytes are forgotten, and what it is answered with.
+use Rattle.std.specs.Prelude.{ℕ, List, ◌++◌, replicate}
+use Rattle.pw_sessions.specs.declared.command.Command.{Command}
+use Rattle.pw_sessions.specs.declared.reply.Refusal.{Refusal}
 use Rattle.pw_info.specs.declared.info.Info.{Info}
 use Rattle.pw_premises.specs.Premises.{Premises}
 use Rattle.pw_reasons.specs.Conflicts.{Conflicts}
-use Rattle.pw_sessions.specs.declared.reply.Refusal.{Refusal}
 use Rattle.pw_sessions.specs.declared.reply.Reply.{Reply as ReplyKept}
 use Rattle.pw_sessions.specs.declared.reply.Reply.TheVariants as kept
+
+-- a line is blank, or it is refused, or it says a command
+pub data LineReading : Type 0 where
+  Blank : LineReading
+  Refused : Refusal → LineReading
+  Says : Command → LineReading
+
+-- lines, and this many blank lines after them
+abbrev pub and_blank_lines : List LineReading → ℕ → List LineReading
+and_blank_lines readings blanks = readings ++ replicate blanks Blank
 
 -- a command that tells or changes something was carried out; or a value, with or without its
 -- reason; or what is contradictory; or what a user believes; or why the line was refused

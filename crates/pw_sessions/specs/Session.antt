@@ -1,5 +1,6 @@
 -- The results of a user's last question, and when they are still the current results.
-use Rattle.std.specs.Prelude.{◌≡◌, ◌⊎◌, ℕ, ◌<◌, ◌≤◌, Bool, true, false, ◌&&◌, not, List, All, length, Option, None, Some, IfSome, slice_index_or}
+use Rattle.std.specs.Prelude.{◌≡◌, ◌⊎◌, ℕ, ◌<◌, ◌≤◌, Bool, true, false, ◌&&◌, not, List, All}
+use Rattle.std.specs.Prelude.{length, Option, None, Some, IfSome, slice_index_or}
 use Rattle.std.specs.FinSet.{is_subset}
 use Rattle.pw_info.specs.declared.kind.Kind.{Kind}
 use Rattle.pw_info.specs.Information.{Implies, kind_of}
@@ -9,7 +10,7 @@ use Rattle.pw_facts.specs.Facts.{shows}
 use Rattle.pw_cells.specs.Cells.{Store, kept_in}
 use Rattle.pw_network.specs.Network.{Network}
 use Rattle.pw_settle.specs.Calls.{visible_at}
-use Rattle.pw_settle.specs.Fitting.{IsFitting, said_of}
+use Rattle.pw_settle.specs.Growth.{IsFitting, said_of}
 use Rattle.pw_settle.specs.Settled.{Settled, info_at}
 use Rattle.pw_settle.specs.Values.{value_in}
 
@@ -26,8 +27,10 @@ KeepsValues network store w = (cell : ℕ) → kept_in store cell w ≡ value_in
 -- and at each cell they say what follows there now, and this is kept
 pub record IsCurrent (network : Network) (store : Store) (settled : Settled) : Type 0 where
   pub fits : IsFitting network store settled
-  pub none_newer : (number : ℕ) → settled.instances ≤ number → visible_at network settled.worldview number ≡ false
-  pub said : (cell : ℕ) → said_of network settled cell ≡ value_in network store settled.worldview cell
+  pub none_newer : (number : ℕ) → settled.instances ≤ number →
+      visible_at network settled.worldview number ≡ false
+  pub said : (cell : ℕ) → said_of network settled cell
+      ≡ value_in network store settled.worldview cell
   pub kept : KeepsValues network store settled.worldview
 
 -- a session fits a network and a store: its values do, each declared cell has a value, and they are
@@ -62,7 +65,8 @@ pub record IsAfterTell (cell : ℕ) (fact : Fact) (old new : Session) : Type 0 w
 abbrev pub HaveValues : ℕ → Kind → List (Option Session) → Type 0
 HaveValues cell kind sessions =
     All (λ session. IfSome session
-    (λ session. (cell < length session.values.infos) × (kind_of (info_at session.values.infos cell) ≡ kind))) sessions
+    (λ session. (cell < length session.values.infos)
+    × (kind_of (info_at session.values.infos cell) ≡ kind))) sessions
 
 -- the session that came from an earlier one, if there was one; otherwise there is none
 abbrev pub Becomes : (Session → Session → Type 0) → Option Session → Option Session → Type 0
@@ -70,6 +74,7 @@ Becomes From None new = new ≡ None
 Becomes From (Some session) new = (after : Session) × (new ≡ Some after) × From session after
 
 -- the same for each user
-pub record EachBecomes (From : Session → Session → Type 0) (old new : List (Option Session)) : Type 0 where
+pub record EachBecomes (From : Session → Session → Type 0) (old new : List (Option Session))
+    : Type 0 where
   pub many : length new ≡ length old
   pub each : (user : ℕ) → Becomes From (slice_index_or old user None) (slice_index_or new user None)

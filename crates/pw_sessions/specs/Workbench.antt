@@ -1,15 +1,16 @@
 -- The state between two lines: the network, the told and the kept information about each of its
 -- cells, the premises that were found to contradict themselves, the current beliefs and the last
 -- session of each user, and the number of procedure calls of the last command.
-use Rattle.std.specs.Prelude.{◌≡◌, ℕ, ◌<◌, Bool, false, ◌&&◌, List, [], ◌∷◌, ◌++◌, All, fold, length, nat_eq, IfSome, Option, Some, None, slice_index_or}
+use Rattle.std.specs.Prelude.{◌≡◌, ℕ, ◌<◌, Bool, false, ◌&&◌, List, [], ◌∷◌, ◌++◌, All, fold}
+use Rattle.std.specs.Prelude.{length, nat_eq, IfSome, Option, Some, None, slice_index_or}
 use Rattle.std.specs.FinSet.{contains, empty}
 use Rattle.std.specs.List.{list_any}
 use Rattle.pw_premises.specs.Premises.{Premises}
 use Rattle.pw_cells.specs.Cells.{Store, kinds_of, told_in}
 use Rattle.pw_decl.specs.Declaration.{Declared}
-use Rattle.pw_network.specs.Names.{name_in}
+use Rattle.pw_network.specs.Wiring.{name_in}
 use Rattle.pw_network.specs.Network.{Network, bare, cells_in, with_attached}
-use Rattle.pw_settle.specs.Fixpoint.{told_of}
+use Rattle.pw_settle.specs.Fixpoint.{told_alone}
 use Rattle.pw_settle.specs.Sound.{IsSound, RestsUpstream}
 use Rattle.pw_settle.specs.Values.{kinds_in}
 use Rattle.pw_reasons.specs.Nogood.{AreNogoods}
@@ -19,9 +20,9 @@ use Rattle.pw_sessions.specs.Answer.{reply_to, sources_after, visible_in}
 use Rattle.pw_sessions.specs.Beliefs.{beliefs_at}
 use Rattle.pw_sessions.specs.CellNames.{named_cells}
 use Rattle.pw_sessions.specs.Entries.{Entry, Told, Attached, FitsDeclared, entries_before}
-use Rattle.pw_sessions.specs.LineReading.{LineReading}
+use Rattle.pw_sessions.specs.Reply.{LineReading}
 use Rattle.pw_sessions.specs.Session.{Session, IsSessionOf}
-use Rattle.pw_sessions.specs.TakesMemory.{MayBecome}
+use Rattle.pw_sessions.specs.Command.{MayBecome}
 
 pub record Workbench : Type 0 where
   pub network : Network
@@ -38,7 +39,8 @@ pub record Workbench : Type 0 where
 
 -- the last session of each user fits the network and the store
 abbrev pub SessionsFit : Network → Store → List (Option Session) → Type 0
-SessionsFit network store sessions = All (λ session. IfSome session (IsSessionOf network store)) sessions
+SessionsFit network store sessions = All (λ session.
+    IfSome session (IsSessionOf network store)) sessions
 
 -- the last session of the user
 abbrev pub session_in : Workbench → ℕ → Option Session
@@ -50,7 +52,8 @@ beliefs_in workbench user = slice_index_or workbench.beliefs user empty
 -- the network with what an entry attaches
 abbrev pub with_entry : Network → Entry → Network
 with_entry network (Told line cell fact) = network
-with_entry network (Attached line callable cells support) = with_attached network line callable cells support
+with_entry network (Attached line callable cells support) =
+    with_attached network line callable cells support
 
 -- the network that entries make: the declared cells, and what the entries attach, in order
 abbrev pub network_after : Declared → List Entry → Network
@@ -61,7 +64,8 @@ network_after d entries = fold with_entry (bare d) entries
 abbrev pub WasTold : Declared → List Entry → Network → Store → Type 0
 WasTold d entries network store =
     (cell : ℕ) (w : Premises) → cell < cells_in network →
-    told_in store cell w ≡ told_of (named_cells d entries) (sources_after d (visible_in entries w)) (name_in network cell)
+    told_in store cell w ≡ told_alone (named_cells d entries)
+    (sources_after d (visible_in entries w)) (name_in network cell)
 
 -- a fact that an entry told about the cell rests on the premise
 abbrev pub tells_on : ℕ → ℕ → Entry → Bool
@@ -86,19 +90,23 @@ pub record IsSetUpFor (d : Declared) (workbench : Workbench) : Type 0 where
 
 -- it is what lines with these readings leave: the network is what their entries attach, the store
 -- was told what they tell, and each user's beliefs are those that the user's own lines made
-pub record IsLeftBy (d : Declared) (readings : List LineReading) (workbench : Workbench) : Type 0 where
+pub record IsLeftBy (d : Declared) (readings : List LineReading) (workbench : Workbench)
+    : Type 0 where
   pub set_up : IsSetUpFor d workbench
   pub fit : All (FitsDeclared d) (entries_before readings)
   pub network : workbench.network ≡ network_after d (entries_before readings)
   pub told : WasTold d (entries_before readings) workbench.network workbench.store
   -- the kept facts rest only on premises of tells and attachments upstream
-  pub upstream : RestsUpstream workbench.network (is_told_on (entries_before readings)) workbench.store
-  pub beliefs : (user : ℕ) → user < length d.users → beliefs_in workbench user ≡ beliefs_at d user readings
+  pub upstream : RestsUpstream workbench.network (is_told_on (entries_before readings))
+      workbench.store
+  pub beliefs : (user : ℕ) → user < length d.users → beliefs_in workbench user
+      ≡ beliefs_at d user readings
 
 -- after lines with these readings, the command was carried out: its line got a reading, this is the
 -- reply that a line of this reading gets from scratch, and the new workbench is what the lines
 -- leave with it
-pub record IsCarriedOut (d : Declared) (before : List LineReading) (command : Command) (new : Workbench) (reply : Reply) : Type 0 where
+pub record IsCarriedOut (d : Declared) (before : List LineReading) (command : Command)
+    (new : Workbench) (reply : Reply) : Type 0 where
   pub reading : LineReading
   pub became : MayBecome d before command reading
   pub left : IsLeftBy d (before ++ reading ∷ []) new

@@ -2,27 +2,29 @@
 //! derived from it so far, which premises were found to contradict themselves, what each user
 //! believes, and what each user's last question found.
 
-ghost use Rattle.std.specs.Prelude.{◌≡◌, ◌<◌, [], List, length, map, replicate, slice_set, IfOk, None, OnOk, OnErr, Some};
+ghost use Rattle.std.specs.Prelude.{◌≡◌, ◌<◌, [], List, length, map, replicate, IfOk, None, OnOk};
+ghost use Rattle.std.specs.Prelude.{OnErr, Some};
 ghost use Rattle.std.specs.Option.{option_map};
 ghost use Rattle.pw_info.specs.Information.{kind_of};
 ghost use Rattle.pw_cells.specs.Cells.{kind_in_store};
 ghost use Rattle.pw_decl.specs.Declaration.{Declared};
-ghost use Rattle.pw_decl.specs.Fields.{declared_by};
-ghost use Rattle.pw_network.specs.Fields.{network_by};
+ghost use Rattle.pw_decl.specs.inside.Fields.{declared};
+ghost use Rattle.pw_network.specs.Wiring.{wiring};
 ghost use Rattle.pw_network.specs.Network.{MayAttach, bare};
-ghost use Rattle.pw_procs.specs.Arguments.{cells_of};
+ghost use Rattle.pw_procs.specs.Registry.{cells_of};
 ghost use Rattle.pw_sessions.specs.Beliefs.{beliefs_at};
-ghost use Rattle.pw_sessions.specs.Carrying.{CanBeCarriedOut, CarriesOut, IsUserOf, NotesReasons, ShowsNoChange};
-ghost use Rattle.pw_sessions.specs.Fields.{workbench_by};
+ghost use Rattle.pw_sessions.specs.Carrying.{CanBeCarriedOut, CarriesOut, IsUserOf};
+ghost use Rattle.pw_sessions.specs.inside.Fields.{state};
 ghost use Rattle.pw_sessions.specs.Freshness.{CountsCalls, KeepsFresh};
-ghost use Rattle.pw_sessions.specs.LineReading.{LineReading};
+ghost use Rattle.pw_sessions.specs.Reply.{LineReading};
 ghost use Rattle.pw_sessions.specs.Reply.{reply_by};
-ghost use Rattle.pw_sessions.specs.Reply as replies;
-ghost use Rattle.pw_sessions.specs.declared.reply.Refusal.TheVariants as refusals;
 ghost use Rattle.pw_sessions.specs.Session.{EachBecomes, HaveValues, IsAfterTell, after_entry};
-ghost use Rattle.pw_sessions.specs.Steps.{CanCarryOut, CarriesOutNext, IsAsBefore, IsAttached, IsTold};
-ghost use Rattle.pw_sessions.specs.Steps.{StoreFits};
+ghost use Rattle.pw_sessions.specs.inside.Steps.{CanCarryOut, CarriesOutNext, IsAsBefore};
+ghost use Rattle.pw_sessions.specs.inside.Steps.{IsAttached, IsTold};
+ghost use Rattle.pw_sessions.specs.inside.Steps.{StoreFits};
 ghost use Rattle.pw_sessions.specs.Workbench.{IsLeftBy, beliefs_in};
+ghost use Rattle.pw_sessions.specs.inside.Steps.{believing};
+ghost use Rattle.pw_sessions.specs.Carrying.{KeepsNogoods, RefusedShowsNoChange};
 
 use crate::command::Command;
 use crate::reply::{Refusal, Reply};
@@ -108,10 +110,10 @@ impl<'d, 'r, A: Allocator + Copy> Workbench<'d, 'r, A> {
         declaration: &'d Declaration<'r, A>,
         network: Network<'d, 'r, A>,
     ) -> Result<Workbench<'d, 'r, A>, AllocError>
-        requires { network_by network ≡ bare (declared_by declaration.now) }
+        requires { wiring network ≡ bare (declared declaration.now) }
         ensures left { IfOk result (λ workbench.
-            IsLeftBy (declared_by declaration.now) [] (workbench_by workbench)) }
-        ensures calls { IfOk result (λ workbench. (workbench_by workbench).calls ≡ 0) }
+            IsLeftBy (declared declaration.now) [] (state workbench)) }
+        ensures calls { IfOk result (λ workbench. (state workbench).calls ≡ 0) }
     {
         let mut store = CellStore::new(alloc);
         store.add_cells(declaration.kinds())?;
@@ -131,18 +133,16 @@ impl<'d, 'r, A: Allocator + Copy> Workbench<'d, 'r, A> {
 
     // The current beliefs of the user, who must exist.
     fn beliefs_of(&self, user: u8) -> PremiseSet
-        requires { user < length (workbench_by self.now).beliefs }
-        ensures { result ≡ beliefs_in (workbench_by self.now) user }
+        requires { user < length (state self.now).beliefs }
+        ensures { result ≡ beliefs_in (state self.now) user }
     {
         self.beliefs[usize::from(user)]
     }
 
     // From now on the user, who must exist, believes exactly these premises.
     fn set_beliefs(&mut self, user: u8, premises: PremiseSet)
-        requires { user < length (workbench_by self.old).beliefs }
-        ensures { workbench_by self.new ≡ record (workbench_by self.old) {
-          beliefs = slice_set (workbench_by self.old).beliefs user premises;
-        } }
+        requires { user < length (state self.old).beliefs }
+        ensures { state self.new ≡ believing (state self.old) user premises }
     {
         self.beliefs[usize::from(user)] = premises;
     }
@@ -150,8 +150,8 @@ impl<'d, 'r, A: Allocator + Copy> Workbench<'d, 'r, A> {
     // Something was attached under these premises: the sessions that see it are no longer known to
     // be current.
     fn note_entry(&mut self, support: &PremiseSet)
-        ensures { workbench_by self.new ≡ record (workbench_by self.old) {
-          sessions = map (option_map (after_entry support.now)) (workbench_by self.old).sessions;
+        ensures { state self.new ≡ record (state self.old) {
+          sessions = map (option_map (after_entry support.now)) (state self.old).sessions;
         } }
     {
         note_in_each(&mut self.sessions, support);
@@ -160,12 +160,12 @@ impl<'d, 'r, A: Allocator + Copy> Workbench<'d, 'r, A> {
     // Tells a fact about a declared cell, of the cell's kind. Fails only when out of memory; then
     // nothing changes.
     fn tell(&mut self, cell: u32, fact: Fact) -> Result<(), AllocError>
-        requires declared { cell < length (workbench_by self.old).network.declared.cells }
-        requires there { cell < length (workbench_by self.old).store.cells }
-        requires fits { StoreFits (workbench_by self.old) }
-        requires kind { kind_of fact.info ≡ kind_in_store (workbench_by self.old).store cell }
-        ensures ok { OnOk result (IsTold (workbench_by self.old) cell fact (workbench_by self.new)) }
-        ensures err { OnErr result (workbench_by self.new ≡ workbench_by self.old) }
+        requires declared { cell < length (state self.old).network.declared.cells }
+        requires there { cell < length (state self.old).store.cells }
+        requires fits { StoreFits (state self.old) }
+        requires kind { kind_of fact.info ≡ kind_in_store (state self.old).store cell }
+        ensures ok { OnOk result (IsTold (state self.old) cell fact (state self.new)) }
+        ensures err { OnErr result (state self.new ≡ state self.old) }
     {
         self.store.tell(cell, fact)?;
         note_tell_in_each(&mut self.sessions, cell, &fact);
@@ -183,13 +183,13 @@ impl<'d, 'r, A: Allocator + Copy> Workbench<'d, 'r, A> {
         cells: Arguments,
         support: PremiseSet,
     ) -> Result<(), AllocError>
-        requires may { MayAttach (workbench_by self.old).network line callable
+        requires may { MayAttach (state self.old).network line callable
             (cells_of cells) }
-        requires fits { StoreFits (workbench_by self.old) }
-        ensures ok { OnOk result (IsAttached (workbench_by self.old) line callable
-            (cells_of cells) support (workbench_by self.new)) }
-        ensures err { OnErr result (IsAsBefore (workbench_by self.old) (workbench_by self.new)) }
-        ensures calls { (workbench_by self.new).calls ≡ (workbench_by self.old).calls }
+        requires fits { StoreFits (state self.old) }
+        ensures ok { OnOk result (IsAttached (state self.old) line callable
+            (cells_of cells) support (state self.new)) }
+        ensures err { OnErr result (IsAsBefore (state self.old) (state self.new)) }
+        ensures calls { (state self.new).calls ≡ (state self.old).calls }
     {
         self.store.reserve(MOST_INNER_CELLS)?;
         let Ok(()) = self.network.attach(line, callable, cells, support) else {
@@ -205,18 +205,16 @@ impl<'d, 'r, A: Allocator + Copy> Workbench<'d, 'r, A> {
 
     // Carries out a command at the line after the last one, counting blank lines.
     fn carry_out(&mut self, line: u32, command: &Command) -> Reply<A>
-        requires can { CanCarryOut (workbench_by self.old) line command.now }
-        requires calls { (workbench_by self.old).calls ≡ 0 }
-        ensures carried { CarriesOutNext (workbench_by self.old) line command.now
-            (workbench_by self.new) (reply_by result) }
-        ensures fresh { KeepsFresh (workbench_by self.old) command.now (workbench_by self.new)
+        requires can { CanCarryOut (state self.old) line command.now }
+        requires calls { (state self.old).calls ≡ 0 }
+        ensures carried { CarriesOutNext (state self.old) line command.now
+            (state self.new) (reply_by result) }
+        ensures fresh { KeepsFresh (state self.old) command.now (state self.new)
             (reply_by result) }
-        ensures calls { CountsCalls (workbench_by self.old) command.now (workbench_by self.new)
+        ensures calls { CountsCalls (state self.old) command.now (state self.new)
             (reply_by result) }
-        ensures noted { NotesReasons (workbench_by self.old).nogoods (workbench_by self.new).nogoods
-            (reply_by result) }
-        ensures refused { reply_by result ≡ replies.Refused refusals.Memory
-            → ShowsNoChange (workbench_by self.old) (workbench_by self.new) }
+        ensures noted { KeepsNogoods (state self.old) (state self.new) (reply_by result) }
+        ensures refused { RefusedShowsNoChange (state self.old) (state self.new) (reply_by result) }
     {
         match *command {
             Command::Tell { cell, fact, .. } => {
@@ -273,17 +271,15 @@ impl<'d, 'r, A: Allocator + Copy> Workbench<'d, 'r, A> {
     /// After a why that is answered with a contradiction the reason is noted, and what was noted is
     /// never forgotten.
     pub fn command(&mut self, line: u32, command: &Command) -> Reply<A>
-        requires { CanBeCarriedOut (workbench_by self.old) line command.now }
-        ensures carried { CarriesOut (workbench_by self.old) line command.now (workbench_by self.new)
+        requires { CanBeCarriedOut (state self.old) line command.now }
+        ensures carried { CarriesOut (state self.old) line command.now (state self.new)
             (reply_by result) }
-        ensures fresh { KeepsFresh (workbench_by self.old) command.now (workbench_by self.new)
+        ensures fresh { KeepsFresh (state self.old) command.now (state self.new)
             (reply_by result) }
-        ensures calls { CountsCalls (workbench_by self.old) command.now (workbench_by self.new)
+        ensures calls { CountsCalls (state self.old) command.now (state self.new)
             (reply_by result) }
-        ensures noted { NotesReasons (workbench_by self.old).nogoods (workbench_by self.new).nogoods
-            (reply_by result) }
-        ensures refused { reply_by result ≡ replies.Refused refusals.Memory
-            → ShowsNoChange (workbench_by self.old) (workbench_by self.new) }
+        ensures noted { KeepsNogoods (state self.old) (state self.new) (reply_by result) }
+        ensures refused { RefusedShowsNoChange (state self.old) (state self.new) (reply_by result) }
     {
         self.calls = 0;
         self.carry_out(line, command)
@@ -295,15 +291,15 @@ impl<'d, 'r, A: Allocator + Copy> Workbench<'d, 'r, A> {
     /// settling. A why or conflicts that was refused after it had settled counts these calls. Calls
     /// made to find a reason do not count.
     pub fn last_calls(&self) -> u128
-        ensures { result ≡ (workbench_by self.now).calls }
+        ensures { result ≡ (state self.now).calls }
     {
         self.calls
     }
 
     /// The premises that the user believes now.
     pub fn beliefs(&self, user: u8) -> PremiseSet
-        requires { IsUserOf (workbench_by self.now) user }
-        ensures { (d : Declared) (before : List LineReading) → IsLeftBy d before (workbench_by self.now)
+        requires { IsUserOf (state self.now) user }
+        ensures { (d : Declared) (before : List LineReading) → IsLeftBy d before (state self.now)
             → result ≡ beliefs_at d user before }
     {
         self.beliefs_of(user)

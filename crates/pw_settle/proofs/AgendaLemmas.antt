@@ -5,7 +5,7 @@ use Rattle.std.proofs.lemmas.List.{get_or-set_other, get_or-set_same, length-set
 use Rattle.std.proofs.lemmas.List.Elements.{All-append, All-cons, All-head, All-nil, All-tail, All-weaker}
 use Rattle.std.proofs.lemmas.List.Quantifiers.{all_pairs_push}
 use Rattle.std.proofs.lemmas.List.Sums.{count_by-le-length, sum_by-set}
-use Rattle.pw_settle.specs.Agenda.{IsQueue, is_set, tally}
+use Rattle.pw_settle.specs.inside.Progress.{IsQueue, is_set, tally}
 use Rattle.pw_settle.proofs.TakenFlags.{taken_less}
 
 -- one more flag

@@ -11,13 +11,13 @@ use Rattle.pw_premises.specs.Premises.{Premises}
 use Rattle.pw_cells.specs.Cells.{Cell, Store, kept_in, kept_of, new_cell}
 use Rattle.pw_decl.specs.Declaration.{Declared}
 use Rattle.pw_network.specs.Network.{Attached, InnerCell, Network, IsWellNetwork, cells_in}
-use Rattle.pw_settle.specs.Calls.{is_visible}
-use Rattle.pw_settle.specs.Fitting.{IsFitting, said_of}
-use Rattle.pw_settle.specs.Progress.{IsSatisfied, attached_no}
+use Rattle.pw_settle.specs.Calls.{is_instance_visible}
+use Rattle.pw_settle.specs.Growth.{IsFitting, said_of}
+use Rattle.pw_settle.specs.Values.{IsSatisfied, attached_no}
 use Rattle.pw_settle.specs.Settled.{Settled}
 use Rattle.pw_settle.specs.Sources.{IsImplied}
 use Rattle.pw_settle.specs.Values.{kinds_in, numbered, propagators_of}
-use Rattle.pw_settle.specs.Wider.{IsWider}
+use Rattle.pw_settle.specs.Growth.{IsWider}
 use Rattle.pw_settle.proofs.FittingValues.{satisfied_still}
 use Rattle.pw_settle.proofs.SettledValues.{kinds_many}
 
@@ -81,7 +81,7 @@ fits_wider network wider store settled well wide fits = record {
       (well.here n d (omega (arith, below, fits.instances))).0)
       (λ v possible. subst (λ (i : Info). allows i v ≡ true)
       (same_said (attached_no network n d).instance.output (well.here n d (omega (arith, below, fits.instances))).1) possible)
-      (fits.satisfied n d below (subst (λ (a : Attached). is_visible settled.worldview a ≡ true) (same_instance n d below) seen))));
+      (fits.satisfied n d below (subst (λ (a : Attached). is_instance_visible settled.worldview a ≡ true) (same_instance n d below) seen))));
 } where
   kind_there : (cell : ℕ) → cell < cells_in network → (numbered (kinds_in wider)).kind cell ≡ (numbered (kinds_in network)).kind cell
   kind_there cell below =

@@ -19,13 +19,14 @@ use Rattle.pw_cells.specs.Cells.{Cell, Store, cell_at, kept_in, kept_of, kinds_o
 use Rattle.pw_cells.proofs.Together.{larger_shown}
 use Rattle.pw_procs.specs.Procedure.{Procedure, value_by}
 use Rattle.pw_network.specs.Network.{Attached, Network, IsWellNetwork}
-use Rattle.pw_settle.specs.Agenda.{is_set}
-use Rattle.pw_settle.specs.Calls.{is_visible, visible_at}
-use Rattle.pw_settle.specs.Due.{AreDue, HasChanged, IsDue, QueuesReaders, found_of, is_new}
-use Rattle.pw_settle.specs.Fitting.{IsFitting, said_of}
-use Rattle.pw_settle.specs.Known.{AreKept}
-use Rattle.pw_settle.specs.Progress.{AreSatisfied, IsSatisfied, attached_no}
-use Rattle.pw_settle.specs.Placed.{IsPlaced}
+use Rattle.pw_settle.specs.inside.Progress.{is_set}
+use Rattle.pw_settle.specs.Calls.{is_instance_visible, visible_at}
+use Rattle.pw_settle.specs.inside.Due.{AreDue, HasChanged, IsDue, QueuesReaders, found_of, is_new}
+use Rattle.pw_settle.specs.Growth.{IsFitting, said_of}
+use Rattle.pw_settle.specs.inside.Known.{AreKept}
+use Rattle.pw_settle.specs.inside.Progress.{AreSatisfied}
+use Rattle.pw_settle.specs.Values.{IsSatisfied, attached_no}
+use Rattle.pw_settle.specs.inside.Known.{IsPlaced}
 use Rattle.pw_settle.specs.Settled.{Settled, info_at}
 use Rattle.pw_settle.specs.Sources.{IsImplied}
 use Rattle.pw_settle.specs.Values.{kinds_in, numbered}
@@ -167,11 +168,11 @@ module _ (network : Network) (well : IsWellNetwork network) (store : Store) (w :
   -- the flags of the new instances, with those of the readers of what has changed, are those of the
   -- due ones
   pub due_flags : (infos : List Info) (supports : List Premises) → AreKept store w infos supports → (visible flags queued : List Bool) →
-      visible ≡ map (is_visible w) network.attached → length flags ≡ length visible →
+      visible ≡ map (is_instance_visible w) network.attached → length flags ≡ length visible →
       ((n : ℕ) → is_set flags n ≡ (is_set visible n && is_new network settled n)) →
       QueuesReaders network visible (λ cell. (cell < length infos) × HasChanged settled.infos infos cell) flags queued → AreDue network store w settled queued
   due_flags infos supports kept visible flags queued seen many new queues = record {
-    many = queues.flags ∙ many ∙ ap length seen ∙ length-map network.attached (is_visible w);
+    many = queues.flags ∙ many ∙ ap length seen ∙ length-map network.attached (is_instance_visible w);
     are = λ n. (λ flag. due n flag, λ is. set n is);
   } where
     visible_is : (n : ℕ) → is_set visible n ≡ visible_at network w n

@@ -9,7 +9,7 @@ use Rattle.pw_info.specs.Rank.{rank_of}
 use Rattle.pw_info.proofs.Informations.{implies_nothing, kind-closest, Implies-antisym}
 use Rattle.pw_info.proofs.Ranks.{rank_most_of_all}
 use Rattle.pw_settle.specs.Sources.{Cells, Source, AreOfTheirKinds, Fits, IsImplied}
-use Rattle.pw_settle.specs.Fixpoint.{AreOver, fixpoint, nothing_known, round, rounds_of_a_cell}
+use Rattle.pw_settle.specs.Fixpoint.{AreOver, fixpoint, unknown_at, round, rounds_of_a_cell}
 use Rattle.pw_settle.proofs.Membership.{each_member}
 use Rattle.pw_settle.proofs.RoundLemmas.{round_stays, stays_implied}
 use Rattle.pw_settle.proofs.RoundsFall.{kind-rounds, rounds_below, rounds_imply}
@@ -22,26 +22,26 @@ ranks_most known over =
 
 module _ {C : Type 0} (cells : Cells C) where
   -- nothing is of the kind of each cell
-  pub kind-nothing_known : AreOfTheirKinds cells (nothing_known cells)
+  pub kind-nothing_known : AreOfTheirKinds cells (unknown_at cells)
   kind-nothing_known c = kind-closest (cells.kind c) (λ v. true)
 
   -- the fixpoint is of the kinds of the cells
   pub kind-fixpoint : (over : List C) (sources : List (Source C)) → AreOfTheirKinds cells (fixpoint cells over sources)
   unfolding fixpoint
-  kind-fixpoint over sources = kind-rounds cells sources (length over * rounds_of_a_cell) (nothing_known cells) kind-nothing_known
+  kind-fixpoint over sources = kind-rounds cells sources (length over * rounds_of_a_cell) (unknown_at cells) kind-nothing_known
 
   -- the fixpoint implies the sources
   pub fixpoint_says : (over : List C) (sources : List (Source C)) → AreOver cells over sources → All (IsImplied (fixpoint cells over sources)) sources
   unfolding fixpoint
   fixpoint_says over sources are =
-      rounds_imply cells sources over are (length over * rounds_of_a_cell) (nothing_known cells) kind-nothing_known (ranks_most (nothing_known cells) over)
+      rounds_imply cells sources over are (length over * rounds_of_a_cell) (unknown_at cells) kind-nothing_known (ranks_most (unknown_at cells) over)
 
   -- anything that implies the sources implies the fixpoint
   pub fixpoint_below : (over : List C) (sources : List (Source C)) → All (Fits cells) sources → (known : C → Info) → AreOfTheirKinds cells known →
       All (IsImplied known) sources → (c : C) → Implies (known c) (fixpoint cells over sources c)
   unfolding fixpoint
   fixpoint_below over sources fit known kinds implied =
-      rounds_below cells sources fit known kinds implied (length over * rounds_of_a_cell) (nothing_known cells) kind-nothing_known
+      rounds_below cells sources fit known kinds implied (length over * rounds_of_a_cell) (unknown_at cells) kind-nothing_known
       (λ c. implies_nothing (known c) (cells.kind c) (kinds c))
 
   -- what implies the sources, and is implied by the fixpoint, is the fixpoint

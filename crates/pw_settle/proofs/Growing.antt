@@ -10,13 +10,13 @@ use Rattle.pw_settle.specs.Growth.{KeepsMore}
 use Rattle.pw_settle.specs.Fixpoint.{fixpoint}
 use Rattle.pw_settle.specs.Settled.{IsSettled, Settled, support_at}
 use Rattle.pw_settle.specs.Sources.{Told}
-use Rattle.pw_settle.specs.Values.{kinds_in, numbered, numbers_of, propagators_of, value_in, visible_instances}
+use Rattle.pw_settle.specs.Values.{kinds_in, numbered, numbers_of_cells, propagators_of, value_in, visible_instances}
 
 -- the value of a cell depends only on what is told
 pub same_value : (network : Network) (old new : Store) → ((cell : ℕ) (w : Premises) → told_in new cell w ≡ told_in old cell w) →
     (w : Premises) (cell : ℕ) → value_in network new w cell ≡ value_in network old w cell
 same_value network old new told w cell =
-    ap (λ (tells : ℕ → Info). fixpoint (numbered (kinds_in network)) (numbers_of (kinds_in network))
+    ap (λ (tells : ℕ → Info). fixpoint (numbered (kinds_in network)) (numbers_of_cells (kinds_in network))
     (map (λ c. Told c (tells c)) (range_with_len 0 (length (kinds_in network)))
     ++ propagators_of network.declared.procedures (visible_instances network.attached w)) cell) (fun_ext (λ c. told c w))
 

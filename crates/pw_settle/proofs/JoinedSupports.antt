@@ -6,7 +6,7 @@ use Rattle.std.proofs.lemmas.Bool.{or_cases}
 use Rattle.std.proofs.lemmas.List.Elements.{All-cons, All-nil}
 use Rattle.pw_premises.specs.Premises.{Premises}
 use Rattle.pw_premises.specs.PremiseSubsets.{is_subset_trans, is_subset_union_left, is_subset_union_right, union_is_subset}
-use Rattle.pw_settle.specs.Known.{joined}
+use Rattle.pw_settle.specs.inside.Known.{joined}
 use Rattle.pw_settle.specs.Settled.{support_at}
 use Rattle.pw_settle.proofs.Membership.{contains_first, contains_more}
 

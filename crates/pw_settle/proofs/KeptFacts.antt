@@ -20,7 +20,7 @@ use Rattle.pw_cells.proofs.Together.{kind-shown_by, meet_first}
 use Rattle.pw_network.specs.Network.{Network}
 use Rattle.pw_settle.specs.Growth.{KeepsMore}
 use Rattle.pw_settle.specs.Sound.{IsSound}
-use Rattle.pw_settle.specs.Values.{kinds_in, numbered, numbers_of, sources_in, value_in}
+use Rattle.pw_settle.specs.Values.{kinds_in, numbered, numbers_of_cells, sources_in, value_in}
 use Rattle.pw_settle.proofs.FixpointLemmas.{kind-fixpoint}
 use Rattle.pw_settle.proofs.Growing.{same_value}
 
@@ -68,7 +68,7 @@ kind-kept store cell w = kind-shown_by (cell_at store cell).kind w (cell_at stor
 pub kind-in_value : (network : Network) (store : Store) → kinds_of store ≡ kinds_in network → (w : Premises) (cell : ℕ) →
     kind_of (value_in network store w cell) ≡ kind_in_store store cell
 kind-in_value network store same w cell =
-    kind-fixpoint (numbered (kinds_in network)) (numbers_of (kinds_in network)) (sources_in network store w) cell
+    kind-fixpoint (numbered (kinds_in network)) (numbers_of_cells (kinds_in network)) (sources_in network store w) cell
     ∙ sym (kind_there network store same cell)
 
 module _ (network : Network) (old new : Store) (same : kinds_of old ≡ kinds_in network) (cell : ℕ) (fact : Fact)

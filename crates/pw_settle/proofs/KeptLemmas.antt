@@ -13,10 +13,10 @@ use Rattle.pw_info.proofs.Informations.{implies_nothing}
 use Rattle.pw_premises.specs.Premises.{Premises}
 use Rattle.pw_premises.specs.PremiseSubsets.{empty_is_subset}
 use Rattle.pw_facts.specs.declared.fact.Fact.{Fact}
-use Rattle.pw_facts.specs.Worldviews.{IsLeastAbove}
+use Rattle.pw_facts.specs.Facts.{IsLeastAbove}
 use Rattle.pw_cells.specs.Cells.{Cell, Store, ArePremisesOf, kept_at, kept_in, kept_of, new_cell, told_in}
 use Rattle.pw_network.specs.Network.{Network}
-use Rattle.pw_settle.specs.Known.{AreKept, LieUpstream, SaysTold}
+use Rattle.pw_settle.specs.inside.Known.{AreKept, LieUpstream, SaysTold}
 use Rattle.pw_settle.specs.Settled.{info_at, support_at}
 use Rattle.pw_settle.specs.Sound.{LiesUpstream, RestsUpstream}
 use Rattle.pw_settle.proofs.KeptFacts.{kind-kept}

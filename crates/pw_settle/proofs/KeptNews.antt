@@ -12,10 +12,10 @@ use Rattle.pw_procs.proofs.MeaningLaws.{value_mono}
 use Rattle.pw_facts.specs.declared.fact.Fact.{Fact}
 use Rattle.pw_cells.specs.Cells.{Store, kind_in_store, kinds_of}
 use Rattle.pw_network.specs.Network.{Attached, Network, IsWellNetwork}
-use Rattle.pw_settle.specs.Calls.{is_visible}
-use Rattle.pw_settle.specs.Known.{AreKept, LieUpstream}
-use Rattle.pw_settle.specs.Placed.{IsPlaced}
-use Rattle.pw_settle.specs.Progress.{IsNews}
+use Rattle.pw_settle.specs.Calls.{is_instance_visible}
+use Rattle.pw_settle.specs.inside.Known.{AreKept, LieUpstream}
+use Rattle.pw_settle.specs.inside.Known.{IsPlaced}
+use Rattle.pw_settle.specs.inside.Progress.{IsNews}
 use Rattle.pw_settle.specs.Settled.{info_at, support_at}
 use Rattle.pw_settle.specs.Sound.{IsSound, LiesUpstream}
 use Rattle.pw_settle.specs.Sources.{IsImplied, said_by}
@@ -47,7 +47,7 @@ value_more procedure better known cells one_kind more =
 
 module _ (network : Network) (well : IsWellNetwork network) (old : Store) (same : kinds_of old ≡ kinds_in network) (w : Premises)
     (infos : List Info) (supports : List Premises) (kept : AreKept old w infos supports)
-    (a : Attached) (there : Contains network.attached a) (visible : is_visible w a ≡ true)
+    (a : Attached) (there : Contains network.attached a) (visible : is_instance_visible w a ≡ true)
     (cell : ℕ) (fact : Fact) (is : IsNews network infos supports a cell fact) where
   abbrev procedures : List Procedure
   procedures = network.declared.procedures

@@ -28,12 +28,13 @@ use Rattle.pw_cells.proofs.Stores.{kind-listed}
 use Rattle.pw_cells.proofs.Together.{meet_first, meet_keeps}
 use Rattle.pw_network.specs.Network.{Attached, Network, IsWellNetwork}
 use Rattle.pw_network.specs.Readers.{reads, readers_of}
-use Rattle.pw_settle.specs.Agenda.{is_set}
-use Rattle.pw_settle.specs.Calls.{is_visible, reader_count, sum_below, visible_at}
+use Rattle.pw_settle.specs.inside.Progress.{is_set}
+use Rattle.pw_settle.specs.Calls.{is_instance_visible, reader_count, sum_below, visible_at}
 use Rattle.pw_settle.specs.Growth.{KeepsMore}
-use Rattle.pw_settle.specs.Known.{AreKept, AreUpstream, TakesIn}
-use Rattle.pw_settle.specs.Placed.{IsPlaced}
-use Rattle.pw_settle.specs.Progress.{AreOthersSatisfied, AreSatisfied, IsNews, IsSatisfied, attached_no, weight}
+use Rattle.pw_settle.specs.inside.Known.{AreKept, AreUpstream, TakesIn}
+use Rattle.pw_settle.specs.inside.Known.{IsPlaced}
+use Rattle.pw_settle.specs.inside.Progress.{AreOthersSatisfied, AreSatisfied, IsNews, weight}
+use Rattle.pw_settle.specs.Values.{IsSatisfied, attached_no}
 use Rattle.pw_settle.specs.Settled.{info_at, support_at}
 use Rattle.pw_settle.specs.Sound.{LiesUpstream}
 use Rattle.pw_settle.specs.Sources.{IsImplied, said_by}
@@ -59,17 +60,17 @@ visible_below network w number visible =
       | inl below ↦ ltb-true number (length network.attached) below
       | inr past ↦
           let none : visible_at network w number ≡ false =
-          get_or_past (map (is_visible w) network.attached) number false
-          (omega (arith, ltb-false number (length network.attached) past, length-map network.attached (is_visible w))) in
+          get_or_past (map (is_instance_visible w) network.attached) number false
+          (omega (arith, ltb-false number (length network.attached) past, length-map network.attached (is_instance_visible w))) in
           absurd (cc)
     ]
 
 -- and its instance is, read with any default
 pub visible_no : (network : Network) (w : Premises) (number : ℕ) (d : Attached) → number < length network.attached →
-    is_visible w (attached_no network number d) ≡ visible_at network w number
+    is_instance_visible w (attached_no network number d) ≡ visible_at network w number
 visible_no network w number d below =
-    sym (get_or-map (is_visible w) network.attached number d)
-    ∙ get_or_default (map (is_visible w) network.attached) number (is_visible w d) false (omega (arith, below, length-map network.attached (is_visible w)))
+    sym (get_or-map (is_instance_visible w) network.attached number d)
+    ∙ get_or_default (map (is_instance_visible w) network.attached) number (is_instance_visible w d) false (omega (arith, below, length-map network.attached (is_instance_visible w)))
 
 -- an instance that reads a cell is among its readers
 pub reader_listed : (network : Network) (cell number : ℕ) (d : Attached) → number < length network.attached →
@@ -175,7 +176,7 @@ module _ (network : Network) (well : IsWellNetwork network) (old new : Store) (s
   there : Contains network.attached a
   there = (number, low, get_or_default network.attached number a no_instance low)
 
-  seen : is_visible w a ≡ true
+  seen : is_instance_visible w a ≡ true
   seen = visible_no network w number no_instance low ∙ visible
 
   abbrev before : Info

@@ -7,7 +7,7 @@ use Rattle.pw_info.specs.declared.info.Info.{Info}
 use Rattle.pw_info.specs.Information.{kind_of, allows, Implies}
 use Rattle.pw_info.proofs.Informations.{implies_nothing, Implies-antisym}
 use Rattle.pw_settle.specs.Sources.{Cells, Source, Told, Propagator, cell_of, is_propagator, AreOfTheirKinds, Fits, IsImplied}
-use Rattle.pw_settle.specs.Fixpoint.{AreOver, fixpoint, nothing_known, round, rounds_of_a_cell, told_in_one, told_of}
+use Rattle.pw_settle.specs.Fixpoint.{AreOver, fixpoint, unknown_at, round, rounds_of_a_cell, told_in_one, told_alone}
 use Rattle.pw_settle.proofs.Membership.{contains_filter, contains_map, each_member}
 use Rattle.pw_settle.proofs.RoundLemmas.{Leaves, allows_round, kind-round, round_below, round_says}
 use Rattle.pw_settle.proofs.FixpointLemmas.{fixpoint_same, fixpoint_says, kind-fixpoint, kind-nothing_known}
@@ -18,21 +18,21 @@ is_tell source = not (is_propagator source)
 
 module _ {C : Type 0} (cells : Cells C) (sources : List (Source C)) where
   -- the told information about a cell is of the cell's kind
-  pub kind-told_of : (c : C) → kind_of (told_of cells sources c) ≡ cells.kind c
-  kind-told_of c = kind-round cells (filter is_tell sources) (nothing_known cells) c ∙ kind-nothing_known cells c
+  pub kind-told_of : (c : C) → kind_of (told_alone cells sources c) ≡ cells.kind c
+  kind-told_of c = kind-round cells (filter is_tell sources) (unknown_at cells) c ∙ kind-nothing_known cells c
 
 module _ {C : Type 0} (cells : Cells C) (sources : List (Source C)) (fit : All (Fits cells) sources) where
   -- the told information about a cell says at least what each tell about it says
-  pub told_of_says : (cell : C) (info : Info) → Contains sources (Told cell info) → Implies (told_of cells sources cell) info
+  pub told_of_says : (cell : C) (info : Info) → Contains sources (Told cell info) → Implies (told_alone cells sources cell) info
   told_of_says cell info is =
-      round_says cells (filter is_tell sources) (All-filter is_tell (Fits cells) sources fit) (nothing_known cells) (kind-nothing_known cells)
+      round_says cells (filter is_tell sources) (All-filter is_tell (Fits cells) sources fit) (unknown_at cells) (kind-nothing_known cells)
       (Told cell info) (contains_filter is_tell sources (Told cell info) refl is)
 
   -- anything that implies the sources implies the told information
   pub told_of_below : (known : C → Info) → AreOfTheirKinds cells known → All (IsImplied known) sources →
-      (c : C) → Implies (known c) (told_of cells sources c)
+      (c : C) → Implies (known c) (told_alone cells sources c)
   told_of_below known kinds implied =
-      round_below cells (filter is_tell sources) (All-filter is_tell (Fits cells) sources fit) (nothing_known cells) (kind-nothing_known cells)
+      round_below cells (filter is_tell sources) (All-filter is_tell (Fits cells) sources fit) (unknown_at cells) (kind-nothing_known cells)
       known kinds (All-filter is_tell (IsImplied known) sources implied) (λ c. implies_nothing (known c) (cells.kind c) (kinds c))
 
   -- ---- a cell that no propagator writes
@@ -40,32 +40,32 @@ module _ {C : Type 0} (cells : Cells C) (sources : List (Source C)) (fit : All (
   module _ (c : C) (unwritten : All (λ source. cell_of source ≡ c → is_propagator source ≡ true → ⊥) sources) where
     -- the told information about the cell leaves possible only what each source that informs it
     -- does
-    told_of_leaves : (known : C → Info) (v : ℤ) → allows (told_of cells sources c) v ≡ true → (source : Source C) → Contains sources source →
+    told_of_leaves : (known : C → Info) (v : ℤ) → allows (told_alone cells sources c) v ≡ true → (source : Source C) → Contains sources source →
         Leaves cells known c v source
     told_of_leaves known v e (Told cell info) is = λ here.
-        told_of_says cell info is v (subst (λ (d : C). allows (told_of cells sources d) v ≡ true) (sym here) e)
+        told_of_says cell info is v (subst (λ (d : C). allows (told_alone cells sources d) v ≡ true) (sym here) e)
     told_of_leaves known v e (Propagator procedure inputs output) is = λ here.
         absurd (All-contains (λ source. cell_of source ≡ c → is_propagator source ≡ true → ⊥) sources (Propagator procedure inputs output) unwritten is here refl)
 
     -- so it implies what is known about the cell after rounds
-    told_of_rounds : (n : ℕ) (known : C → Info) → AreOfTheirKinds cells known → Implies (told_of cells sources c) (known c) →
-        Implies (told_of cells sources c) (iterate (round cells sources) n known c)
+    told_of_rounds : (n : ℕ) (known : C → Info) → AreOfTheirKinds cells known → Implies (told_alone cells sources c) (known c) →
+        Implies (told_alone cells sources c) (iterate (round cells sources) n known c)
     told_of_rounds zero known kinds more = more
     told_of_rounds (suc n) known kinds more =
         told_of_rounds n (round cells sources known) (λ d. kind-round cells sources known d ∙ kinds d)
         (λ v e. allows_round cells sources fit known kinds c v (more v e) (each_member (Leaves cells known c v) sources (told_of_leaves known v e)))
 
     -- and it implies what follows of it
-    told_of_above : (over : List C) → Implies (told_of cells sources c) (fixpoint cells over sources c)
+    told_of_above : (over : List C) → Implies (told_alone cells sources c) (fixpoint cells over sources c)
     unfolding fixpoint
     told_of_above over =
-        told_of_rounds (length over * rounds_of_a_cell) (nothing_known cells) (kind-nothing_known cells)
-        (implies_nothing (told_of cells sources c) (cells.kind c) (kind-told_of cells sources c))
+        told_of_rounds (length over * rounds_of_a_cell) (unknown_at cells) (kind-nothing_known cells)
+        (implies_nothing (told_alone cells sources c) (cells.kind c) (kind-told_of cells sources c))
 
     -- what follows about the cell is what is told about it
-    pub unwritten_told : (over : List C) → AreOver cells over sources → fixpoint cells over sources c ≡ told_of cells sources c
+    pub unwritten_told : (over : List C) → AreOver cells over sources → fixpoint cells over sources c ≡ told_alone cells sources c
     unwritten_told over are =
-        Implies-antisym (fixpoint cells over sources c) (told_of cells sources c)
+        Implies-antisym (fixpoint cells over sources c) (told_alone cells sources c)
         (kind-fixpoint cells over sources c ∙ sym (kind-told_of cells sources c))
         (told_of_below (fixpoint cells over sources) (kind-fixpoint cells over sources) (fixpoint_says cells over sources are) c)
         (told_of_above over)
@@ -73,7 +73,7 @@ module _ {C : Type 0} (cells : Cells C) (sources : List (Source C)) (fit : All (
 -- ---- the told facts, in one piece
 
 module _ {C : Type 0} (cells : Cells C) (over : List C) (sources : List (Source C)) (are : AreOver cells over sources)
-    (told : C → Info) (same : (c : C) → Contains over c → told c ≡ told_of cells sources c) where
+    (told : C → Info) (same : (c : C) → Contains over c → told c ≡ told_alone cells sources c) where
   -- this is told about a cell
   abbrev told_at : C → Source C
   told_at cell = Told cell (told cell)

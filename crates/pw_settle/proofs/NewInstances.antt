@@ -7,19 +7,19 @@ use Rattle.std.proofs.Math.ListN.{get_or-map}
 use Rattle.std.proofs.lemmas.Bool.{cases_Bool, eqb-false, eqb-true, lt-ltb, ltb-true}
 use Rattle.pw_info.specs.declared.info.Info.{Info}
 use Rattle.pw_network.specs.declared.instance.Instance.{Instance}
-use Rattle.pw_network.specs.Kept.{attached_of}
+use Rattle.pw_network.specs.inside.Held.{attachment}
 use Rattle.pw_network.specs.Network.{Attached, Network}
-use Rattle.pw_settle.specs.Agenda.{is_set}
-use Rattle.pw_settle.specs.Due.{HasChanged, QueuesReaders, is_new}
-use Rattle.pw_settle.specs.Progress.{attached_no}
+use Rattle.pw_settle.specs.inside.Progress.{is_set}
+use Rattle.pw_settle.specs.inside.Due.{HasChanged, QueuesReaders, is_new}
+use Rattle.pw_settle.specs.Values.{attached_no}
 use Rattle.pw_settle.specs.Settled.{Settled}
 use Rattle.pw_settle.proofs.KeptProgress.{visible_no}
 
 -- an instance that is stored is the one of its number
-pub item_is : (items : List Instance) (attached : List Attached) → map attached_of items ≡ attached → (n : ℕ) (item : Instance) →
-    item ≡ get_or items n item → attached_of item ≡ get_or attached n (attached_of item)
+pub item_is : (items : List Instance) (attached : List Attached) → map attachment items ≡ attached → (n : ℕ) (item : Instance) →
+    item ≡ get_or items n item → attachment item ≡ get_or attached n (attachment item)
 item_is items attached same n item is =
-    ap attached_of is ∙ sym (get_or-map attached_of items n item) ∙ ap (λ (l : List Attached). get_or l n (attached_of item)) same
+    ap attachment is ∙ sym (get_or-map attachment items n item) ∙ ap (λ (l : List Attached). get_or l n (attachment item)) same
 
 -- a number that is not below another
 pub not_below : (n m : ℕ) → m ≤ n → nat_lt n m ≡ false

@@ -8,10 +8,10 @@ use Rattle.pw_info.specs.declared.info.Info.{Info}
 use Rattle.pw_info.specs.Information.{kind_of, nothing, Implies}
 use Rattle.pw_procs.specs.Procedure.{Procedure}
 use Rattle.pw_network.specs.declared.instance.Instance.{Instance}
-use Rattle.pw_network.specs.Kept.{attached_of}
+use Rattle.pw_network.specs.inside.Held.{attachment}
 use Rattle.pw_network.specs.Network.{Attached, Network, IsWellNetwork}
-use Rattle.pw_settle.specs.Placed.{IsPlaced}
-use Rattle.pw_settle.specs.Progress.{IsSatisfied, attached_no}
+use Rattle.pw_settle.specs.inside.Known.{IsPlaced}
+use Rattle.pw_settle.specs.Values.{IsSatisfied, attached_no}
 use Rattle.pw_settle.specs.Settled.{info_at}
 use Rattle.pw_settle.specs.Sources.{IsImplied, said_by}
 use Rattle.pw_settle.specs.Values.{kinds_in, numbered, propagators_of}
@@ -19,12 +19,12 @@ use Rattle.pw_settle.proofs.PlacedInstances.{all_sources, kind-info_at, the_sour
 use Rattle.pw_settle.proofs.SettledValues.{all_placed}
 
 -- the instance of this number as it is kept
-pub kept_instance : (network : Network) (instances : List Instance) (number : ℕ) (instance d : _) → map attached_of instances ≡ network.attached →
-    number < length network.attached → instance ≡ get_or instances number instance → attached_no network number d ≡ attached_of instance
+pub kept_instance : (network : Network) (instances : List Instance) (number : ℕ) (instance d : _) → map attachment instances ≡ network.attached →
+    number < length network.attached → instance ≡ get_or instances number instance → attached_no network number d ≡ attachment instance
 kept_instance network instances number instance d same below is =
     sym (ap (λ l. get_or l number d) same)
-    ∙ get_or_default (map attached_of instances) number d (attached_of instance) (omega (arith, below, ap length same))
-    ∙ get_or-map attached_of instances number instance ∙ ap attached_of (sym is)
+    ∙ get_or_default (map attachment instances) number d (attachment instance) (omega (arith, below, ap length same))
+    ∙ get_or-map attachment instances number instance ∙ ap attachment (sym is)
 
 module _ (network : Network) (well : IsWellNetwork network) (infos : List Info) (procedures : List Procedure) (number : ℕ) (a : Attached)
     (same : procedures ≡ network.declared.procedures) (kinds_are : map kind_of infos ≡ kinds_in network)

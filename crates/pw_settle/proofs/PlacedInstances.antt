@@ -14,7 +14,7 @@ use Rattle.pw_info.specs.declared.info.Info.{Info}
 use Rattle.pw_info.specs.Information.{kind_of, nothing}
 use Rattle.pw_procs.specs.Procedure.{Procedure, value_by}
 use Rattle.pw_procs.specs.Signature.{Accepts, FitSignature, input_slots_of}
-use Rattle.pw_procs.specs.Slots.{kind_in}
+use Rattle.pw_procs.specs.Slots.{kind_in_slot}
 use Rattle.pw_procs.proofs.KindLaws.{apart, gives_accepted}
 use Rattle.std.proofs.lemmas.Option.{same_Some}
 use Rattle.pw_decl.specs.declared.step.Callable.TheVariants as callables
@@ -23,7 +23,7 @@ use Rattle.pw_decl.proofs.Decided.{decided_accepts_kinds}
 use Rattle.pw_settle.specs.Sources.{Source, Propagator, Fits, said_by}
 use Rattle.pw_settle.specs.Settled.{info_at}
 use Rattle.pw_settle.specs.Values.{numbered, propagators_of}
-use Rattle.pw_settle.specs.Placed.{IsPlaced}
+use Rattle.pw_settle.specs.inside.Known.{IsPlaced}
 
 -- what is known about a cell by its number is of the cell's kind
 pub kind-info_at : (infos : List Info) (cell : ℕ) → kind_of (info_at infos cell) ≡ (numbered (map kind_of infos)).kind cell
@@ -57,7 +57,7 @@ module _ (procedures : List Procedure) (ks : List Kind) (instance : Instance ℕ
   few_inputs =
       let parts = apart accepted.0.signature (map (numbered ks).kind instance.inputs) ((numbered ks).kind instance.output) accepted.2 in
       let kinds_many = length-map instance.inputs (numbered ks).kind in
-      let slots_many = length-map (input_slots_of accepted.0.signature) (kind_in parts.0) in
+      let slots_many = length-map (input_slots_of accepted.0.signature) (kind_in_slot parts.0) in
       let as_many = ap length parts.1 in
       omega (arith, kinds_many, slots_many, as_many, accepted.0.signature.shape.inputs.most)
 

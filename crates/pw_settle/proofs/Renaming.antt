@@ -8,7 +8,7 @@ use Rattle.pw_info.specs.declared.info.Info.{Info}
 use Rattle.pw_info.specs.Information.{meet, nothing}
 use Rattle.pw_procs.specs.Procedure.{value_by}
 use Rattle.pw_settle.specs.Sources.{Cells, Source, Told, Propagator, cell_of, said_by, source_renamed, Names}
-use Rattle.pw_settle.specs.Fixpoint.{AreNamesOf, fixpoint, nothing_known, round, rounds_of_a_cell, with_source}
+use Rattle.pw_settle.specs.Fixpoint.{AreNamesOf, fixpoint, unknown_at, round, rounds_of_a_cell, with_source}
 
 -- a source under other names informs its cell, by its other name
 cell_renamed : {C D : Type 0} (name : C → D) (source : Source C) → cell_of (source_renamed name source) ≡ name (cell_of source)
@@ -78,6 +78,6 @@ module _ {C D : Type 0} (cells : Cells C) (others : Cells D) (IsHere : C → Typ
         fixpoint others (map name over) (map (source_renamed name) sources) (name c) ≡ fixpoint cells over sources c
     unfolding fixpoint
     fixpoint_renamed over c here =
-        ap (λ (n : ℕ). iterate (round others (map (source_renamed name) sources)) (n * rounds_of_a_cell) (nothing_known others) (name c))
+        ap (λ (n : ℕ). iterate (round others (map (source_renamed name) sources)) (n * rounds_of_a_cell) (unknown_at others) (name c))
         (length-map over name)
-        ∙ rounds_renamed (length over * rounds_of_a_cell) (nothing_known cells) (nothing_known others) (λ d is. ap nothing (are.kinds d is)) c here
+        ∙ rounds_renamed (length over * rounds_of_a_cell) (unknown_at cells) (unknown_at others) (λ d is. ap nothing (are.kinds d is)) c here

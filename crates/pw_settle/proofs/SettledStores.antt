@@ -19,15 +19,15 @@ use Rattle.pw_cells.specs.Cells.{Cell, Store, kept_in, kinds_of, told_in}
 use Rattle.pw_decl.proofs.FlatKept.{range_below}
 use Rattle.pw_network.specs.Network.{Network, IsWellNetwork, cells_in}
 use Rattle.pw_network.specs.Readers.{reads, readers_of}
-use Rattle.pw_settle.specs.Agenda.{is_set, tally}
+use Rattle.pw_settle.specs.inside.Progress.{is_set, tally}
 use Rattle.pw_settle.specs.Calls.{gains, most_calls, reader_count, sum_below, visible_at}
 use Rattle.pw_settle.specs.Growth.{KeepsMore}
-use Rattle.pw_settle.specs.Known.{AreKept, SaysTold}
-use Rattle.pw_settle.specs.Progress.{AreSatisfied, weight}
+use Rattle.pw_settle.specs.inside.Known.{AreKept, SaysTold}
+use Rattle.pw_settle.specs.inside.Progress.{AreSatisfied, weight}
 use Rattle.pw_settle.specs.Settled.{IsSettled, support_at}
 use Rattle.pw_settle.specs.Sound.{IsSound}
 use Rattle.pw_settle.specs.Sources.{IsImplied, Told}
-use Rattle.pw_settle.specs.Values.{kinds_in, numbered, numbers_of, propagators_of, sources_in, told_sources, value_in, visible_instances}
+use Rattle.pw_settle.specs.Values.{kinds_in, numbered, numbers_of_cells, propagators_of, sources_in, told_sources, value_in, visible_instances}
 use Rattle.pw_settle.proofs.FixpointLemmas.{fixpoint_below}
 use Rattle.pw_settle.proofs.Growing.{same_value}
 use Rattle.pw_settle.proofs.KeptFacts.{kind-in_value, kind-kept, kind_there}
@@ -68,7 +68,7 @@ module _ (network : Network) (well : IsWellNetwork network) (old new : Store) (w
   kept_value cell =
       Implies-antisym (kept_in new cell w) (value_in network new w cell)
       (kind-kept new cell w ∙ sym (kind-in_value network new still w cell))
-      (fixpoint_below (numbered (kinds_in network)) (numbers_of (kinds_in network)) (sources_in network new w)
+      (fixpoint_below (numbered (kinds_in network)) (numbers_of_cells (kinds_in network)) (sources_in network new w)
       (are_over network new w still (all_placed network well)).fit (λ c. kept_in new c w) (λ c. kind-kept new c w ∙ kind_there network new still c) kept_says cell)
       (grows.sound sound w cell)
 

@@ -18,8 +18,8 @@ use Rattle.pw_decl.specs.Expansion.{Instance, FitsCells, SpeaksOf}
 use Rattle.pw_network.specs.Network.{Attached, InnerCell, Network, cells_in, IsWellNetwork}
 use Rattle.pw_settle.specs.Sources.{Source, Told, Fits, IsImplied, Names, cell_of}
 use Rattle.pw_settle.specs.Fixpoint.{AreOver}
-use Rattle.pw_settle.specs.Values.{numbered, numbers_of, kinds_in, propagators_of, visible_instances, told_sources, sources_in, value_in}
-use Rattle.pw_settle.specs.Placed.{IsPlaced}
+use Rattle.pw_settle.specs.Values.{numbered, numbers_of_cells, kinds_in, propagators_of, visible_instances, told_sources, sources_in, value_in}
+use Rattle.pw_settle.specs.inside.Known.{IsPlaced}
 use Rattle.pw_settle.proofs.FixpointLemmas.{kind-fixpoint, fixpoint_says}
 use Rattle.pw_settle.proofs.Propagators.{names_cell, propagators_fit, propagators_name}
 
@@ -127,19 +127,19 @@ module _ (network : Network) (store : Store) (w : Premises) (same : kinds_of sto
   told_fit (cell ∷ cells) = All-cons (Fits (numbered ks)) (Told cell (told_in store cell w)) (map (λ cell. Told cell (told_in store cell w)) cells) (kind-told cell) (told_fit cells)
 
   -- what a network and a store say fits the kinds of the cells, and informs cells that exist
-  pub are_over : AreOver (numbered ks) (numbers_of ks) (sources_in network store w)
+  pub are_over : AreOver (numbered ks) (numbers_of_cells ks) (sources_in network store w)
   are_over = record {
     fit = All-append (Fits (numbered ks)) (told_sources store w (length ks)) propagators (told_fit (range_with_len 0 (length ks)))
         (propagators_fit (numbered ks) network.declared.procedures seen
         (All-weaker (IsPlaced network.declared.procedures ks) (λ i. ∥ FitsCells network.declared.procedures (numbered ks).kind i ∥₁) (λ i p. p.1) seen seen_placed));
-    within = All-append (λ source. Contains (numbers_of ks) (cell_of source)) (told_sources store w (length ks)) propagators
-        (All-map (λ source. Contains (numbers_of ks) (cell_of source)) (λ cell. Told cell (told_in store cell w)) (range_with_len 0 (length ks))
+    within = All-append (λ source. Contains (numbers_of_cells ks) (cell_of source)) (told_sources store w (length ks)) propagators
+        (All-map (λ source. Contains (numbers_of_cells ks) (cell_of source)) (λ cell. Told cell (told_in store cell w)) (range_with_len 0 (length ks))
         (All-contains_itself (range_with_len 0 (length ks))))
-        (All-weaker (Names (Contains (numbers_of ks))) (λ source. Contains (numbers_of ks) (cell_of source)) (names_cell (Contains (numbers_of ks))) propagators
-        (propagators_name (Contains (numbers_of ks)) network.declared.procedures seen
-        (All-weaker (IsPlaced network.declared.procedures ks) (SpeaksOf (Contains (numbers_of ks)))
+        (All-weaker (Names (Contains (numbers_of_cells ks))) (λ source. Contains (numbers_of_cells ks) (cell_of source)) (names_cell (Contains (numbers_of_cells ks))) propagators
+        (propagators_name (Contains (numbers_of_cells ks)) network.declared.procedures seen
+        (All-weaker (IsPlaced network.declared.procedures ks) (SpeaksOf (Contains (numbers_of_cells ks)))
         (λ i p. (
-          All-weaker (λ cell. cell < length ks) (Contains (numbers_of ks)) (λ cell below. contains_number (length ks) cell below) i.inputs p.0.0,
+          All-weaker (λ cell. cell < length ks) (Contains (numbers_of_cells ks)) (λ cell below. contains_number (length ks) cell below) i.inputs p.0.0,
           contains_number (length ks) i.output p.0.1,
         )) seen seen_placed)));
   }
@@ -148,7 +148,7 @@ module _ (network : Network) (store : Store) (w : Premises) (same : kinds_of sto
 
   -- what follows says what each source says
   pub says : All (IsImplied (value_in network store w)) (sources_in network store w)
-  says = fixpoint_says (numbered ks) (numbers_of ks) (sources_in network store w) are_over
+  says = fixpoint_says (numbered ks) (numbers_of_cells ks) (sources_in network store w) are_over
 
   pub kind-value : (cell : ℕ) → kind_of (value_in network store w cell) ≡ (numbered ks).kind cell
-  kind-value = kind-fixpoint (numbered ks) (numbers_of ks) (sources_in network store w)
+  kind-value = kind-fixpoint (numbered ks) (numbers_of_cells ks) (sources_in network store w)

@@ -21,7 +21,7 @@ use Rattle.pw_cells.proofs.Together.{kind-shown_by, meet_first}
 use Rattle.pw_network.specs.Network.{Attached, Network, IsWellNetwork}
 use Rattle.pw_settle.specs.Sound.{IsSound, LiesUpstream, RestsUpstream}
 use Rattle.pw_settle.specs.Values.{kinds_in, value_in}
-use Rattle.pw_settle.specs.Wider.{IsWider}
+use Rattle.pw_settle.specs.Growth.{IsWider}
 use Rattle.pw_settle.proofs.KeptFacts.{also_implies, by_cell, implies_also, implies_merge, kind-in_value, kind-kept}
 use Rattle.pw_settle.proofs.Membership.{each_member}
 use Rattle.pw_settle.proofs.WiderNetworks.{still_attached, value_says_told, value_wider, wide_self}

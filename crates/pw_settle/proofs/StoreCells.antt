@@ -29,7 +29,7 @@ cells_kept network store well fits =
 
 -- so there is room for the inner cells of one more attachment
 pub room_for_inner : (network : Network) (store : Store) → IsWellNetwork network → kinds_of store ≡ kinds_in network →
-    length store.cells + most_inner_cells ≤ cells.most_cells
+    length store.cells + most_inner_cells ≤ cells.most_store_cells
 room_for_inner network store well fits =
     let same = cells_kept network store well fits in
     omega (arith, well.lines, well.few, well.declared.cells)

@@ -14,11 +14,11 @@ use Rattle.pw_decl.specs.Expansion.{Instance}
 use Rattle.pw_network.specs.Network.{Attached, Network, IsWellNetwork}
 use Rattle.pw_settle.specs.Sources.{Cells, Source, Told, IsImplied}
 use Rattle.pw_settle.specs.Fixpoint.{AreOver}
-use Rattle.pw_settle.specs.Values.{numbered, numbers_of, kinds_in, propagator_of, propagators_of, visible_instances, told_sources, sources_in, value_in}
+use Rattle.pw_settle.specs.Values.{numbered, numbers_of_cells, kinds_in, propagator_of, propagators_of, visible_instances, told_sources, sources_in, value_in}
 use Rattle.pw_settle.proofs.FixpointLemmas.{fixpoint_above, kind-fixpoint}
 use Rattle.pw_settle.proofs.SourceLists.{all_before, all_after}
 use Rattle.pw_settle.proofs.SettledValues.{all_placed, are_over}
-use Rattle.pw_facts.specs.Worldviews.{IsMonotone}
+use Rattle.pw_facts.specs.Facts.{IsMonotone}
 
 -- ---- what is visible
 
@@ -107,7 +107,7 @@ module _ (network : Network) (store : Store) (well : IsWellNetwork network) (sam
   cells = numbered (kinds_in network)
 
   abbrev over : List ℕ
-  over = numbers_of (kinds_in network)
+  over = numbers_of_cells (kinds_in network)
 
   abbrev told : Premises → List (Source ℕ)
   told w = told_sources store w (length (kinds_in network))

@@ -19,10 +19,10 @@ use Rattle.pw_decl.specs.Declaration.{Declared}
 use Rattle.pw_decl.specs.Expansion.{expansion_of, inner_kinds_of}
 use Rattle.pw_decl.proofs.FlatKept.{range_below}
 use Rattle.pw_network.specs.Network.{Attached, InnerCell, Network, IsWellNetwork, attached_at, cells_in, inner_cells_from, with_attached}
-use Rattle.pw_settle.specs.Placed.{IsPlaced}
+use Rattle.pw_settle.specs.inside.Known.{IsPlaced}
 use Rattle.pw_settle.specs.Sources.{IsImplied, Told}
-use Rattle.pw_settle.specs.Values.{kinds_in, numbered, numbers_of, propagators_of, sources_in, told_sources, value_in, visible_instances}
-use Rattle.pw_settle.specs.Wider.{IsWider}
+use Rattle.pw_settle.specs.Values.{kinds_in, numbered, numbers_of_cells, propagators_of, sources_in, told_sources, value_in, visible_instances}
+use Rattle.pw_settle.specs.Growth.{IsWider}
 use Rattle.pw_settle.proofs.FixpointLemmas.{fixpoint_below}
 use Rattle.pw_settle.proofs.KeptFacts.{kind-in_value, kind_there}
 use Rattle.pw_settle.proofs.Membership.{contains_map, each_member, same_on}
@@ -172,7 +172,7 @@ module _ (network wider : Network) (wide : IsWider network wider) (well : IsWell
   -- so no less is known about the cells that existed
   pub value_wider : (c : ℕ) → c < count → Implies (value_in wider new w c) (value_in network old w c)
   value_wider c below v possible =
-      fixpoint_below (numbered (kinds_in network)) (numbers_of (kinds_in network)) (sources_in network old w)
+      fixpoint_below (numbered (kinds_in network)) (numbers_of_cells (kinds_in network)) (sources_in network old w)
       (are_over network old w same (all_placed network well)).fit clipped clipped_kinds
       (All-append (IsImplied clipped) (told_sources old w count) (propagators_of procedures (visible_instances network.attached w)) clipped_told
       (all_seen procedures (IsImplied clipped) w network.attached

@@ -1,10 +1,35 @@
--- How a store grows while others settle in it.
-use Rattle.std.specs.Prelude.{◌≡◌, ℕ, Bool}
-use Rattle.pw_info.specs.Information.{Implies}
+-- How a store and a network grow, and what it is for the values of an earlier settling to fit what
+-- is there now.
+use Rattle.std.specs.Prelude.{◌≡◌, ℕ, ◌<◌, ◌≤◌, true, length, slice_index_or, Bool, List, ◌++◌}
+use Rattle.pw_info.specs.Information.{kind_of, nothing, Implies}
+use Rattle.pw_info.specs.declared.info.Info.{Info}
+use Rattle.pw_cells.specs.Cells.{Store, kept_in, kinds_of, told_in}
+use Rattle.pw_network.specs.Network.{Attached, Network, cells_in}
+use Rattle.pw_settle.specs.Calls.{is_instance_visible}
+use Rattle.pw_settle.specs.Values.{IsSatisfied, attached_no, kinds_in, numbered, value_in}
+use Rattle.pw_settle.specs.Settled.{Settled, info_at, IsSettled}
 use Rattle.pw_premises.specs.Premises.{Premises}
-use Rattle.pw_cells.specs.Cells.{Store, kinds_of, told_in, kept_in}
-use Rattle.pw_network.specs.Network.{Network}
 use Rattle.pw_settle.specs.Sound.{IsSound, RestsUpstream}
+use Rattle.pw_info.specs.declared.kind.Kind.{Kind}
+
+-- what the settled values say about a cell; nothing about a cell that did not exist then
+abbrev pub said_of : Network → Settled → ℕ → Info
+said_of network settled cell = slice_index_or settled.infos cell
+    (nothing ((numbered (kinds_in network)).kind cell))
+
+-- the settled values fit: cells and instances were at most added; for each of their cells, what is
+-- kept in their worldview says at least as much; and they satisfy each instance that existed then
+-- and is visible in it
+pub record IsFitting (network : Network) (store : Store) (settled : Settled) : Type 0 where
+  pub instances : settled.instances ≤ length network.attached
+  pub cells : length settled.infos ≤ cells_in network
+  pub kinds : (cell : ℕ) → cell < length settled.infos → kind_of (info_at settled.infos cell)
+      ≡ (numbered (kinds_in network)).kind cell
+  pub kept : (cell : ℕ) → cell < length settled.infos →
+      Implies (kept_in store cell settled.worldview) (info_at settled.infos cell)
+  pub satisfied : (number : ℕ) (d : Attached) → number < settled.instances →
+      is_instance_visible settled.worldview (attached_no network number d) ≡ true →
+      IsSatisfied network (said_of network settled) (attached_no network number d)
 
 -- the cells are those that existed, and were told what they were told; no less is kept of any cell,
 -- in any worldview, and if the store was sound, it still is
@@ -18,3 +43,25 @@ pub record KeepsMore (network : Network) (old new : Store) : Type 0 where
 abbrev pub StaysUpstream : Network → Store → Store → Type 0
 StaysUpstream network old new =
     (given : ℕ → ℕ → Bool) → RestsUpstream network given old → RestsUpstream network given new
+
+-- one network has all cells and instances that the other has, by the same numbers, and perhaps
+-- more, as after attachments
+pub record IsWider (network wider : Network) : Type 0 where
+  pub declared : wider.declared ≡ network.declared
+  pub own : List Kind
+  pub kinds_are : kinds_in wider ≡ kinds_in network ++ own
+  pub more : List Attached
+  pub attached_are : wider.attached ≡ network.attached ++ more
+
+-- where the store is sound, these are the values in the worldview
+abbrev pub IsSettledIfSound : Network → Store → Premises → Settled → Type 0
+IsSettledIfSound network store w settled = IsSound network store → IsSettled network store w settled
+
+-- where the store was sound, what is kept of each cell in the worldview is its value there
+abbrev pub KeepsIfSound : Network → Store → Store → Premises → Type 0
+KeepsIfSound network old new w =
+    IsSound network old → (cell : ℕ) → kept_in new cell w ≡ value_in network old w cell
+
+-- the values were found when all these instances were there
+abbrev pub HasInstancesOf : Network → Settled → Type 0
+HasInstancesOf network settled = settled.instances ≡ length network.attached

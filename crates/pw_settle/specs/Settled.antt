@@ -28,12 +28,15 @@ abbrev pub support_at : List Premises → ℕ → Premises
 support_at supports cell = slice_index_or supports cell empty
 
 -- they are the values of the cells of the network in this worldview, with what this store was told
-pub record IsSettled (network : Network) (store : Store) (worldview : Premises) (settled : Settled) : Type 0 where
+pub record IsSettled (network : Network) (store : Store) (worldview : Premises) (settled : Settled)
+    : Type 0 where
   pub worldview_is : settled.worldview ≡ worldview
   pub cells : length settled.infos ≡ cells_in network
-  pub values : (cell : ℕ) → cell < cells_in network → info_at settled.infos cell ≡ value_in network store worldview cell
+  pub values : (cell : ℕ) → cell < cells_in network → info_at settled.infos cell
+      ≡ value_in network store worldview cell
   -- each rests on premises of the worldview under which it is the value too
   pub supports : length settled.supports ≡ cells_in network
   pub within : (cell : ℕ) → is_subset (support_at settled.supports cell) worldview ≡ true
   pub enough : (cell : ℕ) → cell < cells_in network →
-      value_in network store (support_at settled.supports cell) cell ≡ value_in network store worldview cell
+      value_in network store (support_at settled.supports cell) cell
+      ≡ value_in network store worldview cell

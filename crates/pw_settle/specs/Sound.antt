@@ -11,13 +11,15 @@ use Rattle.pw_settle.specs.Values.{value_in}
 -- only what follows is kept: in every worldview the value of a cell says at least what is kept of
 -- it there
 abbrev pub IsSound : Network → Store → Type 0
-IsSound network store = (w : Premises) (cell : ℕ) → Implies (value_in network store w cell) (kept_in store cell w)
+IsSound network store = (w : Premises) (cell : ℕ) →
+    Implies (value_in network store w cell) (kept_in store cell w)
 
 -- a set of cells, as a test: with each cell that an instance writes, it has every cell that the
 -- instance reads
 abbrev pub IsUpstream : Network → (ℕ → Bool) → Type 0
 IsUpstream network cells =
-    All (λ (a : Attached). cells a.instance.output ≡ true → All (λ input. cells input ≡ true) a.instance.inputs) network.attached
+    All (λ (a : Attached). cells a.instance.output ≡ true →
+    All (λ input. cells input ≡ true) a.instance.inputs) network.attached
 
 -- the premise belongs to a fact that was told about one of these cells, or to an instance that
 -- writes one of them. Only a history says which premises were given with which cell: a store merges
@@ -25,7 +27,8 @@ IsUpstream network cells =
 abbrev pub IsGivenTo : Network → (ℕ → ℕ → Bool) → (ℕ → Bool) → ℕ → Type 0
 IsGivenTo network given cells premise =
     ((cell : ℕ) × (cells cell ≡ true) × (given cell premise ≡ true))
-    ⊎ ((a : Attached) × Contains network.attached a × (cells a.instance.output ≡ true) × (contains a.support premise ≡ true))
+    ⊎ ((a : Attached) × Contains network.attached a × (cells a.instance.output ≡ true)
+    × (contains a.support premise ≡ true))
 
 -- the premises lie upstream of the cell: each was given to each set of cells of this form that has
 -- the cell
@@ -36,4 +39,5 @@ LiesUpstream network given cell premises =
 
 -- each fact that is kept of a cell rests only on premises upstream of it
 abbrev pub RestsUpstream : Network → (ℕ → ℕ → Bool) → Store → Type 0
-RestsUpstream network given store = (cell : ℕ) → All (λ fact. LiesUpstream network given cell fact.support) (kept_at store cell)
+RestsUpstream network given store = (cell : ℕ) →
+    All (λ fact. LiesUpstream network given cell fact.support) (kept_at store cell)

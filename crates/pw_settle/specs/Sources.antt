@@ -41,7 +41,8 @@ IsImplied known source = Implies (known (cell_of source)) (said_by known source)
 -- the source over other names of its cells
 abbrev pub source_renamed : {C D : Type 0} → (C → D) → Source C → Source D
 source_renamed name (Told cell info) = Told (name cell) info
-source_renamed name (Propagator procedure inputs output) = Propagator procedure (map name inputs) (name output)
+source_renamed name (Propagator procedure inputs output) =
+    Propagator procedure (map name inputs) (name output)
 
 -- each cell that the source names is one of these
 abbrev pub Names : {C : Type 0} → (C → Type 0) → Source C → Type 0

@@ -1,6 +1,7 @@
 //! The instances that wait to be called.
-ghost use Rattle.std.specs.Prelude.{◌≡◌, ◌<◌, false, true, length, IfNone, IfOk, IfSome, replicate, slice_set, ℕ};
-ghost use Rattle.pw_settle.specs.Agenda.{is_set};
+ghost use Rattle.std.specs.Prelude.{◌≡◌, ◌<◌, false, true, length, IfNone, IfOk, IfSome, replicate};
+ghost use Rattle.std.specs.Prelude.{slice_set, ℕ};
+ghost use Rattle.pw_settle.specs.inside.Progress.{is_set};
 
 use std::alloc::{AllocError, Allocator, Global};
 use std::collections::VecDeque;
@@ -18,7 +19,7 @@ pub(crate) struct Agenda<A: Allocator = Global> {
 impl<A: Allocator> Model for Agenda<A> {
     ghost use Rattle.std.specs.Prelude.{Bool, List};
     ghost use Rattle.std.specs.VecDeque.{deque_capacity};
-    ghost use Rattle.pw_settle.specs.Agenda.{IsQueue};
+    ghost use Rattle.pw_settle.specs.inside.Progress.{IsQueue};
 
     ghost Value = { List Bool };
 

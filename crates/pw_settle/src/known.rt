@@ -1,11 +1,11 @@
 //! The kept information about each cell in a worldview, as a settling has it at hand.
-ghost use Rattle.std.specs.Prelude.{◌≡◌, ◌<◌, All, Bool, ℕ, IfOk, length};
+ghost use Rattle.std.specs.Prelude.{◌≡◌, ◌<◌, All, IfOk, length};
 ghost use Rattle.pw_info.specs.Information.{kind_of};
-ghost use Rattle.pw_network.specs.Kept.{attached_of};
+ghost use Rattle.pw_network.specs.inside.Held.{attachment};
 ghost use Rattle.pw_network.specs.Network.{Network as Networks};
-ghost use Rattle.pw_settle.specs.Known.{AreKept, LieUpstream, SaysTold, TakesIn, joined};
+ghost use Rattle.pw_settle.specs.inside.Known.{AreKept, SaysTold, TakesIn, joined};
 ghost use Rattle.pw_settle.specs.Settled.{info_at};
-ghost use Rattle.pw_settle.specs.Sound.{RestsUpstream};
+ghost use Rattle.pw_settle.specs.inside.Known.{ReadsUpstream};
 
 use pw_cells::CellStore;
 use pw_facts::{Fact, merge_facts};
@@ -33,8 +33,8 @@ pub(crate) fn read_kept<A: Allocator + Copy>(
     ensures kept { IfOk result (λ known.
         AreKept store.old worldview.now known.infos.items known.supports.items) }
     ensures told { IfOk result (λ known. SaysTold store.old worldview.now) }
-    ensures upstream { IfOk result (λ known. (network : Networks) (given : ℕ → ℕ → Bool)
-        → RestsUpstream network given store.old → LieUpstream network given known.supports.items) }
+    ensures upstream { IfOk result (λ known. (network : Networks) → ReadsUpstream network store.old
+        known.supports.items) }
 {
     let mut infos = Vec::with_capacity(alloc, store.cells() as usize)?;
     let mut supports = Vec::with_capacity(alloc, store.cells() as usize)?;
@@ -48,9 +48,9 @@ pub(crate) fn read_kept<A: Allocator + Copy>(
 
 // The premises of an instance, and those of what is known about its inputs.
 pub(crate) fn joined_support(instance: &Instance, supports: &[PremiseSet]) -> PremiseSet
-    requires { All (λ input. input < length supports.now) (attached_of instance.now).instance.inputs }
+    requires { All (λ input. input < length supports.now) (attachment instance.now).instance.inputs }
     ensures { result ≡ joined supports.now instance.now.support
-        (attached_of instance.now).instance.inputs }
+        (attachment instance.now).instance.inputs }
 {
     let mut joined = instance.support;
     for input in instance.inputs.as_slice() {

@@ -1,15 +1,16 @@
 //! Calls of procedures on what is known about the inputs of their instances.
-ghost use Rattle.std.specs.Prelude.{◌≡◌, ◌<◌, ◌+◌, ◌∷◌, [], All, IfNone, IfSome, length, map};
+ghost use Rattle.std.specs.Prelude.{◌≡◌, ◌<◌, ◌+◌, IfNone, IfSome, length, map};
 ghost use Rattle.pw_info.specs.Information.{kind_of};
-ghost use Rattle.pw_network.specs.Fields.{network_by};
-ghost use Rattle.pw_network.specs.Kept.{attached_of};
+ghost use Rattle.pw_network.specs.Wiring.{wiring};
+ghost use Rattle.pw_network.specs.inside.Held.{attachment};
 ghost use Rattle.pw_procs.specs.Registry.{procedures_in};
 ghost use Rattle.pw_settle.specs.Calls.{most_calls};
-ghost use Rattle.pw_settle.specs.Placed.{IsPlaced};
-ghost use Rattle.pw_settle.specs.Progress.{IsNews, IsSatisfied, attached_no};
+ghost use Rattle.pw_settle.specs.inside.Known.{IsPlaced};
+ghost use Rattle.pw_settle.specs.Values.{IsSatisfied, attached_no};
 ghost use Rattle.pw_settle.specs.Settled.{info_at};
-ghost use Rattle.pw_settle.specs.Sources.{said_by};
-ghost use Rattle.pw_settle.specs.Values.{kinds_in, numbered, propagators_of};
+ghost use Rattle.pw_settle.specs.Values.{kinds_in, numbered};
+ghost use Rattle.pw_settle.specs.inside.Progress.{IsNewsOf};
+ghost use Rattle.pw_settle.specs.inside.Known.{Gives};
 
 use crate::known::joined_support;
 use pw_facts::Fact;
@@ -32,12 +33,11 @@ fn procedure_value(
     calls: &mut u128,
 ) -> Info
     requires placed { IsPlaced (procedures_in registry.now) (map kind_of known.now)
-        (attached_of instance.now).instance }
-    requires given { given.now ≡ map (info_at known.now) (attached_of instance.now).instance.inputs }
+        (attachment instance.now).instance }
+    requires given { given.now ≡ map (info_at known.now) (attachment instance.now).instance.inputs }
     requires room { calls.old < most_calls }
     ensures counted { calls.new ≡ calls.old + 1 }
-    ensures says { All (λ source. said_by (info_at known.now) source ≡ result)
-        (propagators_of (procedures_in registry.now) ((attached_of instance.now).instance ∷ [])) }
+    ensures says { Gives (procedures_in registry.now) known.now (attachment instance.now) result }
     ensures kind { kind_of result ≡ (numbered (map kind_of known.now)).kind instance.now.output }
 {
     *calls += 1;
@@ -55,10 +55,9 @@ fn answer_on_many(
 ) -> Info
     requires room { calls.old < most_calls }
     requires placed { IsPlaced (procedures_in registry.now) (map kind_of known.now)
-        (attached_of instance.now).instance }
+        (attachment instance.now).instance }
     ensures counted { calls.new ≡ calls.old + 1 }
-    ensures says { All (λ source. said_by (info_at known.now) source ≡ result)
-        (propagators_of (procedures_in registry.now) ((attached_of instance.now).instance ∷ [])) }
+    ensures says { Gives (procedures_in registry.now) known.now (attachment instance.now) result }
     ensures kind { kind_of result ≡ (numbered (map kind_of known.now)).kind instance.now.output }
 {
     let mut inputs = [Info::nothing(Kind::Interval); MOST_INPUTS];
@@ -74,10 +73,9 @@ fn answer_on_many(
 fn answer(registry: &Registry, instance: &Instance, known: &[Info], calls: &mut u128) -> Info
     requires room { calls.old < most_calls }
     requires placed { IsPlaced (procedures_in registry.now) (map kind_of known.now)
-        (attached_of instance.now).instance }
+        (attachment instance.now).instance }
     ensures counted { calls.new ≡ calls.old + 1 }
-    ensures says { All (λ source. said_by (info_at known.now) source ≡ result)
-        (propagators_of (procedures_in registry.now) ((attached_of instance.now).instance ∷ [])) }
+    ensures says { Gives (procedures_in registry.now) known.now (attachment instance.now) result }
     ensures kind { kind_of result ≡ (numbered (map kind_of known.now)).kind instance.now.output }
 {
     match instance.inputs.as_slice() {
@@ -99,19 +97,19 @@ pub(crate) fn news<A: Allocator + Copy>(
     number: usize,
     calls: &mut u128,
 ) -> Option<(u32, Fact)>
-    requires there { number < length (network_by network.now).attached }
-    requires kinds { map kind_of infos.now ≡ kinds_in (network_by network.now) }
+    requires there { number < length (wiring network.now).attached }
+    requires kinds { map kind_of infos.now ≡ kinds_in (wiring network.now) }
     requires as_many { length supports.now ≡ length infos.now }
     requires room { calls.old < most_calls }
     ensures counted { calls.new ≡ calls.old + 1 }
-    ensures news { IfSome result (λ (cell, fact). (d : _)
-        → IsNews (network_by network.now) infos.now supports.now
-        (attached_no (network_by network.now) number d) cell fact) }
+    ensures news { IfSome result (λ (cell, fact). IsNewsOf (wiring network.now) infos.now
+        supports.now number cell fact) }
     ensures there { IfSome result (λ (cell, fact). cell < length infos.now) }
-    ensures kind { IfSome result (λ (cell, fact). kind_of fact.info ≡ kind_of (info_at infos.now cell)) }
+    ensures kind { IfSome result (λ (cell, fact). kind_of fact.info ≡ kind_of (info_at infos.now
+        cell)) }
     ensures none { IfNone result ((d : _)
-        → IsSatisfied (network_by network.now) (info_at infos.now)
-        (attached_no (network_by network.now) number d)) }
+        → IsSatisfied (wiring network.now) (info_at infos.now)
+        (attached_no (wiring network.now) number d)) }
 {
     let instance = &network.instances()[number];
     let info = answer(network.declaration().registry(), instance, infos, calls);

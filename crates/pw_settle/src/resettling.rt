@@ -1,19 +1,21 @@
 //! Settling that continues from the values of an earlier settling.
-ghost use Rattle.std.specs.Prelude.{◌≡◌, ◌+◌, ◌<◌, ◌≤◌, ◌↔◌, ◌&&◌, ℕ, Bool, List, IsTrue, IfOk, OnOk, true, false, length, map};
+ghost use Rattle.std.specs.Prelude.{◌≡◌, ◌+◌, ◌<◌, ◌↔◌, ◌&&◌, ℕ, IsTrue, IfOk, OnOk, true, length};
 ghost use Rattle.std.specs.FinSet.{is_subset};
 ghost use Rattle.pw_info.specs.Information.{kind_of};
-ghost use Rattle.pw_cells.specs.Cells.{kept_in, kinds_of};
-ghost use Rattle.pw_network.specs.Fields.{network_by};
+ghost use Rattle.pw_cells.specs.Cells.{kinds_of};
+ghost use Rattle.pw_network.specs.Wiring.{wiring};
 ghost use Rattle.pw_network.specs.Network.{cells_in};
-ghost use Rattle.pw_settle.specs.Agenda.{is_set, tally};
-ghost use Rattle.pw_settle.specs.Calls.{gains, is_visible, visible_count};
-ghost use Rattle.pw_settle.specs.Due.{AreDue, HasChanged, QueuesReaders, found_of, is_new};
-ghost use Rattle.pw_settle.specs.Fitting.{IsFitting};
+ghost use Rattle.pw_settle.specs.inside.Progress.{is_set};
+ghost use Rattle.pw_settle.specs.inside.Due.{AreDue, HasChanged, QueuesReaders, found_of, is_new};
+ghost use Rattle.pw_settle.specs.Growth.{IsFitting};
 ghost use Rattle.pw_settle.specs.Growth.{KeepsMore, StaysUpstream};
-ghost use Rattle.pw_settle.specs.Known.{AreKept, LieUpstream, SaysTold};
-ghost use Rattle.pw_settle.specs.Settled.{IsSettled, info_at};
-ghost use Rattle.pw_settle.specs.Sound.{IsSound, RestsUpstream};
-ghost use Rattle.pw_settle.specs.Values.{kinds_in, value_in};
+ghost use Rattle.pw_settle.specs.inside.Known.{AreKept, SaysTold};
+ghost use Rattle.pw_settle.specs.Settled.{info_at};
+ghost use Rattle.pw_settle.specs.Values.{kinds_in};
+ghost use Rattle.pw_settle.specs.inside.Known.{ReadsUpstream};
+ghost use Rattle.pw_settle.specs.inside.Due.{CallsEachAtLeast, CallsEachAtMost, CallsWhatIsDue};
+ghost use Rattle.pw_settle.specs.Growth.{HasInstancesOf, IsSettledIfSound, KeepsIfSound};
+ghost use Rattle.pw_settle.specs.Calls.{AreVisible};
 
 use crate::agenda::Agenda;
 use crate::known::{Known, read_kept};
@@ -33,8 +35,8 @@ fn is_newly_visible<A: Allocator + Copy>(
     number: usize,
 ) -> bool
     requires there { number < length visible.now }
-    requires all { length visible.now ≡ length (network_by network.now).attached }
-    ensures { result ≡ (is_set visible.now number && is_new (network_by network.now) before.now number) }
+    requires all { length visible.now ≡ length (wiring network.now).attached }
+    ensures { result ≡ (is_set visible.now number && is_new (wiring network.now) before.now number) }
 {
     visible[number]
         && !(number < before.instances
@@ -51,10 +53,10 @@ fn new_instances<A: Allocator + Copy>(
     visible: &[bool],
     before: &Settled<A>,
 ) -> Result<Agenda<A>, AllocError>
-    requires { length visible.now ≡ length (network_by network.now).attached }
+    requires { length visible.now ≡ length (wiring network.now).attached }
     ensures flags { IfOk result (λ agenda. length agenda ≡ length visible.now) }
     ensures new { IfOk result (λ agenda. (number : ℕ) → is_set agenda number
-        ≡ (is_set visible.now number && is_new (network_by network.now) before.now number)) }
+        ≡ (is_set visible.now number && is_new (wiring network.now) before.now number)) }
 {
     let mut agenda = Agenda::new(alloc, visible.len())?;
     for number in 0..visible.len() {
@@ -86,13 +88,13 @@ fn queue_changed<A: Allocator + Copy>(
     now: &[Info],
     agenda: &mut Agenda<A>,
 )
-    requires flags { length agenda.old ≡ length (network_by network.now).attached }
-    requires all { length visible.now ≡ length (network_by network.now).attached }
-    requires cells { length now.now ≡ cells_in (network_by network.now) }
+    requires flags { length agenda.old ≡ length (wiring network.now).attached }
+    requires all { length visible.now ≡ length (wiring network.now).attached }
+    requires cells { length now.now ≡ cells_in (wiring network.now) }
     requires kinds { (cell : ℕ) → cell < length now.now
         → kind_of (found_of before.now now.now cell) ≡ kind_of (info_at now.now cell) }
-    ensures { QueuesReaders (network_by network.now) visible.now
-        (λ cell. (cell < length now.now) × HasChanged before.now now.now cell) agenda.old agenda.new }
+    ensures { QueuesReaders (wiring network.now) visible.now (λ cell. (cell < length now.now) ×
+        HasChanged before.now now.now cell) agenda.old agenda.new }
 {
     for cell in 0..network.cells() {
         if has_changed(before, now, cell as usize) {
@@ -111,19 +113,18 @@ fn due_instances<A: Allocator + Copy>(
     worldview: &PremiseSet,
     visible: &[bool],
 ) -> Result<(Known<A>, Agenda<A>), AllocError>
-    requires kinds { kinds_of store.old ≡ kinds_in (network_by network.now) }
-    requires fits { IsFitting (network_by network.now) store.old before.now }
+    requires kinds { kinds_of store.old ≡ kinds_in (wiring network.now) }
+    requires fits { IsFitting (wiring network.now) store.old before.now }
     requires within { is_subset before.now.worldview worldview.now ≡ true }
-    requires visible { visible.now ≡ map (is_visible worldview.now) (network_by network.now).attached }
+    requires visible { AreVisible (wiring network.now) worldview.now visible.now }
     ensures unchanged { store.new ≡ store.old }
     ensures kept { IfOk result (λ (known, agenda).
         AreKept store.old worldview.now known.infos.items known.supports.items) }
     ensures told { IfOk result (λ (known, agenda). SaysTold store.old worldview.now) }
-    ensures upstream { IfOk result (λ (known, agenda). (given : ℕ → ℕ → Bool)
-        → RestsUpstream (network_by network.now) given store.old
-        → LieUpstream (network_by network.now) given known.supports.items) }
+    ensures upstream { IfOk result (λ (known, agenda). ReadsUpstream (wiring network.now) store.old
+        known.supports.items) }
     ensures due { IfOk result (λ (known, agenda).
-        AreDue (network_by network.now) store.old worldview.now before.now agenda) }
+        AreDue (wiring network.now) store.old worldview.now before.now agenda) }
 {
     let mut agenda = new_instances(alloc, network, visible, before)?;
     let known = read_kept(alloc, store, worldview)?;
@@ -151,26 +152,22 @@ pub fn resettle<A: Allocator + Copy>(
     store: &mut CellStore<A>,
     worldview: &PremiseSet,
 ) -> Result<Settled<A>, AllocError>
-    requires kinds { kinds_of store.old ≡ kinds_in (network_by network.now) }
-    requires fits { IsFitting (network_by network.now) store.old before }
-    ensures settled { IfOk result (λ settled. IsSound (network_by network.now) store.old
-        → IsSettled (network_by network.now) store.old worldview.now settled) }
-    ensures kept { OnOk result (IsSound (network_by network.now) store.old → (cell : ℕ)
-        → kept_in store.new cell worldview.now ≡ value_in (network_by network.now) store.old worldview.now cell) }
-    ensures cells { IfOk result (λ settled. length settled.infos ≡ cells_in (network_by network.now)) }
-    ensures fits { IfOk result (λ settled. IsFitting (network_by network.now) store.new settled) }
+    requires kinds { kinds_of store.old ≡ kinds_in (wiring network.now) }
+    requires fits { IsFitting (wiring network.now) store.old before }
+    ensures settled { IfOk result (IsSettledIfSound (wiring network.now) store.old worldview.now) }
+    ensures kept { OnOk result (KeepsIfSound (wiring network.now) store.old store.new
+        worldview.now) }
+    ensures cells { IfOk result (λ settled. length settled.infos ≡ cells_in (wiring network.now)) }
+    ensures fits { IfOk result (λ settled. IsFitting (wiring network.now) store.new settled) }
     ensures worldview { IfOk result (λ settled. settled.worldview ≡ worldview.now) }
-    ensures instances { IfOk result (λ settled. settled.instances ≡ length (network_by network.now).attached) }
-    ensures grows { KeepsMore (network_by network.now) store.old store.new }
-    ensures upstream { StaysUpstream (network_by network.now) store.old store.new }
-    ensures due { IfOk result (λ settled. is_subset before.worldview worldview.now ≡ true → (due : List Bool)
-        × AreDue (network_by network.now) store.old worldview.now before due × (tally due ≤ settled.calls)
-        × (settled.calls ≤ tally due + gains (network_by network.now) store.old store.new worldview.now)) }
-    ensures least { IfOk result (λ settled. is_subset before.worldview worldview.now ≡ false
-        → visible_count (network_by network.now) worldview.now ≤ settled.calls) }
-    ensures most { IfOk result (λ settled. is_subset before.worldview worldview.now ≡ false
-        → settled.calls ≤ visible_count (network_by network.now) worldview.now
-        + gains (network_by network.now) store.old store.new worldview.now) }
+    ensures instances { IfOk result (HasInstancesOf (wiring network.now)) }
+    ensures grows { KeepsMore (wiring network.now) store.old store.new }
+    ensures upstream { StaysUpstream (wiring network.now) store.old store.new }
+    ensures due { IfOk result (CallsWhatIsDue (wiring network.now) store.old store.new
+        worldview.now before) }
+    ensures least { IfOk result (CallsEachAtLeast (wiring network.now) worldview.now before) }
+    ensures most { IfOk result (CallsEachAtMost (wiring network.now) store.old store.new
+        worldview.now before) }
 {
     if !before.worldview.is_subset(worldview) {
         return settle(alloc, network, store, worldview);

@@ -21,7 +21,7 @@ pub struct Settled<A: Allocator = Global> {
 impl<A: Allocator> Model for Settled<A> {
     ghost use Rattle.pw_info.specs.contracts.info.Info as informations;
     ghost use Rattle.pw_settle.specs.Settled.{Settled};
-    ghost use Rattle.pw_settle.specs.SettledCode.{settled_code};
+    ghost use Rattle.pw_settle.specs.inside.Known.{settled_code};
     ghost use Rattle.std.specs.Prelude.{◌≡◌, length};
 
     ghost Value = { Settled };

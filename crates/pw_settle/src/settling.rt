@@ -1,21 +1,25 @@
 //! Settling: the values of all cells of a network in a worldview.
-ghost use Rattle.std.specs.Prelude.{◌≡◌, ◌+◌, ◌<◌, ◌≤◌, ℕ, Bool, true, false, length, map, IfOk, OnOk};
+ghost use Rattle.std.specs.Prelude.{◌≡◌, ◌+◌, ◌<◌, ◌≤◌, ℕ, true, false, length, map, IfOk, OnOk};
 ghost use Rattle.std.specs.List.{count_by};
 ghost use Rattle.pw_cells.specs.Cells.{kept_in, kinds_of};
-ghost use Rattle.pw_network.specs.Fields.{network_by};
-ghost use Rattle.pw_network.specs.Kept.{attached_of};
+ghost use Rattle.pw_network.specs.Wiring.{wiring};
+ghost use Rattle.pw_network.specs.inside.Held.{attachment};
 ghost use Rattle.pw_network.specs.Network.{cells_in};
 ghost use Rattle.pw_network.specs.Readers.{readers_of};
-ghost use Rattle.pw_settle.specs.Agenda.{is_set, tally};
-ghost use Rattle.pw_settle.specs.Calls.{gains, is_visible, most_calls, reader_count, visible_at, visible_count};
-ghost use Rattle.pw_settle.specs.Due.{QueuesReaders};
-ghost use Rattle.pw_settle.specs.Fitting.{IsFitting};
+ghost use Rattle.pw_settle.specs.inside.Progress.{is_set, tally};
+ghost use Rattle.pw_settle.specs.Calls.{gains, is_instance_visible, most_calls, visible_at};
+ghost use Rattle.pw_settle.specs.Calls.{visible_count};
+ghost use Rattle.pw_settle.specs.inside.Due.{QueuesReaders};
+ghost use Rattle.pw_settle.specs.Growth.{IsFitting};
 ghost use Rattle.pw_settle.specs.Growth.{KeepsMore, StaysUpstream};
-ghost use Rattle.pw_settle.specs.Known.{AreKept, AreUpstream, SaysTold};
-ghost use Rattle.pw_settle.specs.Progress.{AreOthersSatisfied, AreSatisfied, weight};
-ghost use Rattle.pw_settle.specs.Settled.{IsSettled};
-ghost use Rattle.pw_settle.specs.Sound.{IsSound, RestsUpstream};
-ghost use Rattle.pw_settle.specs.Values.{kinds_in, value_in};
+ghost use Rattle.pw_settle.specs.inside.Known.{AreKept, SaysTold};
+ghost use Rattle.pw_settle.specs.inside.Progress.{AreOthersSatisfied};
+ghost use Rattle.pw_settle.specs.Values.{kinds_in};
+ghost use Rattle.pw_settle.specs.inside.Progress.{AreMet, AreQueuedVisible, CallsNoMore};
+ghost use Rattle.pw_settle.specs.inside.Progress.{LeavesNoMore};
+ghost use Rattle.pw_settle.specs.inside.Known.{SettlesUpstream, StayUpstream};
+ghost use Rattle.pw_settle.specs.Growth.{HasInstancesOf, IsSettledIfSound, KeepsIfSound};
+ghost use Rattle.pw_settle.specs.Calls.{AreVisible, CallsAtMost};
 
 use crate::agenda::Agenda;
 use crate::known::{Known, read_kept, take_in};
@@ -33,7 +37,7 @@ pub(crate) fn seen<A: Allocator + Copy>(
     worldview: &PremiseSet,
 ) -> Result<Vec<bool, A>, AllocError>
     ensures { IfOk result (λ visible.
-        visible.items ≡ map (is_visible worldview.now) (map attached_of instances.now)) }
+        visible.items ≡ map (is_instance_visible worldview.now) (map attachment instances.now)) }
 {
     let mut visible = Vec::with_capacity(alloc, instances.len())?;
     for instance in instances {
@@ -62,12 +66,12 @@ pub(crate) fn queue_readers<A: Allocator + Copy>(
     agenda: &mut Agenda<A>,
     cell: u32,
 )
-    requires flags { length agenda.old ≡ length (network_by network.now).attached }
-    requires all { length visible.now ≡ length (network_by network.now).attached }
-    ensures readers { QueuesReaders (network_by network.now) visible.now (λ c. c ≡ cell)
+    requires flags { length agenda.old ≡ length (wiring network.now).attached }
+    requires all { length visible.now ≡ length (wiring network.now).attached }
+    ensures readers { QueuesReaders (wiring network.now) visible.now (λ c. c ≡ cell)
         agenda.old agenda.new }
     ensures most { tally agenda.new
-        ≤ tally agenda.old + count_by (is_set visible.now) (readers_of (network_by network.now) cell) }
+        ≤ tally agenda.old + count_by (is_set visible.now) (readers_of (wiring network.now) cell) }
     ensures least { tally agenda.old ≤ tally agenda.new }
 {
     for number in network.readers(cell) {
@@ -89,28 +93,28 @@ fn call<A: Allocator + Copy>(
     number: usize,
     calls: &mut u128,
 ) -> Result<(), AllocError>
-    requires kinds { kinds_of store.old ≡ kinds_in (network_by network.now) }
+    requires kinds { kinds_of store.old ≡ kinds_in (wiring network.now) }
     requires kept { AreKept store.old worldview.now known.old.infos.items known.old.supports.items }
-    requires visible { visible.now ≡ map (is_visible worldview.now) (network_by network.now).attached }
-    requires flags { length agenda.old ≡ length (network_by network.now).attached }
-    requires seen { (n : ℕ) → is_set agenda.old n ≡ true → visible_at (network_by network.now) worldview.now n ≡ true }
-    requires number { visible_at (network_by network.now) worldview.now number ≡ true }
+    requires visible { AreVisible (wiring network.now) worldview.now visible.now }
+    requires flags { length agenda.old ≡ length (wiring network.now).attached }
+    requires seen { AreQueuedVisible (wiring network.now) worldview.now agenda.old }
+    requires number { visible_at (wiring network.now) worldview.now number ≡ true }
     requires room { calls.old < most_calls }
-    requires others { AreOthersSatisfied (network_by network.now) worldview.now
+    requires others { AreOthersSatisfied (wiring network.now) worldview.now
         (λ cell. kept_in store.old cell worldview.now) agenda.old number }
     ensures counted { calls.new ≡ calls.old + 1 }
-    ensures grows { KeepsMore (network_by network.now) store.old store.new }
-    ensures upstream { (given : ℕ → ℕ → Bool)
-        → AreUpstream (network_by network.now) given store.old known.old.supports.items
-        → AreUpstream (network_by network.now) given store.new known.new.supports.items }
-    ensures kept { OnOk result (AreKept store.new worldview.now known.new.infos.items known.new.supports.items) }
+    ensures grows { KeepsMore (wiring network.now) store.old store.new }
+    ensures upstream { StayUpstream (wiring network.now) store.old known.old.supports.items
+        store.new known.new.supports.items }
+    ensures kept { OnOk result (AreKept store.new worldview.now known.new.infos.items
+        known.new.supports.items) }
     ensures flags { length agenda.new ≡ length agenda.old }
-    ensures seen { (n : ℕ) → is_set agenda.new n ≡ true → visible_at (network_by network.now) worldview.now n ≡ true }
-    ensures satisfied { OnOk result (AreSatisfied (network_by network.now) worldview.now
-        (λ cell. kept_in store.new cell worldview.now) agenda.new) }
+    ensures seen { AreQueuedVisible (wiring network.now) worldview.now agenda.new }
+    ensures satisfied { OnOk result (AreMet (wiring network.now) store.new worldview.now
+        agenda.new) }
     ensures least { tally agenda.old ≤ tally agenda.new }
-    ensures most { OnOk result (tally agenda.new + weight (network_by network.now) store.new worldview.now
-        ≤ tally agenda.old + weight (network_by network.now) store.old worldview.now) }
+    ensures most { OnOk result (LeavesNoMore (wiring network.now) worldview.now store.old
+        agenda.old store.new agenda.new) }
 {
     if let Some((cell, fact)) = news(network, &known.infos, &known.supports, number, calls) {
         store.keep(cell, fact)?;
@@ -130,24 +134,23 @@ fn work<A: Allocator + Copy>(
     visible: &[bool],
     agenda: &mut Agenda<A>,
 ) -> Result<u128, AllocError>
-    requires kinds { kinds_of store.old ≡ kinds_in (network_by network.now) }
+    requires kinds { kinds_of store.old ≡ kinds_in (wiring network.now) }
     requires kept { AreKept store.old worldview.now known.old.infos.items known.old.supports.items }
-    requires visible { visible.now ≡ map (is_visible worldview.now) (network_by network.now).attached }
-    requires flags { length agenda.old ≡ length (network_by network.now).attached }
-    requires seen { (n : ℕ) → is_set agenda.old n ≡ true → visible_at (network_by network.now) worldview.now n ≡ true }
-    requires satisfied { AreSatisfied (network_by network.now) worldview.now
-        (λ cell. kept_in store.old cell worldview.now) agenda.old }
-    ensures grows { KeepsMore (network_by network.now) store.old store.new }
-    ensures upstream { (given : ℕ → ℕ → Bool)
-        → AreUpstream (network_by network.now) given store.old known.old.supports.items
-        → AreUpstream (network_by network.now) given store.new known.new.supports.items }
-    ensures kept { OnOk result (AreKept store.new worldview.now known.new.infos.items known.new.supports.items) }
-    ensures satisfied { OnOk result (AreSatisfied (network_by network.now) worldview.now
-        (λ cell. kept_in store.new cell worldview.now) agenda.new) }
+    requires visible { AreVisible (wiring network.now) worldview.now visible.now }
+    requires flags { length agenda.old ≡ length (wiring network.now).attached }
+    requires seen { AreQueuedVisible (wiring network.now) worldview.now agenda.old }
+    requires satisfied { AreMet (wiring network.now) store.old worldview.now agenda.old }
+    ensures grows { KeepsMore (wiring network.now) store.old store.new }
+    ensures upstream { StayUpstream (wiring network.now) store.old known.old.supports.items
+        store.new known.new.supports.items }
+    ensures kept { OnOk result (AreKept store.new worldview.now known.new.infos.items
+        known.new.supports.items) }
+    ensures satisfied { OnOk result (AreMet (wiring network.now) store.new worldview.now
+        agenda.new) }
     ensures done { OnOk result ((n : ℕ) → is_set agenda.new n ≡ false) }
     ensures least { IfOk result (λ calls. tally agenda.old ≤ calls) }
-    ensures most { IfOk result (λ calls. calls + weight (network_by network.now) store.new worldview.now
-        ≤ tally agenda.old + weight (network_by network.now) store.old worldview.now) }
+    ensures most { IfOk result (CallsNoMore (wiring network.now) worldview.now store.old agenda.old
+        store.new) }
 {
     // These lengths bound the count.
     let _cells = store.cells();
@@ -172,30 +175,26 @@ pub(crate) fn settle_from<A: Allocator + Copy>(
     visible: &[bool],
     mut agenda: Agenda<A>,
 ) -> Result<Settled<A>, AllocError>
-    requires kinds { kinds_of store.old ≡ kinds_in (network_by network.now) }
+    requires kinds { kinds_of store.old ≡ kinds_in (wiring network.now) }
     requires kept { AreKept store.old worldview.now known.infos.items known.supports.items }
     requires told { SaysTold store.old worldview.now }
-    requires visible { visible.now ≡ map (is_visible worldview.now) (network_by network.now).attached }
-    requires flags { length agenda ≡ length (network_by network.now).attached }
-    requires seen { (n : ℕ) → is_set agenda n ≡ true
-        → visible_at (network_by network.now) worldview.now n ≡ true }
-    requires satisfied { AreSatisfied (network_by network.now) worldview.now
-        (λ cell. kept_in store.old cell worldview.now) agenda }
-    ensures settled { IfOk result (λ settled. IsSound (network_by network.now) store.old
-        → IsSettled (network_by network.now) store.old worldview.now settled) }
-    ensures kept { OnOk result (IsSound (network_by network.now) store.old → (cell : ℕ)
-        → kept_in store.new cell worldview.now ≡ value_in (network_by network.now) store.old worldview.now cell) }
-    ensures cells { IfOk result (λ settled. length settled.infos ≡ cells_in (network_by network.now)) }
-    ensures fits { IfOk result (λ settled. IsFitting (network_by network.now) store.new settled) }
+    requires visible { AreVisible (wiring network.now) worldview.now visible.now }
+    requires flags { length agenda ≡ length (wiring network.now).attached }
+    requires seen { AreQueuedVisible (wiring network.now) worldview.now agenda }
+    requires satisfied { AreMet (wiring network.now) store.old worldview.now agenda }
+    ensures settled { IfOk result (IsSettledIfSound (wiring network.now) store.old worldview.now) }
+    ensures kept { OnOk result (KeepsIfSound (wiring network.now) store.old store.new
+        worldview.now) }
+    ensures cells { IfOk result (λ settled. length settled.infos ≡ cells_in (wiring network.now)) }
+    ensures fits { IfOk result (λ settled. IsFitting (wiring network.now) store.new settled) }
     ensures worldview { IfOk result (λ settled. settled.worldview ≡ worldview.now) }
-    ensures instances { IfOk result (λ settled. settled.instances ≡ length (network_by network.now).attached) }
-    ensures grows { KeepsMore (network_by network.now) store.old store.new }
-    ensures upstream { (given : ℕ → ℕ → Bool)
-        → AreUpstream (network_by network.now) given store.old known.supports.items
-        → RestsUpstream (network_by network.now) given store.new }
+    ensures instances { IfOk result (HasInstancesOf (wiring network.now)) }
+    ensures grows { KeepsMore (wiring network.now) store.old store.new }
+    ensures upstream { SettlesUpstream (wiring network.now) store.old known.supports.items
+        store.new }
     ensures least { IfOk result (λ settled. tally agenda ≤ settled.calls) }
     ensures most { IfOk result (λ settled. settled.calls
-        ≤ tally agenda + gains (network_by network.now) store.old store.new worldview.now) }
+        ≤ tally agenda + gains (wiring network.now) store.old store.new worldview.now) }
 {
     let calls = work(network, store, worldview, &mut known, visible, &mut agenda)?;
     Ok(Settled {
@@ -224,21 +223,19 @@ pub fn settle<A: Allocator + Copy>(
     store: &mut CellStore<A>,
     worldview: &PremiseSet,
 ) -> Result<Settled<A>, AllocError>
-    requires { kinds_of store.old ≡ kinds_in (network_by network.now) }
-    ensures settled { IfOk result (λ settled. IsSound (network_by network.now) store.old
-        → IsSettled (network_by network.now) store.old worldview.now settled) }
-    ensures kept { OnOk result (IsSound (network_by network.now) store.old → (cell : ℕ)
-        → kept_in store.new cell worldview.now ≡ value_in (network_by network.now) store.old worldview.now cell) }
-    ensures cells { IfOk result (λ settled. length settled.infos ≡ cells_in (network_by network.now)) }
-    ensures fits { IfOk result (λ settled. IsFitting (network_by network.now) store.new settled) }
+    requires { kinds_of store.old ≡ kinds_in (wiring network.now) }
+    ensures settled { IfOk result (IsSettledIfSound (wiring network.now) store.old worldview.now) }
+    ensures kept { OnOk result (KeepsIfSound (wiring network.now) store.old store.new
+        worldview.now) }
+    ensures cells { IfOk result (λ settled. length settled.infos ≡ cells_in (wiring network.now)) }
+    ensures fits { IfOk result (λ settled. IsFitting (wiring network.now) store.new settled) }
     ensures worldview { IfOk result (λ settled. settled.worldview ≡ worldview.now) }
-    ensures instances { IfOk result (λ settled. settled.instances ≡ length (network_by network.now).attached) }
-    ensures grows { KeepsMore (network_by network.now) store.old store.new }
-    ensures upstream { StaysUpstream (network_by network.now) store.old store.new }
-    ensures least { IfOk result (λ settled. visible_count (network_by network.now) worldview.now ≤ settled.calls) }
-    ensures most { IfOk result (λ settled. settled.calls
-        ≤ visible_count (network_by network.now) worldview.now
-        + gains (network_by network.now) store.old store.new worldview.now) }
+    ensures instances { IfOk result (HasInstancesOf (wiring network.now)) }
+    ensures grows { KeepsMore (wiring network.now) store.old store.new }
+    ensures upstream { StaysUpstream (wiring network.now) store.old store.new }
+    ensures least { IfOk result (λ settled. visible_count (wiring network.now) worldview.now ≤
+        settled.calls) }
+    ensures most { IfOk result (CallsAtMost (wiring network.now) store.old store.new worldview.now) }
 {
     let visible = seen(alloc, network.instances(), worldview)?;
     let agenda = agenda_of(alloc, &visible)?;

@@ -7,7 +7,7 @@ use Rattle.pw_decl.specs.declared.step.Callable.{Callable}
 use Rattle.pw_decl.specs.Expansion.{inner_kinds_of}
 use Rattle.pw_network.specs.Network.{IsWellNetwork, Network, with_attached}
 use Rattle.pw_settle.specs.Values.{kinds_in}
-use Rattle.pw_settle.specs.Wider.{IsWider}
+use Rattle.pw_settle.specs.Growth.{IsWider}
 use Rattle.pw_settle.proofs.FittingLaws.{fits_added, fits_wider}
 use Rattle.pw_settle.proofs.SoundStores.{sound_attached}
 use Rattle.pw_settle.proofs.StoreCells.{cells_kept, kinds_added}

@@ -1,5 +1,5 @@
-//! For tests alone: the tests of networks, of what follows in them, and of reasons. They use helpers of `pw_testing`. Each thing
-//! tested has a folder.
+//! For tests alone: the tests of networks, of what follows in them, and of reasons. They use
+//! helpers of `pw_testing`. Each thing tested has a folder.
 #![tactic(auto)]
 
 #[cfg(test)]

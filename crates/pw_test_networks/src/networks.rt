@@ -1,14 +1,15 @@
-//! Tests of networks. They show what is attached as lines of names, and compare these with known lines.
+//! Tests of networks. They show what is attached as lines of names, and compare these with known
+//! lines.
 
 mod attaching;
 mod refused;
 
 ghost use Rattle.std.specs.Prelude.{◌≡◌, ◌<◌, ◌≤◌, All, length, IfOk, IfSome, IsSome};
-ghost use Rattle.pw_procs.specs.Arguments.{cells_of};
+ghost use Rattle.pw_procs.specs.Registry.{cells_of};
 ghost use Rattle.pw_decl.specs.Declaration.{IsCallable};
-ghost use Rattle.pw_decl.specs.Fields.{declared_by};
-ghost use Rattle.pw_network.specs.Fields.{network_by};
-ghost use Rattle.pw_network.specs.Limits.{most_lines};
+ghost use Rattle.pw_decl.specs.inside.Fields.{declared};
+ghost use Rattle.pw_network.specs.Wiring.{wiring};
+ghost use Rattle.pw_network.specs.Network.{last_attachment_line};
 ghost use Rattle.pw_network.specs.Network.{AreDeclared};
 ghost use Rattle.pw_settle.specs.Values.{kinds_in};
 
@@ -34,7 +35,8 @@ const PROCEDURES: [&str; 9] = [
     "at_most",
 ];
 
-/// What a test attaches: a callable to declared cells, by their names, at a line and under premises.
+/// What a test attaches: a callable to declared cells, by their names, at a line and under
+/// premises.
 #[derive(Clone, Copy)]
 pub struct Attachment<'a> {
     pub line: u32,
@@ -58,7 +60,7 @@ pub fn cells_named<A: Allocator + Copy>(
     declaration: &Declaration<'_, A>,
     names: &[&str],
 ) -> Option<Arguments>
-    ensures { IfSome result (λ cells. All (λ cell. cell < length (declared_by declaration.now).cells)
+    ensures { IfSome result (λ cells. All (λ cell. cell < length (declared declaration.now).cells)
         (cells_of cells)) }
 {
     let cell = names.len();
@@ -83,16 +85,16 @@ pub fn cells_named<A: Allocator + Copy>(
     }
 }
 
-/// The callable and the cells of an attachment, by their names. None if a name is not declared, or if its line does not come
-/// after the last one or is past the most lines.
+/// The callable and the cells of an attachment, by their names. None if a name is not declared, or
+/// if its line does not come after the last one or is past the most lines.
 pub fn named_in<A: Allocator + Copy>(
     network: &Network<'_, '_, A>,
     attachment: &Attachment<'_>,
 ) -> Option<(Callable, Arguments)>
-    ensures there { IfSome result (λ named. IsCallable (network_by network.now).declared named.0) }
-    ensures cells { IfSome result (λ named. AreDeclared (network_by network.now) (cells_of named.1)) }
-    ensures next { IsSome result → (network_by network.now).last_line < attachment.now.line }
-    ensures most { IsSome result → attachment.now.line ≤ most_lines }
+    ensures there { IfSome result (λ named. IsCallable (wiring network.now).declared named.0) }
+    ensures cells { IfSome result (λ named. AreDeclared (wiring network.now) (cells_of named.1)) }
+    ensures next { IsSome result → (wiring network.now).last_line < attachment.now.line }
+    ensures most { IsSome result → attachment.now.line ≤ last_attachment_line }
 {
     let declared = network.declaration();
     let callable = declared.callable(attachment.callable.as_bytes())?;
@@ -117,7 +119,8 @@ pub fn attach_named<A: Allocator + Copy>(
     Ok(())
 }
 
-// Adds the cell to the text: a declared one by its name, an inner one by its line and its number there.
+// Adds the cell to the text: a declared one by its name, an inner one by its line and its number
+// there.
 fn show_cell<A: Allocator + Copy>(
     text: &mut String,
     network: &Network<'_, '_, A>,
@@ -150,7 +153,8 @@ fn show_cells<A: Allocator + Copy>(
     show_cell(text, network, instance.output)
 }
 
-// Adds a line: the instance's line, its procedure, what it reads and writes, and the numbers of its premises.
+// Adds a line: the instance's line, its procedure, what it reads and writes, and the numbers of its
+// premises.
 fn show_instance<A: Allocator + Copy>(
     text: &mut String,
     network: &Network<'_, '_, A>,
@@ -210,7 +214,7 @@ pub fn kinds_of<A: Allocator + Copy>(
     alloc: Global,
     network: &Network<'_, '_, A>,
 ) -> Result<Vec<Kind>, AllocError>
-    ensures { IfOk result (λ kinds. kinds.items ≡ kinds_in (network_by network.now)) }
+    ensures { IfOk result (λ kinds. kinds.items ≡ kinds_in (wiring network.now)) }
 {
     let mut kinds = Vec::new(alloc);
     for cell in 0..network.cells() {
@@ -230,7 +234,8 @@ pub struct Shown {
     pub fault: Option<(u32, NetworkFault)>,
 }
 
-// Attaches callables to a network over a declaration, and shows it. The growths of the network are those of `memory`.
+// Attaches callables to a network over a declaration, and shows it. The growths of the network are
+// those of `memory`.
 #[derive(Drop)]
 struct AttachingAll<'a, A: Allocator> {
     alloc: Global,
@@ -271,8 +276,8 @@ impl<A: Allocator + Copy> OverDeclaration<A> for AttachingAll<'_, A> {
     }
 }
 
-/// What a network over the declaration of this text shows once these are attached. Its growths are those of `memory`, and those
-/// of the declaration are those of `reading`.
+/// What a network over the declaration of this text shows once these are attached. Its growths are
+/// those of `memory`, and those of the declaration are those of `reading`.
 pub fn attached_in<A: Allocator + Copy>(
     alloc: Global,
     reading: A,

@@ -1,5 +1,5 @@
-//! Tests of reasons. Each makes a network, tells facts, and asks in a worldview why a cell has its value. Then it asks what was
-//! noted.
+//! Tests of reasons. Each makes a network, tells facts, and asks in a worldview why a cell has its
+//! value. Then it asks what was noted.
 
 mod drawn;
 mod noting;
@@ -8,7 +8,7 @@ mod refused;
 mod rows;
 
 ghost use Rattle.std.specs.Prelude.{◌<◌};
-ghost use Rattle.pw_network.specs.Fields.{network_by};
+ghost use Rattle.pw_network.specs.Wiring.{wiring};
 ghost use Rattle.pw_network.specs.Network.{cells_in};
 ghost use Rattle.pw_reasons.specs.Nogood.{AreNogoods};
 ghost use Rattle.pw_test_networks.specs.Settling.{IsReady};
@@ -20,8 +20,8 @@ use pw_decl::Declaration;
 use pw_network::Network;
 use pw_premises::PremiseSet;
 use pw_reasons::{Nogoods, reason};
-use pw_testing::worlds::{OverDeclaration, over_text};
 use pw_settle::settle;
+use pw_testing::worlds::{OverDeclaration, over_text};
 use std::alloc::{AllocError, Allocator, Global};
 use std::test::Fail;
 
@@ -46,11 +46,11 @@ fn reason_once<A: Allocator + Copy>(
     worldview: &PremiseSet,
     cell: u32,
 ) -> Result<PremiseSet, AllocError>
-    requires ready { IsReady (network_by network.now) store.old }
-    requires nogoods { AreNogoods (network_by network.now) store.old nogoods.old }
-    requires cell { cell < cells_in (network_by network.now) }
-    ensures ready { IsReady (network_by network.now) store.new }
-    ensures nogoods { AreNogoods (network_by network.now) store.new nogoods.new }
+    requires ready { IsReady (wiring network.now) store.old }
+    requires nogoods { AreNogoods (wiring network.now) store.old nogoods.old }
+    requires cell { cell < cells_in (wiring network.now) }
+    ensures ready { IsReady (wiring network.now) store.new }
+    ensures nogoods { AreNogoods (wiring network.now) store.new nogoods.new }
 {
     let settled = settle(memory, network, store, worldview)?;
     reason(memory, network, store, nogoods, &settled, cell)
@@ -65,9 +65,9 @@ fn reason_anyhow<A: Allocator + Copy>(
     worldview: &PremiseSet,
     cell: u32,
 ) -> Result<(bool, PremiseSet), AllocError>
-    requires ready { IsReady (network_by network.now) store.old }
-    requires nogoods { AreNogoods (network_by network.now) store.old nogoods.old }
-    requires cell { cell < cells_in (network_by network.now) }
+    requires ready { IsReady (wiring network.now) store.old }
+    requires nogoods { AreNogoods (wiring network.now) store.old nogoods.old }
+    requires cell { cell < cells_in (wiring network.now) }
 {
     if let Ok(found) = reason_once(memory, network, store, nogoods, worldview, cell) {
         return Ok((false, found));
@@ -89,8 +89,9 @@ fn all_covered<A: Allocator + Copy>(
     Ok(covered)
 }
 
-// A question for the reason of a cell, and the sets asked for afterwards. The growths of the declaration and the network are
-// those of `ample`, and those of the store, of the settlings and of what is noted are those of `memory`.
+// A question for the reason of a cell, and the sets asked for afterwards. The growths of the
+// declaration and the network are those of `ample`, and those of the store, of the settlings and of
+// what is noted are those of `memory`.
 #[derive(Drop)]
 struct Asking<'a, A: Allocator> {
     alloc: Global,
@@ -153,8 +154,9 @@ impl<A: Allocator + Copy> OverDeclaration<A> for Asking<'_, A> {
     }
 }
 
-/// Why the cell has its value in the worldview, and which of these sets are covered then. The growths of the declaration and the
-/// network are those of `ample`, and the others those of `memory`.
+/// Why the cell has its value in the worldview, and which of these sets are covered then. The
+/// growths of the declaration and the network are those of `ample`, and the others those of
+/// `memory`.
 pub fn reason_in<A: Allocator + Copy>(
     alloc: Global,
     ample: A,

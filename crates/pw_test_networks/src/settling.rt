@@ -1,4 +1,5 @@
-//! Tests of settling. Each makes a network, tells facts, and settles worldviews one after another over one store.
+//! Tests of settling. Each makes a network, tells facts, and settles worldviews one after another
+//! over one store.
 
 mod calls;
 pub mod drawing;
@@ -13,9 +14,9 @@ mod stages;
 ghost use Rattle.std.specs.Prelude.{◌≡◌, ◌<◌, IfOk, OnOk, length};
 ghost use Rattle.pw_info.specs.Information.{kind_of};
 ghost use Rattle.pw_cells.specs.Cells.{kind_in_store};
-ghost use Rattle.pw_network.specs.Fields.{network_by};
+ghost use Rattle.pw_network.specs.Wiring.{wiring};
 ghost use Rattle.pw_network.specs.Network.{cells_in};
-ghost use Rattle.pw_settle.specs.Fitting.{IsFitting};
+ghost use Rattle.pw_settle.specs.Growth.{IsFitting};
 ghost use Rattle.pw_test_networks.specs.Settling.{IsReady, LeavesFitting};
 
 use crate::networks::{Attachment, attach_named, kinds_of};
@@ -25,9 +26,9 @@ use pw_facts::Fact;
 use pw_info::Info;
 use pw_network::Network;
 use pw_premises::PremiseSet;
+use pw_settle::{Settled, settle};
 use pw_testing::facts::{fact, is_of_kind};
 use pw_testing::worlds::{OverDeclaration, over_text};
-use pw_settle::{Settled, settle};
 use std::alloc::{AllocError, Allocator, Global};
 use std::test::Fail;
 
@@ -70,7 +71,8 @@ pub struct Shown {
     pub kept: Vec<Fact>,
     /// How many settlings ran out of memory, and were then made again.
     pub refused: u32,
-    /// Whether the told facts stayed as they were in each of the worldviews, after each settling and each refusal.
+    /// Whether the told facts stayed as they were in each of the worldviews, after each settling
+    /// and each refusal.
     pub is_told_the_same: bool,
 }
 
@@ -80,7 +82,7 @@ pub fn store_of<A: Allocator + Copy>(
     memory: A,
     network: &Network<'_, '_, A>,
 ) -> Result<CellStore<A>, Fail>
-    ensures { IfOk result (λ store. IsReady (network_by network.now) store) }
+    ensures { IfOk result (λ store. IsReady (wiring network.now) store) }
 {
     let kinds = kinds_of(alloc, network)?;
     let mut store = CellStore::new(memory);
@@ -98,11 +100,11 @@ fn tell_once<A: Allocator + Copy>(
     cell: u32,
     fact: Fact,
 ) -> Result<(), AllocError>
-    requires ready { IsReady (network_by network.now) store.old }
+    requires ready { IsReady (wiring network.now) store.old }
     requires there { cell < length store.old.cells }
     requires kind { kind_of fact.info ≡ kind_in_store store.old cell }
-    ensures ready { IsReady (network_by network.now) store.new }
-    ensures fits { LeavesFitting (network_by network.now) store.old (network_by network.now) store.new }
+    ensures ready { IsReady (wiring network.now) store.new }
+    ensures fits { LeavesFitting (wiring network.now) store.old (wiring network.now) store.new }
 {
     // The network is the one that the store is for.
     let _instances = network.instances();
@@ -116,10 +118,10 @@ pub fn tell_fact<A: Allocator + Copy>(
     store: &mut CellStore<A>,
     tell: &Tell<'_>,
 ) -> Result<(), Fail>
-    requires { IsReady (network_by network.now) store.old }
-    ensures ready { OnOk result (IsReady (network_by network.now) store.new) }
-    ensures fits { OnOk result (LeavesFitting (network_by network.now) store.old
-        (network_by network.now) store.new) }
+    requires { IsReady (wiring network.now) store.old }
+    ensures ready { OnOk result (IsReady (wiring network.now) store.new) }
+    ensures fits { OnOk result (LeavesFitting (wiring network.now) store.old
+        (wiring network.now) store.new) }
 {
     let cell = network
         .declaration()
@@ -142,10 +144,10 @@ fn tell_each<A: Allocator + Copy>(
     store: &mut CellStore<A>,
     tells: &[Tell<'_>],
 ) -> Result<(), Fail>
-    requires { IsReady (network_by network.now) store.old }
-    ensures ready { OnOk result (IsReady (network_by network.now) store.new) }
-    ensures fits { OnOk result (LeavesFitting (network_by network.now) store.old
-        (network_by network.now) store.new) }
+    requires { IsReady (wiring network.now) store.old }
+    ensures ready { OnOk result (IsReady (wiring network.now) store.new) }
+    ensures fits { OnOk result (LeavesFitting (wiring network.now) store.old
+        (wiring network.now) store.new) }
 {
     for tell in tells {
         tell_fact(network, store, tell)?;
@@ -174,7 +176,7 @@ fn values_of<A: Allocator + Copy>(
     network: &Network<'_, '_, A>,
     settled: &Settled<A>,
 ) -> Result<Vec<Fact>, AllocError>
-    requires { length settled.now.infos ≡ cells_in (network_by network.now) }
+    requires { length settled.now.infos ≡ cells_in (wiring network.now) }
 {
     let mut values = Vec::new(alloc);
     for cell in 0..network.cells() {
@@ -190,28 +192,29 @@ fn settle_once<A: Allocator + Copy>(
     store: &mut CellStore<A>,
     worldview: &PremiseSet,
 ) -> Result<Settled<A>, AllocError>
-    requires { IsReady (network_by network.now) store.old }
-    ensures ready { IsReady (network_by network.now) store.new }
+    requires { IsReady (wiring network.now) store.old }
+    ensures ready { IsReady (wiring network.now) store.new }
     ensures cells { IfOk result (λ settled.
-        length settled.infos ≡ cells_in (network_by network.now)) }
-    ensures fits { IfOk result (IsFitting (network_by network.now) store.new) }
+        length settled.infos ≡ cells_in (wiring network.now)) }
+    ensures fits { IfOk result (IsFitting (wiring network.now) store.new) }
 {
     let settled = settle(memory, network, store, worldview)?;
     Ok(settled)
 }
 
-// Settles a worldview, and once more if memory is refused. Answers whether it was refused, and the values in the end.
+// Settles a worldview, and once more if memory is refused. Answers whether it was refused, and the
+// values in the end.
 fn settle_anyhow<A: Allocator + Copy>(
     memory: A,
     network: &Network<'_, '_, A>,
     store: &mut CellStore<A>,
     worldview: &PremiseSet,
 ) -> Result<(bool, Settled<A>), Fail>
-    requires { IsReady (network_by network.now) store.old }
-    ensures ready { OnOk result (IsReady (network_by network.now) store.new) }
+    requires { IsReady (wiring network.now) store.old }
+    ensures ready { OnOk result (IsReady (wiring network.now) store.new) }
     ensures cells { IfOk result (λ settled.
-        length settled.1.infos ≡ cells_in (network_by network.now)) }
-    ensures fits { IfOk result (λ settled. IsFitting (network_by network.now) store.new settled.1) }
+        length settled.1.infos ≡ cells_in (wiring network.now)) }
+    ensures fits { IfOk result (λ settled. IsFitting (wiring network.now) store.new settled.1) }
 {
     match settle_once(memory, network, store, worldview) {
         Ok(settled) => Ok((false, settled)),
@@ -228,7 +231,7 @@ fn answer_of<A: Allocator + Copy>(
     network: &Network<'_, '_, A>,
     settled: &Settled<A>,
 ) -> Result<Answer, AllocError>
-    requires { length settled.now.infos ≡ cells_in (network_by network.now) }
+    requires { length settled.now.infos ≡ cells_in (wiring network.now) }
 {
     Ok(Answer {
         calls: settled.calls(),
@@ -257,8 +260,8 @@ fn kept_of<A: Allocator + Copy>(
     Ok(kept)
 }
 
-// Settlings over one store. The growths of the declaration and the network are those of `ample`, and those of the store and of
-// the settlings are those of `memory`.
+// Settlings over one store. The growths of the declaration and the network are those of `ample`,
+// and those of the store and of the settlings are those of `memory`.
 #[derive(Drop)]
 struct Settling<'a, A: Allocator> {
     alloc: Global,
@@ -313,8 +316,9 @@ impl<A: Allocator + Copy> OverDeclaration<A> for Settling<'_, A> {
     }
 }
 
-/// Settles these worldviews one after another. Answers what they came to, and what the store then keeps of the cells asked for.
-/// The growths of the declaration and the network are those of `ample`, and the others those of `memory`.
+/// Settles these worldviews one after another. Answers what they came to, and what the store then
+/// keeps of the cells asked for. The growths of the declaration and the network are those of
+/// `ample`, and the others those of `memory`.
 pub fn settled_in<A: Allocator + Copy>(
     alloc: Global,
     ample: A,

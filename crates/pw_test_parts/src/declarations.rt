@@ -4,8 +4,8 @@ mod faults;
 mod questions;
 mod reading_back;
 
-use pw_testing::worlds::{OverDeclaration, over_declaration};
 use pw_decl::{DeclFault, Declaration};
+use pw_testing::worlds::{OverDeclaration, over_declaration};
 use std::alloc::{Allocator, Global};
 use std::test::Fail;
 
@@ -37,8 +37,8 @@ impl<A: Allocator + Copy> OverDeclaration<A> for Counting {
     }
 }
 
-/// Counts what the text declares, or answers its first fault. Two of the procedures have these names. The growths of the
-/// declaration are those of `memory`.
+/// Counts what the text declares, or answers its first fault. Two of the procedures have these
+/// names. The growths of the declaration are those of `memory`.
 pub fn counted<A: Allocator + Copy>(
     alloc: Global,
     memory: A,

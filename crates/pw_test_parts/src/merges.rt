@@ -1,8 +1,8 @@
 //! Tests of the merge of two facts, and of which one subsumes the other.
 
-use pw_testing::facts::fact;
 use pw_facts::{merge_facts, subsumes};
 use pw_premises::PremiseSet;
+use pw_testing::facts::fact;
 
 #[test]
 fn the_narrower_interval_keeps_its_support(rt: HostRuntime) {

@@ -1,15 +1,15 @@
 //! Tests of how often commands call procedures, one line after another over one workbench.
 
 ghost use Rattle.std.specs.Prelude.{◌≡◌, ◌+◌, ◌≤◌};
-ghost use Rattle.pw_decl.specs.Fields.{declared_by};
-ghost use Rattle.pw_sessions.specs.Fields.{workbench_by};
+ghost use Rattle.pw_decl.specs.inside.Fields.{declared};
+ghost use Rattle.pw_sessions.specs.inside.Fields.{state};
 ghost use Rattle.pw_transcript.specs.Limits.{most_lines};
-ghost use Rattle.pw_transcript.specs.Steps.Answering.{IsLeft};
+ghost use Rattle.pw_transcript.specs.inside.Answering.{IsLeft};
 
 use pw_decl::Declaration;
 use pw_network::Network;
-use pw_testing::worlds::{GENERAL, OverDeclaration, over_text};
 use pw_sessions::Workbench;
+use pw_testing::worlds::{GENERAL, OverDeclaration, over_text};
 use pw_transcript::read_command;
 use std::alloc::{Allocator, Global};
 use std::test::Fail;
@@ -21,9 +21,9 @@ fn calls_of<A: Allocator + Copy>(
     line: &[u8],
     workbench: &mut Workbench<'_, '_, A>,
 ) -> u128
-    requires left { IsLeft (declared_by declaration.now) number (workbench_by workbench.old) }
+    requires left { IsLeft (declared declaration.now) number (state workbench.old) }
     requires most { number ≤ most_lines }
-    ensures { IsLeft (declared_by declaration.now) (number + 1) (workbench_by workbench.new) }
+    ensures { IsLeft (declared declaration.now) (number + 1) (state workbench.new) }
 {
     // Cells have kinds whose members are named.
     declaration.limits();
@@ -72,7 +72,8 @@ impl OverDeclaration<Global> for Counting<'_> {
     }
 }
 
-// Ann attaches a sum over x, y and t, tells of its cells and asks for t. Bob, who believes the same, asks for t too.
+// Ann attaches a sum over x, y and t, tells of its cells and asks for t. Bob, who believes the
+// same, asks for t too.
 const SUM: &[&str] = &[
     "ann attach sum x y t",
     "ann tell x 1..2",

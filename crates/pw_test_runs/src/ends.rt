@@ -1,4 +1,5 @@
-//! Ends for tests: readers and writers that move a byte at a time, fail once or for good, or know of each other.
+//! Ends for tests: readers and writers that move a byte at a time, fail once or for good, or know
+//! of each other.
 
 ghost use Rattle.std.specs.Prelude.{None};
 
@@ -89,7 +90,8 @@ impl Read for Repeated<'_> {
     }
 }
 
-/// A reader that gives a line a read, with its line feed. It gives the line `left` times, and then the rest.
+/// A reader that gives a line a read, with its line feed. It gives the line `left` times, and then
+/// the rest.
 #[derive(Drop)]
 pub struct Lined<'a> {
     pub line: &'a [u8],
@@ -153,8 +155,9 @@ impl Write for Sink {
     }
 }
 
-/// A reader that gives a line a read, with its line feed. Beside each line is the number of bytes that must be written before
-/// that line is read. The reader notes whether some read found another number.
+/// A reader that gives a line a read, with its line feed. Beside each line is the number of bytes
+/// that must be written before that line is read. The reader notes whether some read found another
+/// number.
 #[derive(Drop)]
 pub struct Asking<'a> {
     pub lines: &'a [(&'a str, usize)],

@@ -1,10 +1,12 @@
-//! Random calls: commands of several users over one workbench, drawn from a seed, with growths of memory refused among them. Each
-//! reply is the answer by rounds, or a refusal for memory if a growth was refused during the command.
+//! Random calls: commands of several users over one workbench, drawn from a seed, with growths of
+//! memory refused among them. Each reply is the answer by rounds, or a refusal for memory if a
+//! growth was refused during the command.
 //!
-//! A failing test names the seed, the line that differs and the refused growths, and prints the lines that it takes. The sequence
-//! ends at the line that differs, and leaves out each command without which some reply still differs. To replay a seed, set
-//! `FIRST` to it and `DRAWN` to 1. To try more sequences, raise `DRAWN` and give the tests more time, as
-//! `rt try --test --seconds 3600` does.
+//! A failing test names the seed, the line that differs and the refused growths, and prints the
+//! lines that it takes. The sequence ends at the line that differs, and leaves out each command
+//! without which some reply still differs. To replay a seed, set `FIRST` to it and `DRAWN` to 1. To
+//! try more sequences, raise `DRAWN` and give the tests more time, as `rt try --test --seconds
+//! 3600` does.
 
 mod answers;
 mod chance;
@@ -30,8 +32,8 @@ const FIRST: u64 = 0;
 
 const DRAWN: u64 = 300;
 
-// Ends the test if a reply differs from the answer by rounds, and prints the seed and the sequence cut short. Else answers what
-// was compared, or nothing if that takes too many rounds.
+// Ends the test if a reply differs from the answer by rounds, and prints the seed and the sequence
+// cut short. Else answers what was compared, or nothing if that takes too many rounds.
 fn compare<R: Abort + AllocGlobal>(rt: &R, play: &Play<'_>) -> Result<Option<Counts>, Fail> {
     let alloc = rt.alloc();
     match played(alloc, play)? {

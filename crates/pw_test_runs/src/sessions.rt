@@ -1,4 +1,5 @@
-//! Sessions: rows of what users say and what they are answered. A row with an empty answer gets no reply.
+//! Sessions: rows of what users say and what they are answered. A row with an empty answer gets no
+//! reply.
 
 use pw_decl::Declaration;
 use pw_info::{Output, Writing};
@@ -33,8 +34,8 @@ impl<A: Allocator + Copy, I: Input, O: Output> OverDeclaration<A> for Running<'_
     }
 }
 
-/// What a run over the declaration of this text comes to. Its own growths are those of `memory`, and those of the declaration
-/// are those of `reading`.
+/// What a run over the declaration of this text comes to. Its own growths are those of `memory`,
+/// and those of the declaration are those of `reading`.
 pub fn run_over<A: Allocator + Copy, I: Input, O: Output>(
     alloc: Global,
     reading: A,
@@ -61,8 +62,8 @@ pub fn run_amply<I: Input, O: Output>(
     run_over(alloc, alloc, alloc, declaration, input, output)
 }
 
-/// What a run over the declaration of this text came to, and what it wrote. Its own growths are those of `memory`, and those
-/// of the declaration are those of `reading`.
+/// What a run over the declaration of this text came to, and what it wrote. Its own growths are
+/// those of `memory`, and those of the declaration are those of `reading`.
 pub fn outcome<A: Allocator + Copy>(
     alloc: Global,
     reading: A,
@@ -123,7 +124,8 @@ fn answers_text<R: Abort + AllocGlobal>(
     Ok(())
 }
 
-/// Checks that a run over the declaration answers the session as its rows say, with the last line ended and not.
+/// Checks that a run over the declaration answers the session as its rows say, with the last line
+/// ended and not.
 pub fn answers<R: Abort + AllocGlobal>(
     rt: &R,
     declaration: &str,

@@ -13,12 +13,12 @@ pub mod procedures;
 pub mod texts;
 pub mod worlds;
 
-/// An allocator that passes each call to the one it holds, but refuses some growths. It counts the bytes that it grants and the
-/// bytes that it gets back.
+/// An allocator that passes each call to the one it holds, but refuses some growths. It counts the
+/// bytes that it grants and the bytes that it gets back.
 ///
-/// A growth is a request for memory, granted or not: a first allocation, a larger block for a list, a text or a map, and a
-/// smaller block that shrinks one to fit. Growths count from 1. Lend the allocator as `&refusing`, which is an allocator and
-/// `Copy`.
+/// A growth is a request for memory, granted or not: a first allocation, a larger block for a list,
+/// a text or a map, and a smaller block that shrinks one to fit. Growths count from 1. Lend the
+/// allocator as `&refusing`, which is an allocator and `Copy`.
 #[derive(Drop)]
 pub struct Refusing<B: Allocator> {
     inner: B,
@@ -38,7 +38,8 @@ impl<B: Allocator> Refusing<B> {
     /// Refuses the growth whose number is `at` and every later one. At 0 it refuses none.
     pub fn all_from(inner: B, at: u64) -> Refusing<B>
         ensures inner { result.inner ≡ inner }
-        ensures refused { (n : ℕ) → 0 < n → n < 2 ^ 64 → (IsRefused result.growths n ↔ ((0 < at) × (at ≤ n))) }
+        ensures refused { (n : ℕ) → 0 < n → n < 2 ^ 64 → (IsRefused result.growths n ↔ ((0 < at) ×
+            (at ≤ n))) }
     {
         let last = if at == 0 { 0 } else { u64::MAX };
         let growths = Growths::refused(at, last);
@@ -57,14 +58,15 @@ impl<B: Allocator> Refusing<B> {
         self.growths.taken.get()
     }
 
-    /// The number of bytes that came back so far. It equals `taken()` once everything made with this allocator is dropped.
+    /// The number of bytes that came back so far. It equals `taken()` once everything made with
+    /// this allocator is dropped.
     pub fn given_back(&self) -> u64 {
         self.growths.given_back.get()
     }
 }
 
-/// The number of growths asked for, the first and the last number that is refused, the bytes granted, and the bytes that came
-/// back.
+/// The number of growths asked for, the first and the last number that is refused, the bytes
+/// granted, and the bytes that came back.
 #[derive(Drop)]
 struct Growths {
     asked: Cell<u64>,

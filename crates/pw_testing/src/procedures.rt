@@ -1,5 +1,5 @@
-//! A registry of procedures for tests. One function makes it and lends it to the task of a test: what holds a boxed closure may
-//! not leave the function that makes it.
+//! A registry of procedures for tests. One function makes it and lends it to the task of a test:
+//! what holds a boxed closure may not leave the function that makes it.
 
 ghost use Rattle.std.specs.Prelude.{◌≡◌, ◌∷◌, [], List, map, IfOk};
 ghost use Rattle.pw_info.specs.Information.{kind_of};
@@ -80,8 +80,8 @@ pub fn table_of(alloc: Global, rules: &[Rule], output: Kind) -> Result<Vec<Rule>
     Ok(table)
 }
 
-/// Runs the task over the procedures that each declaration calls, `copy`, `at_most`, and `light`, a procedure of the tests' own.
-/// The first name is that of the adder, the second that of `at_most`.
+/// Runs the task over the procedures that each declaration calls, `copy`, `at_most`, and `light`, a
+/// procedure of the tests' own. The first name is that of the adder, the second that of `at_most`.
 pub fn over_procedures<T: OverRegistry + Drop>(
     alloc: Global,
     names: [&str; 2],

@@ -1,4 +1,5 @@
-//! Declarations for tests: texts that several tests share, and tasks that run over a declaration once its text is read.
+//! Declarations for tests: texts that several tests share, and tasks that run over a declaration
+//! once its text is read.
 
 use crate::procedures::{OverRegistry, SOUND, over_procedures};
 use pw_decl::{DeclFault, Declaration, read_declaration};
@@ -63,8 +64,8 @@ impl<A: Allocator + Copy, T: OverDeclaration<A> + Drop> OverRegistry for Reading
     }
 }
 
-/// Runs the task over the declaration of this text, or answers the first fault of the text. Two of the procedures have these
-/// names. The growths of the declaration are those of `memory`.
+/// Runs the task over the declaration of this text, or answers the first fault of the text. Two of
+/// the procedures have these names. The growths of the declaration are those of `memory`.
 pub fn over_declaration<A: Allocator + Copy, T: OverDeclaration<A> + Drop>(
     alloc: Global,
     memory: A,

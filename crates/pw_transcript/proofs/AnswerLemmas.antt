@@ -17,16 +17,16 @@ use Rattle.pw_sessions.specs.Reply as reply
 use Rattle.pw_sessions.specs.declared.reply.Refusal.{Refusal}
 use Rattle.pw_sessions.specs.declared.reply.Refusal.TheVariants as refusal
 use Rattle.pw_reasons.specs.SameInfo.{is_contradiction}
-use Rattle.pw_sessions.specs.Answer.{answer_to, reply_to, sources_after, user_of, value_in, visible_in}
+use Rattle.pw_sessions.specs.Answer.{answer_to, reply_to, sources_after, user_of, cell_value, visible_in}
 use Rattle.pw_sessions.specs.Beliefs.{beliefs_at}
 use Rattle.pw_sessions.specs.Carrying.{CanBeCarriedOut, CarriesOut}
 use Rattle.pw_premises.specs.Premises.{Premises}
-use Rattle.pw_network.specs.Names.{DeclaredCell}
+use Rattle.pw_network.specs.Wiring.{DeclaredCell}
 use Rattle.pw_sessions.specs.CellNames.{named_cells, names_after}
 use Rattle.pw_sessions.specs.Entries.{Entry, entries_before}
-use Rattle.pw_sessions.specs.LineReading.{LineReading, Blank, Refused, Says}
-use Rattle.pw_sessions.specs.NamesDeclared.{IsDeclared}
-use Rattle.pw_sessions.specs.TakesMemory.{MayBecome}
+use Rattle.pw_sessions.specs.Reply.{LineReading, Blank, Refused, Says}
+use Rattle.pw_sessions.specs.Command.{IsDeclared}
+use Rattle.pw_sessions.specs.Command.{MayBecome}
 use Rattle.pw_sessions.specs.Workbench.{Workbench, IsLeftBy, IsCarriedOut}
 use Rattle.pw_settle.proofs.FixpointLemmas.{kind-fixpoint}
 use Rattle.pw_sessions.proofs.WorkbenchLemmas.{left_same}
@@ -35,7 +35,7 @@ use Rattle.pw_transcript.specs.Limits.{most_lines}
 use Rattle.pw_transcript.specs.Reading.{Reads}
 use Rattle.pw_info.specs.Passing.{PassesPart}
 use Rattle.pw_transcript.specs.ReplyText.{IsReplyNamed, text_of_reply, text_if_any}
-use Rattle.pw_transcript.specs.Steps.Answering.{held_line, IsLeft, RepliesToLine, PassesReply, FailsInReply}
+use Rattle.pw_transcript.specs.inside.Answering.{held_line, IsLeft, RepliesToLine, PassesReply, FailsInReply}
 use Rattle.pw_transcript.proofs.ReplyLemmas.{IsDeclared-from_Reads}
 
 pub held_none : (line : List ℕ) → None ≡ held_line line → 1024 < length line
@@ -135,7 +135,7 @@ module _ (d : Declared) (well : IsWellDeclared d) where
         }
 
     -- the value of a declared cell has its names
-    named_value : (entries : List Entry) (cell : ℕ) → cell < length d.cells → IsNamed (members_of d) (kind_of (value_in d entries cell))
+    named_value : (entries : List Entry) (cell : ℕ) → cell < length d.cells → IsNamed (members_of d) (kind_of (cell_value d entries cell))
     named_value entries cell below =
         subst (IsNamed (members_of d))
         (sym (kind-fixpoint (named_cells d entries) (names_after d entries) (sources_after d entries) (DeclaredCell cell)))
@@ -146,7 +146,7 @@ module _ (d : Declared) (well : IsWellDeclared d) where
         IsReplyNamed d (answer_to d entries beliefs command)
     named_answer entries beliefs (commands.Ask user cell) named = named_value (visible_in entries beliefs) cell named.1
     named_answer entries beliefs (commands.Why user cell) named = named_value (visible_in entries beliefs) cell named.1
-    named_answer entries beliefs (commands.Conflicts user) named = listed_below (λ cell. is_contradiction (value_in d (visible_in entries beliefs) cell)) (length d.cells)
+    named_answer entries beliefs (commands.Conflicts user) named = listed_below (λ cell. is_contradiction (cell_value d (visible_in entries beliefs) cell)) (length d.cells)
     named_answer entries beliefs (commands.Tell user cell fact) named = tt
     named_answer entries beliefs (commands.Attach user callable cells support) named = tt
     named_answer entries beliefs (commands.Believe user premises) named = tt

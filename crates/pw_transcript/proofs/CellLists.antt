@@ -10,10 +10,10 @@ use Rattle.std.proofs.lemmas.Option.{slice_get_within, slice_get-get_or, get_or_
 use Rattle.pw_info.specs.declared.kind.Kind.{Kind}
 use Rattle.pw_info.specs.declared.kind.Kind.TheVariants as kinds
 use Rattle.pw_procs.specs.declared.arguments.Arguments.{Arguments}
-use Rattle.pw_procs.specs.Place.{place_of_name}
-use Rattle.pw_procs.specs.Shapes.{AreArguments, most_cells}
+use Rattle.pw_procs.specs.Registering.{place_of_name}
+use Rattle.pw_procs.specs.inside.Shapes.{AreArguments, most_arguments}
 use Rattle.pw_procs.specs.Signature.{input_slots_of, output_slot_of}
-use Rattle.pw_procs.specs.Slots.{kind_in}
+use Rattle.pw_procs.specs.Slots.{kind_in_slot}
 use Rattle.pw_decl.specs.declared.step.Callable.{Callable}
 use Rattle.pw_decl.specs.declared.step.Callable.TheVariants as callables
 use Rattle.pw_decl.specs.Compound.{Compound, kinds_at}
@@ -23,7 +23,7 @@ use Rattle.pw_decl.proofs.Places.{place_of_name-lt}
 use Rattle.pw_sessions.specs.declared.reply.Refusal.TheVariants as refusal
 use Rattle.pw_transcript.specs.Sentence.{Attach}
 use Rattle.pw_transcript.specs.Reading.{HoldsCells, cells_named, is_cell}
-use Rattle.pw_transcript.specs.Steps.Resolving.{IsRefusedFor}
+use Rattle.pw_transcript.specs.inside.Resolving.{IsRefusedFor}
 
 -- ---- arguments
 
@@ -37,11 +37,11 @@ count_of arguments cells holds =
     omega (arith, length-take-le arguments.count arguments.held (omega (arith, holds.1, arguments.shape.most)), ap length holds.0)
 
 -- what arguments hold is their cells, and 0 after them
-held_of : (arguments : Arguments) (cells : List ℕ) → HoldsCells arguments cells → arguments.held ≡ cells ++ replicate (most_cells - length cells) 0
+held_of : (arguments : Arguments) (cells : List ℕ) → HoldsCells arguments cells → arguments.held ≡ cells ++ replicate (most_arguments - length cells) 0
 held_of arguments cells holds =
     sym (take-append-drop arguments.count arguments.held)
     ∙ ap (λ (l : List ℕ). l ++ drop arguments.count arguments.held) holds.0
-    ∙ ap (λ (l : List ℕ). cells ++ l) (arguments.shape.rest ∙ ap (λ n. replicate (most_cells - n) 0) (count_of arguments cells holds))
+    ∙ ap (λ (l : List ℕ). cells ++ l) (arguments.shape.rest ∙ ap (λ n. replicate (most_arguments - n) 0) (count_of arguments cells holds))
 
 -- arguments of the same cells are the same
 pub same_arguments : (a b : Arguments) (cells : List ℕ) → HoldsCells a cells → HoldsCells b cells → a ≡ b
@@ -60,10 +60,10 @@ same_arguments a b cells in_a in_b = λ k. record {
 -- ---- how many cells a callable takes
 
 -- no callable takes more than nine cells
-few_taken : (d : Declared) (callable : Callable) (cells : List Kind) → IsWellDeclared d → Takes d callable cells → length cells ≤ most_cells
+few_taken : (d : Declared) (callable : Callable) (cells : List Kind) → IsWellDeclared d → Takes d callable cells → length cells ≤ most_arguments
 few_taken d (callables.Stored number) cells well takes =
     let signature = takes.0.signature in
-    omega (arith, ap length takes.2.1, length-map (input_slots_of signature ++ output_slot_of signature ∷ []) (kind_in takes.2.0), length-append (input_slots_of signature) (output_slot_of signature ∷ []), length-take signature.count signature.slots, signature.shape.most)
+    omega (arith, ap length takes.2.1, length-map (input_slots_of signature ++ output_slot_of signature ∷ []) (kind_in_slot takes.2.0), length-append (input_slots_of signature) (output_slot_of signature ∷ []), length-take signature.count signature.slots, signature.shape.most)
 few_taken d (callables.Compound number) cells well takes =
     let few = well.few number takes.0 (slice_get_within d.compounds number takes.0 takes.1) in
     let same = ap (λ (x : Compound). length x.parameters) (get_or_from_slice_get d.compounds number takes.0 takes.0 takes.1) in
@@ -88,7 +88,7 @@ kinds_found names cells (word ∷ words) same all =
 
 -- so more than nine cells are never taken
 pub too_many : (d : Declared) (callable : Callable) (words : List (List ℕ)) → IsWellDeclared d → list_all (is_cell d) words ≡ true →
-    most_cells < length words → Takes d callable (kinds_at d.kinds (cells_named d words)) → ⊥
+    most_arguments < length words → Takes d callable (kinds_at d.kinds (cells_named d words)) → ⊥
 too_many d callable words well all many takes =
     omega (arith, kinds_found d.cells d.kinds words (sym well.kinds) all, few_taken d callable (kinds_at d.kinds (cells_named d words)) well takes)
 

@@ -6,8 +6,8 @@ use Rattle.std.specs.Borrow.{GName}
 use Rattle.pw_info.specs.Passing.{PassesPart}
 use Rattle.pw_info.proofs.PassingFacts.{PassesPart-append}
 use Rattle.pw_transcript.specs.declared.gathered.Gathered.{Gathered}
-use Rattle.pw_transcript.specs.Steps.Gathering.{Gathers}
-use Rattle.pw_transcript.specs.Steps.Gatherers.{output_of, held_of, GatheredPasses}
+use Rattle.pw_transcript.specs.inside.Gathering.{Gathers}
+use Rattle.pw_transcript.specs.inside.Gathering.{output_of, held_of, GatheredPasses}
 
 module _ {S : Type 0} (passes : S → List ℕ → S → Type 0) where
   -- the first of the held bytes are passed on

@@ -11,7 +11,7 @@ use Rattle.pw_sessions.specs.Reply as reply
 use Rattle.pw_sessions.specs.declared.reply.Refusal.TheVariants as refusal
 use Rattle.pw_sessions.specs.Answer.{replies_after, reply_to}
 use Rattle.pw_sessions.specs.Blanking.{blanked_for, kept_if, matters_to}
-use Rattle.pw_sessions.specs.LineReading.{LineReading, Blank, Refused}
+use Rattle.pw_sessions.specs.Reply.{LineReading, Blank, Refused}
 use Rattle.pw_sessions.proofs.BlankedLines.{reply-blanked}
 use Rattle.pw_transcript.specs.FromScratch.{GetReplies, ReadAs}
 use Rattle.pw_transcript.specs.Isolation.{BeginsWith, IsReplyAt, RestsOn, emptied}

@@ -4,7 +4,7 @@ use Rattle.std.specs.List.{list_all}
 use Rattle.std.specs.Ordering.{nat_cmp, eq_by_cmp}
 use Rattle.std.specs.Cmp.{nat_cmp_total}
 use Rattle.std.specs.FinSet.{empty, insert, contains, union, same_set, contains-empty, contains-insert, contains-union, nat_cmp-IsAntisymmetric}
-use Rattle.pw_procs.specs.Place.{place_of_name}
+use Rattle.pw_procs.specs.Registering.{place_of_name}
 use Rattle.pw_decl.specs.Declaration.{Declared}
 use Rattle.pw_premises.specs.Premises.{Premises}
 use Rattle.pw_transcript.specs.Reading.{premises_of}

@@ -11,7 +11,7 @@ use Rattle.pw_info.specs.SetNames.{name_at}
 use Rattle.pw_premises.specs.Premises.{Premises}
 use Rattle.pw_decl.specs.Declaration.{Declared}
 use Rattle.pw_transcript.specs.ReplyText.{after_space, premise_names, text_of_names}
-use Rattle.pw_transcript.specs.Steps.NamesWritten.{has_some, names_below}
+use Rattle.pw_transcript.specs.inside.Gathering.{has_some, names_below}
 
 -- a row of numbers is a first part of it and what follows
 range_parts : (a n more : ℕ) → range_with_len a (n + more) ≡ range_with_len a n ++ range_with_len (a + n) more

@@ -6,24 +6,24 @@ use Rattle.pw_info.specs.declared.kind.Kind.TheVariants as kinds
 use Rattle.pw_info.specs.SetNames.{IsNamed}
 use Rattle.pw_info.specs.Spelling.{SpellsInfo}
 use Rattle.pw_info.proofs.Spellings.{one_info}
-use Rattle.pw_procs.specs.Place.{place_of_name}
+use Rattle.pw_procs.specs.Registering.{place_of_name}
 use Rattle.pw_sessions.specs.declared.command.Command.{Command}
 use Rattle.pw_sessions.specs.declared.command.Command.TheVariants as commands
 use Rattle.pw_facts.specs.declared.fact.Fact.{Fact}
 use Rattle.pw_sessions.specs.declared.reply.Refusal.{Refusal}
 use Rattle.pw_sessions.specs.declared.reply.Refusal.TheVariants as refusal
-use Rattle.pw_info.specs.First.{IsFirstIn, HoldsOfNone}
+use Rattle.pw_info.specs.Lines.{IsFirstIn, HoldsOfNone}
 use Rattle.pw_decl.specs.declared.step.Callable.{Callable}
 use Rattle.pw_decl.specs.Declaration.{Declared, kind_at, members_of}
 use Rattle.pw_decl.specs.WellDeclared.{IsWellDeclared}
 use Rattle.pw_transcript.specs.Sentence.{Said, Tell, Attach, Believe, Doubt, Beliefs, Ask, Why, Conflicts, Other, Sentence}
-use Rattle.pw_transcript.specs.Steps.Forms.{sentence_form}
+use Rattle.pw_transcript.specs.inside.Forms.{sentence_form}
 use Rattle.pw_info.specs.Words.{words_of, is_idle, is_allowed}
 use Rattle.pw_transcript.specs.Reading.{premises_of, cells_named, MeansFor, Means, HasAnothersPremise, RefusalAppliesTo, IsRefusedWith, sentence_refusals, SaysSentence, RefusalAppliesToLine, RefusalApplies, line_refusals, Reads}
-use Rattle.pw_sessions.specs.LineReading.{LineReading, Blank, Refused, Says}
+use Rattle.pw_sessions.specs.Reply.{LineReading, Blank, Refused, Says}
 use Rattle.pw_info.proofs.FirstLemmas.{one_first, none_is_first, IsFirstIn-from, HoldsOfNone-from}
 use Rattle.pw_decl.proofs.Places.{place_of_name-lt}
-use Rattle.pw_transcript.specs.Steps.Resolving.{RefusalAppliesToSaid, said_refusals, IsRefusedFor}
+use Rattle.pw_transcript.specs.inside.Resolving.{RefusalAppliesToSaid, said_refusals, IsRefusedFor}
 use Rattle.pw_transcript.proofs.CellLists.{same_arguments}
 use Rattle.pw_transcript.proofs.SentenceLemmas.{one_sentence, given, found}
 

@@ -7,9 +7,9 @@ use Rattle.pw_sessions.specs.declared.reply.Refusal.TheVariants as refusal
 use Rattle.pw_decl.specs.Declaration.{Declared}
 use Rattle.pw_transcript.specs.Sentence.{Said, Tell, Attach, Believe, Doubt, Beliefs, Ask, Why, Conflicts, Other}
 use Rattle.pw_transcript.specs.Reading.{MeansFor, Reads}
-use Rattle.pw_sessions.specs.LineReading.{LineReading, Refused, Says}
+use Rattle.pw_sessions.specs.Reply.{LineReading, Refused, Says}
 use Rattle.pw_sessions.specs.Answer.{user_of, reply_to, replies_of}
-use Rattle.pw_sessions.specs.NamesDeclared.{NamesDeclared, IsDeclared}
+use Rattle.pw_sessions.specs.Command.{NamesDeclared, IsDeclared}
 use Rattle.pw_sessions.proofs.FurtherLines.{replies_of-snoc, length-replies_of}
 use Rattle.pw_decl.proofs.CompoundLaws.{places_below}
 use Rattle.pw_decl.proofs.Places.{place_of_name-lt}

@@ -18,14 +18,14 @@ use Rattle.pw_info.specs.Bytes.{line_feed}
 use Rattle.pw_info.specs.Lines.{lines_of, HasNoEnd, text_of_lines, last_line, AreLines}
 use Rattle.pw_transcript.specs.Limits.{most_lines, most_bytes, most_at_once, GoesPastLimits}
 use Rattle.pw_decl.specs.Declaration.{Declared}
-use Rattle.pw_sessions.specs.LineReading.{LineReading}
+use Rattle.pw_sessions.specs.Reply.{LineReading}
 use Rattle.pw_sessions.specs.Answer.{reply_to, replies_of}
 use Rattle.pw_sessions.specs.Workbench.{IsLeftBy}
 use Rattle.pw_transcript.specs.ReplyText.{text_if_any, text_of_replies}
 use Rattle.pw_transcript.specs.FromScratch.{LinesComeTo, GetReplies, count_of_replies, EndIn, PassesAll, PassesEnded, PassesFront, RepliesToAll, RepliesToEnded, RepliesUpToLimit, RepliesInPart}
-use Rattle.pw_transcript.specs.Steps.Answering.{held_line, PassesReply, FailsInReply, PassesHeldReply, FailsInHeldReply}
-use Rattle.pw_transcript.specs.Steps.Gatherers.{output_of, held_of, GatheredPasses}
-use Rattle.pw_transcript.specs.Steps.Running.{Progress, SoFar, FrontSoFar, LimitSoFar}
+use Rattle.pw_transcript.specs.inside.Answering.{held_line, PassesReply, FailsInReply, PassesHeldReply, FailsInHeldReply}
+use Rattle.pw_transcript.specs.inside.Gathering.{output_of, held_of, GatheredPasses}
+use Rattle.pw_transcript.specs.inside.Running.{Progress, AnsweredSoFar, FrontSoFar, LimitSoFar}
 use Rattle.pw_transcript.proofs.GatheringFacts.{gathered_part, gathered_whole}
 use Rattle.pw_info.proofs.LineLemmas.{lines_of_ended_lines, lines_of_text, text_held, text_ended, HasNoEnd-append, ended_more, found_at}
 use Rattle.pw_transcript.proofs.ReplyLemmas.{text_of_replies_of-snoc, count_of_replies_of-snoc, LinesComeTo-snoc, length-LinesComeTo, ReadAs-from_ComeTo}
@@ -313,7 +313,7 @@ module _ {O : Type 0} (passes : O → List ℕ → O → Type 0) (d : Declared) 
 module _ {O : Type 0} (passes : O → List ℕ → O → Type 0) (d : Declared) where
   -- before the first byte
   pub SoFar-start : (first : O) (p : Progress) → passes first [] first → IsLeftBy d [] p.workbench →
-      p.line ≡ held_line [] → p.counts.lines ≡ 0 → p.counts.replies ≡ 0 → SoFar passes d first first p []
+      p.line ≡ held_line [] → p.counts.lines ≡ 0 → p.counts.replies ≡ 0 → AnsweredSoFar passes d first first p []
   SoFar-start first p none is empty no_lines no_replies =
       record {
         ended = [];
@@ -332,14 +332,14 @@ module _ {O : Type 0} (passes : O → List ℕ → O → Type 0) (d : Declared) 
       }
 
   -- the lines so far are those before the next
-  lines_before : {first now : O} {p : Progress} {bytes : List ℕ} (s : SoFar passes d first now p bytes) → length s.readings + 1 ≡ p.counts.lines + 1
+  lines_before : {first now : O} {p : Progress} {bytes : List ℕ} (s : AnsweredSoFar passes d first now p bytes) → length s.readings + 1 ≡ p.counts.lines + 1
   lines_before s = ap (λ n. n + 1) (sym (s.line_count ∙ length-LinesComeTo d s.ended s.readings s.come))
 
   -- a piece with no line feed
   pub SoFar-held : (first now : O) (p p' : Progress) (bytes piece : List ℕ) →
-      SoFar passes d first now p bytes → HasNoEnd piece → p'.workbench ≡ p.workbench → p'.counts ≡ p.counts →
+      AnsweredSoFar passes d first now p bytes → HasNoEnd piece → p'.workbench ≡ p.workbench → p'.counts ≡ p.counts →
       ((line : List ℕ) → p.line ≡ held_line line → p'.line ≡ held_line (line ++ piece)) → p.counts.lines < most_lines →
-      SoFar passes d first now p' (bytes ++ piece)
+      AnsweredSoFar passes d first now p' (bytes ++ piece)
   SoFar-held first now p p' bytes piece s none same_past same_counts adds more =
       let whole : bytes ++ piece ≡ text_of_lines s.ended (s.last ++ piece) = ap (λ (text : List ℕ). text ++ piece) s.whole ∙ text_held s.ended s.last piece in
       let unended = HasNoEnd-append s.last piece s.unended none in
@@ -361,10 +361,10 @@ module _ {O : Type 0} (passes : O → List ℕ → O → Type 0) (d : Declared) 
 
   module _ (joins : (s t u : O) (xs ys : List ℕ) → passes s xs t → passes t ys u → passes s (xs ++ ys) u) where
     -- a line feed, and the reply to the line that it ends
-    pub SoFar-ended : (first now next : O) (p p' : Progress) (replied : Bool) (bytes : List ℕ) → SoFar passes d first now p bytes →
+    pub SoFar-ended : (first now next : O) (p p' : Progress) (replied : Bool) (bytes : List ℕ) → AnsweredSoFar passes d first now p bytes →
         PassesHeldReply passes d (p.counts.lines + 1) p.line p.workbench p'.workbench now next replied →
         p'.line ≡ held_line [] → p'.counts.lines ≡ p.counts.lines + 1 → p'.counts.replies ≡ p.counts.replies + (if replied then 1 else 0) →
-        p.counts.lines < most_lines → SoFar passes d first next p' (bytes ++ line_feed ∷ [])
+        p.counts.lines < most_lines → AnsweredSoFar passes d first next p' (bytes ++ line_feed ∷ [])
     SoFar-ended first now next p p' replied bytes s answers empty one_line one_reply more =
         let a : PassesReply passes d (p.counts.lines + 1) s.readings s.last p'.workbench now next replied = answers s.readings s.last s.left (lines_before s) s.held in
         let whole = text_and_end s.ended s.last bytes s.whole in
@@ -392,7 +392,7 @@ module _ {O : Type 0} (passes : O → List ℕ → O → Type 0) (d : Declared) 
         }
 
     -- a line feed, and a failure while the reply to the line that it ends was passed
-    pub SoFar-failed : (first now next : O) (p : Progress) (bytes : List ℕ) → SoFar passes d first now p bytes →
+    pub SoFar-failed : (first now next : O) (p : Progress) (bytes : List ℕ) → AnsweredSoFar passes d first now p bytes →
         FailsInHeldReply passes d (p.counts.lines + 1) p.line p.workbench now next →
         p.counts.lines < most_lines → FrontSoFar passes d first next (bytes ++ line_feed ∷ [])
     SoFar-failed first now next p bytes s fails more =
@@ -411,7 +411,7 @@ module _ {O : Type 0} (passes : O → List ℕ → O → Type 0) (d : Declared) 
         }
 
   -- the last line that a run answers has ended, and more comes
-  pub SoFar-limit : (first now : O) (p : Progress) (before bytes done rest : List ℕ) → SoFar passes d first now p (before ++ done) →
+  pub SoFar-limit : (first now : O) (p : Progress) (before bytes done rest : List ℕ) → AnsweredSoFar passes d first now p (before ++ done) →
       p.counts.lines ≡ most_lines → bytes ≡ done ++ rest → 0 < length rest → LimitSoFar passes d first now before bytes
   SoFar-limit first now p before bytes done rest s count parts some =
       let lines = all_lines (before ++ done) s.ended s.last s.whole s.no_end s.unended in
@@ -434,7 +434,7 @@ module _ {O : Type 0} (passes : O → List ℕ → O → Type 0) (d : Declared) 
   -- ---- the end
 
   -- a text whose last line feed is its last byte, or an empty one
-  pub SoFar-all : (first now : O) (p : Progress) (bytes : List ℕ) → SoFar passes d first now p bytes → p.line ≡ held_line [] →
+  pub SoFar-all : (first now : O) (p : Progress) (bytes : List ℕ) → AnsweredSoFar passes d first now p bytes → p.line ≡ held_line [] →
       PassesAll passes d first now p.counts bytes
   SoFar-all first now p bytes s empty =
       let none : s.last ≡ [] = held_nothing s.last (sym s.held ∙ empty) in
@@ -450,7 +450,7 @@ module _ {O : Type 0} (passes : O → List ℕ → O → Type 0) (d : Declared) 
 
   -- a line feed after a last line that has none changes no line
   lines_and_end : (first now : O) (p : Progress) (bytes : List ℕ)
-      (s : SoFar passes d first now p bytes) → 0 < length s.last → lines_of (bytes ++ 10 ∷ []) ≡ lines_of bytes
+      (s : AnsweredSoFar passes d first now p bytes) → 0 < length s.last → lines_of (bytes ++ 10 ∷ []) ≡ lines_of bytes
   lines_and_end first now p bytes s some =
       all_lines (bytes ++ 10 ∷ []) (s.ended ++ s.last ∷ []) [] (text_and_end s.ended s.last bytes s.whole) (ended_more s.ended s.last s.no_end s.unended) tt
       ∙ append-nil (s.ended ++ s.last ∷ [])
@@ -460,21 +460,21 @@ module _ {O : Type 0} (passes : O → List ℕ → O → Type 0) (d : Declared) 
   -- if nothing has come of a line, all lines are answered
   pub SoFar-empty : (first now : O) (p : Progress) (bytes : List ℕ) (test : Bool) →
       ((line : List ℕ) → p.line ≡ held_line line → test ≡ eqb (length line) 0) → test ≡ true →
-      SoFar passes d first now p bytes → PassesAll passes d first now p.counts bytes
+      AnsweredSoFar passes d first now p bytes → PassesAll passes d first now p.counts bytes
   SoFar-empty first now p bytes test tests nothing s =
       let none : s.last ≡ [] = empty_line s.last (sym (tests s.last s.held) ∙ nothing) in
       SoFar-all first now p bytes s (s.held ∙ ap held_line none)
 
   unended_same : (first now : O) (p : Progress) (bytes : List ℕ) (test : Bool) →
       ((line : List ℕ) → p.line ≡ held_line line → test ≡ eqb (length line) 0) → test ≡ false →
-      SoFar passes d first now p bytes → lines_of (bytes ++ 10 ∷ []) ≡ lines_of bytes
+      AnsweredSoFar passes d first now p bytes → lines_of (bytes ++ 10 ∷ []) ≡ lines_of bytes
   unended_same first now p bytes test tests more s =
       lines_and_end first now p bytes s (some_line s.last (sym (tests s.last s.held) ∙ more))
 
   -- if the last line is answered as one that has ended, all lines are answered
   pub SoFar-last : (first now next : O) (p p' : Progress) (bytes : List ℕ) (test : Bool) →
       ((line : List ℕ) → p.line ≡ held_line line → test ≡ eqb (length line) 0) → test ≡ false →
-      SoFar passes d first now p bytes → SoFar passes d first next p' (bytes ++ 10 ∷ []) → p'.line ≡ held_line [] →
+      AnsweredSoFar passes d first now p bytes → AnsweredSoFar passes d first next p' (bytes ++ 10 ∷ []) → p'.line ≡ held_line [] →
       PassesAll passes d first next p'.counts bytes
   SoFar-last first now next p p' bytes test tests more s t empty =
       PassesAll-unended passes d first next p'.counts bytes (unended_same first now p bytes test tests more s)
@@ -482,7 +482,7 @@ module _ {O : Type 0} (passes : O → List ℕ → O → Type 0) (d : Declared) 
 
   pub SoFar-last_front : (first now next : O) (p : Progress) (bytes : List ℕ) (test : Bool) →
       ((line : List ℕ) → p.line ≡ held_line line → test ≡ eqb (length line) 0) → test ≡ false →
-      SoFar passes d first now p bytes → FrontSoFar passes d first next (bytes ++ 10 ∷ []) → PassesFront passes d first next (lines_of bytes)
+      AnsweredSoFar passes d first now p bytes → FrontSoFar passes d first next (bytes ++ 10 ∷ []) → PassesFront passes d first next (lines_of bytes)
   SoFar-last_front first now next p bytes test tests more s f =
       subst (PassesFront passes d first next) (unended_same first now p bytes test tests more s)
       (FrontSoFar-lines passes d first next (bytes ++ 10 ∷ []) f)
@@ -490,7 +490,7 @@ module _ {O : Type 0} (passes : O → List ℕ → O → Type 0) (d : Declared) 
   -- ---- what was passed whole, and a flush
 
   -- the lines that end in the bytes are answered
-  pub SoFar-ended_lines : (first now : O) (p : Progress) (bytes : List ℕ) → SoFar passes d first now p bytes → PassesEnded passes d first now bytes
+  pub SoFar-ended_lines : (first now : O) (p : Progress) (bytes : List ℕ) → AnsweredSoFar passes d first now p bytes → PassesEnded passes d first now bytes
   SoFar-ended_lines first now p bytes s =
       record {
         ended = s.ended;
@@ -502,7 +502,7 @@ module _ {O : Type 0} (passes : O → List ℕ → O → Type 0) (d : Declared) 
       }
 
   -- what was passed whole is a front of it
-  pub SoFar-front : (first now : O) (p : Progress) (bytes : List ℕ) → SoFar passes d first now p bytes → FrontSoFar passes d first now bytes
+  pub SoFar-front : (first now : O) (p : Progress) (bytes : List ℕ) → AnsweredSoFar passes d first now p bytes → FrontSoFar passes d first now bytes
   SoFar-front first now p bytes s =
       record {
         ended = s.ended;
@@ -516,7 +516,7 @@ module _ {O : Type 0} (passes : O → List ℕ → O → Type 0) (d : Declared) 
       }
 
   module _ (joins : (s t u : O) (xs ys : List ℕ) → passes s xs t → passes t ys u → passes s (xs ++ ys) u) where
-    pub SoFar-still : (first now next : O) (p : Progress) (bytes : List ℕ) → SoFar passes d first now p bytes → passes now [] next → SoFar passes d first next p bytes
+    pub SoFar-still : (first now next : O) (p : Progress) (bytes : List ℕ) → AnsweredSoFar passes d first now p bytes → passes now [] next → AnsweredSoFar passes d first next p bytes
     SoFar-still first now next p bytes s q =
         record {
           ended = s.ended;
@@ -536,7 +536,7 @@ module _ {O : Type 0} (passes : O → List ℕ → O → Type 0) (d : Declared) 
 
     -- a flush that failed after bytes that were answered, whole or up to the limit
     pub flush_failed : (first now next : O) (p : Progress) (before bytes : List ℕ) (fed : Fed) →
-        (fed ≡ feds.Whole → SoFar passes d first now p (before ++ bytes)) →
+        (fed ≡ feds.Whole → AnsweredSoFar passes d first now p (before ++ bytes)) →
         (fed ≡ feds.PastLimit → LimitSoFar passes d first now before bytes) →
         passes now [] next → FrontSoFar passes d first next (before ++ bytes)
     flush_failed first now next p before bytes feds.Whole whole limit q =
@@ -638,7 +638,7 @@ module _ {I O : Type 0} (takes : I → List ℕ → I → Type 0) (passes : O �
 
   -- there is one more byte than a run answers
   pub replies_up_to_byte : (i i' : I) (o o' : O) (p : Progress) (bytes more all : List ℕ) →
-      takes i all i' → bytes ++ more ≡ all → length bytes ≡ most_bytes → length all ≡ most_bytes + 1 → SoFar passes d o o' p bytes →
+      takes i all i' → bytes ++ more ≡ all → length bytes ≡ most_bytes → length all ≡ most_bytes + 1 → AnsweredSoFar passes d o o' p bytes →
       RepliesUpToLimit takes passes d i i' o o'
   replies_up_to_byte i i' o o' p bytes more all taken whole short long s =
       record {

@@ -6,7 +6,7 @@ use Rattle.std.proofs.lemmas.Slice.Eq.{bytes_eq-Decides}
 use Rattle.std.specs.List.{AllByRecursion}
 use Rattle.std.specs.Str.{bytes_eq}
 use Rattle.pw_transcript.specs.Sentence.{Said, Tell, Attach, Believe, Doubt, Beliefs, Ask, Why, Conflicts, Other, Sentence, command_names, NamesNoCommand, IsUnder, AreNoUnder, IsSaid, IsSentence}
-use Rattle.pw_transcript.specs.Steps.Forms.{under_form, tell_form, before_under, from_under, attach_form, premises_form, bare_form, cell_form, said_form, sentence_by, sentence_form}
+use Rattle.pw_transcript.specs.inside.Forms.{under_form, tell_form, before_under, from_under, attach_form, premises_form, bare_form, cell_form, said_form, sentence_by, sentence_form}
 
 -- words that differ are found to differ
 differ : (a b : List ℕ) → a ≢ b → bytes_eq a b ≡ false

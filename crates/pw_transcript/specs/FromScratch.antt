@@ -1,5 +1,6 @@
 -- The theorem of a run: the output is, line by line, the reply that each line gets from scratch.
-use Rattle.std.specs.Prelude.{◌≡◌, ℕ, ◌+◌, ◌≤◌, Bool, true, List, [], ◌∷◌, ◌++◌, length, Option, Some, None, ◌⊎◌, Contains}
+use Rattle.std.specs.Prelude.{◌≡◌, ℕ, ◌+◌, ◌≤◌, Bool, true, List, [], ◌∷◌, ◌++◌, length, Option}
+use Rattle.std.specs.Prelude.{Some, None, ◌⊎◌, Contains}
 use Rattle.std.specs.List.{AllByRecursion}
 use Rattle.pw_info.specs.Passing.{PassesPart}
 use Rattle.pw_sessions.specs.declared.command.Command.{Command}
@@ -9,10 +10,10 @@ use Rattle.pw_transcript.specs.declared.transcript.Lines.{Lines}
 use Rattle.pw_info.specs.Lines.{lines_of, HasNoEnd, text_of_lines}
 use Rattle.pw_transcript.specs.Limits.{most_lines, most_bytes, IsWithinLimits, GoesPastLimits}
 use Rattle.pw_decl.specs.Declaration.{Declared}
-use Rattle.pw_sessions.specs.LineReading.{LineReading, Refused, Says}
+use Rattle.pw_sessions.specs.Reply.{LineReading, Refused, Says}
 use Rattle.pw_transcript.specs.Reading.{Reads}
 use Rattle.pw_sessions.specs.Answer.{replies_of}
-use Rattle.pw_sessions.specs.TakesMemory.{TakesMemory}
+use Rattle.pw_sessions.specs.Command.{TakesMemory}
 use Rattle.pw_transcript.specs.ReplyText.{text_of_replies}
 
 -- ---- the replies to lines
@@ -28,10 +29,12 @@ ReadAs d lines readings = ⊥
 abbrev pub ComesTo : Declared → List LineReading → List ℕ → LineReading → Type 0
 ComesTo d before line reading =
     Reads d line reading
-    ⊎ ((reading ≡ Refused refusal.Memory) × (command : Command) × TakesMemory d before command × Reads d line (Says command))
+    ⊎ ((reading ≡ Refused refusal.Memory) × (command : Command) × TakesMemory d before command
+    × Reads d line (Says command))
 
 -- the readings that further lines get, after lines that got these readings
-abbrev pub FurtherLinesComeTo : Declared → List LineReading → List (List ℕ) → List LineReading → Type 0
+abbrev pub FurtherLinesComeTo : Declared → List LineReading → List (List ℕ) → List LineReading →
+    Type 0
 FurtherLinesComeTo d before [] [] = Unit {0}
 FurtherLinesComeTo d before (line ∷ lines) (reading ∷ readings) =
     ComesTo d before line reading × FurtherLinesComeTo d (before ++ reading ∷ []) lines readings
@@ -43,7 +46,8 @@ LinesComeTo d lines readings = FurtherLinesComeTo d [] lines readings
 
 -- These lines get these replies, from scratch. A line that was refused because memory ran out
 -- counts as blank for the lines after it; if there is no such line, each line gets its own reading.
-pub record GetReplies (d : Declared) (lines : List (List ℕ)) (replies : List (Option Reply)) : Type 0 where
+pub record GetReplies (d : Declared) (lines : List (List ℕ)) (replies : List (Option Reply))
+    : Type 0 where
   pub readings : List LineReading
   pub come : LinesComeTo d lines readings
   pub plain : (Contains readings (Refused refusal.Memory) → ⊥) → ReadAs d lines readings
@@ -64,7 +68,8 @@ pub record EndIn (bytes : List ℕ) (ended : List (List ℕ)) (rest : List ℕ) 
 -- the lines of the bytes that a run answers: those that end in them; and, once the input has ended,
 -- also the bytes after the last of these
 abbrev pub AreToAnswer : Bool → List ℕ → List (List ℕ) → Type 0
-AreToAnswer has_ended bytes lines = ((has_ended ≡ true) × (lines ≡ lines_of bytes)) ⊎ ((rest : List ℕ) × EndIn bytes lines rest)
+AreToAnswer has_ended bytes lines = ((has_ended ≡ true) × (lines ≡ lines_of bytes))
+    ⊎ ((rest : List ℕ) × EndIn bytes lines rest)
 
 -- ---- the output for bytes, between two moments of an output
 
@@ -99,7 +104,8 @@ module _ {O : Type 0} (passes : O → List ℕ → O → Type 0) (d : Declared) 
 
 -- ---- a run, between two moments of its input and its output
 
-module _ {I O : Type 0} (takes : I → List ℕ → I → Type 0) (passes : O → List ℕ → O → Type 0) (d : Declared) where
+module _ {I O : Type 0} (takes : I → List ℕ → I → Type 0) (passes : O → List ℕ → O →
+    Type 0) (d : Declared) where
   -- bytes within the limits were taken, and the replies to all their lines were passed, and nothing
   -- else
   pub record RepliesToAll (i i' : I) (o o' : O) (counts : Lines) : Type 0 where

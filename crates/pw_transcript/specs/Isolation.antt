@@ -5,7 +5,7 @@ use Rattle.pw_decl.specs.Declaration.{Declared}
 use Rattle.pw_sessions.specs.Reply.{Reply}
 use Rattle.pw_sessions.specs.Answer.{reply_to}
 use Rattle.pw_sessions.specs.Blanking.{matters_to}
-use Rattle.pw_sessions.specs.LineReading.{LineReading}
+use Rattle.pw_sessions.specs.Reply.{LineReading}
 use Rattle.pw_transcript.specs.FromScratch.{ReadAs}
 use Rattle.pw_transcript.specs.Reading.{Reads}
 
@@ -23,11 +23,13 @@ pub record IsLineAt (d : Declared) (text : List ℕ) (number : ℕ) : Type 0 whe
 
 -- the reply to the line of this number of a text, from scratch, if no line is refused memory
 abbrev pub IsReplyAt : Declared → List ℕ → ℕ → Option Reply → Type 0
-IsReplyAt d text number answer = (at : IsLineAt d text number) × (answer ≡ reply_to d at.readings at.reading)
+IsReplyAt d text number answer = (at : IsLineAt d text number)
+    × (answer ≡ reply_to d at.readings at.reading)
 
 -- lines with these readings, with each line made empty whose reading does not pass
 abbrev pub emptied : (LineReading → Bool) → List (List ℕ) → List LineReading → List (List ℕ)
-emptied keeps (line ∷ lines) (reading ∷ readings) = (if keeps reading then line else []) ∷ emptied keeps lines readings
+emptied keeps (line ∷ lines) (reading ∷ readings) =
+    (if keeps reading then line else []) ∷ emptied keeps lines readings
 emptied keeps lines readings = []
 
 -- The reply to the line of this number rests on these lines: that line, and the lines before it,

@@ -5,5 +5,5 @@ pub mod Readers
 pub mod Reading
 pub mod ReplyText
 pub mod Sentence
-pub mod Steps
-pub mod Taking
+pub mod Laws
+pub mod inside

@@ -11,8 +11,8 @@ abbrev pub most_bytes : ℕ
 most_bytes = 67108864
 
 -- the greatest number of bytes of a line that is not refused for its length
-abbrev pub most_line_bytes : ℕ
-most_line_bytes = 1024
+abbrev pub most_command_bytes : ℕ
+most_command_bytes = 1024
 
 -- the greatest number of bytes that a run takes at once
 abbrev pub most_at_once : ℕ
@@ -25,7 +25,8 @@ pub record IsWithinLimits (transcript : List ℕ) : Type 0 where
 
 -- it has more lines, or more bytes
 abbrev pub IsPastLimits : List ℕ → Type 0
-IsPastLimits transcript = (most_lines < length (lines_of transcript)) ⊎ (most_bytes < length transcript)
+IsPastLimits transcript = (most_lines < length (lines_of transcript))
+    ⊎ (most_bytes < length transcript)
 
 -- `within` is within the limits, and with the first byte of `past` it no longer is. The bytes past
 -- the limits came with that byte: they are no more than a run takes at once.

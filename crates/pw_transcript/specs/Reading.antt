@@ -1,25 +1,28 @@
 -- The reading of a line of a transcript: it is blank, it is refused, or it says a command.
-use Rattle.std.specs.Prelude.{◌≡◌, ℕ, ◌<◌, ◌≤◌, ◌==◌, Bool, true, false, List, [], ◌∷◌, length, Option, Some, None, is_some, Result, Ok, Err}
+use Rattle.std.specs.Prelude.{◌≡◌, ℕ, ◌<◌, ◌≤◌, ◌==◌, Bool, true, false, List, [], ◌∷◌, length}
+use Rattle.std.specs.Prelude.{Option, Some, None, is_some, Result, Ok, Err}
 use Rattle.std.specs.List.{list_all, filter_map}
 use Rattle.std.specs.FinSet.{from_list}
 use Rattle.pw_info.specs.declared.info.Info.{Info}
 use Rattle.pw_info.specs.Spelling.{SpellsInfo}
-use Rattle.pw_procs.specs.Place.{place_of_name}
+use Rattle.pw_procs.specs.Registering.{place_of_name}
 use Rattle.pw_procs.specs.declared.arguments.Arguments.{Arguments}
-use Rattle.pw_procs.specs.Arguments.{cells_of}
-use Rattle.pw_procs.specs.Shapes.{most_cells}
+use Rattle.pw_procs.specs.Registry.{cells_of}
+use Rattle.pw_procs.specs.inside.Shapes.{most_arguments}
 use Rattle.pw_decl.specs.declared.step.Callable.{Callable}
 use Rattle.pw_decl.specs.Compound.{kinds_at}
 use Rattle.pw_sessions.specs.declared.command.Command.{Command}
 use Rattle.pw_sessions.specs.declared.command.Command.TheVariants as commands
 use Rattle.pw_sessions.specs.declared.reply.Refusal.{Refusal}
 use Rattle.pw_sessions.specs.declared.reply.Refusal.TheVariants as refusal
-use Rattle.pw_sessions.specs.LineReading.{LineReading, Blank, Refused, Says}
+use Rattle.pw_sessions.specs.Reply.{LineReading, Blank, Refused, Says}
 use Rattle.pw_premises.specs.Premises.{Premises}
-use Rattle.pw_info.specs.First.{IsFirstIn, HoldsOfNone}
-use Rattle.pw_decl.specs.Declaration.{Declared, Takes, callable_named, owner_of, kind_at, members_of}
-use Rattle.pw_transcript.specs.Limits.{most_line_bytes}
-use Rattle.pw_transcript.specs.Sentence.{Said, Tell, Attach, Believe, Doubt, Beliefs, Ask, Why, Conflicts, Other, Sentence, IsSentence}
+use Rattle.pw_info.specs.Lines.{IsFirstIn, HoldsOfNone}
+use Rattle.pw_decl.specs.Declaration.{Declared, Takes, callable_named, owner_of, kind_at}
+use Rattle.pw_decl.specs.Declaration.{members_of}
+use Rattle.pw_transcript.specs.Limits.{most_command_bytes}
+use Rattle.pw_transcript.specs.Sentence.{Said, Tell, Attach, Believe, Doubt, Beliefs, Ask, Why}
+use Rattle.pw_transcript.specs.Sentence.{Conflicts, Other, Sentence, IsSentence}
 use Rattle.pw_info.specs.Words.{words_of, is_idle, is_allowed}
 
 -- ---- names in the declaration
@@ -56,14 +59,15 @@ cells_named d words = filter_map (place_of_name d.cells) words
 -- the arguments are these cells. The second part, that nine places hold the numbers, is true of all
 -- arguments in the code: so no others have the same cells
 abbrev pub HoldsCells : Arguments → List ℕ → Type 0
-HoldsCells arguments cells = (cells_of arguments ≡ cells) × (length arguments.held ≡ most_cells)
+HoldsCells arguments cells = (cells_of arguments ≡ cells) × (length arguments.held ≡ most_arguments)
 
 -- ---- sentences
 
 -- the words of this user mean the command: each word names what the command has there
 abbrev pub MeansFor : Declared → ℕ → Said → Command → Type 0
 MeansFor d user (Tell cell_word info_word words) command =
-    (cell : ℕ) × (info : Info) × (place_of_name d.cells cell_word ≡ Some cell) × SpellsInfo (members_of d) info_word (kind_at d cell) info
+    (cell : ℕ) × (info : Info) × (place_of_name d.cells cell_word ≡ Some cell)
+    × SpellsInfo (members_of d) info_word (kind_at d cell) info
     × (command ≡ commands.Tell user cell (record { info = info; support = premises_of d words }))
 MeansFor d user (Attach callable_word cell_words words) command =
     (callable : Callable) × (cells : Arguments) × (callable_named d callable_word ≡ Some callable)
@@ -83,7 +87,8 @@ MeansFor d user Other command = ⊥
 -- the sentence means the command: its first word names the user, and the other words mean the
 -- command for this user
 abbrev pub Means : Declared → Sentence → Command → Type 0
-Means d sentence command = (user : ℕ) × (place_of_name d.users sentence.user ≡ Some user) × MeansFor d user sentence.said command
+Means d sentence command = (user : ℕ) × (place_of_name d.users sentence.user ≡ Some user)
+    × MeansFor d user sentence.said command
 
 abbrev pub premise_words_of : Said → List (List ℕ)
 premise_words_of (Tell cell info premises) = premises
@@ -128,7 +133,8 @@ HasUnknownPremise d said = list_all (is_known d) (premise_words_of said) ≡ fal
 -- a tell or an attach by this user under a premise of another user
 abbrev pub HasAnothersPremise : Declared → ℕ → Said → Type 0
 HasAnothersPremise d user (Tell cell info premises) = list_all (may_use d user) premises ≡ false
-HasAnothersPremise d user (Attach callable cells premises) = list_all (may_use d user) premises ≡ false
+HasAnothersPremise d user (Attach callable cells premises) = list_all (may_use d user) premises
+    ≡ false
 HasAnothersPremise d user said = ⊥
 
 -- the condition of each refusal on a sentence
@@ -141,7 +147,8 @@ RefusalAppliesTo d sentence refusal.UnknownProcedure = HasUnknownProcedure d sen
 RefusalAppliesTo d sentence refusal.WrongArguments = HasWrongArguments d sentence.said
 RefusalAppliesTo d sentence refusal.UnknownPremise = HasUnknownPremise d sentence.said
 RefusalAppliesTo d sentence refusal.NotYourPremise =
-    (user : ℕ) × (place_of_name d.users sentence.user ≡ Some user) × HasAnothersPremise d user sentence.said
+    (user : ℕ) × (place_of_name d.users sentence.user ≡ Some user)
+    × HasAnothersPremise d user sentence.said
 RefusalAppliesTo d sentence refusal.Syntax = ⊥
 RefusalAppliesTo d sentence refusal.LineTooLong = ⊥
 RefusalAppliesTo d sentence refusal.Memory = ⊥
@@ -149,7 +156,8 @@ RefusalAppliesTo d sentence refusal.Memory = ⊥
 -- the refusals of a sentence, in the order in which they are tried
 abbrev pub sentence_refusals : List Refusal
 sentence_refusals =
-    refusal.UnknownUser ∷ refusal.UnknownCommand ∷ refusal.UnknownCell ∷ refusal.UnknownProcedure ∷ refusal.WrongInformation
+    refusal.UnknownUser ∷ refusal.UnknownCommand ∷ refusal.UnknownCell ∷ refusal.UnknownProcedure ∷
+    refusal.WrongInformation
     ∷ refusal.WrongArguments ∷ refusal.UnknownPremise ∷ refusal.NotYourPremise ∷ []
 
 -- no refusal applies to the sentence
@@ -164,16 +172,19 @@ IsRefusedWith d sentence refusal = IsFirstIn (RefusalAppliesTo d sentence) sente
 
 -- the line says the sentence
 abbrev pub SaysSentence : List ℕ → Sentence → Type 0
-SaysSentence line sentence = (is_idle line ≡ false) × (list_all is_allowed line ≡ true) × IsSentence (words_of line) sentence
+SaysSentence line sentence = (is_idle line ≡ false) × (list_all is_allowed line ≡ true)
+    × IsSentence (words_of line) sentence
 
 -- the condition of a refusal on what the line says
 abbrev pub RefusalAppliesToLine : Declared → List ℕ → Refusal → Type 0
-RefusalAppliesToLine d line refusal = (sentence : Sentence) × SaysSentence line sentence × RefusalAppliesTo d sentence refusal
+RefusalAppliesToLine d line refusal = (sentence : Sentence) × SaysSentence line sentence
+    × RefusalAppliesTo d sentence refusal
 
 -- the condition of each refusal on a line
 abbrev pub RefusalApplies : Declared → List ℕ → Refusal → Type 0
-RefusalApplies d line refusal.LineTooLong = most_line_bytes < length line
-RefusalApplies d line refusal.Syntax = (is_idle line ≡ false) × ((sentence : Sentence) → SaysSentence line sentence → ⊥)
+RefusalApplies d line refusal.LineTooLong = most_command_bytes < length line
+RefusalApplies d line refusal.Syntax = (is_idle line ≡ false)
+    × ((sentence : Sentence) → SaysSentence line sentence → ⊥)
 RefusalApplies d line refusal = RefusalAppliesToLine d line refusal
 
 -- the refusals of a line, in the order in which they are tried; out of memory is not a refusal of
@@ -184,7 +195,7 @@ line_refusals = refusal.LineTooLong ∷ refusal.Syntax ∷ sentence_refusals
 -- blank lines and comments of at most 1,024 bytes are blank; a line to which some refusal applies
 -- is refused for the first of them; any other line says what its sentence means
 abbrev pub Reads : Declared → List ℕ → LineReading → Type 0
-Reads d line Blank = (length line ≤ most_line_bytes) × (is_idle line ≡ true)
+Reads d line Blank = (length line ≤ most_command_bytes) × (is_idle line ≡ true)
 Reads d line (Refused refusal) = IsFirstIn (RefusalApplies d line) line_refusals refusal
 Reads d line (Says command) =
     HoldsOfNone (RefusalApplies d line) line_refusals
@@ -195,3 +206,11 @@ abbrev pub reading_of : Result (Option Command) Refusal → LineReading
 reading_of (Ok None) = Blank
 reading_of (Ok (Some command)) = Says command
 reading_of (Err refusal) = Refused refusal
+
+-- each of the words names a cell
+abbrev pub all_cells : Declared → List (List ℕ) → Bool
+all_cells d words = list_all (is_cell d) words
+
+-- each of the words names a premise
+abbrev pub all_known : Declared → List (List ℕ) → Bool
+all_known d words = list_all (is_known d) words

@@ -1,5 +1,6 @@
 -- The text of replies.
-use Rattle.std.specs.Prelude.{ℕ, ◌+◌, ◌<◌, All, List, [], ◌∷◌, ◌++◌, Option, Some, None, codes, filter, length, map}
+use Rattle.std.specs.Prelude.{ℕ, ◌+◌, ◌<◌, All, List, [], ◌∷◌, ◌++◌, Option, Some, None, codes}
+use Rattle.std.specs.Prelude.{filter, length, map}
 use Rattle.std.specs.FinSet.{contains}
 use Rattle.std.specs.Fmt.{decimal}
 use Rattle.std.specs.List.{flat_map, range_with_len}
@@ -31,7 +32,8 @@ text_of_refusal refusal.Memory = codes "11 memory"
 
 -- the names of the declared premises among these, in declared order
 abbrev pub premise_names : Declared → Premises → List (List ℕ)
-premise_names d premises = map (name_at d.premises) (filter (contains premises) (range_with_len 0 (length d.premises)))
+premise_names d premises = map (name_at d.premises)
+    (filter (contains premises) (range_with_len 0 (length d.premises)))
 
 -- a name after a space
 abbrev pub after_space : List ℕ → List ℕ
@@ -45,7 +47,8 @@ text_of_names (name ∷ names) = flat_map after_space (name ∷ names)
 -- the names of what is contradictory: for each cell its own name, and for the attachment of line N
 -- `line N`
 abbrev pub conflict_names : Declared → Conflicts → List (List ℕ)
-conflict_names d conflicts = map (name_at d.cells) conflicts.cells ++ map (λ line. codes "line " ++ decimal line) conflicts.lines
+conflict_names d conflicts = map (name_at d.cells) conflicts.cells
+    ++ map (λ line. codes "line " ++ decimal line) conflicts.lines
 
 -- everything in the reply has names: every member of the kind of a value, and each cell that is
 -- listed
@@ -61,14 +64,17 @@ text_of_answer d reply.Done = codes "ok"
 text_of_answer d (reply.Value info) = text_of_info (members_of d) info
 text_of_answer d (reply.Because info premises) =
     text_of_info (members_of d) info ++ codes " because" ++ text_of_names (premise_names d premises)
-text_of_answer d (reply.Listed conflicts) = codes "conflicts" ++ text_of_names (conflict_names d conflicts)
-text_of_answer d (reply.Believes premises) = codes "believes" ++ text_of_names (premise_names d premises)
+text_of_answer d (reply.Listed conflicts) = codes "conflicts"
+    ++ text_of_names (conflict_names d conflicts)
+text_of_answer d (reply.Believes premises) = codes "believes"
+    ++ text_of_names (premise_names d premises)
 text_of_answer d (reply.Refused refusal) = codes "refused " ++ text_of_refusal refusal
 
 -- a reply as it is written: the number of its line, a colon and a space, its content, and a line
 -- feed
 abbrev pub text_of_reply : Declared → ℕ → Reply → List ℕ
-text_of_reply d number reply = (decimal number ++ codes ": ") ++ (text_of_answer d reply ++ codes "\n")
+text_of_reply d number reply = (decimal number ++ codes ": ")
+    ++ (text_of_answer d reply ++ codes "\n")
 
 abbrev pub text_if_any : Declared → ℕ → Option Reply → List ℕ
 text_if_any d number None = []
@@ -77,7 +83,8 @@ text_if_any d number (Some reply) = text_of_reply d number reply
 -- the replies to lines, of which the first has this number, one after another and nothing else
 abbrev pub text_from : Declared → ℕ → List (Option Reply) → List ℕ
 text_from d number [] = []
-text_from d number (reply ∷ replies) = text_if_any d number reply ++ text_from d (number + 1) replies
+text_from d number (reply ∷ replies) = text_if_any d number reply
+    ++ text_from d (number + 1) replies
 
 -- the text of the replies to the lines of a transcript
 abbrev pub text_of_replies : Declared → List (Option Reply) → List ℕ

@@ -23,7 +23,8 @@ pub record Sentence : Type 0 where
 -- the words that name commands
 abbrev pub command_names : List (List ℕ)
 command_names =
-    codes "tell" ∷ codes "attach" ∷ codes "believe" ∷ codes "doubt" ∷ codes "beliefs" ∷ codes "ask" ∷ codes "why"
+    codes "tell" ∷ codes "attach" ∷ codes "believe" ∷ codes "doubt" ∷ codes "beliefs" ∷ codes "ask"
+    ∷ codes "why"
     ∷ codes "conflicts" ∷ []
 
 -- the word names no command
@@ -47,7 +48,8 @@ abbrev pub IsSaid : List (List ℕ) → Said → Type 0
 IsSaid words (Tell cell info premises) =
     (tail : List (List ℕ)) × (words ≡ codes "tell" ∷ cell ∷ info ∷ tail) × IsUnder tail premises
 IsSaid words (Attach callable cells premises) =
-    (tail : List (List ℕ)) × (words ≡ codes "attach" ∷ callable ∷ cells ++ tail) × (0 < length cells)
+    (tail : List (List ℕ)) × (words ≡ codes "attach" ∷ callable ∷ cells ++ tail)
+    × (0 < length cells)
     × AllByRecursion (λ word. word ≢ codes "under") cells × IsUnder tail premises
 IsSaid words (Believe premises) = (words ≡ codes "believe" ∷ premises) × (0 < length premises)
 IsSaid words (Doubt premises) = (words ≡ codes "doubt" ∷ premises) × (0 < length premises)
@@ -56,8 +58,10 @@ IsSaid words (Ask cell) = words ≡ codes "ask" ∷ cell ∷ []
 IsSaid words (Why cell) = words ≡ codes "why" ∷ cell ∷ []
 IsSaid words Conflicts = words ≡ codes "conflicts" ∷ []
 IsSaid words Other =
-    (word : List ℕ) × (rest : List (List ℕ)) × (words ≡ word ∷ rest) × AllByRecursion (λ name. word ≢ name) command_names
+    (word : List ℕ) × (rest : List (List ℕ)) × (words ≡ word ∷ rest)
+    × AllByRecursion (λ name. word ≢ name) command_names
 
 -- the words are the sentence: first its user, and then the command
 abbrev pub IsSentence : List (List ℕ) → Sentence → Type 0
-IsSentence words sentence = (rest : List (List ℕ)) × (words ≡ sentence.user ∷ rest) × IsSaid rest sentence.said
+IsSentence words sentence = (rest : List (List ℕ)) × (words ≡ sentence.user ∷ rest)
+    × IsSaid rest sentence.said

@@ -1,12 +1,14 @@
 //! The answer to one line.
 
-ghost use Rattle.std.specs.Prelude.{◌≡◌, ◌+◌, ◌≤◌, true, false, IfSome, IfOk, OnOk, OnErr, option_map};
+ghost use Rattle.std.specs.Prelude.{◌≡◌, ◌+◌, ◌≤◌, true, false, IfSome, IfOk, OnOk, OnErr};
+ghost use Rattle.std.specs.Prelude.{option_map};
 ghost use Rattle.std.specs.Option.{option_copied};
-ghost use Rattle.pw_decl.specs.Fields.{declared_by};
-ghost use Rattle.pw_sessions.specs.Fields.{workbench_by};
+ghost use Rattle.pw_decl.specs.inside.Fields.{declared};
+ghost use Rattle.pw_sessions.specs.inside.Fields.{state};
 ghost use Rattle.pw_sessions.specs.Reply.{reply_by};
 ghost use Rattle.pw_transcript.specs.Limits.{most_lines};
-ghost use Rattle.pw_transcript.specs.Steps.Answering.{IsLeft, RepliesToHeld, PassesHeldReply, FailsInHeldReply};
+ghost use Rattle.pw_transcript.specs.inside.Answering.{IsLeft, RepliesToHeld, PassesHeldReply};
+ghost use Rattle.pw_transcript.specs.inside.Answering.{FailsInHeldReply};
 ghost use Rattle.pw_transcript.specs.ReplyText.{IsReplyNamed};
 
 use crate::command_text::read_command;
@@ -24,13 +26,13 @@ fn reply_to_line<A: Allocator + Copy>(
     line: Option<&[u8]>,
     workbench: &mut Workbench<'_, '_, A>,
 ) -> Option<Reply<A>>
-    requires left { IsLeft (declared_by declaration.now) number (workbench_by workbench.old) }
+    requires left { IsLeft (declared declaration.now) number (state workbench.old) }
     requires most { number ≤ most_lines }
     ensures named { IfSome result (λ reply.
-        IsReplyNamed (declared_by declaration.now) (reply_by reply)) }
-    ensures reply { RepliesToHeld (declared_by declaration.now) number (option_copied line.entry)
-        (workbench_by workbench.old) (workbench_by workbench.new) (option_map reply_by result) }
-    ensures left { IsLeft (declared_by declaration.now) (number + 1) (workbench_by workbench.new) }
+        IsReplyNamed (declared declaration.now) (reply_by reply)) }
+    ensures reply { RepliesToHeld (declared declaration.now) number (option_copied line.entry)
+        (state workbench.old) (state workbench.new) (option_map reply_by result) }
+    ensures left { IsLeft (declared declaration.now) (number + 1) (state workbench.new) }
 {
     // Cells have kinds whose members have names.
     declaration.limits();
@@ -54,17 +56,17 @@ pub(crate) fn answer_line<A: Allocator + Copy, O: Output>(
     workbench: &mut Workbench<'_, '_, A>,
     output: &mut O,
 ) -> Result<bool, Failed>
-    requires left { IsLeft (declared_by d.now) number (workbench_by workbench.old) }
+    requires left { IsLeft (declared d.now) number (state workbench.old) }
     requires most { number ≤ most_lines }
-    ensures ok { IfOk result (PassesHeldReply O.passes (declared_by d.now) number
-        (option_copied line.entry) (workbench_by workbench.old) (workbench_by workbench.new)
+    ensures ok { IfOk result (PassesHeldReply O.passes (declared d.now) number
+        (option_copied line.entry) (state workbench.old) (state workbench.new)
         output.old output.new) }
-    ensures err { OnErr result (FailsInHeldReply O.passes (declared_by d.now) number
-        (option_copied line.entry) (workbench_by workbench.old) output.old output.new) }
+    ensures err { OnErr result (FailsInHeldReply O.passes (declared d.now) number
+        (option_copied line.entry) (state workbench.old) output.old output.new) }
     ensures failed { OnErr result (O.has_failed output.new ≡ true) }
     ensures works { OnOk result (O.has_failed output.old ≡ false
         → O.has_failed output.new ≡ false) }
-    ensures left { IsLeft (declared_by d.now) (number + 1) (workbench_by workbench.new) }
+    ensures left { IsLeft (declared d.now) (number + 1) (state workbench.new) }
 {
     // The reply is written in place: moving it out costs more than looking into it.
     let reply = reply_to_line(d, number, line, workbench);

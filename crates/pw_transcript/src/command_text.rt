@@ -1,14 +1,15 @@
 //! Reading a line of a transcript: its form first, then its names, in the order of the refusals.
 
-ghost use Rattle.std.specs.Prelude.{◌≡◌, ◌<◌, length, true, false, None, Some, IfOk, IfErr, IfNone, IfSome, OnOk, OnErr};
+ghost use Rattle.std.specs.Prelude.{◌≡◌, ◌<◌, length, true, false, None, Some, IfOk, IfErr, IfNone};
+ghost use Rattle.std.specs.Prelude.{IfSome, OnOk, OnErr};
 ghost use Rattle.std.specs.List.{list_all};
-ghost use Rattle.pw_procs.specs.Place.{place_of_name};
-ghost use Rattle.pw_procs.specs.Shapes.{most_cells};
-ghost use Rattle.pw_decl.specs.Fields.{declared_by};
-ghost use Rattle.pw_sessions.specs.LineReading.{LineReading};
+ghost use Rattle.pw_procs.specs.Registering.{place_of_name};
+ghost use Rattle.pw_procs.specs.inside.Shapes.{most_arguments};
+ghost use Rattle.pw_decl.specs.inside.Fields.{declared};
+ghost use Rattle.pw_sessions.specs.Reply.{LineReading};
 ghost use Rattle.pw_transcript.specs.Sentence.{Tell, Attach};
-ghost use Rattle.pw_transcript.specs.Steps.Forms.{HasCells, before_under, said_in, sentence_in};
-ghost use Rattle.pw_transcript.specs.Steps.Resolving.{IsFree, IsRefusedFor};
+ghost use Rattle.pw_transcript.specs.inside.Forms.{HasCells, before_under, said_in, sentence_in};
+ghost use Rattle.pw_transcript.specs.inside.Resolving.{IsFree, IsRefusedFor};
 ghost use Rattle.pw_transcript.specs.Reading.{MeansFor};
 ghost use Rattle.pw_transcript.specs.Reading as spec;
 
@@ -33,11 +34,9 @@ fn premise_set<A: Allocator + Copy>(
     mut words: Words<'_>,
 ) -> Result<PremiseSet, Refusal>
     ensures ok { IfOk result (λ set.
-        set ≡ spec.premises_of (declared_by declaration.now) words.entry) }
-    ensures known { OnOk result
-        (list_all (spec.is_known (declared_by declaration.now)) words.entry ≡ true) }
-    ensures unknown { OnErr result
-        (list_all (spec.is_known (declared_by declaration.now)) words.entry ≡ false) }
+        set ≡ spec.premises_of (declared declaration.now) words.entry) }
+    ensures known { OnOk result (spec.all_known (declared declaration.now) words.entry ≡ true) }
+    ensures unknown { OnErr result (spec.all_known (declared declaration.now) words.entry ≡ false) }
     ensures err { IfErr result (λ refusal. refusal ≡ Refusal.UnknownPremise) }
 {
     let mut set = PremiseSet::empty();
@@ -52,8 +51,8 @@ fn premise_set<A: Allocator + Copy>(
 
 // Whether the user may tell or attach under this premise.
 fn may_use<A: Allocator + Copy>(declaration: &Declaration<'_, A>, user: u8, premise: u8) -> bool
-    requires { premise < length (declared_by declaration.now).premises }
-    ensures { result ≡ spec.may_use_at (declared_by declaration.now) user (Some premise) }
+    requires { premise < length (declared declaration.now).premises }
+    ensures { result ≡ spec.may_use_at (declared declaration.now) user (Some premise) }
 {
     let Some(owner) = declaration.owner(premise) else {
         return true;
@@ -71,13 +70,11 @@ fn support_of<A: Allocator + Copy>(
     mut words: Words<'_>,
 ) -> Result<(PremiseSet, bool), Refusal>
     ensures ok { IfOk result (λ support.
-        support.0 ≡ spec.premises_of (declared_by declaration.now) words.entry) }
+        support.0 ≡ spec.premises_of (declared declaration.now) words.entry) }
     ensures own { IfOk result (λ support.
-        support.1 ≡ list_all (spec.may_use (declared_by declaration.now) user) words.entry) }
-    ensures known { OnOk result
-        (list_all (spec.is_known (declared_by declaration.now)) words.entry ≡ true) }
-    ensures unknown { OnErr result
-        (list_all (spec.is_known (declared_by declaration.now)) words.entry ≡ false) }
+        support.1 ≡ list_all (spec.may_use (declared declaration.now) user) words.entry) }
+    ensures known { OnOk result (spec.all_known (declared declaration.now) words.entry ≡ true) }
+    ensures unknown { OnErr result (spec.all_known (declared declaration.now) words.entry ≡ false) }
     ensures err { IfErr result (λ refusal. refusal ≡ Refusal.UnknownPremise) }
 {
     let mut set = PremiseSet::empty();
@@ -101,11 +98,11 @@ fn resolve_tell<A: Allocator + Copy>(
     premises: Words<'_>,
 ) -> Result<Command, Refusal>
     ensures ok { IfOk result (λ command.
-        MeansFor (declared_by declaration.now) user (Tell cell.now info.now premises.entry) command) }
-    ensures none { OnOk result (IsFree (declared_by declaration.now) user
+        MeansFor (declared declaration.now) user (Tell cell.now info.now premises.entry) command) }
+    ensures none { OnOk result (IsFree (declared declaration.now) user
         (Tell cell.now info.now premises.entry)) }
-    ensures err { IfErr result (λ refusal.
-        IsRefusedFor (declared_by declaration.now) user (Tell cell.now info.now premises.entry) refusal) }
+    ensures err { IfErr result (λ refusal. IsRefusedFor (declared declaration.now) user (Tell
+        cell.now info.now premises.entry) refusal) }
 {
     let Some(cell) = declaration.cell(cell) else {
         return Err(Refusal::UnknownCell);
@@ -125,8 +122,7 @@ fn resolve_tell<A: Allocator + Copy>(
 
 // Whether each word before `under` names a cell.
 fn are_cells<A: Allocator + Copy>(declaration: &Declaration<'_, A>, mut words: Words<'_>) -> bool
-    ensures { result ≡ list_all (spec.is_cell (declared_by declaration.now))
-        (before_under words.entry) }
+    ensures { result ≡ spec.all_cells (declared declaration.now) (before_under words.entry) }
 {
     while let Some(word) = next_cell(&mut words) {
         if declaration.cell(word).is_none() {
@@ -143,11 +139,10 @@ fn named_cells<A: Allocator + Copy>(
     mut words: Words<'_>,
 ) -> Option<Arguments>
     requires some { 0 < length (before_under words) }
-    requires known { list_all (spec.is_cell (declared_by declaration.now))
-        (before_under words) ≡ true }
-    ensures none { IfNone result (most_cells < length (before_under words.entry)) }
+    requires known { spec.all_cells (declared declaration.now) (before_under words) ≡ true }
+    ensures none { IfNone result (most_arguments < length (before_under words.entry)) }
     ensures some { IfSome result (λ cells. spec.HoldsCells cells
-        (spec.cells_named (declared_by declaration.now) (before_under words.entry))) }
+        (spec.cells_named (declared declaration.now) (before_under words.entry))) }
 {
     let mut cells = [0; MOST_CELLS];
     let mut count = 0;
@@ -176,11 +171,11 @@ fn resolve_attach<A: Allocator + Copy>(
     under: Words<'_>,
 ) -> Result<Command, Refusal>
     requires some { 0 < length (before_under cells) }
-    ensures ok { IfOk result (λ command. MeansFor (declared_by declaration.now) user
+    ensures ok { IfOk result (λ command. MeansFor (declared declaration.now) user
         (Attach callable.now (before_under cells.entry) under.entry) command) }
-    ensures none { OnOk result (IsFree (declared_by declaration.now) user
+    ensures none { OnOk result (IsFree (declared declaration.now) user
         (Attach callable.now (before_under cells.entry) under.entry)) }
-    ensures err { IfErr result (λ refusal. IsRefusedFor (declared_by declaration.now) user
+    ensures err { IfErr result (λ refusal. IsRefusedFor (declared declaration.now) user
         (Attach callable.now (before_under cells.entry) under.entry) refusal) }
 {
     // A callable takes at most nine cells.
@@ -217,9 +212,9 @@ fn asked_cell<A: Allocator + Copy>(
     word: &[u8],
 ) -> Result<u32, Refusal>
     ensures ok { IfOk result (λ cell.
-        place_of_name (declared_by declaration.now).cells word.now ≡ Some cell) }
+        place_of_name (declared declaration.now).cells word.now ≡ Some cell) }
     ensures unknown { OnErr result
-        (place_of_name (declared_by declaration.now).cells word.now ≡ None) }
+        (place_of_name (declared declaration.now).cells word.now ≡ None) }
     ensures err { IfErr result (λ refusal. refusal ≡ Refusal.UnknownCell) }
 {
     match declaration.cell(word) {
@@ -236,10 +231,10 @@ fn resolve_said<A: Allocator + Copy>(
 ) -> Result<Command, Refusal>
     requires cells { HasCells (said_in said) }
     ensures ok { IfOk result (λ command.
-        MeansFor (declared_by declaration.now) user (said_in said.entry) command) }
-    ensures none { OnOk result (IsFree (declared_by declaration.now) user (said_in said.entry)) }
+        MeansFor (declared declaration.now) user (said_in said.entry) command) }
+    ensures none { OnOk result (IsFree (declared declaration.now) user (said_in said.entry)) }
     ensures err { IfErr result (λ refusal.
-        IsRefusedFor (declared_by declaration.now) user (said_in said.entry) refusal) }
+        IsRefusedFor (declared declaration.now) user (said_in said.entry) refusal) }
 {
     match said {
         Said::Tell {
@@ -281,11 +276,11 @@ fn resolve<A: Allocator + Copy>(
 ) -> Result<Command, Refusal>
     requires cells { HasCells (said_in sentence.said) }
     ensures ok { IfOk result (λ command.
-        spec.Means (declared_by declaration.now) (sentence_in sentence.entry) command) }
-    ensures none { OnOk result (spec.IsUnrefused (declared_by declaration.now)
+        spec.Means (declared declaration.now) (sentence_in sentence.entry) command) }
+    ensures none { OnOk result (spec.IsUnrefused (declared declaration.now)
         (sentence_in sentence.entry)) }
     ensures err { IfErr result (λ refusal.
-        spec.IsRefusedWith (declared_by declaration.now) (sentence_in sentence.entry) refusal) }
+        spec.IsRefusedWith (declared declaration.now) (sentence_in sentence.entry) refusal) }
 {
     match declaration.user(sentence.user) {
         Some(user) => resolve_said(declaration, user, sentence.said),
@@ -301,9 +296,9 @@ pub fn read_command<A: Allocator + Copy>(
     line: &[u8],
     declaration: &Declaration<'_, A>,
 ) -> Result<Option<Command>, Refusal>
-    ensures reads { spec.Reads (declared_by declaration.now) line.now (spec.reading_of result) }
+    ensures reads { spec.Reads (declared declaration.now) line.now (spec.reading_of result) }
     // No line has another reading.
-    ensures only { (other : LineReading) → spec.Reads (declared_by declaration.now) line.now other
+    ensures only { (other : LineReading) → spec.Reads (declared declaration.now) line.now other
         → other ≡ spec.reading_of result }
 {
     // Members of sets have names, so that no word spells two informations.

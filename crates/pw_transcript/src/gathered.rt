@@ -1,5 +1,6 @@
 //! An output that gathers the bytes put into it, and passes them on in large pieces.
-ghost use Rattle.std.specs.Prelude.{◌≡◌, ◌≤◌, ◌<◌, ℕ, List, [], ◌++◌, length, take, drop, true, false, is_err, OnOk, Some};
+ghost use Rattle.std.specs.Prelude.{◌≡◌, ◌≤◌, ◌<◌, ℕ, List, [], ◌++◌, length, take, drop, true};
+ghost use Rattle.std.specs.Prelude.{false, is_err, OnOk, Some};
 
 use pw_info::{Failed, Output};
 use std::marker::Model;
@@ -98,7 +99,7 @@ pub struct Gathered<'a, O> {
 }
 
 impl<'a, O: Output> Gathered<'a, O> {
-    ghost use Rattle.pw_transcript.specs.Steps.Gatherers.{output_of, held_of, GatheredPasses};
+    ghost use Rattle.pw_transcript.specs.inside.Gathering.{output_of, held_of, GatheredPasses};
 
     /// A gathering output over the output, holding nothing.
     pub fn new(output: &'a mut O) -> Gathered<'a, O>
@@ -134,7 +135,9 @@ impl<'a, O: Output> Gathered<'a, O> {
 }
 
 impl<O: Output> Output for Gathered<'_, O> {
-    ghost use Rattle.pw_transcript.specs.Steps.Gatherers.{output_of, GatheredPasses, GatheredPasses-none, GatheredPasses-joins};
+    ghost use Rattle.pw_transcript.specs.inside.Gathering.{output_of, GatheredPasses};
+    ghost use Rattle.pw_transcript.specs.inside.Gathering.{GatheredPasses-none};
+    ghost use Rattle.pw_transcript.specs.inside.Gathering.{GatheredPasses-joins};
 
     ghost passes = { GatheredPasses O.passes };
 

@@ -1,8 +1,9 @@
 //! An end that gives bytes: what was taken from it, when it has failed, and when it has ended.
-ghost use Rattle.std.specs.Prelude.{◌≡◌, ◌<◌, ℕ, List, [], ◌++◌, length, Bool, true, false, is_err, IsErr, IfOk, OnErr};
+ghost use Rattle.std.specs.Prelude.{◌≡◌, ◌<◌, ℕ, List, [], ◌++◌, length, Bool, true, false, is_err};
+ghost use Rattle.std.specs.Prelude.{IsErr, IfOk, OnErr};
 ghost use Rattle.std.proofs.KnownBytes.{Consumes-nil, Consumes-trans};
 ghost use Rattle.pw_transcript.specs.Readers.{ReaderTakes, NothingRemains};
-ghost use Rattle.pw_transcript.specs.Taking.{TakeFills};
+ghost use Rattle.pw_info.specs.Passing.{TakeFills};
 
 use pw_info::Failed;
 use std::io::Read;

@@ -1,7 +1,7 @@
 //! The part that has come of a line that has not ended.
 
 ghost use Rattle.std.specs.Prelude.{◌≡◌, ◌==◌, ℕ, List, [], ◌++◌, length, option_copied, IsTrue};
-ghost use Rattle.pw_transcript.specs.Steps.Answering.{held_line};
+ghost use Rattle.pw_transcript.specs.inside.Answering.{held_line};
 
 use std::marker::Model;
 
@@ -19,13 +19,13 @@ pub struct LineBuffer {
 
 impl Model for LineBuffer {
     ghost use Rattle.std.specs.Prelude.{◌≤◌, ℕ, List, Option, Some, None, take, if◌then◌else◌};
-    ghost use Rattle.pw_transcript.specs.Limits.{most_line_bytes};
+    ghost use Rattle.pw_transcript.specs.Limits.{most_command_bytes};
 
     ghost Value = { Option (List ℕ) };
 
     ghost view = { λ b. if b.is_long then None else Some (take b.length b.bytes) };
 
-    ghost invariant = { λ b. b.length ≤ most_line_bytes };
+    ghost invariant = { λ b. b.length ≤ most_command_bytes };
 }
 
 impl LineBuffer {

@@ -1,14 +1,16 @@
 //! How far a run has come between two takes, and the steps by which it continues.
 
-ghost use Rattle.std.specs.Prelude.{◌≡◌, ◌+◌, ◌<◌, ◌≤◌, [], ◌∷◌, ◌++◌, length, true, false, IfOk, OnOk, OnErr, if◌then◌else◌};
+ghost use Rattle.std.specs.Prelude.{◌≡◌, ◌+◌, ◌<◌, ◌≤◌, [], ◌∷◌, ◌++◌, length, true, false, IfOk};
+ghost use Rattle.std.specs.Prelude.{OnOk, OnErr, if◌then◌else◌};
 ghost use Rattle.pw_info.specs.Bytes.{line_feed};
 ghost use Rattle.pw_info.specs.Lines.{HasNoEnd};
-ghost use Rattle.pw_decl.specs.Fields.{declared_by};
-ghost use Rattle.pw_sessions.specs.Fields.{workbench_by};
-ghost use Rattle.pw_transcript.specs.Limits.{most_line_bytes, most_lines};
-ghost use Rattle.pw_transcript.specs.Steps.Answering.{held_line};
-ghost use Rattle.pw_transcript.specs.Steps.Fields.{progress_by};
-ghost use Rattle.pw_transcript.specs.Steps.Running.{IsRunning, GoesOn, FailsIn, StopsIn, Ends, FailsAtEnd};
+ghost use Rattle.pw_decl.specs.inside.Fields.{declared};
+ghost use Rattle.pw_sessions.specs.inside.Fields.{state};
+ghost use Rattle.pw_transcript.specs.Limits.{most_command_bytes, most_lines};
+ghost use Rattle.pw_transcript.specs.inside.Answering.{held_line};
+ghost use Rattle.pw_transcript.specs.inside.Running.{progress};
+ghost use Rattle.pw_transcript.specs.inside.Running.{IsRunning, GoesOn, FailsIn, StopsIn, Ends};
+ghost use Rattle.pw_transcript.specs.inside.Running.{FailsAtEnd};
 
 use crate::answer::answer_line;
 use crate::command_text::MOST_LINE_BYTES;
@@ -62,10 +64,10 @@ pub(crate) struct Progress<'d, 'r, A: Allocator> {
 impl<'d, 'r, A: Allocator + Copy> Progress<'d, 'r, A> {
     /// Nothing has come.
     pub(crate) fn new(workbench: Workbench<'d, 'r, A>) -> Progress<'d, 'r, A>
-        ensures workbench { (progress_by result).workbench ≡ workbench_by workbench.entry }
-        ensures lines { (progress_by result).counts.lines ≡ 0 }
-        ensures replies { (progress_by result).counts.replies ≡ 0 }
-        ensures line { (progress_by result).line ≡ held_line [] }
+        ensures workbench { (progress result).workbench ≡ state workbench.entry }
+        ensures lines { (progress result).counts.lines ≡ 0 }
+        ensures replies { (progress result).counts.replies ≡ 0 }
+        ensures line { (progress result).line ≡ held_line [] }
     {
         Progress {
             workbench,
@@ -79,14 +81,14 @@ impl<'d, 'r, A: Allocator + Copy> Progress<'d, 'r, A> {
 
     // Answers the line that has come, as a line that has ended.
     fn end_line<O: Output>(&mut self, d: &Declaration<'_, A>, output: &mut O) -> Result<(), Failed>
-        requires running { IsRunning (declared_by d.now) (progress_by self.old) }
-        requires more { (progress_by self.old).counts.lines < most_lines }
-        ensures ok { OnOk result (GoesOn O.passes (declared_by d.now)
-            (progress_by self.old) output.old (line_feed ∷ []) (progress_by self.new) output.new) }
-        ensures empty { OnOk result ((progress_by self.new).line ≡ held_line []) }
-        ensures running { OnOk result (IsRunning (declared_by d.now) (progress_by self.new)) }
-        ensures err { OnErr result (FailsIn O.passes (declared_by d.now)
-            (progress_by self.old) output.old (line_feed ∷ []) output.new) }
+        requires running { IsRunning (declared d.now) (progress self.old) }
+        requires more { (progress self.old).counts.lines < most_lines }
+        ensures ok { OnOk result (GoesOn O.passes (declared d.now)
+            (progress self.old) output.old (line_feed ∷ []) (progress self.new) output.new) }
+        ensures empty { OnOk result ((progress self.new).line ≡ held_line []) }
+        ensures running { OnOk result (IsRunning (declared d.now) (progress self.new)) }
+        ensures err { OnErr result (FailsIn O.passes (declared d.now)
+            (progress self.old) output.old (line_feed ∷ []) output.new) }
         ensures failed { OnErr result (O.has_failed output.new ≡ true) }
     {
         let number = self.counts.lines + 1;
@@ -103,16 +105,16 @@ impl<'d, 'r, A: Allocator + Copy> Progress<'d, 'r, A> {
         line: &[u8],
         output: &mut O,
     ) -> Result<(), Failed>
-        requires running { IsRunning (declared_by d.now) (progress_by self.old) }
-        requires more { (progress_by self.old).counts.lines < most_lines }
-        requires fresh { (progress_by self.old).line ≡ held_line [] }
-        requires short { length line.now ≤ most_line_bytes }
+        requires running { IsRunning (declared d.now) (progress self.old) }
+        requires more { (progress self.old).counts.lines < most_lines }
+        requires fresh { (progress self.old).line ≡ held_line [] }
+        requires short { length line.now ≤ most_command_bytes }
         requires no_end { HasNoEnd line.now }
-        ensures ok { OnOk result (GoesOn O.passes (declared_by d.now) (progress_by self.old)
-            output.old (line.now ++ line_feed ∷ []) (progress_by self.new) output.new) }
-        ensures running { OnOk result (IsRunning (declared_by d.now) (progress_by self.new)) }
-        ensures err { OnErr result (FailsIn O.passes (declared_by d.now)
-            (progress_by self.old) output.old (line.now ++ line_feed ∷ []) output.new) }
+        ensures ok { OnOk result (GoesOn O.passes (declared d.now) (progress self.old)
+            output.old (line.now ++ line_feed ∷ []) (progress self.new) output.new) }
+        ensures running { OnOk result (IsRunning (declared d.now) (progress self.new)) }
+        ensures err { OnErr result (FailsIn O.passes (declared d.now)
+            (progress self.old) output.old (line.now ++ line_feed ∷ []) output.new) }
         ensures failed { OnErr result (O.has_failed output.new ≡ true) }
     {
         let number = self.counts.lines + 1;
@@ -129,14 +131,14 @@ impl<'d, 'r, A: Allocator + Copy> Progress<'d, 'r, A> {
         piece: &[u8],
         output: &mut O,
     ) -> Result<(), Failed>
-        requires running { IsRunning (declared_by d.now) (progress_by self.old) }
-        requires more { (progress_by self.old).counts.lines < most_lines }
+        requires running { IsRunning (declared d.now) (progress self.old) }
+        requires more { (progress self.old).counts.lines < most_lines }
         requires no_end { HasNoEnd piece.now }
-        ensures ok { OnOk result (GoesOn O.passes (declared_by d.now) (progress_by self.old)
-            output.old (piece.now ++ line_feed ∷ []) (progress_by self.new) output.new) }
-        ensures running { OnOk result (IsRunning (declared_by d.now) (progress_by self.new)) }
-        ensures err { OnErr result (FailsIn O.passes (declared_by d.now)
-            (progress_by self.old) output.old (piece.now ++ line_feed ∷ []) output.new) }
+        ensures ok { OnOk result (GoesOn O.passes (declared d.now) (progress self.old)
+            output.old (piece.now ++ line_feed ∷ []) (progress self.new) output.new) }
+        ensures running { OnOk result (IsRunning (declared d.now) (progress self.new)) }
+        ensures err { OnErr result (FailsIn O.passes (declared d.now)
+            (progress self.old) output.old (piece.now ++ line_feed ∷ []) output.new) }
         ensures failed { OnErr result (O.has_failed output.new ≡ true) }
     {
         if piece.len() <= MOST_LINE_BYTES && self.line.is_empty() {
@@ -153,14 +155,14 @@ impl<'d, 'r, A: Allocator + Copy> Progress<'d, 'r, A> {
         bytes: &[u8],
         output: &mut O,
     ) -> Result<Fed, Failed>
-        requires running { IsRunning (declared_by d.now) (progress_by self.old) }
-        ensures whole { IfOk result (λ fed. fed ≡ Fed.Whole → GoesOn O.passes (declared_by d.now)
-            (progress_by self.old) output.old bytes.now (progress_by self.new) output.new) }
-        ensures limit { IfOk result (λ fed. fed ≡ Fed.PastLimit → StopsIn O.passes (declared_by d.now)
-            (progress_by self.old) output.old bytes.now output.new) }
-        ensures running { OnOk result (IsRunning (declared_by d.now) (progress_by self.new)) }
+        requires running { IsRunning (declared d.now) (progress self.old) }
+        ensures whole { IfOk result (λ fed. fed ≡ Fed.Whole → GoesOn O.passes (declared d.now)
+            (progress self.old) output.old bytes.now (progress self.new) output.new) }
+        ensures limit { IfOk result (λ fed. fed ≡ Fed.PastLimit → StopsIn O.passes (declared d.now)
+            (progress self.old) output.old bytes.now output.new) }
+        ensures running { OnOk result (IsRunning (declared d.now) (progress self.new)) }
         ensures err { OnErr result (FailsIn O.passes
-            (declared_by d.now) (progress_by self.old) output.old bytes.now output.new) }
+            (declared d.now) (progress self.old) output.old bytes.now output.new) }
         ensures failed { OnErr result (O.has_failed output.new ≡ true) }
     {
         let mut rest = bytes;
@@ -187,11 +189,11 @@ impl<'d, 'r, A: Allocator + Copy> Progress<'d, 'r, A> {
         d: &Declaration<'_, A>,
         output: &mut O,
     ) -> Result<(), Failed>
-        requires running { IsRunning (declared_by d.now) (progress_by self.old) }
-        ensures ok { OnOk result (Ends O.passes (declared_by d.now)
-            (progress_by self.old) output.old (progress_by self.new) output.new) }
+        requires running { IsRunning (declared d.now) (progress self.old) }
+        ensures ok { OnOk result (Ends O.passes (declared d.now)
+            (progress self.old) output.old (progress self.new) output.new) }
         ensures err { OnErr result (FailsAtEnd O.passes
-            (declared_by d.now) (progress_by self.old) output.old output.new) }
+            (declared d.now) (progress self.old) output.old output.new) }
         ensures failed { OnErr result (O.has_failed output.new ≡ true) }
     {
         if self.line.is_empty() {

@@ -8,9 +8,10 @@ ghost use Rattle.pw_info.specs.Passing.{Writes};
 ghost use Rattle.pw_info.specs.SetNames.{IsNamed, name_at};
 ghost use Rattle.pw_info.specs.Text.{text_of_info};
 ghost use Rattle.pw_decl.specs.Declaration.{members_of};
-ghost use Rattle.pw_decl.specs.Fields.{declared_by};
+ghost use Rattle.pw_decl.specs.inside.Fields.{declared};
 ghost use Rattle.pw_sessions.specs.Reply.{reply_by};
-ghost use Rattle.pw_transcript.specs.ReplyText.{IsReplyNamed, after_space, conflict_names, premise_names, text_of_names};
+ghost use Rattle.pw_transcript.specs.ReplyText.{IsReplyNamed, after_space, conflict_names};
+ghost use Rattle.pw_transcript.specs.ReplyText.{premise_names, text_of_names};
 ghost use Rattle.pw_transcript.specs.ReplyText.{text_of_refusal, text_of_answer, text_of_reply};
 
 use itoa::Buffer;
@@ -65,7 +66,7 @@ fn write_premises<A: Allocator + Copy, O: Output>(
     output: &mut O,
 ) -> Result<(), Failed>
     ensures { Writes O.passes O.has_failed output.old output.new result
-        (text_of_names (premise_names (declared_by declaration.now) premises)) }
+        (text_of_names (premise_names (declared declaration.now) premises)) }
 {
     let mut any = false;
     for premise in 0..declaration.premises() {
@@ -90,7 +91,7 @@ fn write_word_and_premises<A: Allocator + Copy, O: Output>(
     output: &mut O,
 ) -> Result<(), Failed>
     ensures { Writes O.passes O.has_failed output.old output.new result (word.now
-        ++ text_of_names (premise_names (declared_by declaration.now) premises)) }
+        ++ text_of_names (premise_names (declared declaration.now) premises)) }
 {
     put_all(output, word)?;
     write_premises(premises, declaration, output)
@@ -104,10 +105,10 @@ fn write_because<A: Allocator + Copy, O: Output>(
     declaration: &Declaration<'_, A>,
     output: &mut O,
 ) -> Result<(), Failed>
-    requires named { IsNamed (members_of (declared_by declaration.now)) (kind_of info.now) }
+    requires named { IsNamed (members_of (declared declaration.now)) (kind_of info.now) }
     ensures { Writes O.passes O.has_failed output.old output.new result
-        (text_of_info (members_of (declared_by declaration.now)) info.now ++ codes " because"
-        ++ text_of_names (premise_names (declared_by declaration.now) reason)) }
+        (text_of_info (members_of (declared declaration.now)) info.now ++ codes " because"
+        ++ text_of_names (premise_names (declared declaration.now) reason)) }
 {
     write_info(info, declaration, output)?;
     write_word_and_premises(b" because", reason, declaration, output)
@@ -119,9 +120,9 @@ fn write_cells<A: Allocator + Copy, O: Output>(
     declaration: &Declaration<'_, A>,
     output: &mut O,
 ) -> Result<(), Failed>
-    requires { All (λ cell. cell < length (declared_by declaration.now).cells) cells.now }
+    requires { All (λ cell. cell < length (declared declaration.now).cells) cells.now }
     ensures { Writes O.passes O.has_failed output.old output.new result
-        (flat_map after_space (map (name_at (declared_by declaration.now).cells) cells.now)) }
+        (flat_map after_space (map (name_at (declared declaration.now).cells) cells.now)) }
 {
     for &cell in cells {
         write_after_space(declaration.cell_name(cell), output)?;
@@ -156,9 +157,9 @@ fn write_conflict_names<A: Allocator + Copy, O: Output>(
     declaration: &Declaration<'_, A>,
     output: &mut O,
 ) -> Result<(), Failed>
-    requires { All (λ cell. cell < length (declared_by declaration.now).cells) conflicts.now.cells }
+    requires { All (λ cell. cell < length (declared declaration.now).cells) conflicts.now.cells }
     ensures { Writes O.passes O.has_failed output.old output.new result
-        (text_of_names (conflict_names (declared_by declaration.now) conflicts.now)) }
+        (text_of_names (conflict_names (declared declaration.now) conflicts.now)) }
 {
     if conflicts.cells().is_empty() && conflicts.lines().is_empty() {
         return put_all(output, b" none");
@@ -173,9 +174,9 @@ fn write_conflicts<A: Allocator + Copy, O: Output>(
     declaration: &Declaration<'_, A>,
     output: &mut O,
 ) -> Result<(), Failed>
-    requires { All (λ cell. cell < length (declared_by declaration.now).cells) conflicts.now.cells }
+    requires { All (λ cell. cell < length (declared declaration.now).cells) conflicts.now.cells }
     ensures { Writes O.passes O.has_failed output.old output.new result (codes "conflicts"
-        ++ text_of_names (conflict_names (declared_by declaration.now) conflicts.now)) }
+        ++ text_of_names (conflict_names (declared declaration.now) conflicts.now)) }
 {
     put_all(output, b"conflicts")?;
     write_conflict_names(conflicts, declaration, output)
@@ -187,9 +188,9 @@ fn write_answer<A: Allocator + Copy, O: Output>(
     declaration: &Declaration<'_, A>,
     output: &mut O,
 ) -> Result<(), Failed>
-    requires named { IsReplyNamed (declared_by declaration.now) (reply_by reply.now) }
+    requires named { IsReplyNamed (declared declaration.now) (reply_by reply.now) }
     ensures { Writes O.passes O.has_failed output.old output.new result (text_of_answer
-        (declared_by declaration.now) (reply_by reply.now)) }
+        (declared declaration.now) (reply_by reply.now)) }
 {
     match reply {
         Reply::Done => put_all(output, b"ok"),
@@ -221,9 +222,9 @@ fn write_answer_line<A: Allocator + Copy, O: Output>(
     declaration: &Declaration<'_, A>,
     output: &mut O,
 ) -> Result<(), Failed>
-    requires named { IsReplyNamed (declared_by declaration.now) (reply_by reply.now) }
+    requires named { IsReplyNamed (declared declaration.now) (reply_by reply.now) }
     ensures { Writes O.passes O.has_failed output.old output.new result (text_of_answer
-        (declared_by declaration.now) (reply_by reply.now) ++ codes "\n") }
+        (declared declaration.now) (reply_by reply.now) ++ codes "\n") }
 {
     // Most replies are this one: it is put at once.
     if let Reply::Done = reply {
@@ -243,9 +244,9 @@ pub fn write_reply<A: Allocator + Copy, O: Output>(
     declaration: &Declaration<'_, A>,
     output: &mut O,
 ) -> Result<(), Failed>
-    requires named { IsReplyNamed (declared_by declaration.now) (reply_by reply.now) }
+    requires named { IsReplyNamed (declared declaration.now) (reply_by reply.now) }
     ensures { Writes O.passes O.has_failed output.old output.new result (text_of_reply
-        (declared_by declaration.now) line (reply_by reply.now)) }
+        (declared declaration.now) line (reply_by reply.now)) }
 {
     write_line_number(line, output)?;
     write_answer_line(reply, declaration, output)

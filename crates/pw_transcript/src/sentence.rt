@@ -1,13 +1,15 @@
 //! The form of a command line: the user, and the role of each word of the command.
 
-ghost use Rattle.std.specs.Prelude.{◌≡◌, ◌<◌, ℕ, [], List, None, Some, codes, length, MatchOption, option_map};
+ghost use Rattle.std.specs.Prelude.{◌≡◌, ◌<◌, ℕ, [], List, None, Some, codes, length, MatchOption};
+ghost use Rattle.std.specs.Prelude.{option_map};
 ghost use Rattle.std.specs.Option.{option_copied};
 ghost use Rattle.std.specs.Str.{bytes_eq};
 ghost use Rattle.pw_info.specs.Words.{words_of};
 ghost use Rattle.pw_transcript.specs.Sentence as spec;
-ghost use Rattle.pw_transcript.specs.Steps.Forms.{TakesCell, before_under, from_under, under_form};
-ghost use Rattle.pw_transcript.specs.Steps.Forms.{tell_form, attach_form, bare_form, cell_form, said_form, sentence_form};
-ghost use Rattle.pw_transcript.specs.Steps.Forms.{said_in, sentence_in};
+ghost use Rattle.pw_transcript.specs.inside.Forms.{TakesCell, before_under, from_under, under_form};
+ghost use Rattle.pw_transcript.specs.inside.Forms.{tell_form, attach_form, bare_form, cell_form};
+ghost use Rattle.pw_transcript.specs.inside.Forms.{said_form, sentence_form};
+ghost use Rattle.pw_transcript.specs.inside.Forms.{said_in, sentence_in};
 
 use pw_info::Words;
 

@@ -1,11 +1,12 @@
 //! A transcript from end to end: its lines in, their replies out.
 
 ghost use Rattle.std.specs.Prelude.{◌≡◌, [], true, false, IfOk, OnOk, OnErr, IsErrOf};
-ghost use Rattle.pw_decl.specs.Fields.{declared_by};
-ghost use Rattle.pw_sessions.specs.Fields.{workbench_by};
-ghost use Rattle.pw_transcript.specs.FromScratch.{RepliesToAll, RepliesToEnded, RepliesUpToLimit, RepliesInPart};
+ghost use Rattle.pw_decl.specs.inside.Fields.{declared};
+ghost use Rattle.pw_sessions.specs.inside.Fields.{state};
+ghost use Rattle.pw_transcript.specs.FromScratch.{RepliesToAll, RepliesToEnded, RepliesUpToLimit};
+ghost use Rattle.pw_transcript.specs.FromScratch.{RepliesInPart};
 ghost use Rattle.pw_sessions.specs.Workbench.{IsLeftBy};
-ghost use Rattle.pw_transcript.specs.Steps.Gatherers.{output_of, held_of, GatheredPasses};
+ghost use Rattle.pw_transcript.specs.inside.Gathering.{output_of, held_of, GatheredPasses};
 
 use crate::gathered::Gathered;
 use crate::input::Input;
@@ -57,25 +58,25 @@ fn answer_all<A: Allocator + Copy, I: Input, O: Output>(
     input: &mut I,
     output: &mut Gathered<'_, O>,
 ) -> Result<Lines, RunFault>
-    requires start { IsLeftBy (declared_by d.now) [] (workbench_by workbench) }
+    requires start { IsLeftBy (declared d.now) [] (state workbench) }
     requires empty { held_of output.old ≡ [] }
     ensures ok { IfOk result (RepliesToAll I.takes (GatheredPasses O.passes)
-        (declared_by d.now) input.old input.new output.old output.new) }
+        (declared d.now) input.old input.new output.old output.new) }
     ensures ended { OnOk result (I.has_ended input.new ≡ true) }
     ensures nothing_left { OnOk result (I.nothing_left input.new) }
     ensures works { OnOk result (O.has_failed (output_of output.new).now ≡ false) }
     ensures passed_on { OnOk result (held_of output.new ≡ []) }
-    ensures read { IsErrOf result RunFault.Read →
-        RepliesToEnded I.takes (GatheredPasses O.passes) (declared_by d.now) input.old input.new output.old output.new }
+    ensures read { IsErrOf result RunFault.Read → RepliesToEnded I.takes (GatheredPasses O.passes)
+        (declared d.now) input.old input.new output.old output.new }
     ensures read_failed { IsErrOf result RunFault.Read → I.has_failed input.new ≡ true }
     ensures read_passed_on { IsErrOf result RunFault.Read → held_of output.new ≡ [] }
     ensures write { IsErrOf result RunFault.Write →
-        RepliesInPart I.takes (GatheredPasses O.passes) (declared_by d.now) I.has_ended
+        RepliesInPart I.takes (GatheredPasses O.passes) (declared d.now) I.has_ended
         input.old input.new output.old output.new }
     ensures write_failed { IsErrOf result RunFault.Write
         → O.has_failed (output_of output.new).now ≡ true }
-    ensures limit { IsErrOf result RunFault.Limit →
-        RepliesUpToLimit I.takes (GatheredPasses O.passes) (declared_by d.now) input.old input.new output.old output.new }
+    ensures limit { IsErrOf result RunFault.Limit → RepliesUpToLimit I.takes (GatheredPasses
+        O.passes) (declared d.now) input.old input.new output.old output.new }
     ensures limit_passed_on { IsErrOf result RunFault.Limit → held_of output.new ≡ [] }
     ensures no_memory { IsErrOf result RunFault.Memory → ⊥ }
 {
@@ -141,20 +142,20 @@ pub fn run<A: Allocator + Copy, I: Input, O: Output>(
     output: &mut O,
 ) -> Result<Lines, RunFault>
     ensures ok { IfOk result (RepliesToAll I.takes O.passes
-        (declared_by d.now) input.old input.new output.old output.new) }
+        (declared d.now) input.old input.new output.old output.new) }
     ensures ended { OnOk result (I.has_ended input.new ≡ true) }
     ensures nothing_left { OnOk result (I.nothing_left input.new) }
     ensures works { OnOk result (O.has_failed output.new ≡ false) }
     ensures read { IsErrOf result RunFault.Read → RepliesToEnded I.takes O.passes
-        (declared_by d.now) input.old input.new output.old output.new }
+        (declared d.now) input.old input.new output.old output.new }
     ensures read_failed { IsErrOf result RunFault.Read → I.has_failed input.new ≡ true }
     ensures write { IsErrOf result RunFault.Write → RepliesInPart I.takes O.passes
-        (declared_by d.now) I.has_ended input.old input.new output.old output.new }
+        (declared d.now) I.has_ended input.old input.new output.old output.new }
     ensures write_failed { IsErrOf result RunFault.Write → O.has_failed output.new ≡ true }
     ensures memory { IsErrOf result RunFault.Memory → (input.new ≡ input.old)
         × (output.new ≡ output.old) }
     ensures limit { IsErrOf result RunFault.Limit → RepliesUpToLimit I.takes O.passes
-        (declared_by d.now) input.old input.new output.old output.new }
+        (declared d.now) input.old input.new output.old output.new }
 {
     if output.failed() {
         return Err(RunFault::Write);

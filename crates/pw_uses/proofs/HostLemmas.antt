@@ -3,20 +3,20 @@ use Rattle.std.proofs.Common.{◌≡◌, ℕ, ◌+◌, ◌<◌, ◌≤◌, List,
 use Rattle.std.specs.FinSet.{difference, empty}
 use Rattle.pw_info.specs.declared.info.Info.{Info}
 use Rattle.pw_premises.specs.Premises.{Premises}
-use Rattle.pw_procs.specs.Arguments.{cells_of}
+use Rattle.pw_procs.specs.Registry.{cells_of}
 use Rattle.pw_decl.specs.Declaration.{Declared}
-use Rattle.pw_network.specs.Limits.{most_lines}
+use Rattle.pw_network.specs.Network.{last_attachment_line}
 use Rattle.pw_sessions.specs.declared.command.Command.{Command}
 use Rattle.pw_sessions.specs.declared.command.Command.TheVariants as commands
 use Rattle.pw_sessions.specs.Reply.{Reply}
 use Rattle.pw_sessions.specs.Reply as reply
 use Rattle.pw_sessions.specs.declared.reply.Refusal.TheVariants as refusal
-use Rattle.pw_sessions.specs.Answer.{value_in, visible_in}
+use Rattle.pw_sessions.specs.Answer.{cell_value, visible_in}
 use Rattle.pw_sessions.specs.Beliefs.{all_premises}
 use Rattle.pw_sessions.specs.Carrying.{CanBeCarriedOut, CarriesOut, IsAnswered}
 use Rattle.pw_sessions.specs.Entries.{Entry, Told, Attached}
-use Rattle.pw_sessions.specs.LineReading.{LineReading, Says}
-use Rattle.pw_sessions.specs.NamesDeclared.{IsDeclared}
+use Rattle.pw_sessions.specs.Reply.{LineReading, Says}
+use Rattle.pw_sessions.specs.Command.{IsDeclared}
 use Rattle.pw_sessions.specs.Workbench.{Workbench, IsCarriedOut, IsLeftBy}
 use Rattle.pw_sessions.proofs.BlankLines.{answered}
 use Rattle.pw_uses.specs.declared.host.Matter.{Matter}
@@ -25,7 +25,7 @@ use Rattle.pw_uses.specs.Host.{IsOfDeclared, entries_in, value_for}
 module _ (d : Declared) (before : List LineReading) (old : Workbench) (command : Command) (left : IsLeftBy d before old)
     (named : IsDeclared d (Says command)) where
   -- the next command can be carried out
-  pub next_can : (line : ℕ) → length before + 1 ≡ line → line ≤ most_lines → CanBeCarriedOut old line command
+  pub next_can : (line : ℕ) → length before + 1 ≡ line → line ≤ last_attachment_line → CanBeCarriedOut old line command
   next_can line at most =
       record { declared = d; before = before; left = left; next = omega (arith, at); most = most; names = named }
 
@@ -116,7 +116,7 @@ module _ (d : Declared) (matter : Matter) (of : IsOfDeclared d matter) (support 
         reply.Value info ≡ value_for d matter (difference (all_premises d) matter.doubted)
     doubting new info none left out =
         (first_asked new info left out).answer
-        ∙ ap (λ (s : Premises). reply.Value (value_in d
+        ∙ ap (λ (s : Premises). reply.Value (cell_value d
         (visible_in (Attached 1 matter.callable (cells_of matter.cells) s ∷ Told 2 matter.told matter.fact ∷ []) (difference (all_premises d) matter.doubted))
         matter.asked)) none
 
@@ -126,5 +126,5 @@ module _ (d : Declared) (matter : Matter) (of : IsOfDeclared d matter) (support 
     trusting new info none left out =
         (next_answered d (said ++ Says (commands.Ask 0 matter.asked) ∷ []) old (commands.Ask 1 matter.asked) left (ask_named 1 (omega arith)) 5 new
         (reply.Value info) refl out (value_is_none info)).answer
-        ∙ ap (λ (s : Premises). reply.Value (value_in d
+        ∙ ap (λ (s : Premises). reply.Value (cell_value d
         (visible_in (Attached 1 matter.callable (cells_of matter.cells) s ∷ Told 2 matter.told matter.fact ∷ []) (all_premises d)) matter.asked)) none

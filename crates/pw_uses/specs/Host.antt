@@ -2,16 +2,16 @@
 use Rattle.std.specs.Prelude.{◌≡◌, ℕ, ◌<◌, List, [], ◌∷◌, length}
 use Rattle.std.specs.FinSet.{difference, empty}
 use Rattle.pw_premises.specs.Premises.{Premises}
-use Rattle.pw_procs.specs.Arguments.{cells_of}
+use Rattle.pw_procs.specs.Registry.{cells_of}
 use Rattle.pw_decl.specs.Declaration.{Declared}
 use Rattle.pw_sessions.specs.declared.command.Command.TheVariants as commands
 use Rattle.pw_sessions.specs.Reply.{Reply}
 use Rattle.pw_sessions.specs.Reply as reply
-use Rattle.pw_sessions.specs.Answer.{value_in, visible_in}
+use Rattle.pw_sessions.specs.Answer.{cell_value, visible_in}
 use Rattle.pw_sessions.specs.Beliefs.{all_premises}
 use Rattle.pw_sessions.specs.Entries.{Entry, Told, Attached}
-use Rattle.pw_sessions.specs.LineReading.{Says}
-use Rattle.pw_sessions.specs.NamesDeclared.{IsDeclared}
+use Rattle.pw_sessions.specs.Reply.{Says}
+use Rattle.pw_sessions.specs.Command.{IsDeclared}
 use Rattle.pw_uses.specs.declared.host.Matter.{Matter}
 
 -- there are two users, and what the matter names is declared
@@ -23,13 +23,16 @@ pub record IsOfDeclared (d : Declared) (matter : Matter) : Type 0 where
 
 -- what both made: line 1 attached, and line 2 told
 abbrev pub entries_in : Matter → List Entry
-entries_in matter = Attached 1 matter.callable (cells_of matter.cells) empty ∷ Told 2 matter.told matter.fact ∷ []
+entries_in matter = Attached 1 matter.callable (cells_of matter.cells) empty ∷ Told 2 matter.told
+    matter.fact ∷ []
 
 -- what follows at the cell that is asked for, to one who believes this
 abbrev pub value_for : Declared → Matter → Premises → Reply
-value_for d matter beliefs = reply.Value (value_in d (visible_in (entries_in matter) beliefs) matter.asked)
+value_for d matter beliefs = reply.Value (cell_value d (visible_in (entries_in matter) beliefs)
+    matter.asked)
 
--- the replies to the first user, who believes all premises but the doubted ones, and to the second, who believes all
+-- the replies to the first user, who believes all premises but the doubted ones, and to the second,
+-- who believes all
 pub record AreReplies (d : Declared) (matter : Matter) (first second : Reply) : Type 0 where
   pub doubting : first ≡ value_for d matter (difference (all_premises d) matter.doubted)
   pub trusting : second ≡ value_for d matter (all_premises d)

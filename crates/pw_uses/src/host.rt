@@ -2,7 +2,7 @@
 
 ghost use Rattle.std.specs.Prelude.{◌≡◌, IfSome};
 ghost use Rattle.std.specs.FinSet.{empty};
-ghost use Rattle.pw_decl.specs.Fields.{declared_by};
+ghost use Rattle.pw_decl.specs.inside.Fields.{declared};
 ghost use Rattle.pw_uses.specs.Host.{AreReplies, IsOfDeclared};
 ghost use Rattle.pw_sessions.specs.Reply.{reply_by};
 
@@ -31,9 +31,10 @@ pub struct Matter {
 }
 
 impl Matter {
-    /// The matter of these names: a callable to attach to two cells, an interval to tell of the first cell under some premises,
-    /// which one of two users doubts, and the second cell, which both ask for. None if the declaration lacks the callable, a cell
-    /// or the second user, if the callable does not take the cells, or if the first is not a cell of intervals.
+    /// The matter of these names: a callable to attach to two cells, an interval to tell of the
+    /// first cell under some premises, which one of two users doubts, and the second cell, which
+    /// both ask for. None if the declaration lacks the callable, a cell or the second user, if the
+    /// callable does not take the cells, or if the first is not a cell of intervals.
     pub fn named<A: Allocator + Copy>(
         declaration: &Declaration<'_, A>,
         callable: &[u8],
@@ -41,7 +42,7 @@ impl Matter {
         interval: Interval,
         doubted: PremiseSet,
     ) -> Option<Matter>
-        ensures { IfSome result (λ matter. IsOfDeclared (declared_by declaration.now) matter) }
+        ensures { IfSome result (λ matter. IsOfDeclared (declared declaration.now) matter) }
     {
         if declaration.users() < 2 {
             return None;
@@ -114,15 +115,15 @@ impl Matter {
     }
 }
 
-/// User 0 attaches a callable for everybody, and user 1 tells a fact. Then user 0 doubts some premises, and both ask for one
-/// cell. Answers the replies to both, or None if memory ran out.
+/// User 0 attaches a callable for everybody, and user 1 tells a fact. Then user 0 doubts some
+/// premises, and both ask for one cell. Answers the replies to both, or None if memory ran out.
 pub fn asked_by_two<A: Allocator + Copy>(
     alloc: A,
     declaration: &Declaration<'_, A>,
     matter: &Matter,
 ) -> Option<(Reply<A>, Reply<A>)>
-    requires { IsOfDeclared (declared_by declaration.now) matter.now }
-    ensures { IfSome result (λ replies. AreReplies (declared_by declaration.now) matter.now
+    requires { IsOfDeclared (declared declaration.now) matter.now }
+    ensures { IfSome result (λ replies. AreReplies (declared declaration.now) matter.now
         (reply_by replies.0) (reply_by replies.1)) }
 {
     let Ok(network) = Network::new(alloc, declaration) else {

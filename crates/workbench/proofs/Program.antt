@@ -2,7 +2,7 @@
 use Rattle.std.proofs.Common.{◌≡◌, ℕ, List, [], ◌∷◌, ◌++◌, map, refl, sym, ◌∙◌, ap, arith, subst, codes, true}
 use Rattle.std.proofs.lemmas.List.{map-append}
 use Rattle.pw_info.specs.Name.{is_name, is_reserved}
-use Rattle.pw_procs.specs.declared.slot.Slot.{Slot}
+use Rattle.pw_procs.specs.declared.signature.Slot.{Slot}
 use Rattle.pw_procs.specs.declared.meaning.Meaning.{Meaning}
 use Rattle.pw_procs.specs.declared.stored.Stored.{Stored}
 use Rattle.pw_procs.specs.Procedure.{Procedure, procedure_of, procedures_of, named_meanings, names_of, IsAdded}

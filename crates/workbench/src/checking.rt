@@ -1,7 +1,7 @@
 //! What `check` says of a declaration.
 ghost use Rattle.std.specs.Prelude.{OnOk, IfErr};
 ghost use Rattle.pw_procs.specs.Registry.{procedures_in};
-ghost use Rattle.workbench.specs.Checking.{IsDeclaration, IsToldOfText};
+ghost use Rattle.workbench.specs.Ending.{IsDeclaration, IsToldOfText};
 
 use crate::fault::Fault;
 use pw_decl::{Declaration, read_declaration};

@@ -1,25 +1,27 @@
 //! Questions that the reader of a text asks of a declaration so far, and additions that it makes.
 ghost use Rattle.std.specs.Prelude.{◌≡◌, ◌↔◌, ◌+◌, ◌++◌, ◌∷◌, [], None, Some, ◌<◌, ◌≤◌, IsTrue};
-ghost use Rattle.std.specs.Prelude.{length, vec_len, vec_capacity, is_some, IfSome, IfNone, OnOk, OnErr};
+ghost use Rattle.std.specs.Prelude.{length, vec_len, vec_capacity, is_some, IfSome, IfNone, OnOk};
+ghost use Rattle.std.specs.Prelude.{OnErr};
 ghost use Rattle.pw_kinds.specs.Places.{IsSize};
 ghost use Rattle.pw_info.specs.declared.kind.Kind.{Kind as KindOfCell};
 ghost use Rattle.pw_info.specs.SetNames.{AreNames, IsNamed};
-ghost use Rattle.pw_procs.specs.Place.{place_of_name};
+ghost use Rattle.pw_procs.specs.Registering.{place_of_name};
 ghost use Rattle.pw_decl.specs.Compound.{size_of_callable, sizes_of};
 ghost use Rattle.pw_decl.specs.Declaration.{kind_names, members_of, NamesKind, IsCallable};
-ghost use Rattle.pw_decl.specs.Declaration.{with_user, with_premise, with_cell, with_set, with_compound};
-ghost use Rattle.pw_decl.specs.Limits.{most_users, most_premises, most_cells, most_sets, most_compounds};
+ghost use Rattle.pw_decl.specs.Declaration.{with_user, with_premise, with_cell, with_set};
+ghost use Rattle.pw_decl.specs.Declaration.{with_compound};
+ghost use Rattle.pw_decl.specs.Limits.{most_users, most_premises, most_cells, most_sets};
+ghost use Rattle.pw_decl.specs.Limits.{most_compounds};
 ghost use Rattle.pw_decl.specs.Prelude.{prelude_compounds};
-ghost use Rattle.pw_decl.specs.Flat.{IsFlattened};
-ghost use Rattle.pw_decl.specs.Kept.{compound_of, size_of};
-ghost use Rattle.pw_decl.specs.Steps.Opened.{IsOpen, open_of};
+ghost use Rattle.pw_decl.specs.inside.Held.{IsFlattened};
+ghost use Rattle.pw_decl.specs.inside.Held.{compound_of, size_of};
+ghost use Rattle.pw_decl.specs.inside.Opened.{IsOpen, open_of};
 ghost use Rattle.pw_decl.specs.WellDeclared.{IsSmall};
 
 use super::Declaration;
-use crate::built_in_sets::{BUILT_IN_SETS, built_in_kind};
+use crate::built_in::{BUILT_IN_SETS, PRELUDE_COMPOUNDS, built_in_kind};
 use crate::compound::{Compound, OpenCompound, Size};
-use crate::flattened::Flattened;
-use crate::prelude::PRELUDE_COMPOUNDS;
+use crate::flat_call::Flattened;
 use crate::step::Callable;
 use pw_info::{Kind, SetKind};
 use pw_procs::NameTable;
@@ -50,13 +52,13 @@ fn add_compound_name<A: Allocator + Copy>(
 }
 
 impl<A: Allocator + Copy> Declaration<'_, A> {
-    ghost use Rattle.pw_decl.specs.Fields.{declared_by};
+    ghost use Rattle.pw_decl.specs.inside.Fields.{declared};
 
     /// The size of what the callable, which must exist, expands to.
     pub(crate) fn size(&self, callable: Callable) -> Size
-        requires { IsCallable (declared_by self.now) callable }
+        requires { IsCallable (declared self.now) callable }
         ensures size { size_of result ≡ size_of_callable (sizes_of
-            (declared_by self.now).compounds) callable }
+            (declared self.now).compounds) callable }
         ensures small { IsSmall (size_of result) }
     {
         match callable {
@@ -71,7 +73,7 @@ impl<A: Allocator + Copy> Declaration<'_, A> {
     /// Whether no further compound may be added.
     pub(crate) fn is_full(&self) -> bool
         ensures { IsTrue result
-            ↔ (prelude_compounds + most_compounds ≤ length (declared_by self.now).compounds) }
+            ↔ (prelude_compounds + most_compounds ≤ length (declared self.now).compounds) }
     {
         self.compounds.len() >= PRELUDE_COMPOUNDS + MOST_COMPOUNDS
     }
@@ -79,10 +81,10 @@ impl<A: Allocator + Copy> Declaration<'_, A> {
     /// The kind of this name, if there is one: `interval`, `exact`, `bool`, `sign` or a declared
     /// set kind.
     pub(crate) fn kind(&self, name: &[u8]) -> Option<Kind>
-        ensures some { IfSome result (λ kind. NamesKind (declared_by self.now) name.now kind) }
-        ensures known { IfSome result (λ kind. IsNamed (members_of (declared_by self.now)) kind) }
+        ensures some { IfSome result (λ kind. NamesKind (declared self.now) name.now kind) }
+        ensures known { IfSome result (λ kind. IsNamed (members_of (declared self.now)) kind) }
         ensures none { IfNone result ((kind : KindOfCell)
-            → NamesKind (declared_by self.now) name.now kind → ⊥) }
+            → NamesKind (declared self.now) name.now kind → ⊥) }
     {
         if let Some(kind) = built_in_kind(name) {
             return Some(kind);
@@ -96,18 +98,18 @@ impl<A: Allocator + Copy> Declaration<'_, A> {
 
     /// Whether there is a kind of this name.
     pub(crate) fn has_kind(&self, name: &[u8]) -> bool
-        ensures { result ≡ is_some (place_of_name (kind_names (declared_by self.now)) name.now) }
+        ensures { result ≡ is_some (place_of_name (kind_names (declared self.now)) name.now) }
     {
         built_in_kind(name).is_some() || self.set_names.find(name).is_some()
     }
 
     /// Adds a user. Fails only when out of memory; then nothing changes.
     pub(crate) fn add_user(&mut self, name: &str) -> Result<(), AllocError>
-        requires fresh { place_of_name (declared_by self.old).users name.now ≡ None }
-        requires room { length (declared_by self.old).users < most_users }
-        ensures ok { OnOk result ((declared_by self.new) ≡ with_user
-            (declared_by self.old) name.now) }
-        ensures err { OnErr result ((declared_by self.new) ≡ (declared_by self.old)) }
+        requires fresh { place_of_name (declared self.old).users name.now ≡ None }
+        requires room { length (declared self.old).users < most_users }
+        ensures ok { OnOk result ((declared self.new) ≡ with_user
+            (declared self.old) name.now) }
+        ensures err { OnErr result ((declared self.new) ≡ (declared self.old)) }
     {
         self.users.add(name)?;
         Ok(())
@@ -116,12 +118,12 @@ impl<A: Allocator + Copy> Declaration<'_, A> {
     /// Adds a premise that belongs to this user, if any. Fails only when out of memory; then
     /// nothing changes.
     pub(crate) fn add_premise(&mut self, name: &str, owner: Option<u8>) -> Result<(), AllocError>
-        requires fresh { place_of_name (declared_by self.old).premises name.now ≡ None }
-        requires room { length (declared_by self.old).premises < most_premises }
-        requires user { IfSome owner (λ user. user < length (declared_by self.old).users) }
-        ensures ok { OnOk result ((declared_by self.new) ≡ with_premise
-            (declared_by self.old) name.now owner) }
-        ensures err { OnErr result ((declared_by self.new) ≡ (declared_by self.old)) }
+        requires fresh { place_of_name (declared self.old).premises name.now ≡ None }
+        requires room { length (declared self.old).premises < most_premises }
+        requires user { IfSome owner (λ user. user < length (declared self.old).users) }
+        ensures ok { OnOk result ((declared self.new) ≡ with_premise
+            (declared self.old) name.now owner) }
+        ensures err { OnErr result ((declared self.new) ≡ (declared self.old)) }
     {
         self.owners.reserve(1)?;
         self.premises.add(name)?;
@@ -131,12 +133,12 @@ impl<A: Allocator + Copy> Declaration<'_, A> {
 
     /// Adds a cell of this kind. Fails only when out of memory; then nothing changes.
     pub(crate) fn add_cell(&mut self, name: &str, kind: Kind) -> Result<(), AllocError>
-        requires fresh { place_of_name (declared_by self.old).cells name.now ≡ None }
-        requires room { length (declared_by self.old).cells < most_cells }
-        requires known { IsNamed (members_of (declared_by self.old)) kind }
-        ensures ok { OnOk result ((declared_by self.new) ≡ with_cell
-            (declared_by self.old) name.now kind) }
-        ensures err { OnErr result ((declared_by self.new) ≡ (declared_by self.old)) }
+        requires fresh { place_of_name (declared self.old).cells name.now ≡ None }
+        requires room { length (declared self.old).cells < most_cells }
+        requires known { IsNamed (members_of (declared self.old)) kind }
+        ensures ok { OnOk result ((declared self.new) ≡ with_cell
+            (declared self.old) name.now kind) }
+        ensures err { OnErr result ((declared self.new) ≡ (declared self.old)) }
     {
         self.kinds.reserve(1)?;
         self.cells.add(name)?;
@@ -147,13 +149,13 @@ impl<A: Allocator + Copy> Declaration<'_, A> {
     /// Adds a set kind with these members, 2 to 64. Fails only when out of memory; then nothing
     /// changes.
     pub(crate) fn add_set(&mut self, name: &str, members: NameTable<A>) -> Result<(), AllocError>
-        requires fresh { place_of_name (kind_names (declared_by self.old)) name.now ≡ None }
-        requires room { length (declared_by self.old).sets < most_sets }
+        requires fresh { place_of_name (kind_names (declared self.old)) name.now ≡ None }
+        requires room { length (declared self.old).sets < most_sets }
         requires size { IsSize (length members) }
         requires names { AreNames members }
-        ensures ok { OnOk result ((declared_by self.new) ≡ with_set
-            (declared_by self.old) name.now members) }
-        ensures err { OnErr result ((declared_by self.new) ≡ (declared_by self.old)) }
+        ensures ok { OnOk result ((declared self.new) ≡ with_set
+            (declared self.old) name.now members) }
+        ensures err { OnErr result ((declared self.new) ≡ (declared self.old)) }
     {
         self.sets.reserve(1)?;
         self.set_names.add(name)?;
@@ -168,12 +170,12 @@ impl<A: Allocator + Copy> Declaration<'_, A> {
         opened: OpenCompound<A>,
         flattened: Flattened<A>,
     ) -> Result<(), AllocError>
-        requires kept { IsOpen (declared_by self.old) opened }
-        requires flat { IsFlattened (declared_by self.old).compounds
+        requires kept { IsOpen (declared self.old) opened }
+        requires flat { IsFlattened (declared self.old).compounds
             (compound_of opened.compound) flattened }
-        ensures ok { OnOk result ((declared_by self.new) ≡ with_compound (declared_by self.old)
+        ensures ok { OnOk result ((declared self.new) ≡ with_compound (declared self.old)
             (open_of opened).name (open_of opened).compound) }
-        ensures err { OnErr result ((declared_by self.new) ≡ (declared_by self.old)) }
+        ensures err { OnErr result ((declared self.new) ≡ (declared self.old)) }
     {
         let name = opened.name.as_str();
         add_compound_name(

@@ -4,7 +4,7 @@ ghost use Rattle.std.specs.Int.Signed.{le_z};
 ghost use Rattle.pw_kinds.specs.Ranges.{IsInIntervalRange, is_in_interval_range};
 ghost use Rattle.pw_kinds.specs.Interval.{allows, IsEmpty};
 ghost use Rattle.pw_info.specs.declared.info.Info.TheVariants as info;
-ghost use Rattle.pw_procs.specs.Quotient.{quotient_of};
+ghost use Rattle.pw_procs.specs.Meaning.{quotient_of};
 
 use crate::bodies::sums::{ends, from_to};
 use pw_kinds::Interval;

@@ -6,7 +6,8 @@ ghost use Rattle.pw_kinds.specs.Members.{size_of};
 ghost use Rattle.pw_info.specs.declared.info.Info.TheVariants as info;
 ghost use Rattle.pw_info.specs.Information.{kind_of};
 ghost use Rattle.pw_procs.specs.Values.{some, is_true, HasTruths};
-ghost use Rattle.pw_procs.specs.Meaning.{at_most_of, equality_of, negation_of, conjunction_of, disjunction_of};
+ghost use Rattle.pw_procs.specs.Meaning.{at_most_of, equality_of, negation_of, conjunction_of};
+ghost use Rattle.pw_procs.specs.Meaning.{disjunction_of};
 
 use crate::bodies::only::only_value;
 use pw_info::Info;

@@ -191,7 +191,8 @@ fn attachments_have_inner_cells_of_their_own(rt: HostRuntime) -> Result<(), Fail
     )
 }
 
-// Checks that a callable does not take these cells of `MANY`, and that only what was attached before stays.
+// Checks that a callable does not take these cells of `MANY`, and that only what was attached
+// before stays.
 fn are_wrong<R: Abort + AllocGlobal>(rt: &R, callable: &str, cells: &[&str]) -> Result<(), Fail> {
     let tried = [at_line(1, "copy", &["x", "y"]), at_line(7, callable, cells)];
     let shown = attached(rt.alloc(), MANY, &tried)?;
@@ -253,7 +254,8 @@ fn makes_256_calls<R: Abort + AllocGlobal>(rt: &R) -> Result<(), Fail> {
     Ok(())
 }
 
-// Checks that the compound with the most private cells makes that many inner cells each time it is attached.
+// Checks that the compound with the most private cells makes that many inner cells each time it is
+// attached.
 fn makes_256_cells<R: Abort + AllocGlobal>(rt: &R) -> Result<(), Fail> {
     let text = with_locals(rt.alloc())?;
     let twice = [

@@ -30,7 +30,8 @@ fn attachments<'a>() -> [Attachment<'a>; 4] {
     ]
 }
 
-// What a network shows where the growth of this number is refused, and how many growths were asked for.
+// What a network shows where the growth of this number is refused, and how many growths were asked
+// for.
 fn shown_without(alloc: Global, at: u64) -> Result<(Shown, u64), Fail> {
     let (ample, refusing) = (Refusing::nth(alloc, 0), Refusing::nth(alloc, at));
     let shown = attached_in(alloc, &ample, &refusing, MANY, &attachments())?;
@@ -50,8 +51,8 @@ fn lacks_a_line<R: Abort + AllocGlobal>(
     Ok(())
 }
 
-// Refuses the growth of this number. Checks that the network has what the whole network has, without the line that ran out of
-// memory. Answers whether there was one.
+// Refuses the growth of this number. Checks that the network has what the whole network has,
+// without the line that ran out of memory. Answers whether there was one.
 fn is_whole_but_for_a_line<R: Abort + AllocGlobal>(
     rt: &R,
     whole: &str,

@@ -1,5 +1,6 @@
-//! Pseudo-random networks. Reasons are those of the deletion filter over values by rounds, and conflicts are the contradictory
-//! cells by rounds: with ample memory, and where a growth is refused.
+//! Pseudo-random networks. Reasons are those of the deletion filter over values by rounds, and
+//! conflicts are the contradictory cells by rounds: with ample memory, and where a growth is
+//! refused.
 
 use super::questions::{Asked, asked_in};
 use crate::networks::Attachment;
@@ -79,8 +80,8 @@ impl Values {
         Ok(*values.get(cell).ok_or("no cell")?)
     }
 
-    // The reason of a cell in a worldview. From the last declared premise to the first, it takes out each one without which the
-    // value stays.
+    // The reason of a cell in a worldview. From the last declared premise to the first, it takes
+    // out each one without which the value stays.
     fn reason(&self, worldview: &PremiseSet, cell: usize) -> Result<PremiseSet, Fail> {
         let value = self.of(worldview, cell)?;
         let mut left = *worldview;
@@ -122,8 +123,9 @@ fn inner_cells(attachment: &Attachment<'_>) -> usize {
     usize::from(has_one)
 }
 
-// What is contradictory in a worldview: declared cells, and the lines of the attachments that have a contradictory inner cell.
-// Inner cells come after the declared ones, in the order of the attachments.
+// What is contradictory in a worldview: declared cells, and the lines of the attachments that have
+// a contradictory inner cell. Inner cells come after the declared ones, in the order of the
+// attachments.
 fn conflicts_of(
     alloc: Global,
     matter: Matter<'_>,
@@ -264,7 +266,8 @@ impl Case<'_> {
         self.compare_covered(rt, values, asked)
     }
 
-    // Asks while the growth of this number is refused, or none at 0, and compares. Answers how many growths were asked for.
+    // Asks while the growth of this number is refused, or none at 0, and compares. Answers how many
+    // growths were asked for.
     fn compare_at<R: Abort + AllocGlobal>(
         &self,
         rt: &R,

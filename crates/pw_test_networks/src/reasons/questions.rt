@@ -1,8 +1,8 @@
-//! Questions over one store, in one worldview after another: why each cell has its value, and what is contradictory. A question
-//! that runs out of memory is put again.
+//! Questions over one store, in one worldview after another: why each cell has its value, and what
+//! is contradictory. A question that runs out of memory is put again.
 
 ghost use Rattle.std.specs.Prelude.{◌<◌, IfOk, OnOk};
-ghost use Rattle.pw_network.specs.Fields.{network_by};
+ghost use Rattle.pw_network.specs.Wiring.{wiring};
 ghost use Rattle.pw_network.specs.Network.{cells_in};
 ghost use Rattle.pw_reasons.specs.Nogood.{AreNogoods};
 ghost use Rattle.pw_test_networks.specs.Settling.{IsReady};
@@ -15,8 +15,8 @@ use pw_decl::Declaration;
 use pw_network::Network;
 use pw_premises::PremiseSet;
 use pw_reasons::{Conflicts, Nogoods, list_conflicts};
-use pw_testing::worlds::{OverDeclaration, over_text};
 use pw_settle::settle;
+use pw_testing::worlds::{OverDeclaration, over_text};
 use std::alloc::{AllocError, Allocator, Global};
 use std::test::Fail;
 
@@ -25,7 +25,8 @@ use std::test::Fail;
 pub struct Asked {
     /// In each worldview, the reason of each cell.
     pub reasons: Vec<Vec<PremiseSet>>,
-    /// In each worldview, the contradictory declared cells, and the lines of the attachments with a contradictory inner cell.
+    /// In each worldview, the contradictory declared cells, and the lines of the attachments with a
+    /// contradictory inner cell.
     pub conflicts: Vec<(Vec<u32>, Vec<u32>)>,
     /// Whether each of the sets asked for is covered in the end.
     pub covered: Vec<bool>,
@@ -35,7 +36,8 @@ pub struct Asked {
     pub is_told_the_same: bool,
 }
 
-// The reason of a cell in the worldview. Asks again if memory is refused once, and counts the refusal.
+// The reason of a cell in the worldview. Asks again if memory is refused once, and counts the
+// refusal.
 fn reason_again<A: Allocator + Copy>(
     memory: A,
     network: &Network<'_, '_, A>,
@@ -45,11 +47,11 @@ fn reason_again<A: Allocator + Copy>(
     cell: u32,
     refused: &mut u32,
 ) -> Result<PremiseSet, AllocError>
-    requires ready { IsReady (network_by network.now) store.old }
-    requires nogoods { AreNogoods (network_by network.now) store.old nogoods.old }
-    requires cell { cell < cells_in (network_by network.now) }
-    ensures ready { OnOk result (IsReady (network_by network.now) store.new) }
-    ensures nogoods { OnOk result (AreNogoods (network_by network.now) store.new nogoods.new) }
+    requires ready { IsReady (wiring network.now) store.old }
+    requires nogoods { AreNogoods (wiring network.now) store.old nogoods.old }
+    requires cell { cell < cells_in (wiring network.now) }
+    ensures ready { OnOk result (IsReady (wiring network.now) store.new) }
+    ensures nogoods { OnOk result (AreNogoods (wiring network.now) store.new nogoods.new) }
 {
     match reason_once(memory, network, store, nogoods, worldview, cell) {
         Ok(found) => Ok(found),
@@ -71,10 +73,10 @@ fn reasons_in<A: Allocator + Copy>(
     worldview: &PremiseSet,
     refused: &mut u32,
 ) -> Result<Vec<PremiseSet>, AllocError>
-    requires ready { IsReady (network_by network.now) store.old }
-    requires nogoods { AreNogoods (network_by network.now) store.old nogoods.old }
-    ensures ready { OnOk result (IsReady (network_by network.now) store.new) }
-    ensures nogoods { OnOk result (AreNogoods (network_by network.now) store.new nogoods.new) }
+    requires ready { IsReady (wiring network.now) store.old }
+    requires nogoods { AreNogoods (wiring network.now) store.old nogoods.old }
+    ensures ready { OnOk result (IsReady (wiring network.now) store.new) }
+    ensures nogoods { OnOk result (AreNogoods (wiring network.now) store.new nogoods.new) }
 {
     let mut reasons = Vec::new(alloc);
     for cell in 0..network.cells() {
@@ -91,8 +93,8 @@ fn conflicts_once<A: Allocator + Copy>(
     store: &mut CellStore<A>,
     worldview: &PremiseSet,
 ) -> Result<Conflicts<A>, AllocError>
-    requires { IsReady (network_by network.now) store.old }
-    ensures { IsReady (network_by network.now) store.new }
+    requires { IsReady (wiring network.now) store.old }
+    ensures { IsReady (wiring network.now) store.new }
 {
     let settled = settle(memory, network, store, worldview)?;
     list_conflicts(memory, network, &settled)
@@ -106,8 +108,8 @@ fn conflicts_again<A: Allocator + Copy>(
     worldview: &PremiseSet,
     refused: &mut u32,
 ) -> Result<Conflicts<A>, AllocError>
-    requires { IsReady (network_by network.now) store.old }
-    ensures { OnOk result (IsReady (network_by network.now) store.new) }
+    requires { IsReady (wiring network.now) store.old }
+    ensures { OnOk result (IsReady (wiring network.now) store.new) }
 {
     match conflicts_once(memory, network, store, worldview) {
         Ok(conflicts) => Ok(conflicts),
@@ -119,8 +121,9 @@ fn conflicts_again<A: Allocator + Copy>(
     }
 }
 
-// Questions in some worldviews, and the sets asked for afterwards. The growths of the declaration and the network are those of
-// `ample`, and those of the store, of the settlings and of what is noted are those of `memory`.
+// Questions in some worldviews, and the sets asked for afterwards. The growths of the declaration
+// and the network are those of `ample`, and those of the store, of the settlings and of what is
+// noted are those of `memory`.
 #[derive(Drop)]
 struct Questions<'a, A: Allocator> {
     alloc: Global,
@@ -134,7 +137,7 @@ struct Questions<'a, A: Allocator> {
 impl<A: Allocator + Copy> Questions<'_, A> {
     // Tells the facts, over a new store.
     fn store(&self, network: &Network<'_, '_, A>) -> Result<CellStore<A>, Fail>
-        ensures { IfOk result (λ store. IsReady (network_by network.now) store) }
+        ensures { IfOk result (λ store. IsReady (wiring network.now) store) }
     {
         let mut store = store_of(self.alloc, self.memory, network)?;
         for fact in self.matter.tells {
@@ -150,8 +153,8 @@ impl<A: Allocator + Copy> Questions<'_, A> {
         store: &mut CellStore<A>,
         asked: &mut Asked,
     ) -> Result<(), Fail>
-        requires { IsReady (network_by network.now) store.old }
-        ensures { OnOk result (IsReady (network_by network.now) store.new) }
+        requires { IsReady (wiring network.now) store.old }
+        ensures { OnOk result (IsReady (wiring network.now) store.new) }
     {
         let mut nogoods = Nogoods::new(self.memory);
         for worldview in self.worldviews {
@@ -177,7 +180,7 @@ impl<A: Allocator + Copy> Questions<'_, A> {
         store: &mut CellStore<A>,
         asked: &mut Asked,
     ) -> Result<(), Fail>
-        requires { IsReady (network_by network.now) store.old }
+        requires { IsReady (wiring network.now) store.old }
     {
         for worldview in self.worldviews {
             let conflicts = conflicts_again(
@@ -231,8 +234,9 @@ impl<A: Allocator + Copy> OverDeclaration<A> for Questions<'_, A> {
     }
 }
 
-/// The reason of each cell and what is contradictory in each of these worldviews, and which of these sets are covered then. The
-/// growths of the declaration and the network are those of `ample`, and the others those of `memory`.
+/// The reason of each cell and what is contradictory in each of these worldviews, and which of
+/// these sets are covered then. The growths of the declaration and the network are those of
+/// `ample`, and the others those of `memory`.
 pub fn asked_in<A: Allocator + Copy>(
     alloc: Global,
     ample: A,

@@ -1,5 +1,6 @@
-//! Reasons over an allocator that refuses each allocation growth in turn. The told facts stay as they were. Once there is memory
-//! the same question gets its usual answer, which is noted as usual.
+//! Reasons over an allocator that refuses each allocation growth in turn. The told facts stay as
+//! they were. Once there is memory the same question gets its usual answer, which is noted as
+//! usual.
 
 use super::reason_in;
 use crate::networks::at_line;
@@ -10,8 +11,8 @@ use pw_testing::worlds::GENERAL;
 use std::process::Abort;
 use std::test::Fail;
 
-// Refuses the growth of this number. Checks that the cell has this reason, and that it is noted. Answers whether the question was
-// refused, or nothing if fewer growths were asked for.
+// Refuses the growth of this number. Checks that the cell has this reason, and that it is noted.
+// Answers whether the question was refused, or nothing if fewer growths were asked for.
 fn is_found<R: Abort + AllocGlobal>(
     rt: &R,
     matter: Matter<'_>,
@@ -45,8 +46,8 @@ fn is_found<R: Abort + AllocGlobal>(
     Ok(Some(answer.is_refused))
 }
 
-// Refuses each growth in turn. Checks that the cell has this reason, and that it is noted. Answers how often the question was
-// refused.
+// Refuses each growth in turn. Checks that the cell has this reason, and that it is noted. Answers
+// how often the question was refused.
 fn is_found_anyhow<R: Abort + AllocGlobal>(
     rt: &R,
     matter: Matter<'_>,

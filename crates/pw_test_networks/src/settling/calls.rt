@@ -1,5 +1,6 @@
-//! Small networks, settled in stages, whose counts of calls are known beforehand. At each stage after the first, an instance is
-//! due if it is new to the values found before, or reads a cell of which more is known now.
+//! Small networks, settled in stages, whose counts of calls are known beforehand. At each stage
+//! after the first, an instance is due if it is new to the values found before, or reads a cell of
+//! which more is known now.
 
 use super::stages::{Stage, settled_in_stages};
 use super::{Matter, Shown, Tell, told};
@@ -39,8 +40,8 @@ fn found_at(shown: &Shown, stage: usize, cell: usize) -> Result<Info, Fail> {
     Ok(value.info)
 }
 
-// Two of the three instances of a sum read each of its cells. What is told of x makes those two due. They find one number of t
-// where there were two, which may make two more due.
+// Two of the three instances of a sum read each of its cells. What is told of x makes those two
+// due. They find one number of t where there were two, which may make two more due.
 #[test]
 fn a_tell_of_a_summand_calls_two_to_four(rt: HostRuntime) -> Result<(), Fail> {
     let none = PremiseSet::empty();
@@ -112,8 +113,8 @@ fn an_attachment_that_changes_nothing_is_called_once(rt: HostRuntime) -> Result<
     Ok(())
 }
 
-// In the larger worldview the second copy comes into sight, and nobody reads what it finds. In a still larger one there is nothing
-// more to see.
+// In the larger worldview the second copy comes into sight, and nobody reads what it finds. In a
+// still larger one there is nothing more to see.
 #[test]
 fn what_comes_into_sight_is_called(rt: HostRuntime) -> Result<(), Fail> {
     let (none, a, both) = (
@@ -143,7 +144,8 @@ fn what_comes_into_sight_is_called(rt: HostRuntime) -> Result<(), Fail> {
     Ok(())
 }
 
-// Four instances are visible under a premise, and three without it. What was found with the premise says nothing of these three.
+// Four instances are visible under a premise, and three without it. What was found with the premise
+// says nothing of these three.
 #[test]
 fn where_the_worldview_is_not_within_all_visible_are_called(rt: HostRuntime) -> Result<(), Fail> {
     let (none, a) = (PremiseSet::empty(), PremiseSet::one(0));

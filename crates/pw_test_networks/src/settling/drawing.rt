@@ -102,7 +102,8 @@ impl Random {
         premises
     }
 
-    /// A worldview, and three to go on to: the same, a larger one, and one that does not include it.
+    /// A worldview, and three to go on to: the same, a larger one, and one that does not include
+    /// it.
     pub fn worldviews(&mut self) -> (PremiseSet, [PremiseSet; 3]) {
         let number = self.below(5).min(4);
         let next = number.saturating_add(self.below(4)).saturating_add(1) % 5;

@@ -1,5 +1,6 @@
-//! Pseudo-random networks, settled where a growth of memory is refused. The told facts stay as they were. Once there is memory
-//! the values are those by rounds: of worldviews one after another, and of stages that go on.
+//! Pseudo-random networks, settled where a growth of memory is refused. The told facts stay as they
+//! were. Once there is memory the values are those by rounds: of worldviews one after another, and
+//! of stages that go on.
 
 use super::drawing::{Random, WORLD, draw_attachments, draw_tells};
 use super::going_on::{draw_parts, stages_of};
@@ -13,7 +14,8 @@ use pw_testing::Refusing;
 use std::process::Abort;
 use std::test::Fail;
 
-// The least number of networks to compare, the number drawn, and the least number of refused settlings.
+// The least number of networks to compare, the number drawn, and the least number of refused
+// settlings.
 const COMPARED: u32 = 40;
 
 const DRAWN: u64 = 60;
@@ -35,8 +37,8 @@ fn is_known<R: Abort>(rt: &R, seed: u64, at: u64, shown: &Shown, wanted: &[Optio
     }
 }
 
-// Settles the worldviews while the growth of this number is refused, or none at 0. Answers how many growths were asked for, and
-// how many settlings were refused.
+// Settles the worldviews while the growth of this number is refused, or none at 0. Answers how many
+// growths were asked for, and how many settlings were refused.
 fn settle_at<R: Abort + AllocGlobal>(
     rt: &R,
     seed: u64,
@@ -70,8 +72,8 @@ fn go_on_at<R: Abort + AllocGlobal>(
     Ok((refusing.calls(), shown.refused))
 }
 
-// Settles worldviews one after another, three times with a random growth refused. Answers how many settlings were refused, or
-// nothing if the values take too many rounds.
+// Settles worldviews one after another, three times with a random growth refused. Answers how many
+// settlings were refused, or nothing if the values take too many rounds.
 fn settle_refused<R: Abort + AllocGlobal>(
     rt: &R,
     seed: u64,
@@ -93,8 +95,8 @@ fn settle_refused<R: Abort + AllocGlobal>(
     Ok(Some(refused))
 }
 
-// Goes on through stages, three times with a random growth refused. Answers how many settlings that go on were refused, or
-// nothing if the values take too many rounds.
+// Goes on through stages, three times with a random growth refused. Answers how many settlings that
+// go on were refused, or nothing if the values take too many rounds.
 fn go_on_refused<R: Abort + AllocGlobal>(
     rt: &R,
     seed: u64,

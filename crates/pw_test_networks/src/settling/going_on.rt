@@ -1,6 +1,7 @@
-//! Pseudo-random networks, settled in a worldview. Then more is attached and told, and the settling goes on from the values
-//! found: in the same worldview, in a larger one, and in one that does not include the first. The values are those by rounds.
-//! Each is also the value by rounds under just the premises that it rests on. A stage that adds nothing calls nothing.
+//! Pseudo-random networks, settled in a worldview. Then more is attached and told, and the settling
+//! goes on from the values found: in the same worldview, in a larger one, and in one that does not
+//! include the first. The values are those by rounds. Each is also the value by rounds under just
+//! the premises that it rests on. A stage that adds nothing calls nothing.
 
 use super::Matter;
 use super::drawing::{Random, WORLD, draw_attachments, draw_tells};
@@ -11,13 +12,14 @@ use pw_premises::PremiseSet;
 use std::process::Abort;
 use std::test::Fail;
 
-// The least number of walks through stages to compare, of the three that are drawn for each network.
+// The least number of walks through stages to compare, of the three that are drawn for each
+// network.
 const COMPARED: u32 = 150;
 
 const DRAWN: u64 = 60;
 
-// Compares the values at several stages, unless that takes too many rounds. The last stage brings nothing more. Answers how many
-// of the values say something by premises.
+// Compares the values at several stages, unless that takes too many rounds. The last stage brings
+// nothing more. Answers how many of the values say something by premises.
 fn compare<R: Abort + AllocGlobal>(
     rt: &R,
     seed: u64,
@@ -45,7 +47,8 @@ fn compare<R: Abort + AllocGlobal>(
     Ok(Some(telling))
 }
 
-/// How many of `most` attachments, and of twelve tells, have come by a first stage, by a second, and in all.
+/// How many of `most` attachments, and of twelve tells, have come by a first stage, by a second,
+/// and in all.
 pub fn draw_parts(random: &mut Random, most: u64) -> [(usize, usize); 3] {
     let first = random.below(most);
     let left = most.saturating_sub(first);
@@ -58,7 +61,8 @@ pub fn draw_parts(random: &mut Random, most: u64) -> [(usize, usize); 3] {
     ]
 }
 
-/// The stages: the first part in a first worldview; then, in a further one, another part, the rest, and nothing more.
+/// The stages: the first part in a first worldview; then, in a further one, another part, the rest,
+/// and nothing more.
 pub fn stages_of(
     first: PremiseSet,
     further: PremiseSet,
@@ -72,8 +76,8 @@ pub fn stages_of(
     ]
 }
 
-// Goes on from a first worldview to three others. Answers how many walks were compared, and how many values say something by
-// premises.
+// Goes on from a first worldview to three others. Answers how many walks were compared, and how
+// many values say something by premises.
 fn compare_all<R: Abort + AllocGlobal>(
     rt: &R,
     seed: u64,

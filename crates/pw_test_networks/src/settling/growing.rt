@@ -1,5 +1,6 @@
-//! Pseudo-random networks, settled in several worldviews one after another over one store. The values are those by rounds. Each
-//! is also the value by rounds under just the premises that it rests on.
+//! Pseudo-random networks, settled in several worldviews one after another over one store. The
+//! values are those by rounds. Each is also the value by rounds under just the premises that it
+//! rests on.
 
 use super::drawing::{Drawn, Random, WORLD, draw_attachments, draw_tells};
 use super::rounds::{by_rounds, took_too_long};
@@ -50,8 +51,9 @@ fn says_by_premises(value: &Fact) -> bool {
     !value.info.is_nothing() && !value.info.is_contradiction() && !value.support.is_empty()
 }
 
-/// Checks that an answer has the values by rounds, each on premises of the worldview, and that they are the values by rounds
-/// under these premises too. Answers how many of them are neither nothing nor a contradiction, and rest on premises.
+/// Checks that an answer has the values by rounds, each on premises of the worldview, and that they
+/// are the values by rounds under these premises too. Answers how many of them are neither nothing
+/// nor a contradiction, and rest on premises.
 pub fn is_by_rounds<R: Abort + AllocGlobal>(
     rt: &R,
     seed: u64,
@@ -81,8 +83,8 @@ pub fn is_by_rounds<R: Abort + AllocGlobal>(
     Ok(telling)
 }
 
-// Compares the values in several worldviews, unless that takes too many rounds. Answers how many of them say something by
-// premises.
+// Compares the values in several worldviews, unless that takes too many rounds. Answers how many of
+// them say something by premises.
 fn compare<R: Abort + AllocGlobal>(
     rt: &R,
     seed: u64,

@@ -1,5 +1,5 @@
-//! Settlings over an allocator that refuses each allocation growth in turn. The told facts stay as they were, and the same
-//! question gets its usual answer once there is memory.
+//! Settlings over an allocator that refuses each allocation growth in turn. The told facts stay as
+//! they were, and the same question gets its usual answer once there is memory.
 
 use super::rounds::by_rounds_at;
 use super::stages::{Stage, settled_in_stages_in};
@@ -23,8 +23,8 @@ fn answers_alike<R: Abort + AllocGlobal>(rt: &R, at: u64, one: &Shown, other: &S
     }
 }
 
-// Refuses the growth of this number. Checks that the worldviews get the answers of ample memory. Answers how many settlings were
-// refused, or nothing if fewer growths were asked for.
+// Refuses the growth of this number. Checks that the worldviews get the answers of ample memory.
+// Answers how many settlings were refused, or nothing if fewer growths were asked for.
 fn is_answered<R: Abort + AllocGlobal>(
     rt: &R,
     matter: Matter<'_>,
@@ -44,8 +44,8 @@ fn is_answered<R: Abort + AllocGlobal>(
     Ok(Some(shown.refused))
 }
 
-// Refuses each growth in turn. Checks that the worldviews get the answers of ample memory. Answers how many settlings were
-// refused.
+// Refuses each growth in turn. Checks that the worldviews get the answers of ample memory. Answers
+// how many settlings were refused.
 fn is_answered_anyhow<R: Abort + AllocGlobal>(
     rt: &R,
     matter: Matter<'_>,
@@ -113,8 +113,8 @@ fn has_values<R: Abort>(rt: &R, at: u64, shown: &Shown, wanted: &[Option<Vec<Inf
     }
 }
 
-// Refuses the growth of this number. Checks that the stages have the values by rounds. Answers how many settlings that go on were
-// refused, or nothing if fewer growths were asked for.
+// Refuses the growth of this number. Checks that the stages have the values by rounds. Answers how
+// many settlings that go on were refused, or nothing if fewer growths were asked for.
 fn goes_on<R: Abort + AllocGlobal>(
     rt: &R,
     matter: Matter<'_>,
@@ -134,8 +134,8 @@ fn goes_on<R: Abort + AllocGlobal>(
     Ok(Some(shown.refused))
 }
 
-// Refuses each growth in turn. Checks that the stages have the values by rounds. Answers how many settlings that go on were
-// refused.
+// Refuses each growth in turn. Checks that the stages have the values by rounds. Answers how many
+// settlings that go on were refused.
 fn goes_on_anyhow<R: Abort + AllocGlobal>(
     rt: &R,
     matter: Matter<'_>,
@@ -153,8 +153,8 @@ fn goes_on_anyhow<R: Abort + AllocGlobal>(
     Ok(met)
 }
 
-// The stages: a first worldview, the same with more attached and told, a larger one with still more, and one that does not
-// include it.
+// The stages: a first worldview, the same with more attached and told, a larger one with still
+// more, and one that does not include it.
 fn stages_of(a: PremiseSet, b: PremiseSet) -> [Stage; 4] {
     [
         Stage::new(1, 2, a),
@@ -192,7 +192,8 @@ fn where_going_on_is_refused_the_values_are_found_anew(rt: HostRuntime) -> Resul
         tells: &tells,
     };
     let met = goes_on_anyhow(&rt, matter, &stages_of(a, b))?;
-    // Each of the three that go on asks for four lists at least: what is visible, what is queued, what is known, and the supports.
+    // Each of the three that go on asks for four lists at least: what is visible, what is queued,
+    // what is known, and the supports.
     assert!(rt; met >= 12, "{met} settlings were refused");
     Ok(())
 }

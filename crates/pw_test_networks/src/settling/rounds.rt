@@ -1,6 +1,6 @@
-//! Values by rounds, as the definition has them. At first nothing is known. Each round adds to what is known of each cell what is
-//! told of it, and what each visible instance answers to what was known before the round. The rounds end when one changes
-//! nothing.
+//! Values by rounds, as the definition has them. At first nothing is known. Each round adds to what
+//! is known of each cell what is told of it, and what each visible instance answers to what was
+//! known before the round. The rounds end when one changes nothing.
 
 use super::stages::Stage;
 use super::{Matter, Tell};
@@ -163,7 +163,8 @@ impl OverDeclaration<Global> for ByRounds<'_> {
     }
 }
 
-/// The values of all cells by rounds, in each of these worldviews. None of a worldview that takes too many rounds.
+/// The values of all cells by rounds, in each of these worldviews. None of a worldview that takes
+/// too many rounds.
 pub fn by_rounds(
     alloc: Global,
     matter: Matter<'_>,
@@ -177,8 +178,8 @@ pub fn by_rounds(
     over_text(alloc, alloc, matter.text, task)?
 }
 
-/// The values of all cells by rounds at each of these stages, of all that has come by then. None of a stage that takes too many
-/// rounds.
+/// The values of all cells by rounds at each of these stages, of all that has come by then. None of
+/// a stage that takes too many rounds.
 pub fn by_rounds_at(
     alloc: Global,
     matter: Matter<'_>,

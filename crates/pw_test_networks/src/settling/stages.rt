@@ -1,15 +1,15 @@
-//! Settlings in stages. Each stage attaches and tells more, and then settles a worldview from the values that the stage before
-//! found.
+//! Settlings in stages. Each stage attaches and tells more, and then settles a worldview from the
+//! values that the stage before found.
 
 ghost use Rattle.std.specs.Prelude.{◌≡◌, ◌+◌, ◌≤◌, ◌++◌, length, map, IfOk, IfSome, OnOk};
-ghost use Rattle.pw_cells.specs.Cells.{most_cells, new_cell};
+ghost use Rattle.pw_cells.specs.Cells.{most_store_cells, new_cell};
 ghost use Rattle.pw_decl.specs.Declaration.{IsCallable};
 ghost use Rattle.pw_decl.specs.Expansion.{inner_kinds_of};
-ghost use Rattle.pw_decl.specs.Fields.{declared_by};
+ghost use Rattle.pw_decl.specs.inside.Fields.{declared};
 ghost use Rattle.pw_decl.specs.Limits.{most_inner_cells};
-ghost use Rattle.pw_network.specs.Fields.{network_by};
+ghost use Rattle.pw_network.specs.Wiring.{wiring};
 ghost use Rattle.pw_network.specs.Network.{cells_in};
-ghost use Rattle.pw_settle.specs.Fitting.{IsFitting};
+ghost use Rattle.pw_settle.specs.Growth.{IsFitting};
 ghost use Rattle.pw_test_networks.specs.Settling.{IsReady, LeavesFitting};
 
 use super::{Matter, Shown, all_told, answer_of, settle_anyhow, settle_once, store_of, tell_each};
@@ -19,12 +19,13 @@ use pw_decl::{Callable, Declaration};
 use pw_info::Kind;
 use pw_network::Network;
 use pw_premises::PremiseSet;
-use pw_testing::worlds::{OverDeclaration, over_text};
 use pw_settle::{Settled, resettle};
+use pw_testing::worlds::{OverDeclaration, over_text};
 use std::alloc::{AllocError, Allocator, Global};
 use std::test::Fail;
 
-/// How many of the attachments and of the tells of a matter have come at a stage, and the worldview to settle then.
+/// How many of the attachments and of the tells of a matter have come at a stage, and the worldview
+/// to settle then.
 #[derive(Clone, Copy)]
 pub struct Stage {
     pub attached: usize,
@@ -65,8 +66,8 @@ fn inner_kinds<'a, A: Allocator + Copy>(
     declaration: &'a Declaration<'_, A>,
     callable: Callable,
 ) -> &'a [Kind]
-    requires { IsCallable (declared_by declaration.now) callable }
-    ensures kinds { result.now ≡ inner_kinds_of (declared_by declaration.now).compounds callable }
+    requires { IsCallable (declared declaration.now) callable }
+    ensures kinds { result.now ≡ inner_kinds_of (declared declaration.now).compounds callable }
     ensures most { length result.now ≤ most_inner_cells }
 {
     match callable {
@@ -80,7 +81,7 @@ fn add_cells<A: Allocator + Copy>(
     store: &mut CellStore<A>,
     kinds: &[Kind],
 ) -> Result<(), AllocError>
-    requires { length store.old.cells + length kinds.now ≤ most_cells }
+    requires { length store.old.cells + length kinds.now ≤ most_store_cells }
     ensures { OnOk result (store.new.cells ≡ store.old.cells ++ map new_cell kinds.now) }
 {
     match store.add_cells(kinds) {
@@ -98,10 +99,10 @@ fn attach_one<A: Allocator + Copy>(
     store: &mut CellStore<A>,
     attachment: &Attachment<'_>,
 ) -> Result<(), Fail>
-    requires { IsReady (network_by network.old) store.old }
-    ensures ready { OnOk result (IsReady (network_by network.new) store.new) }
-    ensures fits { OnOk result (LeavesFitting (network_by network.old) store.old
-        (network_by network.new) store.new) }
+    requires { IsReady (wiring network.old) store.old }
+    ensures ready { OnOk result (IsReady (wiring network.new) store.new) }
+    ensures fits { OnOk result (LeavesFitting (wiring network.old) store.old
+        (wiring network.new) store.new) }
 {
     let (callable, cells) = named_in(network, attachment).ok_or("wrong names")?;
     let Ok(()) = network.attach(attachment.line, callable, cells, attachment.support) else {
@@ -118,10 +119,10 @@ fn attach_each<A: Allocator + Copy>(
     store: &mut CellStore<A>,
     attachments: &[Attachment<'_>],
 ) -> Result<(), Fail>
-    requires { IsReady (network_by network.old) store.old }
-    ensures ready { OnOk result (IsReady (network_by network.new) store.new) }
-    ensures fits { OnOk result (LeavesFitting (network_by network.old) store.old
-        (network_by network.new) store.new) }
+    requires { IsReady (wiring network.old) store.old }
+    ensures ready { OnOk result (IsReady (wiring network.new) store.new) }
+    ensures fits { OnOk result (LeavesFitting (wiring network.old) store.old
+        (wiring network.new) store.new) }
 {
     for attachment in attachments {
         attach_one(network, store, attachment)?;
@@ -137,19 +138,19 @@ fn resettle_once<A: Allocator + Copy>(
     store: &mut CellStore<A>,
     worldview: &PremiseSet,
 ) -> Result<Settled<A>, AllocError>
-    requires ready { IsReady (network_by network.now) store.old }
-    requires fits { IsFitting (network_by network.now) store.old last }
-    ensures ready { IsReady (network_by network.now) store.new }
+    requires ready { IsReady (wiring network.now) store.old }
+    requires fits { IsFitting (wiring network.now) store.old last }
+    ensures ready { IsReady (wiring network.now) store.new }
     ensures cells { IfOk result (λ settled.
-        length settled.infos ≡ cells_in (network_by network.now)) }
-    ensures fits { IfOk result (IsFitting (network_by network.now) store.new) }
+        length settled.infos ≡ cells_in (wiring network.now)) }
+    ensures fits { IfOk result (IsFitting (wiring network.now) store.new) }
 {
     let settled = resettle(memory, last, network, store, worldview)?;
     Ok(settled)
 }
 
-// Settles a worldview: from the last values if there are any, and without them if memory is refused. Answers whether going on
-// from them was refused, and the values in the end.
+// Settles a worldview: from the last values if there are any, and without them if memory is
+// refused. Answers whether going on from them was refused, and the values in the end.
 fn settle_next<A: Allocator + Copy>(
     memory: A,
     last: Option<Settled<A>>,
@@ -157,12 +158,12 @@ fn settle_next<A: Allocator + Copy>(
     store: &mut CellStore<A>,
     worldview: &PremiseSet,
 ) -> Result<(bool, Settled<A>), Fail>
-    requires ready { IsReady (network_by network.now) store.old }
-    requires fits { IfSome last (IsFitting (network_by network.now) store.old) }
-    ensures ready { OnOk result (IsReady (network_by network.now) store.new) }
+    requires ready { IsReady (wiring network.now) store.old }
+    requires fits { IfSome last (IsFitting (wiring network.now) store.old) }
+    ensures ready { OnOk result (IsReady (wiring network.now) store.new) }
     ensures cells { IfOk result (λ settled.
-        length settled.1.infos ≡ cells_in (network_by network.now)) }
-    ensures fits { IfOk result (λ settled. IsFitting (network_by network.now) store.new settled.1) }
+        length settled.1.infos ≡ cells_in (wiring network.now)) }
+    ensures fits { IfOk result (λ settled. IsFitting (wiring network.now) store.new settled.1) }
 {
     let Some(last) = last else {
         let (_, settled) = settle_anyhow(memory, network, store, worldview)?;
@@ -177,8 +178,8 @@ fn settle_next<A: Allocator + Copy>(
     }
 }
 
-// Settlings in stages over one network and one store. The growths of the declaration and the network are those of `ample`, and
-// those of the store and of the settlings are those of `memory`.
+// Settlings in stages over one network and one store. The growths of the declaration and the
+// network are those of `ample`, and those of the store and of the settlings are those of `memory`.
 #[derive(Drop)]
 struct Staged<'a, A: Allocator> {
     alloc: Global,
@@ -197,10 +198,10 @@ impl<A: Allocator + Copy> Staged<'_, A> {
         before: &Stage,
         stage: &Stage,
     ) -> Result<(), Fail>
-        requires { IsReady (network_by network.old) store.old }
-        ensures ready { OnOk result (IsReady (network_by network.new) store.new) }
-        ensures fits { OnOk result (LeavesFitting (network_by network.old) store.old
-            (network_by network.new) store.new) }
+        requires { IsReady (wiring network.old) store.old }
+        ensures ready { OnOk result (IsReady (wiring network.new) store.new) }
+        ensures fits { OnOk result (LeavesFitting (wiring network.old) store.old
+            (wiring network.new) store.new) }
     {
         let attachments = between(self.matter.attachments, before.attached, stage.attached);
         attach_each(network, store, attachments)?;
@@ -209,7 +210,8 @@ impl<A: Allocator + Copy> Staged<'_, A> {
         Ok(())
     }
 
-    // Settles the worldview of a stage, from the last values if there are any, and shows what it comes to.
+    // Settles the worldview of a stage, from the last values if there are any, and shows what it
+    // comes to.
     fn settle_stage(
         &self,
         last: Option<Settled<A>>,
@@ -218,10 +220,10 @@ impl<A: Allocator + Copy> Staged<'_, A> {
         worldview: &PremiseSet,
         shown: &mut Shown,
     ) -> Result<Settled<A>, Fail>
-        requires ready { IsReady (network_by network.now) store.old }
-        requires fits { IfSome last (IsFitting (network_by network.now) store.old) }
-        ensures ready { OnOk result (IsReady (network_by network.now) store.new) }
-        ensures fits { IfOk result (IsFitting (network_by network.now) store.new) }
+        requires ready { IsReady (wiring network.now) store.old }
+        requires fits { IfSome last (IsFitting (wiring network.now) store.old) }
+        ensures ready { OnOk result (IsReady (wiring network.now) store.new) }
+        ensures fits { IfOk result (IsFitting (wiring network.now) store.new) }
     {
         let seen = [*worldview, PremiseSet::empty(), PremiseSet::first(5)];
         let before = all_told(self.alloc, store, &seen)?;
@@ -235,13 +237,14 @@ impl<A: Allocator + Copy> Staged<'_, A> {
         Ok(settled)
     }
 
-    // Goes through the stages, over a network to which nothing is attached yet and a store of its cells.
+    // Goes through the stages, over a network to which nothing is attached yet and a store of its
+    // cells.
     fn settle_all(
         &self,
         network: &mut Network<'_, '_, A>,
         store: &mut CellStore<A>,
     ) -> Result<Shown, Fail>
-        requires { IsReady (network_by network.old) store.old }
+        requires { IsReady (wiring network.old) store.old }
     {
         let mut shown = Shown {
             answers: Vec::new(self.alloc),
@@ -279,9 +282,10 @@ impl<A: Allocator + Copy> OverDeclaration<A> for Staged<'_, A> {
     }
 }
 
-/// Settles the worldviews of these stages one after another, over a network and a store to which the matter comes in stages. Each
-/// settling after the first goes on from the values of the one before. The count of refused settlings is that of those that go
-/// on: they are then made without earlier values. The growths of the declaration and the network are those of `ample`, and the
+/// Settles the worldviews of these stages one after another, over a network and a store to which
+/// the matter comes in stages. Each settling after the first goes on from the values of the one
+/// before. The count of refused settlings is that of those that go on: they are then made without
+/// earlier values. The growths of the declaration and the network are those of `ample`, and the
 /// others those of `memory`.
 pub fn settled_in_stages_in<A: Allocator + Copy>(
     alloc: Global,

@@ -1,5 +1,5 @@
-//! Faults of the built-in compounds, and the texts of faults. (`.ci/declarations` tries the first faults of texts on the
-//! program.)
+//! Faults of the built-in compounds, and the texts of faults. (`.ci/declarations` tries the first
+//! faults of texts on the program.)
 
 use super::counted;
 use pw_decl::{DeclFault, DeclFaultKind};

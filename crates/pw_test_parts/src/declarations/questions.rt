@@ -1,13 +1,14 @@
 //! Questions to a declaration, each answered by one value.
 
-use pw_testing::texts::joined;
-use pw_testing::worlds::{OverDeclaration, over_text};
 use pw_decl::{Callable, Declaration, Step};
 use pw_info::{Kind, KindNames};
+use pw_testing::texts::joined;
+use pw_testing::worlds::{OverDeclaration, over_text};
 use std::alloc::Global;
 use std::test::Fail;
 
-/// What a test asks of a declaration. What has a number is looked up by its name, and then the name by the number.
+/// What a test asks of a declaration. What has a number is looked up by its name, and then the name
+/// by the number.
 #[derive(Clone, Copy)]
 pub enum Question<'a> {
     /// The number of the user of this name.

@@ -2,11 +2,11 @@
 
 use super::questions::{Answer, Question, asked};
 use super::{Counts, counted};
-use pw_testing::procedures::SOUND;
-use pw_testing::texts::joined;
 use pw_decl::{Callable, Step};
 use pw_info::{Kind, SetKind};
 use pw_procs::Arguments;
+use pw_testing::procedures::SOUND;
+use pw_testing::texts::joined;
 use std::process::Abort;
 use std::test::Fail;
 

@@ -1,9 +1,9 @@
 //! Each procedure by its stored closure, at the calls whose values were found by hand.
 
 use super::values::{Call, from_to, number_calls, other_calls, truth_calls};
-use pw_testing::procedures::{OverRegistry, SOUND, over_procedures};
 use pw_info::{Info, SetKind};
 use pw_procs::{Body, Meaning, Registry, Stored, add_of_table, bodies, members_of_mask};
+use pw_testing::procedures::{OverRegistry, SOUND, over_procedures};
 use std::process::Abort;
 use std::test::Fail;
 

@@ -1,4 +1,5 @@
-//! Calls of procedures whose values were found by hand. (The gate also tries each procedure of the program on all small inputs.)
+//! Calls of procedures whose values were found by hand. (The gate also tries each procedure of the
+//! program on all small inputs.)
 
 use pw_info::Info;
 use pw_kinds::{Exact, Interval, Members};
@@ -18,7 +19,8 @@ const TRUE: u64 = 2;
 
 const BOTH: u64 = 3;
 
-/// The numbers between these ends; the contradiction if there are none, or if an end is out of range.
+/// The numbers between these ends; the contradiction if there are none, or if an end is out of
+/// range.
 pub fn from_to(ends: (i64, i64)) -> Info {
     Info::of_interval(Interval::new(ends.0, ends.1).unwrap_or(Interval::empty()))
 }

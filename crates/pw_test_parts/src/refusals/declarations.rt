@@ -1,10 +1,11 @@
-//! A declaration over an allocator that refuses growths: the reader reads it whole, or reports that memory ran out.
+//! A declaration over an allocator that refuses growths: the reader reads it whole, or reports that
+//! memory ran out.
 
-use pw_testing::Refusing;
 use crate::declarations::{Counts, counted};
+use pw_decl::DeclFaultKind;
+use pw_testing::Refusing;
 use pw_testing::procedures::SOUND;
 use pw_testing::worlds::GENERAL;
-use pw_decl::DeclFaultKind;
 use std::alloc::Global;
 use std::process::Abort;
 use std::test::Fail;
@@ -18,8 +19,9 @@ const WHOLE: Counts = Counts {
     compounds: 1,
 };
 
-// Checks that the reader reads the declaration whole if no growth was refused, and else reports that memory ran out. Checks that
-// it gives back all memory that it took. Answers whether a growth was refused.
+// Checks that the reader reads the declaration whole if no growth was refused, and else reports
+// that memory ran out. Checks that it gives back all memory that it took. Answers whether a growth
+// was refused.
 fn is_read_or_refused<R: Abort + AllocGlobal>(
     rt: &R,
     refusing: &Refusing<Global>,

@@ -6,8 +6,8 @@ use pw_procs::{Body, Meaning, Registry, RegistryFault, Signature, Slot, Stored, 
 use std::alloc::Global;
 use std::test::Fail;
 
-// What a list of copying procedures under some names comes to: the fault, the number of procedures in the registry or in the list
-// handed back, and the numbers of the last name and of `sum`.
+// What a list of copying procedures under some names comes to: the fault, the number of procedures
+// in the registry or in the list handed back, and the numbers of the last name and of `sum`.
 #[derive(Clone, Copy, Debug, PartialEq, Eq)]
 struct Outcome {
     fault: Option<RegistryFault>,

@@ -1,19 +1,20 @@
-//! A registry of fifteen procedures, as in the program, over an allocator that refuses growths. The registry hands the list of
-//! procedures back whole, and the list makes a registry once there is memory.
+//! A registry of fifteen procedures, as in the program, over an allocator that refuses growths. The
+//! registry hands the list of procedures back whole, and the list makes a registry once there is
+//! memory.
 
 ghost use Rattle.std.specs.Prelude.{◌≡◌, ◌∷◌, [], map, IfOk};
 ghost use Rattle.pw_info.specs.Information.{kind_of};
 ghost use Rattle.pw_procs.specs.Rules.{AreRules, value_of_rules};
 
 use super::NAMES;
-use pw_testing::Refusing;
-use pw_testing::procedures::{from_to, table_of};
 use pw_info::{Info, Kind, SetKind};
 use pw_procs::bodies::{self, by_rules};
 use pw_procs::{
     Body, Meaning, Registry, RegistryFault, Rule, Stored, add_by_rules, add_of_table, add_rule,
     members_of_mask,
 };
+use pw_testing::Refusing;
+use pw_testing::procedures::{from_to, table_of};
 use std::alloc::{AllocError, Allocator, Global};
 use std::process::Abort;
 use std::test::Fail;
@@ -93,8 +94,8 @@ fn is_whole<R: Abort>(rt: &R, list: &[Stored], at: u64) {
     }
 }
 
-// Refuses each growth in turn, with all later ones and then alone. Checks that the list comes back whole each time, and that it
-// makes a registry in the end.
+// Refuses each growth in turn, with all later ones and then alone. Checks that the list comes back
+// whole each time, and that it makes a registry in the end.
 fn is_handed_back<R: Abort + AllocGlobal>(rt: &R, list: Vec<Stored>) -> Result<(), Fail> {
     let mut entries = list;
     for turn in 2..200u64 {

@@ -1,15 +1,15 @@
-//! A store of facts over an allocator that refuses each allocation growth in turn. A refusal changes nothing, and the same call
-//! gets its answer once there is memory.
+//! A store of facts over an allocator that refuses each allocation growth in turn. A refusal
+//! changes nothing, and the same call gets its answer once there is memory.
 ghost use Rattle.std.specs.Prelude.{◌≡◌, [], ◌∷◌, OnOk};
 ghost use Rattle.pw_info.specs.Information.{kind_of};
 ghost use Rattle.pw_cells.specs.Cells.{kinds_of};
 
-use pw_testing::Refusing;
-use pw_testing::facts::fact;
 use pw_cells::CellStore;
 use pw_facts::Fact;
 use pw_info::{Info, Kind};
 use pw_premises::PremiseSet;
+use pw_testing::Refusing;
+use pw_testing::facts::fact;
 use std::alloc::Allocator;
 use std::test::Fail;
 
@@ -22,8 +22,8 @@ fn shown<A: Allocator + Copy>(store: &mut CellStore<A>) -> (Info, Fact)
     (store.told(0, &both), store.kept(0, &both))
 }
 
-// Adds an interval cell and an exact one to a store without cells, a second time if memory is refused. Answers 1 if it was
-// refused, and else 0.
+// Adds an interval cell and an exact one to a store without cells, a second time if memory is
+// refused. Answers 1 if it was refused, and else 0.
 fn add<A: Allocator + Copy>(store: &mut CellStore<A>) -> Result<u32, Fail>
     requires { store.old.cells ≡ [] }
     ensures { OnOk result (kinds_of store.new ≡ Kind.Interval ∷ Kind.Exact ∷ []) }
@@ -44,7 +44,8 @@ fn add<A: Allocator + Copy>(store: &mut CellStore<A>) -> Result<u32, Fail>
     Ok(refused)
 }
 
-// Tells a fact of the interval cell, a second time if memory is refused. Answers how often it was refused.
+// Tells a fact of the interval cell, a second time if memory is refused. Answers how often it was
+// refused.
 fn tell<A: Allocator + Copy>(store: &mut CellStore<A>, fact: &Fact) -> Result<u32, Fail>
     requires cells { kinds_of store.old ≡ Kind.Interval ∷ Kind.Exact ∷ [] }
     requires kind { kind_of fact.now.info ≡ Kind.Interval }
@@ -61,7 +62,8 @@ fn tell<A: Allocator + Copy>(store: &mut CellStore<A>, fact: &Fact) -> Result<u3
     Ok(1)
 }
 
-// Keeps a fact of the interval cell, a second time if memory is refused. Answers how often it was refused.
+// Keeps a fact of the interval cell, a second time if memory is refused. Answers how often it was
+// refused.
 fn keep<A: Allocator + Copy>(store: &mut CellStore<A>, fact: &Fact) -> Result<u32, Fail>
     requires cells { kinds_of store.old ≡ Kind.Interval ∷ Kind.Exact ∷ [] }
     requires kind { kind_of fact.now.info ≡ Kind.Interval }
@@ -78,8 +80,8 @@ fn keep<A: Allocator + Copy>(store: &mut CellStore<A>, fact: &Fact) -> Result<u3
     Ok(1)
 }
 
-// Tells and keeps facts of the interval cell of a new store, each call a second time if memory is refused. Answers how often it
-// was refused, and what the store shows in the end.
+// Tells and keeps facts of the interval cell of a new store, each call a second time if memory is
+// refused. Answers how often it was refused, and what the store shows in the end.
 fn shown_at_last<A: Allocator + Copy>(memory: A) -> Result<(u32, Info, Fact), Fail> {
     let (zero, one) = (PremiseSet::one(0), PremiseSet::one(1));
     let mut store = CellStore::new(memory);

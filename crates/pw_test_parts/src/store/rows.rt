@@ -3,11 +3,11 @@ ghost use Rattle.std.specs.Prelude.{◌≡◌, ◌<◌, [], ◌∷◌};
 ghost use Rattle.pw_info.specs.Information.{kind_of};
 ghost use Rattle.pw_cells.specs.Cells.{kinds_of};
 
-use pw_testing::facts::fact;
 use pw_cells::CellStore;
 use pw_facts::Fact;
 use pw_info::{Info, Kind};
 use pw_premises::PremiseSet;
+use pw_testing::facts::fact;
 use std::alloc::AllocError;
 use std::test::Fail;
 
@@ -55,7 +55,8 @@ fn keep(store: &mut CellStore, fact: Fact) -> Result<bool, AllocError>
     store.keep(0, fact)
 }
 
-// Tells facts of the interval cell, one under each of the first premises alone: the number is at least that of the premise.
+// Tells facts of the interval cell, one under each of the first premises alone: the number is at
+// least that of the premise.
 fn tell_under_each(store: &mut CellStore, premises: u8) -> Result<(), AllocError>
     requires { kinds_of store.old ≡ Kind.Interval ∷ Kind.Exact ∷ [] }
     ensures { kinds_of store.new ≡ Kind.Interval ∷ Kind.Exact ∷ [] }

@@ -50,8 +50,8 @@ impl Answer {
     }
 }
 
-// Adds the line of the attachment that has this inner cell, if the attachment is visible and its line is not the last one in the
-// list.
+// Adds the line of the attachment that has this inner cell, if the attachment is visible and its
+// line is not the last one in the list.
 fn add_line(lines: &mut Vec<u32>, cell: &Cell, worldview: &PremiseSet) -> Result<(), AllocError> {
     if let Some((line, support)) = &cell.attached
         && support.is_subset(worldview)
@@ -76,8 +76,8 @@ impl Entries {
         Ok(Some(*values.get(cell).ok_or("no cell")?))
     }
 
-    // The value of a cell in the worldview, and its reason. From the last declared premise to the first, it takes out each one
-    // without which the value stays.
+    // The value of a cell in the worldview, and its reason. From the last declared premise to the
+    // first, it takes out each one without which the value stays.
     fn because(
         &self,
         registry: &Registry,
@@ -123,7 +123,8 @@ impl Entries {
         Ok(Some(Answer::Listed(cells, lines)))
     }
 
-    /// The answer to a command, from what the lines so far left. None if that takes too many rounds.
+    /// The answer to a command, from what the lines so far left. None if that takes too many
+    /// rounds.
     pub fn answer(&self, registry: &Registry, command: &Command) -> Result<Option<Answer>, Fail> {
         let beliefs = self.beliefs(command.user);
         match command.action {

@@ -9,7 +9,8 @@ pub struct Random {
 }
 
 impl Random {
-    /// A generator for this place under a seed. Its state is mixed, so that neighbours do not begin alike.
+    /// A generator for this place under a seed. Its state is mixed, so that neighbours do not begin
+    /// alike.
     pub fn at(seed: u64, place: u64) -> Random {
         let sum = seed.wrapping_mul(0x9E37_79B9_7F4A_7C15).wrapping_add(place);
         let once = (sum ^ (sum >> 30)).wrapping_mul(0xBF58_476D_1CE4_E5B9);

@@ -1,5 +1,5 @@
-//! Cuts a sequence short in which a reply differs. It leaves out commands one by one, the last first, as long as some reply
-//! differs.
+//! Cuts a sequence short in which a reply differs. It leaves out commands one by one, the last
+//! first, as long as some reply differs.
 
 use super::drawing::COMMANDS;
 use super::lines::line_of;
@@ -23,7 +23,8 @@ fn given_until(alloc: Global, line: u32) -> Result<Vec<bool>, AllocError> {
     Ok(is_given)
 }
 
-/// The sequence up to the reply that differs. It leaves out each command without which some reply still differs.
+/// The sequence up to the reply that differs. It leaves out each command without which some reply
+/// still differs.
 pub fn cut_short(alloc: Global, play: &Play<'_>, found: Difference) -> Result<Cut, Fail> {
     let mut is_given = given_until(alloc, found.line)?;
     let mut difference = found;

@@ -2,8 +2,8 @@
 
 use pw_info::{Kind, SetKind};
 
-/// Three users, premises of which the last is Bob's own, cells of four kinds, and compounds with inner cells, one of which calls
-/// the other twice.
+/// Three users, premises of which the last is Bob's own, cells of four kinds, and compounds with
+/// inner cells, one of which calls the other twice.
 pub const WORLD: &str = "workbench 1
 user ann
 user bob
@@ -123,7 +123,8 @@ pub enum Callable {
     Guarded,
 }
 
-/// A step of a compound: a local cell, or a call over the parameters, from 0, and then the locals so far.
+/// A step of a compound: a local cell, or a call over the parameters, from 0, and then the locals
+/// so far.
 #[derive(Clone, Copy)]
 pub enum Step {
     Local(Sort),

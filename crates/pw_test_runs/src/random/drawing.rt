@@ -269,7 +269,8 @@ fn draw_bounds(random: &mut Random, cell: usize) -> Command {
     }
 }
 
-/// The command at this place of the sequence of a seed: bounds first, then mostly changes, and then mostly questions.
+/// The command at this place of the sequence of a seed: bounds first, then mostly changes, and then
+/// mostly questions.
 pub fn draw_command(seed: u64, place: usize) -> Command {
     let mut random = Random::at(seed, place as u64);
     match place {

@@ -1,5 +1,5 @@
-//! What accepted lines leave behind, as the definitions have it: what is told, what attachments expand to, and what users
-//! believe.
+//! What accepted lines leave behind, as the definitions have it: what is told, what attachments
+//! expand to, and what users believe.
 
 use super::declared::{CELLS, Callable, PREMISE_COUNT, Sort, Step};
 use super::drawing::{Action, Command};
@@ -121,8 +121,9 @@ impl Entries {
         Ok(())
     }
 
-    // Adds what a callable over these cells expands to, depth first. A procedure expands to itself. A compound expands to what
-    // its steps expand to, one after another, over its parameters and a new inner cell for each local.
+    // Adds what a callable over these cells expands to, depth first. A procedure expands to itself.
+    // A compound expands to what its steps expand to, one after another, over its parameters and a
+    // new inner cell for each local.
     fn expand(
         &mut self,
         registry: &Registry,

@@ -1,10 +1,10 @@
 //! A sequence of commands over one workbench, each reply compared with the answer by rounds.
 
 ghost use Rattle.std.specs.Prelude.{◌+◌, ◌≤◌};
-ghost use Rattle.pw_decl.specs.Fields.{declared_by};
-ghost use Rattle.pw_sessions.specs.Fields.{workbench_by};
+ghost use Rattle.pw_decl.specs.inside.Fields.{declared};
+ghost use Rattle.pw_sessions.specs.inside.Fields.{state};
 ghost use Rattle.pw_transcript.specs.Limits.{most_lines};
-ghost use Rattle.pw_transcript.specs.Steps.Answering.{IsLeft};
+ghost use Rattle.pw_transcript.specs.inside.Answering.{IsLeft};
 
 use super::answers::Answer;
 use super::declared::WORLD;
@@ -15,15 +15,15 @@ use super::refusing::{Refused, Watch, refusing_again};
 use pw_decl::Declaration;
 use pw_network::Network;
 use pw_procs::Registry;
+use pw_sessions::{Reply, Workbench};
 use pw_testing::Refusing;
 use pw_testing::worlds::{OverDeclaration, over_text};
-use pw_sessions::{Reply, Workbench};
 use pw_transcript::read_command;
 use std::alloc::{Allocator, Global};
 use std::test::Fail;
 
-/// The sequence of a seed: which of its commands are given, each at the line of its place, and which growths are refused
-/// meanwhile. The line of a command that is left out is blank.
+/// The sequence of a seed: which of its commands are given, each at the line of its place, and
+/// which growths are refused meanwhile. The line of a command that is left out is blank.
 #[derive(Clone, Copy)]
 pub struct Play<'a> {
     pub seed: u64,
@@ -144,9 +144,9 @@ fn reply_to<A: Allocator + Copy>(
     line: &[u8],
     workbench: &mut Workbench<'_, '_, A>,
 ) -> Option<Reply<A>>
-    requires left { IsLeft (declared_by declaration.now) number (workbench_by workbench.old) }
+    requires left { IsLeft (declared declaration.now) number (state workbench.old) }
     requires most { number ≤ most_lines }
-    ensures { IsLeft (declared_by declaration.now) (number + 1) (workbench_by workbench.new) }
+    ensures { IsLeft (declared declaration.now) (number + 1) (state workbench.new) }
 {
     // Cells have kinds whose members are named.
     declaration.limits();
@@ -172,8 +172,8 @@ struct State {
 }
 
 impl State {
-    // The line of this number, with its answer by rounds. It says the command, or is blank if there is none. Nothing if the
-    // answer takes too many rounds.
+    // The line of this number, with its answer by rounds. It says the command, or is blank if there
+    // is none. Nothing if the answer takes too many rounds.
     fn ask(
         &self,
         registry: &Registry,
@@ -199,8 +199,8 @@ impl State {
         }))
     }
 
-    // Takes in the given answer, if it is the one by rounds, or if the command was refused and `is_met`: a growth was refused.
-    // Else answers the difference.
+    // Takes in the given answer, if it is the one by rounds, or if the command was refused and
+    // `is_met`: a growth was refused. Else answers the difference.
     fn take_in(
         &mut self,
         registry: &Registry,

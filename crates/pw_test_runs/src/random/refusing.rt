@@ -4,8 +4,8 @@ use super::chance::Random;
 use pw_testing::Refusing;
 use std::alloc::Global;
 
-/// Which growths of a run are refused, by their numbers from 1; at 0 none. The second number counts only growths that the first
-/// one lets pass.
+/// Which growths of a run are refused, by their numbers from 1; at 0 none. The second number counts
+/// only growths that the first one lets pass.
 #[derive(Clone, Copy, Debug)]
 pub struct Refused {
     pub once: u64,
@@ -35,8 +35,8 @@ impl Refused {
     }
 }
 
-/// The allocators of a run. The outer one refuses one growth and passes the others on. The inner one refuses another of these, or
-/// all from one on.
+/// The allocators of a run. The outer one refuses one growth and passes the others on. The inner
+/// one refuses another of these, or all from one on.
 #[derive(Clone, Copy)]
 pub struct Watch<'o, 'i> {
     pub outer: &'o Refusing<&'i Refusing<Global>>,

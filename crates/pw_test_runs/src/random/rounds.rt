@@ -1,5 +1,6 @@
-//! Values by rounds. At first nothing is known. Each round adds to what is known of each cell what is told of it, and what each
-//! visible instance answers to what was known before the round. The rounds end when one changes nothing.
+//! Values by rounds. At first nothing is known. Each round adds to what is known of each cell what
+//! is told of it, and what each visible instance answers to what was known before the round. The
+//! rounds end when one changes nothing.
 
 use super::entries::{Entries, Instance, Told};
 use pw_info::{Info, Kind};
@@ -99,7 +100,8 @@ impl Entries {
         Ok(known)
     }
 
-    /// What is known of each cell in the worldview when a round changes nothing. None if that takes too many rounds.
+    /// What is known of each cell in the worldview when a round changes nothing. None if that takes
+    /// too many rounds.
     pub fn values(
         &self,
         registry: &Registry,

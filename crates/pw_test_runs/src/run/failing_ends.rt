@@ -1,4 +1,5 @@
-//! Ends that fail, once or for good. The first failure ends the run. What was passed before it stays.
+//! Ends that fail, once or for good. The first failure ends the run. What was passed before it
+//! stays.
 
 use super::worked::SWITCHING;
 use crate::ends::{Drip, Failing, Sink};
@@ -25,8 +26,8 @@ fn a_failing_input_leaves_the_replies_to_ended_lines(rt: HostRuntime) -> Result<
     Ok(())
 }
 
-// What a run over the transcript comes to if the output fails once, at this byte: whether the run answers all, whether the output
-// failed, and what it took.
+// What a run over the transcript comes to if the output fails once, at this byte: whether the run
+// answers all, whether the output failed, and what it took.
 fn taken_until(
     alloc: Global,
     transcript: &str,
@@ -123,8 +124,8 @@ fn answers_all<R: Abort + AllocGlobal>(rt: &R, run: &Dripped) -> Result<(), Fail
     Ok(())
 }
 
-// Checks that a run whose input fails at this byte takes no more of it, and writes the replies to just the lines that ended
-// before.
+// Checks that a run whose input fails at this byte takes no more of it, and writes the replies to
+// just the lines that ended before.
 fn answers_ended_lines<R: Abort + AllocGlobal>(
     rt: &R,
     transcript: &str,
@@ -144,7 +145,8 @@ fn answers_ended_lines<R: Abort + AllocGlobal>(
     Ok(())
 }
 
-// Checks this at each take. Then checks a run without a failure: one take more than there are bytes gives the end.
+// Checks this at each take. Then checks a run without a failure: one take more than there are bytes
+// gives the end.
 fn input_fails_at_each_take<R: Abort + AllocGlobal>(
     rt: &R,
     transcript: &str,
@@ -159,8 +161,8 @@ fn input_fails_at_each_take<R: Abort + AllocGlobal>(
     answers_all(rt, &run)
 }
 
-// Checks that a run whose output fails at this byte writes the replies up to it. The run has taken the line whose reply failed,
-// up to its line feed or to the end of the input, and no more.
+// Checks that a run whose output fails at this byte writes the replies up to it. The run has taken
+// the line whose reply failed, up to its line feed or to the end of the input, and no more.
 fn writes_a_front<R: Abort>(
     rt: &R,
     transcript: &[u8],

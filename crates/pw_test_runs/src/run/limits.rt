@@ -28,7 +28,8 @@ fn a_line_may_have_1024_bytes(rt: HostRuntime) -> Result<(), Fail> {
     Ok(())
 }
 
-// What a run comes to over one byte repeated and then a rest, what it wrote, and how many of the repeated bytes were left.
+// What a run comes to over one byte repeated and then a rest, what it wrote, and how many of the
+// repeated bytes were left.
 fn outcome_over(
     alloc: Global,
     repeated: Repeated<'_>,

@@ -1,4 +1,5 @@
-//! When a run passes replies on: before it waits for the next line, even if it takes few bytes at once.
+//! When a run passes replies on: before it waits for the next line, even if it takes few bytes at
+//! once.
 
 use crate::ends::{Asking, Counting, Drip};
 use crate::sessions::{answered, answers, run_amply, said};

@@ -20,7 +20,8 @@ struct Outcome {
     written: String,
 }
 
-// What a run over the session comes to with this allocator. It gives back all memory that it took, that of the declaration too.
+// What a run over the session comes to with this allocator. It gives back all memory that it took,
+// that of the declaration too.
 fn run_with<R: Abort + AllocGlobal>(
     rt: &R,
     session: Session<'_>,
@@ -56,8 +57,8 @@ fn wrote<R: Abort>(rt: &R, outcome: &Outcome, lines: usize, replies: &str, at: u
     assert_eq!(rt; counts_of(outcome.answer), Ok(counts), "at {at}");
 }
 
-// The number of growths that a run over the first `lines` lines of the session asks for. Checks that it answers them as the rows
-// say.
+// The number of growths that a run over the first `lines` lines of the session asks for. Checks
+// that it answers them as the rows say.
 fn growths_of<R: Abort + AllocGlobal>(
     rt: &R,
     session: Session<'_>,

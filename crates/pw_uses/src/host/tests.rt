@@ -5,12 +5,13 @@ use pw_decl::Declaration;
 use pw_info::Info;
 use pw_kinds::Interval;
 use pw_premises::PremiseSet;
-use pw_testing::worlds::{OverDeclaration, over_text};
 use pw_sessions::Reply;
+use pw_testing::worlds::{OverDeclaration, over_text};
 use std::alloc::Global;
 use std::test::Fail;
 
-// Two users who copy one cell to another; what is known of the first rests on a premise that one of them doubts.
+// Two users who copy one cell to another; what is known of the first rests on a premise that one of
+// them doubts.
 #[derive(Drop)]
 struct Copying {
     alloc: Global,

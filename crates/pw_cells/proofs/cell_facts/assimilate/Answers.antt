@@ -4,9 +4,9 @@ use Rattle.pw_kinds.proofs.Order.{not_both}
 use Rattle.pw_info.specs.declared.kind.Kind.{Kind}
 use Rattle.pw_info.specs.Information.{kind_of}
 use Rattle.pw_facts.specs.declared.fact.Fact.{Fact}
-use Rattle.pw_cells.specs.Assimilated.{does_subsume, unsubsumed}
-use Rattle.pw_cells.specs.Bound.{Bounds}
-use Rattle.pw_cells.specs.OneCell.{AreOfKind}
+use Rattle.pw_cells.specs.Cells.{does_subsume, unsubsumed}
+use Rattle.pw_cells.specs.inside.OneCell.{Bounds}
+use Rattle.pw_cells.specs.inside.OneCell.{AreOfKind}
 use Rattle.pw_cells.proofs.Bounds.{bounds_dropped, bounds_push}
 use Rattle.pw_cells.proofs.Late.{any_subsumes, none_subsume, rest_unsubsumed, assimilated_known, assimilated_news}
 use Rattle.pw_cells.proofs.Together.{kinds-push, kinds-rest}

@@ -4,10 +4,10 @@ use Rattle.std.proofs.lemmas.List.{take_more}
 use Rattle.pw_info.specs.Information.{kind_of}
 use Rattle.pw_facts.specs.declared.fact.Fact.{Fact}
 use Rattle.pw_info.specs.declared.kind.Kind.{Kind}
-use Rattle.pw_cells.specs.Bound.{Bounds}
+use Rattle.pw_cells.specs.inside.OneCell.{Bounds}
 use Rattle.pw_cells.specs.Cells.{IsSubsumedBy}
-use Rattle.pw_cells.specs.Assimilated.{assimilated, all_assimilated}
-use Rattle.pw_cells.specs.OneCell.{AreApart, AreOfKind}
+use Rattle.pw_cells.specs.Cells.{assimilated, all_assimilated}
+use Rattle.pw_cells.specs.inside.OneCell.{AreApart, AreOfKind}
 use Rattle.pw_cells.proofs.Late.{assimilation, late_push}
 use Rattle.pw_cells.proofs.cell_facts.assimilate_late.Goals as goal
 

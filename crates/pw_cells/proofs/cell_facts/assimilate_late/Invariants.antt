@@ -1,7 +1,7 @@
 use Rattle.std.proofs.Common.{◌≡◌, ◌+◌, ◌≤◌, length, take, vec_len, vec_capacity}
-use Rattle.pw_cells.specs.Assimilated.{all_assimilated}
-use Rattle.pw_cells.specs.Bound.{Bounds}
-use Rattle.pw_cells.specs.OneCell.{AreApart, AreOfKind}
+use Rattle.pw_cells.specs.Cells.{all_assimilated}
+use Rattle.pw_cells.specs.inside.OneCell.{Bounds}
+use Rattle.pw_cells.specs.inside.OneCell.{AreApart, AreOfKind}
 use Rattle.pw_cells.proofs.cell_facts.assimilate_late.Given as goal
 
 abbrev pub invariant-loop-fact : goal.invariant-loop-fact

@@ -2,8 +2,8 @@ use Rattle.std.proofs.Common.{◌≡◌, ℕ, ◌<◌, List, true, false, length
 use Rattle.pw_kinds.proofs.Order.{not_both}
 use Rattle.pw_info.specs.Information.{kind_of}
 use Rattle.pw_facts.specs.declared.fact.Fact.{Fact}
-use Rattle.pw_cells.specs.Assimilated.{does_subsume}
-use Rattle.pw_cells.specs.OneCell.{AreOfKind}
+use Rattle.pw_cells.specs.Cells.{does_subsume}
+use Rattle.pw_cells.specs.inside.OneCell.{AreOfKind}
 use Rattle.pw_cells.proofs.Late.{unsubsumed_test, subsume_test}
 use Rattle.pw_cells.proofs.Rests.{AreSifted, next_of_all, one_dropped, one_stays}
 use Rattle.pw_cells.proofs.cell_facts.drop_subsumed.Goals as goal

@@ -4,7 +4,7 @@ use Rattle.std.proofs.lemmas.Bool.{eq-eqb, ne_eqb}
 use Rattle.std.proofs.lemmas.List.{get_or_default}
 use Rattle.pw_info.specs.Information.{kind_of}
 use Rattle.pw_cells.specs.declared.recalled.Recalled.{Recalled}
-use Rattle.pw_cells.specs.Recalled.{after_tell}
+use Rattle.pw_cells.specs.inside.OneCell.{after_tell}
 use Rattle.pw_cells.proofs.Rests.{same_ahead}
 use Rattle.pw_cells.proofs.RightAnswers.{made_next, left_next, taken_in, left_unseen, left_elsewhere}
 use Rattle.pw_cells.proofs.recalled.take_into_each.Goals as goal

@@ -1,5 +1,5 @@
 use Rattle.std.proofs.Common.{◌≡◌, length, take, drop, map}
-use Rattle.pw_cells.specs.Recalled.{after_tell}
+use Rattle.pw_cells.specs.inside.OneCell.{after_tell}
 use Rattle.pw_cells.proofs.recalled.take_into_each.Given as goal
 
 abbrev pub invariant-loop-place : goal.invariant-loop-place

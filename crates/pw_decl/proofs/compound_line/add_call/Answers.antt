@@ -1,5 +1,5 @@
 use Rattle.std.proofs.Common.{refl}
-use Rattle.pw_decl.specs.Kept.{size_of}
+use Rattle.pw_decl.specs.inside.Held.{size_of}
 use Rattle.pw_decl.proofs.CompoundLemmas.{grown_call}
 use Rattle.pw_decl.proofs.compound_line.add_call.Goals as goal
 

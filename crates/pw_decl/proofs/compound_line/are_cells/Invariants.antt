@@ -1,6 +1,6 @@
 use Rattle.std.proofs.Common.{◌≡◌, length, is_some}
 use Rattle.std.specs.List.{list_all}
-use Rattle.pw_procs.specs.Place.{place_of_name}
+use Rattle.pw_procs.specs.Registering.{place_of_name}
 use Rattle.pw_decl.proofs.compound_line.are_cells.Given as goal
 
 -- all name cells where the remaining ones do

@@ -4,7 +4,7 @@ use Rattle.std.specs.Str.{bytes_eq}
 use Rattle.std.proofs.lemmas.Bool.{false≢true}
 use Rattle.pw_info.specs.Words.{is_nil}
 use Rattle.pw_decl.specs.Declaration.{parameter_kinds, parameter_names}
-use Rattle.pw_decl.specs.Fields.{declared_by}
+use Rattle.pw_decl.specs.inside.Fields.{declared}
 use Rattle.pw_decl.proofs.CompoundLemmas.{faultless_begin, begin_unknown, begin_limit, begun_open}
 use Rattle.pw_decl.proofs.ParameterLemmas.{HaveKinds, none_where}
 use Rattle.pw_decl.proofs.compound_line.begin_compound.Goals.{then-is_full-via-then-is_full, then-is_full-via-else-is_full+then-count_parameters-gt-MOST_PARAMETERS}
@@ -12,7 +12,7 @@ use Rattle.pw_decl.proofs.compound_line.begin_compound.Goals as goal
 
 pub returns-then-not-have_kinds-clause-err : goal.returns-then-not-have_kinds-clause-err
 returns-then-not-have_kinds-clause-err g c =
-    let d = declared_by c.args.declaration.now in
+    let d = declared c.args.declaration.now in
     let fresh = none_where c.callable.result _ (sym c.if-is_some.ensures) (rw c.as_bytes.ensures.value at c.callable.ensures.named) in
     let differ : IsDistinct bytes_eq (parameter_names c.args.parameters) = (rw c.again.ensures at c.if-not-parameters_differ.ensures).0 refl in
     let known = rw c.again-2.ensures at c.if-not-have_kinds.ensures in
@@ -20,7 +20,7 @@ returns-then-not-have_kinds-clause-err g c =
 
 pub returns-then-is_full-clause-err : goal.returns-then-is_full-clause-err
 returns-then-is_full-clause-err g c =
-    let d = declared_by c.args.declaration.now in
+    let d = declared c.args.declaration.now in
     let fresh = none_where c.callable.result _ (sym c.if-is_some.ensures) (rw c.as_bytes.ensures.value at c.callable.ensures.named) in
     let differ : IsDistinct bytes_eq (parameter_names c.args.parameters) = (rw c.again.ensures at c.if-not-parameters_differ.ensures).0 refl in
     let known : HaveKinds d (parameter_kinds c.args.parameters) = (rw c.again-2.ensures at c.if-not-have_kinds.ensures).0 refl in
@@ -34,7 +34,7 @@ returns-then-is_full-clause-err g c =
 
 pub returns-in-Ok-clause-kept : goal.returns-in-Ok-clause-kept
 returns-in-Ok-clause-kept g c =
-    let d = declared_by c.args.declaration.now in
+    let d = declared c.args.declaration.now in
     let fresh = none_where c.callable.result _ (sym c.if-is_some.ensures) (rw c.as_bytes.ensures.value at c.callable.ensures.named) in
     begun_open d c.args.name.now c.args.parameters c.in-Ok.opened c.in-Ok.ensures.begun fresh
     (λ full. false≢true (c.if-is_full.ensures.1 full))
@@ -42,7 +42,7 @@ returns-in-Ok-clause-kept g c =
 
 pub returns-in-Ok-clause-none : goal.returns-in-Ok-clause-none
 returns-in-Ok-clause-none g c =
-    let d = declared_by c.args.declaration.now in
+    let d = declared c.args.declaration.now in
     let fresh = none_where c.callable.result _ (sym c.if-is_some.ensures) (rw c.as_bytes.ensures.value at c.callable.ensures.named) in
     let differ : IsDistinct bytes_eq (parameter_names c.args.parameters) = (rw c.again.ensures at c.if-not-parameters_differ.ensures).0 refl in
     let known : HaveKinds d (parameter_kinds c.args.parameters) = (rw c.again-2.ensures at c.if-not-have_kinds.ensures).0 refl in

@@ -1,5 +1,5 @@
 use Rattle.pw_decl.specs.Declaration.{parameter_kinds, parameter_names}
-use Rattle.pw_decl.specs.Fields.{declared_by}
+use Rattle.pw_decl.specs.inside.Fields.{declared}
 use Rattle.pw_decl.proofs.MemberLemmas.{is_new}
 use Rattle.pw_decl.proofs.ParameterLemmas.{have_kinds-cons, have_kinds-not, both_more, chosen_more, names_more, parameters_rest}
 use Rattle.pw_decl.proofs.compound_line.begun_with.Goals as goal
@@ -7,7 +7,7 @@ use Rattle.pw_decl.proofs.compound_line.begun_with.Goals as goal
 pub unreachable-requires-in_default-kind : goal.unreachable-requires-in_default-kind
 unreachable-requires-in_default-kind g c =
     let left = rw (c.in-Some.ensures, c.in-Some-Some.ensures') at c.loop-word.invariant.known in
-    have_kinds-not (declared_by c.args.declaration.now) c.in-Some-Some.kind.now (parameter_kinds c.next-in-Some.new.self) c.in_default-kind.ensures.none left
+    have_kinds-not (declared c.args.declaration.now) c.in-Some-Some.kind.now (parameter_kinds c.next-in-Some.new.self) c.in_default-kind.ensures.none left
 
 pub add-requires : goal.add-requires
 add-requires g c =
@@ -17,7 +17,7 @@ add-requires g c =
 
 pub loop-word-preserved : goal.loop-word-preserved
 loop-word-preserved g c =
-    let d = declared_by c.args.declaration.now in
+    let d = declared c.args.declaration.now in
     let kind = c.in-Some-Some.kind.now in
     let rest = c.next-in-Some.new.self in
     let named = rw (c.in-Some.ensures, c.in-Some-Some.ensures') at c.loop-word.invariant.named in

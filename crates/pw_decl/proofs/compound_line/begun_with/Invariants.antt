@@ -3,9 +3,9 @@ use Rattle.std.specs.String.{string_bytes}
 use Rattle.pw_info.specs.declared.kind.Kind.{Kind}
 use Rattle.pw_decl.specs.Compound.{no_size}
 use Rattle.pw_decl.specs.Declaration.{NameKinds, parameter_kinds, parameter_names}
-use Rattle.pw_decl.specs.Fields.{declared_by}
-use Rattle.pw_decl.specs.Kept.{size_of}
-use Rattle.pw_decl.specs.Steps.Forms.{are_parameters}
+use Rattle.pw_decl.specs.inside.Fields.{declared}
+use Rattle.pw_decl.specs.inside.Held.{size_of}
+use Rattle.pw_decl.specs.inside.Forms.{are_parameters}
 use Rattle.pw_decl.proofs.compound_line.begun_with.Given as goal
 
 -- those that were added and the remaining ones are all, in order
@@ -13,9 +13,9 @@ abbrev pub invariant-loop-word : goal.invariant-loop-word
 invariant-loop-word g l = record {
   named : are_parameters l.parameters ≡ true;
   names : parameter_names l.fn.parameters ≡ l.opened.names ++ parameter_names l.parameters;
-  known : (kinds : List Kind) × NameKinds (declared_by l.declaration) (parameter_kinds l.parameters) kinds;
-  chosen : (rest : List Kind) → NameKinds (declared_by l.declaration) (parameter_kinds l.parameters) rest
-      → NameKinds (declared_by l.declaration) (parameter_kinds l.fn.parameters) (l.opened.compound.parameters.items ++ rest);
+  known : (kinds : List Kind) × NameKinds (declared l.declaration) (parameter_kinds l.parameters) kinds;
+  chosen : (rest : List Kind) → NameKinds (declared l.declaration) (parameter_kinds l.parameters) rest
+      → NameKinds (declared l.declaration) (parameter_kinds l.fn.parameters) (l.opened.compound.parameters.items ++ rest);
   kinds : l.opened.kinds.items ≡ l.opened.compound.parameters.items;
   name : string_bytes l.opened.name ≡ l.name;
   steps : l.opened.compound.steps.items ≡ [];

@@ -1,26 +1,26 @@
 use Rattle.std.proofs.Common.{◌≡◌, true, length, inl, refl, sym, ap, ◌∙◌}
 use Rattle.std.specs.List.{list_all}
 use Rattle.std.proofs.lemmas.Bool.{false≢true}
-use Rattle.pw_procs.specs.Arguments.{cells_of}
+use Rattle.pw_procs.specs.Registry.{cells_of}
 use Rattle.pw_decl.specs.Compound.{cell_kinds, size_of_callable, size_of_steps, sizes_of}
 use Rattle.pw_decl.specs.Declaration.{places_of}
 use Rattle.pw_decl.specs.Faults.{is_cell_of}
-use Rattle.pw_decl.specs.Fields.{declared_by}
-use Rattle.pw_decl.specs.Kept.{size_of}
-use Rattle.pw_decl.specs.Steps.Opened.{open_of}
+use Rattle.pw_decl.specs.inside.Fields.{declared}
+use Rattle.pw_decl.specs.inside.Held.{size_of}
+use Rattle.pw_decl.specs.inside.Opened.{open_of}
 use Rattle.pw_decl.proofs.CompoundLemmas.{few_names, places_there, accepts_same, large_same, too_many, faultless_call, call_unknown, call_wrong, call_limit, grown_open_call}
 use Rattle.pw_decl.proofs.compound_line.declare_call.Goals as goal
 
 pub returns-then-not-are_cells-clause-err : goal.returns-then-not-are_cells-clause-err
 returns-then-not-are_cells-clause-err g c =
-    call_unknown (declared_by c.args.declaration.now) (open_of c.args.opened.now) c.args.callable.now c.args.arguments (sym (rw c.again.ensures at c.if-not-are_cells.ensures))
+    call_unknown (declared c.args.declaration.now) (open_of c.args.opened.now) c.args.callable.now c.args.arguments (sym (rw c.again.ensures at c.if-not-are_cells.ensures))
 
 pub place_arguments-requires-clause-few : goal.place_arguments-requires-clause-few
-place_arguments-requires-clause-few g c = few_names (declared_by c.args.declaration.now) (open_of c.args.opened.now) c.requires.kept.well
+place_arguments-requires-clause-few g c = few_names (declared c.args.declaration.now) (open_of c.args.opened.now) c.requires.kept.well
 
 pub returns-in_default-place_arguments-clause-err : goal.returns-in_default-place_arguments-clause-err
 returns-in_default-place_arguments-clause-err g c =
-    let d = declared_by c.args.declaration.now in
+    let d = declared c.args.declaration.now in
     let opened = open_of c.args.opened.now in
     let all : list_all (is_cell_of opened) c.args.arguments ≡ true = sym (rw c.again.ensures at c.if-not-are_cells.ensures) in
     call_wrong d opened c.args.callable.now c.args.arguments c.in-Some.callable (sym c.in-Some.ensures.named) all
@@ -33,7 +33,7 @@ accepts_at-requires-clause-places g c =
 
 pub returns-then-not-accepts_at-clause-err : goal.returns-then-not-accepts_at-clause-err
 returns-then-not-accepts_at-clause-err g c =
-    let d = declared_by c.args.declaration.now in
+    let d = declared c.args.declaration.now in
     let opened = open_of c.args.opened.now in
     let all : list_all (is_cell_of opened) c.args.arguments ≡ true = sym (rw c.again.ensures at c.if-not-are_cells.ensures) in
     let same = accepts_same d.procedures d.compounds c.in-Some.callable c.deref.result.now (cell_kinds opened.compound) (cells_of c.in-Some-place_arguments.arguments) (places_of opened c.args.arguments)
@@ -43,7 +43,7 @@ returns-then-not-accepts_at-clause-err g c =
 
 pub returns-then-outgrows-clause-err : goal.returns-then-outgrows-clause-err
 returns-then-outgrows-clause-err g c =
-    let d = declared_by c.args.declaration.now in
+    let d = declared c.args.declaration.now in
     let opened = open_of c.args.opened.now in
     let all : list_all (is_cell_of opened) c.args.arguments ≡ true = sym (rw c.again.ensures at c.if-not-are_cells.ensures) in
     let same = accepts_same d.procedures d.compounds c.in-Some.callable c.deref.result.now (cell_kinds opened.compound) (cells_of c.in-Some-place_arguments.arguments) (places_of opened c.args.arguments)
@@ -55,7 +55,7 @@ returns-then-outgrows-clause-err g c =
 
 pub returns-in-Ok-clause-kept : goal.returns-in-Ok-clause-kept
 returns-in-Ok-clause-kept g c =
-    let d = declared_by c.args.declaration.now in
+    let d = declared c.args.declaration.now in
     let opened = open_of c.args.opened.now in
     let places = cells_of c.in-Some-place_arguments.arguments in
     let kinds = c.deref.ensures.value ∙ c.requires.kept.kinds in
@@ -69,7 +69,7 @@ returns-in-Ok-clause-kept g c =
 
 pub returns-in-Ok-clause-none : goal.returns-in-Ok-clause-none
 returns-in-Ok-clause-none g c =
-    let d = declared_by c.args.declaration.now in
+    let d = declared c.args.declaration.now in
     let opened = open_of c.args.opened.now in
     let all : list_all (is_cell_of opened) c.args.arguments ≡ true = sym (rw c.again.ensures at c.if-not-are_cells.ensures) in
     let same = accepts_same d.procedures d.compounds c.in-Some.callable c.deref.result.now (cell_kinds opened.compound) (cells_of c.in-Some-place_arguments.arguments) (places_of opened c.args.arguments)
@@ -81,7 +81,7 @@ returns-in-Ok-clause-none g c =
 
 pub returns-in-Err-clause-err : goal.returns-in-Err-clause-err
 returns-in-Err-clause-err g c =
-    let d = declared_by c.args.declaration.now in
+    let d = declared c.args.declaration.now in
     let opened = open_of c.args.opened.now in
     let all : list_all (is_cell_of opened) c.args.arguments ≡ true = sym (rw c.again.ensures at c.if-not-are_cells.ensures) in
     let same = accepts_same d.procedures d.compounds c.in-Some.callable c.deref.result.now (cell_kinds opened.compound) (cells_of c.in-Some-place_arguments.arguments) (places_of opened c.args.arguments)

@@ -1,6 +1,6 @@
 use Rattle.std.proofs.Common.{◌≡◌, ◌+◌, ◌++◌, map, take}
 use Rattle.pw_decl.specs.Expansion.{at_place, renamed}
-use Rattle.pw_decl.specs.Flat.{instances_of}
+use Rattle.pw_decl.specs.inside.Held.{instances_of}
 use Rattle.pw_decl.proofs.flattening.add_calls.Given as goal
 
 -- the calls so far are added

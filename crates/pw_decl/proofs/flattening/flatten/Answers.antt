@@ -1,13 +1,13 @@
 use Rattle.std.proofs.Common.{◌≡◌, length, take, arith}
 use Rattle.std.proofs.lemmas.List.{take_all}
-use Rattle.pw_decl.specs.Fields.{declared_by}
-use Rattle.pw_decl.specs.Kept.{steps_of}
+use Rattle.pw_decl.specs.inside.Fields.{declared}
+use Rattle.pw_decl.specs.inside.Held.{steps_of}
 use Rattle.pw_decl.proofs.FlatteningLemmas.{next_done, next_kept}
 use Rattle.pw_decl.proofs.flattening.flatten.Goals as goal
 
 pub add_step-requires : goal.add_step-requires
 add_step-requires g c =
-    let d = declared_by c.args.declaration.now in
+    let d = declared c.args.declaration.now in
     let compound = c.args.opened.now.compound in
     let n = c.loop-step.step-index in
     let read = rw c.deref-step-items.ensures.value at c.step-item.is in
@@ -21,7 +21,7 @@ add_step-requires g c =
 
 pub loop-step-preserved : goal.loop-step-preserved
 loop-step-preserved g c =
-    let d = declared_by c.args.declaration.now in
+    let d = declared c.args.declaration.now in
     let items = c.args.opened.now.compound.steps.items in
     let n = c.loop-step.step-index in
     let read = rw c.deref-step-items.ensures.value at c.step-item.is in
@@ -30,7 +30,7 @@ loop-step-preserved g c =
 
 pub returns : goal.returns
 returns g c =
-    let compounds = (declared_by c.args.declaration.now).compounds in
+    let compounds = (declared c.args.declaration.now).compounds in
     let compound = c.args.opened.now.compound in
     let n = c.loop-step.step-index in
     let past = rw c.deref-step-items.ensures.value at c.loop-step-test.false in

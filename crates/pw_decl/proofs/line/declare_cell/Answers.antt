@@ -1,6 +1,6 @@
 use Rattle.std.proofs.Common.{◌≤◌, length, inl, inr, refl, arith, rules}
 use Rattle.std.specs.Prelude.{IsSome}
-use Rattle.pw_procs.specs.Place.{place_of_name}
+use Rattle.pw_procs.specs.Registering.{place_of_name}
 use Rattle.pw_decl.specs.Faults.{TooMany}
 use Rattle.pw_decl.specs.Limits.{most_cells}
 use Rattle.pw_decl.proofs.line.declare_cell.Goals as goal

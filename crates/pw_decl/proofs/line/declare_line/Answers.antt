@@ -1,9 +1,9 @@
 use Rattle.std.proofs.Common.{sym, ap}
 use Rattle.pw_decl.specs.Declaration.{Outside, Inside}
-use Rattle.pw_decl.specs.Fields.{declared_by}
-use Rattle.pw_decl.specs.Steps.Forms.{outer_in, inner_in}
-use Rattle.pw_decl.specs.Steps.Opened.{open_of}
-use Rattle.pw_decl.specs.Steps.Standing.{placed}
+use Rattle.pw_decl.specs.inside.Fields.{declared}
+use Rattle.pw_decl.specs.inside.Forms.{outer_in, inner_in}
+use Rattle.pw_decl.specs.inside.Opened.{open_of}
+use Rattle.pw_decl.specs.inside.Fields.{placed}
 use Rattle.pw_info.specs.Words.{words_of}
 use Rattle.pw_decl.proofs.DeclarationLines.{no_header, header_declares, no_sentence, outer_parts, inner_parts, answer_declares, answer_faulty}
 use Rattle.pw_decl.proofs.line.declare_line.Goals as goal
@@ -12,12 +12,12 @@ use Rattle.pw_decl.proofs.line.declare_line.Goals as goal
 
 pub returns-then-not-is_header-clause-err : goal.returns-then-not-is_header-clause-err
 returns-then-not-is_header-clause-err g c =
-    let d = declared_by c.args.declaration.now in
+    let d = declared c.args.declaration.now in
     no_header (placed d c.args.place) d c.args.line.now (ap (placed d) c.in-BeforeHeader.is) c.requires.short c.requires.spoken (sym c.if-not-is_header.ensures)
 
 pub returns-else-not-is_header-clause-ok : goal.returns-else-not-is_header-clause-ok
 returns-else-not-is_header-clause-ok g c =
-    let d = declared_by c.args.declaration.now in
+    let d = declared c.args.declaration.now in
     header_declares (placed d c.args.place) d c.args.line.now (ap (placed d) c.in-BeforeHeader.is) c.requires.short c.requires.spoken c.requires.allowed
     (sym c.if-not-is_header.ensures)
 
@@ -25,7 +25,7 @@ returns-else-not-is_header-clause-ok g c =
 
 pub returns-in_default-clause-err : goal.returns-in_default-clause-err
 returns-in_default-clause-err g c =
-    let d = declared_by c.args.declaration.now in
+    let d = declared c.args.declaration.now in
     no_sentence (placed d c.args.place) (Outside d) c.args.line.now (ap (placed d) c.in-Outside.is) c.requires.short c.requires.spoken c.in_default.ensures
 
 pub declare_outside-requires : goal.declare_outside-requires
@@ -33,13 +33,13 @@ declare_outside-requires g c = record { parts = outer_parts (words_of c.args.lin
 
 pub returns-in-Some-clause-ok : goal.returns-in-Some-clause-ok
 returns-in-Some-clause-ok g c =
-    let d = declared_by c.args.declaration.now in
+    let d = declared c.args.declaration.now in
     answer_declares (placed d c.args.place) (Outside d) c.args.line.now (outer_in c.in-Some.sentence) (ap (placed d) c.in-Outside.is) c.requires.short c.requires.spoken
-    (placed (declared_by c.declare_outside.new.declaration)) c.declare_outside.result c.requires.allowed c.in-Some.ensures c.declare_outside.ensures.none c.declare_outside.ensures.ok
+    (placed (declared c.declare_outside.new.declaration)) c.declare_outside.result c.requires.allowed c.in-Some.ensures c.declare_outside.ensures.none c.declare_outside.ensures.ok
 
 pub returns-in-Some-clause-err : goal.returns-in-Some-clause-err
 returns-in-Some-clause-err g c =
-    let d = declared_by c.args.declaration.now in
+    let d = declared c.args.declaration.now in
     answer_faulty (placed d c.args.place) (Outside d) c.args.line.now (outer_in c.in-Some.sentence) (ap (placed d) c.in-Outside.is) c.requires.short c.requires.spoken
     c.declare_outside.result c.requires.allowed c.in-Some.ensures c.declare_outside.ensures.err
 
@@ -47,7 +47,7 @@ returns-in-Some-clause-err g c =
 
 pub returns-in_default-read_inner-clause-err : goal.returns-in_default-read_inner-clause-err
 returns-in_default-read_inner-clause-err g c =
-    let d = declared_by c.args.declaration.now in
+    let d = declared c.args.declaration.now in
     no_sentence (placed d c.args.place) (Inside d (open_of c.in-Inside.opened)) c.args.line.now (ap (placed d) c.in-Inside.is) c.requires.short c.requires.spoken
     c.in_default-read_inner.ensures
 
@@ -56,13 +56,13 @@ declare_inside-requires-clause-parts g c = inner_parts (words_of c.args.line.now
 
 pub returns-in-Some-read_inner-clause-ok : goal.returns-in-Some-read_inner-clause-ok
 returns-in-Some-read_inner-clause-ok g c =
-    let d = declared_by c.args.declaration.now in
+    let d = declared c.args.declaration.now in
     answer_declares (placed d c.args.place) (Inside d (open_of c.in-Inside.opened)) c.args.line.now (inner_in c.in-Some-read_inner.sentence) (ap (placed d) c.in-Inside.is)
-    c.requires.short c.requires.spoken (placed (declared_by c.declare_inside.new.declaration)) c.declare_inside.result c.requires.allowed c.in-Some-read_inner.ensures
+    c.requires.short c.requires.spoken (placed (declared c.declare_inside.new.declaration)) c.declare_inside.result c.requires.allowed c.in-Some-read_inner.ensures
     c.declare_inside.ensures.none c.declare_inside.ensures.ok
 
 pub returns-in-Some-read_inner-clause-err : goal.returns-in-Some-read_inner-clause-err
 returns-in-Some-read_inner-clause-err g c =
-    let d = declared_by c.args.declaration.now in
+    let d = declared c.args.declaration.now in
     answer_faulty (placed d c.args.place) (Inside d (open_of c.in-Inside.opened)) c.args.line.now (inner_in c.in-Some-read_inner.sentence) (ap (placed d) c.in-Inside.is)
     c.requires.short c.requires.spoken c.declare_inside.result c.requires.allowed c.in-Some-read_inner.ensures c.declare_inside.ensures.err

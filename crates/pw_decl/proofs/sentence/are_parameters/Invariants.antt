@@ -1,5 +1,5 @@
 use Rattle.std.proofs.Common.{◌≡◌, length}
-use Rattle.pw_decl.specs.Steps.Forms.{are_parameters}
+use Rattle.pw_decl.specs.inside.Forms.{are_parameters}
 use Rattle.pw_decl.proofs.sentence.are_parameters.Given as goal
 
 -- all are parameters where the remaining ones are

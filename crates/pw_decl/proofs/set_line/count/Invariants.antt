@@ -1,5 +1,5 @@
 use Rattle.std.proofs.Common.{◌≡◌, ◌+◌, ◌≤◌, length}
-use Rattle.pw_kinds.specs.Limits.{most_members}
+use Rattle.pw_kinds.specs.Places.{most_members}
 use Rattle.pw_decl.proofs.set_line.count.Given as goal
 
 -- those that were counted and the remaining ones are all, and no more are counted than to one too

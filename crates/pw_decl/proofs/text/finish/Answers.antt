@@ -1,5 +1,5 @@
 use Rattle.std.proofs.Common.{refl, ap}
-use Rattle.pw_decl.specs.Steps.Standing.{placed}
+use Rattle.pw_decl.specs.inside.Fields.{placed}
 use Rattle.pw_decl.proofs.text.finish.Goals as goal
 use Rattle.pw_decl.proofs.text.finish.Goals.{in-BeforeHeader, in-Inside}
 

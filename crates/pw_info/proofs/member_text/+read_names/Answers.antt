@@ -1,6 +1,6 @@
 use Rattle.std.proofs.Common.{List, ℕ, refl, sym, ◌∙◌, subst}
 use Rattle.std.proofs.lemmas.Option.{IfSome_then}
-use Rattle.pw_info.specs.MemberReading.{AddsPlaces}
+use Rattle.pw_info.specs.inside.Scanning.{AddsPlaces}
 use Rattle.pw_info.proofs.Dots.{IfNone_then}
 use Rattle.pw_info.proofs.Spellings.{IfNone_holds}
 use Rattle.pw_info.proofs.NamesInARow.{begins_cut, is_read, no_member, seen_member, one_name_adds, name_and_row_add, no_row_behind}

@@ -1,7 +1,7 @@
 use Rattle.std.proofs.Common.{◌≡◌, [], refl, codes, arith, ap, pos, sym, true, ◌∙◌}
 use Rattle.std.proofs.lemmas.List.{append-nil}
 use Rattle.pw_kinds.specs.Members.{allows}
-use Rattle.pw_info.specs.MemberWriting.{mark_after}
+use Rattle.pw_info.specs.inside.Scanning.{mark_after}
 use Rattle.pw_info.proofs.MemberTexts.{below_without, closed_at, broken_off_more, mark_with, written_more}
 use Rattle.pw_info.proofs.PassingFacts.{first_fails, second_writes}
 use Rattle.pw_info.proofs.member_text.write_set.Goals as goal

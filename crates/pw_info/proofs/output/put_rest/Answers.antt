@@ -1,5 +1,5 @@
 use Rattle.std.proofs.Common.{[], ◌++◌, take, refl, sym, ◌∙◌, subst}
-use Rattle.pw_info.specs.Passing.{IsBrokenOff, IsWritten}
+use Rattle.pw_info.specs.Passing.{IsBrokenOff, IsPassed}
 use Rattle.pw_info.proofs.PassingFacts.{broken_off_then, written_then, PassesPart-none, taken_all, taken_rest}
 use Rattle.pw_info.proofs.output.put_rest.Goals as goal
 
@@ -30,5 +30,5 @@ returns-in-Err g c =
 pub returns : goal.returns
 returns g c =
     let inv = c.loop-rest.invariant in
-    subst (IsWritten g.O.Output.passes g.O.Output.has_failed c.args.output.now c.loop-rest.output)
+    subst (IsPassed g.O.Output.passes g.O.Output.has_failed c.args.output.now c.loop-rest.output)
     (taken_all c.args.bytes.now inv.taken c.loop-rest.rest.now inv.whole (sym c.is_empty.ensures ∙ c.loop-rest-test.false)) inv.written

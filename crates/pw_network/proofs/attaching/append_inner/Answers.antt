@@ -1,5 +1,5 @@
 use Rattle.std.proofs.Common.{refl, map, arith}
-use Rattle.pw_network.specs.Kept.{inner_of}
+use Rattle.pw_network.specs.inside.Held.{inner_of}
 use Rattle.pw_network.proofs.AttachedCells.{inner_more}
 use Rattle.pw_network.proofs.attaching.append_inner.Goals as goal
 

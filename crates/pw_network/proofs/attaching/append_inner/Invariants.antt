@@ -1,5 +1,5 @@
 use Rattle.std.proofs.Common.{◌≡◌, ◌+◌, ◌≤◌, ◌++◌, length, map, take, vec_len, vec_capacity}
-use Rattle.pw_network.specs.Kept.{inner_of}
+use Rattle.pw_network.specs.inside.Held.{inner_of}
 use Rattle.pw_network.specs.Network.{inner_cells_from}
 use Rattle.pw_network.proofs.attaching.append_inner.Given as goal
 

@@ -1,7 +1,7 @@
 use Rattle.std.proofs.Common.{◌+◌, map, arith}
-use Rattle.pw_procs.specs.Arguments.{cells_of}
+use Rattle.pw_procs.specs.Registry.{cells_of}
 use Rattle.pw_decl.specs.Expansion.{at_place}
-use Rattle.pw_network.specs.Kept.{attached_of}
+use Rattle.pw_network.specs.inside.Held.{attachment}
 use Rattle.pw_network.proofs.AttachedCells.{instances_more}
 use Rattle.pw_network.proofs.ReaderLemmas.{inputs_here}
 use Rattle.pw_network.proofs.attaching.append_instances.Goals as goal
@@ -21,7 +21,7 @@ append_instance-requires-clause-readers g c = c.loop-call.invariant.readers
 pub loop-call-preserved : goal.loop-call-preserved
 loop-call-preserved g c =
     record {
-      items = instances_more c.args.line c.args.support (at_place c.args.cells.now (λ j. c.args.first + j)) (map attached_of c.args.instances.now.items)
+      items = instances_more c.args.line c.args.support (at_place c.args.cells.now (λ j. c.args.first + j)) (map attachment c.args.instances.now.items)
           c.loop-call.instances.items c.append_instance.new.instances.items c.args.calls.now c.loop-call.call-index c.call-item.result
           (cells_of c.place_cells-placed.result) c.new-instance.result c.loop-call-test.true c.call-item.is c.append_instance.ensures.items c.place_cells-placed.ensures
           c.new-instance.ensures.instance c.new-instance.ensures.line c.new-instance.ensures.support c.loop-call.invariant.items;

@@ -1,16 +1,16 @@
 use Rattle.std.proofs.Common.{ap, map, set, get_or, sym, ◌∙◌}
 use Rattle.std.proofs.lemmas.List.{map-set, set-get_or}
-use Rattle.pw_network.specs.ReaderLists.{next_of, reading_of}
+use Rattle.pw_network.specs.Readers.{next_of, link_reading}
 use Rattle.pw_network.proofs.reader_lists.lead.Goals as goal
 
 pub returns-then-place-len-clause-readings : goal.returns-then-place-len-clause-readings
 returns-then-place-len-clause-readings g c =
     let links = c.args.links.now.items in
     let link = c.index-link.result.now in
-    map-set reading_of links c.args.place (record link { next = c.args.next })
-    ∙ ap (λ x. set (map reading_of links) c.args.place (reading_of x)) c.index-link.ensures
-    ∙ sym (map-set reading_of links c.args.place (get_or links c.args.place link))
-    ∙ ap (map reading_of) (set-get_or links c.args.place link)
+    map-set link_reading links c.args.place (record link { next = c.args.next })
+    ∙ ap (λ x. set (map link_reading links) c.args.place (link_reading x)) c.index-link.ensures
+    ∙ sym (map-set link_reading links c.args.place (get_or links c.args.place link))
+    ∙ ap (map link_reading) (set-get_or links c.args.place link)
 
 pub returns-then-place-len-clause-nexts : goal.returns-then-place-len-clause-nexts
 returns-then-place-len-clause-nexts g c =

@@ -1,6 +1,6 @@
 use Rattle.std.proofs.Common.{◌≡◌, length, arith, ap, ◌∙◌}
 use Rattle.pw_info.specs.declared.kind.Kind.TheVariants as kinds
-use Rattle.pw_procs.specs.declared.slot.Slot.TheVariants.{Fixed}
+use Rattle.pw_procs.specs.declared.signature.Slot.TheVariants.{Fixed}
 use Rattle.pw_procs.specs.Meaning.{fixed_of}
 use Rattle.pw_procs.proofs.FittingInputs.{one_fits}
 use Rattle.pw_procs.proofs.bodies.fixed.Goals as goal

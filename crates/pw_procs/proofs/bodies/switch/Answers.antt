@@ -4,7 +4,7 @@ use Rattle.std.specs.Prelude.{slice_index_or}
 use Rattle.pw_info.specs.declared.info.Info.{Info}
 use Rattle.pw_info.specs.Information.{kind_of, nothing, contradiction}
 use Rattle.pw_info.specs.declared.kind.Kind.TheVariants as kinds
-use Rattle.pw_procs.specs.declared.slot.Slot.TheVariants.{Fixed, Same}
+use Rattle.pw_procs.specs.declared.signature.Slot.TheVariants.{Fixed, Same}
 use Rattle.pw_procs.specs.Slots.{FitSlots}
 use Rattle.pw_procs.specs.Values.{input, bool}
 use Rattle.pw_procs.proofs.FittingInputs.{two_fit}

@@ -3,7 +3,7 @@ use Rattle.std.specs.Prelude.{slice_get}
 use Rattle.std.proofs.lemmas.Bool.{false≢true}
 use Rattle.pw_info.specs.declared.info.Info.{Info}
 use Rattle.pw_decl.specs.Declaration.{Declared}
-use Rattle.pw_network.specs.Fields.{network_by}
+use Rattle.pw_network.specs.Wiring.{wiring}
 use Rattle.pw_network.specs.Network.{Network, cells_in}
 use Rattle.pw_reasons.specs.SameInfo.{is_contradiction}
 use Rattle.pw_settle.specs.Settled.{info_at}
@@ -13,7 +13,7 @@ use Rattle.pw_reasons.proofs.listing.contradictory_lines.Goals.{then-is_contradi
 
 pub loop-cell-init : goal.loop-cell-init
 loop-cell-init g c =
-    let network : Network = network_by c.args.network.now in
+    let network : Network = wiring c.args.network.now in
     let value : ℕ → Info = info_at c.args.settled.now.infos in
     let first : c.cells-cell.result ≡ length network.declared.cells =
     c.cells-cell.ensures.count ∙ ap (λ (d : Declared). length d.cells) c.declaration.ensures in
@@ -22,7 +22,7 @@ loop-cell-init g c =
 
 pub loop-cell-preserved : goal.loop-cell-preserved
 loop-cell-preserved g c =
-    let network : Network = network_by c.args.network.now in
+    let network : Network = wiring c.args.network.now in
     let value : ℕ → Info = info_at c.args.settled.now.infos in
     let cell : ℕ = c.loop-cell.cell in
     let lines : List ℕ = c.loop-cell.lines.items in
@@ -53,7 +53,7 @@ loop-cell-preserved g c =
 
 pub returns-clause-lines : goal.returns-clause-lines
 returns-clause-lines g c =
-    let network : Network = network_by c.args.network.now in
+    let network : Network = wiring c.args.network.now in
     let value : ℕ → Info = info_at c.args.settled.now.infos in
     let lines : List ℕ = c.loop-cell.lines.items in
     let first : c.cells-cell.result ≡ length network.declared.cells =

@@ -3,7 +3,7 @@ use Rattle.std.proofs.lemmas.Bool.{false≢true}
 use Rattle.pw_info.specs.declared.info.Info.{Info}
 use Rattle.pw_info.specs.Information.{IsContradiction}
 use Rattle.pw_premises.specs.Premises.{Premises}
-use Rattle.pw_network.specs.Fields.{network_by}
+use Rattle.pw_network.specs.Wiring.{wiring}
 use Rattle.pw_settle.specs.Values.{value_in}
 use Rattle.pw_reasons.proofs.NogoodLemmas.{covers_itself, nogoods_more}
 use Rattle.pw_reasons.proofs.ReasonLemmas.{reason_same}
@@ -12,7 +12,7 @@ use Rattle.pw_reasons.proofs.reasoning.reason.Goals.{then-is_contradiction+in_ok
 
 pub returns-clause-covered : goal.returns-clause-covered
 returns-clause-covered g c contradictory =
-    let info : c.value.result.info ≡ value_in (network_by c.args.network.now) c.args.store.now c.args.settled.now.worldview c.args.cell =
+    let info : c.value.result.info ≡ value_in (wiring c.args.network.now) c.args.store.now c.args.settled.now.worldview c.args.cell =
     c.value.ensures.info ∙ c.requires.settled.values c.args.cell c.requires.cell in
     elim c.if-is_contradiction.branch [
       | then-is_contradiction+in_ok-note w ↦
@@ -23,14 +23,14 @@ returns-clause-covered g c contradictory =
 
 pub returns-clause-nogoods : goal.returns-clause-nogoods
 returns-clause-nogoods g c =
-    let value : Premises → Info = λ w. value_in (network_by c.args.network.now) c.args.store.now w c.args.cell in
+    let value : Premises → Info = λ w. value_in (wiring c.args.network.now) c.args.store.now w c.args.cell in
     let worldview : Premises = c.args.settled.now.worldview in
     let same : c.value.result.info ≡ value c.in_ok-left.left =
     c.value.ensures.info ∙ c.requires.settled.values c.args.cell c.requires.cell ∙ sym (reason_same value worldview)
     ∙ sym (ap value c.in_ok-left.ensures.reason) in
     elim c.if-is_contradiction.branch [
       | then-is_contradiction+in_ok-note w ↦
-          rw w.nogoods-is (nogoods_more (network_by c.args.network.now) c.args.store.now c.in_ok-left.left c.args.nogoods.now w.note.new.self
+          rw w.nogoods-is (nogoods_more (wiring c.args.network.now) c.args.store.now c.in_ok-left.left c.args.nogoods.now w.note.new.self
           c.requires.nogoods
           (record {
             cell = c.args.cell;

@@ -2,9 +2,9 @@ use Rattle.std.proofs.Common.{ap, sym, ◌∙◌}
 use Rattle.std.specs.FinSet.{is_subset}
 use Rattle.std.proofs.lemmas.List.{map-id}
 use Rattle.std.proofs.lemmas.Iterator.Consumers.{YieldsList-end}
-use Rattle.pw_premises.specs.Numbers.{numbers_of}
+use Rattle.pw_premises.specs.Premises.{numbers_of}
 use Rattle.pw_premises.specs.Premises.{Premises}
-use Rattle.pw_network.specs.Fields.{network_by}
+use Rattle.pw_network.specs.Wiring.{wiring}
 use Rattle.pw_settle.specs.Settled.{info_at}
 use Rattle.pw_settle.specs.Values.{value_in}
 use Rattle.pw_settle.proofs.Growing.{keeps_more_then, same_value, settled_still}
@@ -15,17 +15,17 @@ use Rattle.pw_reasons.proofs.reasoning.try_premises.Goals as goal
 
 pub try_premise-requires-clause-settled : goal.try_premise-requires-clause-settled
 try_premise-requires-clause-settled g c =
-    settled_still (network_by c.args.network.now) c.args.store.now c.loop-premise.store c.args.settled.now.worldview c.args.settled.now
+    settled_still (wiring c.args.network.now) c.args.store.now c.loop-premise.store c.args.settled.now.worldview c.args.settled.now
     c.loop-premise.invariant.grows c.requires.settled
 
 pub try_premise-requires-clause-part : goal.try_premise-requires-clause-part
 try_premise-requires-clause-part g c =
     ap (λ (s : Premises). is_subset s c.args.settled.now.worldview) c.loop-premise.invariant.left
-    ∙ after_part (λ w. value_in (network_by c.args.network.now) c.args.store.now w c.args.cell) c.args.settled.now.worldview c.loop-premise.yielded
+    ∙ after_part (λ w. value_in (wiring c.args.network.now) c.args.store.now w c.args.cell) c.args.settled.now.worldview c.loop-premise.yielded
 
 pub try_premise-requires-clause-enough : goal.try_premise-requires-clause-enough
 try_premise-requires-clause-enough g c =
-    enough_same (network_by c.args.network.now) c.args.store.now c.loop-premise.store c.loop-premise.invariant.grows c.args.cell
+    enough_same (wiring c.args.network.now) c.args.store.now c.loop-premise.store c.loop-premise.invariant.grows c.args.cell
     (info_at c.args.settled.now.infos c.args.cell) c.loop-premise.left.premises c.loop-premise.left.support c.loop-premise.invariant.enough
 
 pub returns-in_err-left-clause-upstream : goal.returns-in_err-left-clause-upstream
@@ -35,13 +35,13 @@ returns-in_err-left-clause-upstream g c given rests =
 pub loop-premise-preserved : goal.loop-premise-preserved
 loop-premise-preserved g c = record {
   left = c.in_ok-left.ensures.left
-      ∙ (λ i. tried (λ w. same_value (network_by c.args.network.now) c.args.store.now c.loop-premise.store c.loop-premise.invariant.grows.told w c.args.cell i)
+      ∙ (λ i. tried (λ w. same_value (wiring c.args.network.now) c.args.store.now c.loop-premise.store c.loop-premise.invariant.grows.told w c.args.cell i)
       c.args.settled.now.worldview (c.loop-premise.invariant.left i) c.in-Some.premise)
-      ∙ sym (one_tried (λ w. value_in (network_by c.args.network.now) c.args.store.now w c.args.cell) c.args.settled.now.worldview
+      ∙ sym (one_tried (λ w. value_in (wiring c.args.network.now) c.args.store.now w c.args.cell) c.args.settled.now.worldview
       c.loop-premise.yielded c.in-Some.premise);
-  enough = enough_as_before (network_by c.args.network.now) c.args.store.now c.loop-premise.store c.loop-premise.invariant.grows c.args.cell
+  enough = enough_as_before (wiring c.args.network.now) c.args.store.now c.loop-premise.store c.loop-premise.invariant.grows c.args.cell
       (info_at c.args.settled.now.infos c.args.cell) c.in_ok-left.left.premises c.in_ok-left.left.support c.in_ok-left.ensures.enough;
-  grows = keeps_more_then (network_by c.args.network.now) c.args.store.now c.loop-premise.store c.try_premise.new.store c.loop-premise.invariant.grows
+  grows = keeps_more_then (wiring c.args.network.now) c.args.store.now c.loop-premise.store c.try_premise.new.store c.loop-premise.invariant.grows
       c.try_premise.ensures.grows;
   upstream = λ given rests. c.try_premise.ensures.upstream given (c.loop-premise.invariant.upstream given rests);
 }

@@ -1,5 +1,5 @@
 use Rattle.std.proofs.Common.{◌≡◌, drop}
-use Rattle.pw_settle.specs.Known.{joined}
+use Rattle.pw_settle.specs.inside.Known.{joined}
 use Rattle.pw_settle.proofs.known.joined_support.Given as goal
 
 -- the rest, joined to what is joined so far, is all

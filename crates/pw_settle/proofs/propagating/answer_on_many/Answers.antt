@@ -3,14 +3,14 @@ use Rattle.std.specs.Prelude.{All}
 use Rattle.std.proofs.lemmas.List.{length-map, length-set}
 use Rattle.pw_info.specs.Information.{kind_of}
 use Rattle.pw_procs.specs.Registry.{procedures_in}
-use Rattle.pw_network.specs.Kept.{attached_of}
+use Rattle.pw_network.specs.inside.Held.{attachment}
 use Rattle.pw_settle.specs.Settled.{info_at}
 use Rattle.pw_settle.proofs.PlacedInstances.{all_filled, few_inputs, filled_more}
 use Rattle.pw_settle.proofs.propagating.answer_on_many.Goals as goal
 
 pub loop-place-preserved : goal.loop-place-preserved
 loop-place-preserved g c =
-    let instance = (attached_of c.args.instance.now).instance in
+    let instance = (attachment c.args.instance.now).instance in
     let known = c.args.known.now in
     let cells = c.as_slice-cells.result.now in
     let few = few_inputs (procedures_in c.args.registry.now) (map kind_of known) instance c.requires.placed in
@@ -32,7 +32,7 @@ bounds-known-cells g c =
 
 pub bounds-inputs-place : goal.bounds-inputs-place
 bounds-inputs-place g c =
-    let few = few_inputs (procedures_in c.args.registry.now) (map kind_of c.args.known.now) (attached_of c.args.instance.now).instance c.requires.placed in
+    let few = few_inputs (procedures_in c.args.registry.now) (map kind_of c.args.known.now) (attachment c.args.instance.now).instance c.requires.placed in
     omega (arith, few, ap length c.as_slice-cells.ensures, c.loop-place-test.true)
 
 pub procedure_value-requires-clause-given : goal.procedure_value-requires-clause-given

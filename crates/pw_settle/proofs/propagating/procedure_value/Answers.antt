@@ -5,26 +5,26 @@ use Rattle.pw_info.specs.Information.{kind_of}
 use Rattle.pw_procs.specs.Procedure.{procedure_of, value_by}
 use Rattle.pw_procs.specs.Registry.{procedures_in}
 use Rattle.pw_procs.specs.Signature.{FitSignature}
-use Rattle.pw_network.specs.Kept.{attached_of}
+use Rattle.pw_network.specs.inside.Held.{attachment}
 use Rattle.pw_settle.proofs.PlacedInstances.{accepted, fits_given, given_is_said}
 use Rattle.pw_settle.proofs.propagating.procedure_value.Goals as goal
 
 pub get-requires : goal.get-requires
 get-requires g c =
-    let is = accepted (procedures_in c.args.registry.now) (map kind_of c.args.known.now) (attached_of c.args.instance.now).instance c.requires.placed in
+    let is = accepted (procedures_in c.args.registry.now) (map kind_of c.args.known.now) (attachment c.args.instance.now).instance c.requires.placed in
     slice_get_within (procedures_in c.args.registry.now) c.args.instance.now.procedure is.0 is.1
 
 pub call-requires : goal.call-requires
 call-requires g c =
-    let fits = fits_given (procedures_in c.args.registry.now) c.args.known.now (attached_of c.args.instance.now).instance c.requires.placed (procedure_of c.get.result.now) c.get.ensures in
+    let fits = fits_given (procedures_in c.args.registry.now) c.args.known.now (attachment c.args.instance.now).instance c.requires.placed (procedure_of c.get.result.now) c.get.ensures in
     subst (λ (l : List Info). FitSignature c.get.result.now.signature l) (sym {A = List Info} c.requires.given) fits.0
 
 pub returns-clause-kind : goal.returns-clause-kind
 returns-clause-kind g c =
-    let fits = fits_given (procedures_in c.args.registry.now) c.args.known.now (attached_of c.args.instance.now).instance c.requires.placed (procedure_of c.get.result.now) c.get.ensures in
+    let fits = fits_given (procedures_in c.args.registry.now) c.args.known.now (attachment c.args.instance.now).instance c.requires.placed (procedure_of c.get.result.now) c.get.ensures in
     ap kind_of (c.call.ensures ∙ ap (value_by (procedure_of c.get.result.now)) c.requires.given) ∙ fits.1
 
 pub returns-clause-says : goal.returns-clause-says
 returns-clause-says g c =
-    given_is_said (procedures_in c.args.registry.now) c.args.known.now (attached_of c.args.instance.now).instance c.requires.placed (procedure_of c.get.result.now) c.get.ensures
+    given_is_said (procedures_in c.args.registry.now) c.args.known.now (attachment c.args.instance.now).instance c.requires.placed (procedure_of c.get.result.now) c.get.ensures
     c.call.result (c.call.ensures ∙ ap (value_by (procedure_of c.get.result.now)) c.requires.given)

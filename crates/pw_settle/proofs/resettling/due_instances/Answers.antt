@@ -1,8 +1,8 @@
 use Rattle.std.proofs.Common.{◌≡◌, ◌<◌, List, length, sym, ap, subst, ◌∙◌}
 use Rattle.pw_info.specs.declared.info.Info.{Info}
 use Rattle.pw_info.specs.Information.{kind_of}
-use Rattle.pw_network.specs.Fields.{network_by}
-use Rattle.pw_settle.specs.Due.{HasChanged, QueuesReaders, found_of}
+use Rattle.pw_network.specs.Wiring.{wiring}
+use Rattle.pw_settle.specs.inside.Due.{HasChanged, QueuesReaders, found_of}
 use Rattle.pw_settle.specs.Settled.{Settled, info_at}
 use Rattle.pw_settle.proofs.FittingValues.{due_flags, kinds_found}
 use Rattle.pw_settle.proofs.resettling.due_instances.Goals as goal
@@ -12,20 +12,20 @@ queue_changed-requires-clause-kinds g c cell below =
     subst (λ (l : List Info). kind_of (found_of l c.deref-2.result.now cell) ≡ kind_of (info_at c.deref-2.result.now cell))
     (sym (c.deref.ensures.value ∙ ap (λ (s : Settled). s.infos) c.before-2.view_is))
     (subst (λ (l : List Info). kind_of (found_of c.args.before.now.infos l cell) ≡ kind_of (info_at l cell)) (sym c.deref-2.ensures.value)
-    (kinds_found (network_by c.args.network.now) c.args.network.now.well c.args.store.now c.args.worldview.now c.requires.kinds c.args.before.now c.requires.fits
+    (kinds_found (wiring c.args.network.now) c.args.network.now.well c.args.store.now c.args.worldview.now c.requires.kinds c.args.before.now c.requires.fits
     c.requires.within c.in_ok-known.known.infos.items c.in_ok-known.known.supports.items c.in_ok-known.ensures.kept cell))
 
 pub returns-clause-due : goal.returns-clause-due
 returns-clause-due g c =
-    due_flags (network_by c.args.network.now) c.args.network.now.well c.args.store.now c.args.worldview.now c.requires.kinds c.args.before.now c.requires.fits
+    due_flags (wiring c.args.network.now) c.args.network.now.well c.args.store.now c.args.worldview.now c.requires.kinds c.args.before.now c.requires.fits
     c.requires.within c.in_ok-known.known.infos.items c.in_ok-known.known.supports.items c.in_ok-known.ensures.kept
     c.args.visible.now c.in_ok-agenda.agenda c.queue_changed.new.agenda c.requires.visible c.in_ok-agenda.ensures.flags c.in_ok-agenda.ensures.new
-    (subst (λ (l : List Info). QueuesReaders (network_by c.args.network.now) c.args.visible.now
+    (subst (λ (l : List Info). QueuesReaders (wiring c.args.network.now) c.args.visible.now
     (λ cell. (cell < length c.in_ok-known.known.infos.items) × HasChanged l c.in_ok-known.known.infos.items cell)
     c.in_ok-agenda.agenda c.queue_changed.new.agenda) (c.deref.ensures.value ∙ ap (λ (s : Settled). s.infos) c.before-2.view_is)
-    (subst (λ (l : List Info). QueuesReaders (network_by c.args.network.now) c.args.visible.now
+    (subst (λ (l : List Info). QueuesReaders (wiring c.args.network.now) c.args.visible.now
     (λ cell. (cell < length l) × HasChanged c.deref.result.now l cell)
     c.in_ok-agenda.agenda c.queue_changed.new.agenda) c.deref-2.ensures.value c.queue_changed.ensures))
 
 pub returns-clause-upstream : goal.returns-clause-upstream
-returns-clause-upstream g c given rests = c.in_ok-known.ensures.upstream (network_by c.args.network.now) given rests
+returns-clause-upstream g c given rests = c.in_ok-known.ensures.upstream (wiring c.args.network.now) given rests

@@ -2,10 +2,10 @@ use Rattle.std.proofs.Common.{◌≡◌, ℕ, ◌+◌, ◌≤◌, sym, ap, subst
 use Rattle.std.specs.Prelude.{OnOk}
 use Rattle.std.specs.FinSet.{is_subset}
 use Rattle.pw_cells.specs.Cells.{Store, kept_in}
-use Rattle.pw_network.specs.Fields.{network_by}
-use Rattle.pw_settle.specs.Agenda.{tally}
+use Rattle.pw_network.specs.Wiring.{wiring}
+use Rattle.pw_settle.specs.inside.Progress.{tally}
 use Rattle.pw_settle.specs.Calls.{gains}
-use Rattle.pw_settle.specs.Progress.{AreSatisfied}
+use Rattle.pw_settle.specs.inside.Progress.{AreSatisfied}
 use Rattle.pw_settle.specs.Settled.{Settled}
 use Rattle.pw_settle.specs.Sound.{IsSound, RestsUpstream}
 use Rattle.pw_settle.specs.Values.{value_in}
@@ -19,35 +19,35 @@ due_instances-requires-clause-within g c =
 
 pub settle_from-requires-clause-satisfied : goal.settle_from-requires-clause-satisfied
 settle_from-requires-clause-satisfied g c =
-    subst (λ (s : Store). AreSatisfied (network_by c.args.network.now) c.args.worldview.now (λ cell. kept_in s cell c.args.worldview.now) c.in_ok-known.agenda)
+    subst (λ (s : Store). AreSatisfied (wiring c.args.network.now) c.args.worldview.now (λ cell. kept_in s cell c.args.worldview.now) c.in_ok-known.agenda)
     (sym {A = Store} c.due_instances.ensures.unchanged)
-    (satisfied_but_due (network_by c.args.network.now) c.args.network.now.well c.args.store.now c.args.worldview.now c.requires.kinds c.args.before c.requires.fits
+    (satisfied_but_due (wiring c.args.network.now) c.args.network.now.well c.args.store.now c.args.worldview.now c.requires.kinds c.args.before c.requires.fits
     (ap (λ (s : Settled). is_subset s.worldview c.args.worldview.now) (sym c.before-2.view_is) ∙ sym c.is_subset.ensures.subset ∙ c.if-not-is_subset.false)
     c.in_ok-known.agenda c.in_ok-known.ensures.due)
 
 pub returns-clause-upstream : goal.returns-clause-upstream
 returns-clause-upstream g c given rests =
-    c.settle_from.ensures.upstream given (record { kept = subst (RestsUpstream (network_by c.args.network.now) given) (sym {A = Store} c.due_instances.ensures.unchanged) rests; known = c.in_ok-known.ensures.upstream given rests })
+    c.settle_from.ensures.upstream given (record { kept = subst (RestsUpstream (wiring c.args.network.now) given) (sym {A = Store} c.due_instances.ensures.unchanged) rests; known = c.in_ok-known.ensures.upstream given rests })
 
 pub returns-clause-due : goal.returns-clause-due
 returns-clause-due g c =
     both_ok c.settle_from.result
     (λ settled. tally c.in_ok-known.agenda ≤ settled.calls)
     (λ settled. settled.calls ≤ tally c.in_ok-known.agenda
-    + gains (network_by c.args.network.now) c.due_instances.new.store c.settle_from.new.store c.args.worldview.now)
+    + gains (wiring c.args.network.now) c.due_instances.new.store c.settle_from.new.store c.args.worldview.now)
     _ (λ settled least most within. (
       c.in_ok-known.agenda,
       c.in_ok-known.ensures.due,
       least,
-      subst (λ (s : Store). settled.calls ≤ tally c.in_ok-known.agenda + gains (network_by c.args.network.now) s c.settle_from.new.store c.args.worldview.now)
+      subst (λ (s : Store). settled.calls ≤ tally c.in_ok-known.agenda + gains (wiring c.args.network.now) s c.settle_from.new.store c.args.worldview.now)
           c.due_instances.ensures.unchanged most,
     )) c.settle_from.ensures.least c.settle_from.ensures.most
 
 pub returns-in_err-known-clause-upstream : goal.returns-in_err-known-clause-upstream
-returns-in_err-known-clause-upstream g c given rests = subst (RestsUpstream (network_by c.args.network.now) given) (sym {A = Store} c.due_instances.ensures.unchanged) rests
+returns-in_err-known-clause-upstream g c given rests = subst (RestsUpstream (wiring c.args.network.now) given) (sym {A = Store} c.due_instances.ensures.unchanged) rests
 
 pub returns-clause-kept : goal.returns-clause-kept
 returns-clause-kept g c =
-    subst (λ (s : Store). OnOk c.settle_from.result (IsSound (network_by c.args.network.now) s → (cell : ℕ)
-    → kept_in c.settle_from.new.store cell c.args.worldview.now ≡ value_in (network_by c.args.network.now) s c.args.worldview.now cell))
+    subst (λ (s : Store). OnOk c.settle_from.result (IsSound (wiring c.args.network.now) s → (cell : ℕ)
+    → kept_in c.settle_from.new.store cell c.args.worldview.now ≡ value_in (wiring c.args.network.now) s c.args.worldview.now cell))
     c.due_instances.ensures.unchanged c.settle_from.ensures.kept

@@ -5,12 +5,13 @@ use Rattle.pw_info.specs.declared.info.Info.{Info}
 use Rattle.pw_info.specs.Information.{kind_of}
 use Rattle.pw_premises.specs.Premises.{Premises}
 use Rattle.pw_cells.specs.Cells.{kept_in}
-use Rattle.pw_network.specs.Fields.{network_by}
+use Rattle.pw_network.specs.Wiring.{wiring}
 use Rattle.pw_network.specs.Readers.{readers_of}
-use Rattle.pw_settle.specs.Agenda.{is_set}
+use Rattle.pw_settle.specs.inside.Progress.{is_set}
 use Rattle.pw_settle.specs.Calls.{reader_count}
-use Rattle.pw_settle.specs.Known.{AreUpstream, TakesIn}
-use Rattle.pw_settle.specs.Progress.{IsNews, IsSatisfied, attached_no}
+use Rattle.pw_settle.specs.inside.Known.{AreUpstream, TakesIn}
+use Rattle.pw_settle.specs.inside.Progress.{IsNews}
+use Rattle.pw_settle.specs.Values.{IsSatisfied, attached_no}
 use Rattle.pw_settle.specs.Settled.{info_at}
 use Rattle.pw_settle.proofs.KeptFacts.{kind-kept}
 use Rattle.pw_settle.proofs.KeptProgress.{IsAfterNews, after_news, kinds_at_hand, no_instance, satisfied_all, satisfied_kept}
@@ -30,13 +31,13 @@ keep-requires-clause-kind g c =
 
 -- the news, of what is at hand
 news_is : (g : given.Over) (c : goal.After-queue_readers g) →
-    IsNews (network_by c.args.network.now) c.args.known.now.infos.items c.args.known.now.supports.items
-    (attached_no (network_by c.args.network.now) c.args.number no_instance) c.in-Some.cell c.in-Some.fact
+    IsNews (wiring c.args.network.now) c.args.known.now.infos.items c.args.known.now.supports.items
+    (attached_no (wiring c.args.network.now) c.args.number no_instance) c.in-Some.cell c.in-Some.fact
 news_is g c =
-    subst (λ (l : List Info). IsNews (network_by c.args.network.now) l c.args.known.now.supports.items
-    (attached_no (network_by c.args.network.now) c.args.number no_instance) c.in-Some.cell c.in-Some.fact) c.deref.ensures.value
-    (subst (λ (l : List Premises). IsNews (network_by c.args.network.now) c.deref.result.now l
-    (attached_no (network_by c.args.network.now) c.args.number no_instance) c.in-Some.cell c.in-Some.fact) c.deref-2.ensures.value
+    subst (λ (l : List Info). IsNews (wiring c.args.network.now) l c.args.known.now.supports.items
+    (attached_no (wiring c.args.network.now) c.args.number no_instance) c.in-Some.cell c.in-Some.fact) c.deref.ensures.value
+    (subst (λ (l : List Premises). IsNews (wiring c.args.network.now) c.deref.result.now l
+    (attached_no (wiring c.args.network.now) c.args.number no_instance) c.in-Some.cell c.in-Some.fact) c.deref-2.ensures.value
     (c.in-Some.ensures.news no_instance))
 
 -- and how they are taken in
@@ -50,10 +51,10 @@ taken g c =
 
 -- what there is afterwards
 after : (g : given.Over) (c : goal.After-queue_readers g) →
-    IsAfterNews (network_by c.args.network.now) c.args.store.now c.keep.new.self c.args.worldview.now c.take_in.new.infos
+    IsAfterNews (wiring c.args.network.now) c.args.store.now c.keep.new.self c.args.worldview.now c.take_in.new.infos
     c.args.known.now.supports.items c.take_in.new.supports c.args.number c.in-Some.cell
 after g c =
-    after_news (network_by c.args.network.now) c.args.network.now.well c.args.store.now c.keep.new.self c.requires.kinds c.args.worldview.now
+    after_news (wiring c.args.network.now) c.args.network.now.well c.args.store.now c.keep.new.self c.requires.kinds c.args.worldview.now
     c.args.known.now.infos.items c.take_in.new.infos c.args.known.now.supports.items c.take_in.new.supports c.requires.kept
     c.args.number c.requires.number c.in-Some.cell c.in-Some.fact (news_is g c)
     (subst (λ (l : List Info). c.in-Some.cell < length l) c.deref.ensures.value c.in-Some.ensures.there)
@@ -78,7 +79,7 @@ returns-in_ok-keep-clause-grows g c = (after g c).grows
 
 pub returns-in_ok-keep-clause-upstream : goal.returns-in_ok-keep-clause-upstream
 returns-in_ok-keep-clause-upstream g c given are =
-    subst (AreUpstream (network_by c.args.network.now) given c.keep.new.self) (sym (supports_back g c)) ((after g c).upstream given are)
+    subst (AreUpstream (wiring c.args.network.now) given c.keep.new.self) (sym (supports_back g c)) ((after g c).upstream given are)
 
 pub returns-in_ok-keep-clause-kept : goal.returns-in_ok-keep-clause-kept
 returns-in_ok-keep-clause-kept g c =
@@ -92,16 +93,16 @@ returns-in_ok-keep-clause-satisfied g c =
 
 pub returns-in_ok-keep-clause-most : goal.returns-in_ok-keep-clause-most
 returns-in_ok-keep-clause-most g c =
-    let readers : count_by (is_set c.args.visible.now) (readers_of (network_by c.args.network.now) c.in-Some.cell)
-    ≡ reader_count (network_by c.args.network.now) c.args.worldview.now c.in-Some.cell =
-    ap (λ (l : List Bool). count_by (is_set l) (readers_of (network_by c.args.network.now) c.in-Some.cell)) c.requires.visible in
+    let readers : count_by (is_set c.args.visible.now) (readers_of (wiring c.args.network.now) c.in-Some.cell)
+    ≡ reader_count (wiring c.args.network.now) c.args.worldview.now c.in-Some.cell =
+    ap (λ (l : List Bool). count_by (is_set l) (readers_of (wiring c.args.network.now) c.in-Some.cell)) c.requires.visible in
     omega (arith, c.queue_readers.ensures.most, readers, (after g c).weight_is)
 
 pub returns-in_default-clause-satisfied : goal.returns-in_default-clause-satisfied
 returns-in_default-clause-satisfied g c =
-    satisfied_all (network_by c.args.network.now) c.args.worldview.now (λ cell. kept_in c.args.store.now cell c.args.worldview.now) c.args.agenda.now c.args.number
+    satisfied_all (wiring c.args.network.now) c.args.worldview.now (λ cell. kept_in c.args.store.now cell c.args.worldview.now) c.args.agenda.now c.args.number
     c.requires.others
-    (λ d. satisfied_kept (network_by c.args.network.now) c.args.store.now c.args.worldview.now c.args.known.now.infos.items c.args.known.now.supports.items
-    c.requires.kept (attached_no (network_by c.args.network.now) c.args.number d)
-    (subst (λ (l : List Info). IsSatisfied (network_by c.args.network.now) (info_at l) (attached_no (network_by c.args.network.now) c.args.number d))
+    (λ d. satisfied_kept (wiring c.args.network.now) c.args.store.now c.args.worldview.now c.args.known.now.infos.items c.args.known.now.supports.items
+    c.requires.kept (attached_no (wiring c.args.network.now) c.args.number d)
+    (subst (λ (l : List Info). IsSatisfied (wiring c.args.network.now) (info_at l) (attached_no (wiring c.args.network.now) c.args.number d))
     c.deref.ensures.value (c.in_default.ensures.none d)))

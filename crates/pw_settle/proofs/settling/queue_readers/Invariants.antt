@@ -1,5 +1,5 @@
 use Rattle.std.proofs.Common.{length}
-use Rattle.pw_network.specs.Fields.{network_by}
+use Rattle.pw_network.specs.Wiring.{wiring}
 use Rattle.pw_network.specs.Readers.{readers_of}
 use Rattle.pw_settle.proofs.QueuedReaders.{AreQueuedBut}
 use Rattle.pw_settle.proofs.settling.queue_readers.Given as goal
@@ -8,5 +8,5 @@ abbrev pub invariant-loop-number : goal.invariant-loop-number
 invariant-loop-number g l = record {
   can_next : (goal.iterator-loop-number g).can_next l.number-iterator;
   is_finite : (goal.iterator-loop-number g).is_finite l.number-iterator;
-  queued : AreQueuedBut l.visible l.fn.agenda l.agenda (readers_of (network_by l.network) l.cell) l.number-iterator (length (network_by l.network).attached);
+  queued : AreQueuedBut l.visible l.fn.agenda l.agenda (readers_of (wiring l.network) l.cell) l.number-iterator (length (wiring l.network).attached);
 }

@@ -1,8 +1,8 @@
 use Rattle.std.proofs.Common.{◌≡◌, ◌+◌, ◌++◌, ◌∷◌, [], map, take, sym, ap, ◌∙◌, arith}
 use Rattle.std.proofs.lemmas.List.{map_push, take_more}
 use Rattle.pw_network.specs.declared.instance.Instance.{Instance}
-use Rattle.pw_network.specs.Kept.{attached_of}
-use Rattle.pw_settle.specs.Calls.{is_visible}
+use Rattle.pw_network.specs.inside.Held.{attachment}
+use Rattle.pw_settle.specs.Calls.{is_instance_visible}
 use Rattle.pw_settle.proofs.settling.seen.Goals as goal
 
 pub loop-instance-preserved : goal.loop-instance-preserved
@@ -15,7 +15,7 @@ loop-instance-preserved g c =
     record {
       items = (rw done at c.push.ensures.items)
           ∙ (λ j. c.loop-instance.invariant.items j ++ c.is_subset.ensures.subset j ∷ [])
-          ∙ sym (ap (map (is_visible c.args.worldview.now)) (ap (map attached_of) longer ∙ map_push attached_of (take i c.args.instances.now) c.instance-item.result)
-          ∙ map_push (is_visible c.args.worldview.now) (map attached_of (take i c.args.instances.now)) (attached_of c.instance-item.result));
+          ∙ sym (ap (map (is_instance_visible c.args.worldview.now)) (ap (map attachment) longer ∙ map_push attachment (take i c.args.instances.now) c.instance-item.result)
+          ∙ map_push (is_instance_visible c.args.worldview.now) (map attachment (take i c.args.instances.now)) (attachment c.instance-item.result));
       room = omega (arith, c.loop-instance.invariant.room, c.push.ensures.upper_bound, c.push.ensures.capacity);
     }

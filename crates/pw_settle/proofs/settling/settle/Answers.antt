@@ -1,9 +1,9 @@
 use Rattle.std.proofs.Common.{◌≡◌, ℕ, ◌+◌, ◌≤◌, map, sym, ap, subst, ◌∙◌}
 use Rattle.std.specs.Prelude.{IfOk, OnOk}
 use Rattle.pw_cells.specs.Cells.{Store, kept_in}
-use Rattle.pw_network.specs.Fields.{network_by}
-use Rattle.pw_settle.specs.Agenda.{tally}
-use Rattle.pw_settle.specs.Calls.{gains, is_visible, visible_count}
+use Rattle.pw_network.specs.Wiring.{wiring}
+use Rattle.pw_settle.specs.inside.Progress.{tally}
+use Rattle.pw_settle.specs.Calls.{gains, is_instance_visible, visible_count}
 use Rattle.pw_settle.specs.Sound.{IsSound, RestsUpstream}
 use Rattle.pw_settle.specs.Values.{value_in}
 use Rattle.pw_settle.proofs.SettledStores.{tally_visible}
@@ -11,29 +11,29 @@ use Rattle.pw_settle.proofs.settling.settle.Goals as goal
 
 pub settle_from-requires-clause-visible : goal.settle_from-requires-clause-visible
 settle_from-requires-clause-visible g c =
-    c.deref-2.ensures.value ∙ c.in_ok-visible.ensures ∙ ap (map (is_visible c.args.worldview.now)) c.instances.ensures.instances
+    c.deref-2.ensures.value ∙ c.in_ok-visible.ensures ∙ ap (map (is_instance_visible c.args.worldview.now)) c.instances.ensures.instances
 
 pub returns-clause-upstream : goal.returns-clause-upstream
 returns-clause-upstream g c given rests =
-    c.settle_from.ensures.upstream given (record { kept = subst (RestsUpstream (network_by c.args.network.now) given) (sym {A = Store} c.read_kept.ensures.unchanged) rests; known = c.in_ok-known.ensures.upstream (network_by c.args.network.now) given rests })
+    c.settle_from.ensures.upstream given (record { kept = subst (RestsUpstream (wiring c.args.network.now) given) (sym {A = Store} c.read_kept.ensures.unchanged) rests; known = c.in_ok-known.ensures.upstream (wiring c.args.network.now) given rests })
 
 pub returns-in_err-known-clause-upstream : goal.returns-in_err-known-clause-upstream
-returns-in_err-known-clause-upstream g c given rests = subst (RestsUpstream (network_by c.args.network.now) given) (sym {A = Store} c.read_kept.ensures.unchanged) rests
+returns-in_err-known-clause-upstream g c given rests = subst (RestsUpstream (wiring c.args.network.now) given) (sym {A = Store} c.read_kept.ensures.unchanged) rests
 
 pub returns-clause-kept : goal.returns-clause-kept
 returns-clause-kept g c =
-    subst (λ (s : Store). OnOk c.settle_from.result (IsSound (network_by c.args.network.now) s → (cell : ℕ)
-    → kept_in c.settle_from.new.store cell c.args.worldview.now ≡ value_in (network_by c.args.network.now) s c.args.worldview.now cell))
+    subst (λ (s : Store). OnOk c.settle_from.result (IsSound (wiring c.args.network.now) s → (cell : ℕ)
+    → kept_in c.settle_from.new.store cell c.args.worldview.now ≡ value_in (wiring c.args.network.now) s c.args.worldview.now cell))
     c.read_kept.ensures.unchanged c.settle_from.ensures.kept
 
 pub returns-clause-most : goal.returns-clause-most
 returns-clause-most g c =
-    let flags : c.in_ok-agenda.agenda ≡ map (is_visible c.args.worldview.now) (network_by c.args.network.now).attached =
-    c.in_ok-agenda.ensures ∙ c.deref.ensures.value ∙ c.in_ok-visible.ensures ∙ ap (map (is_visible c.args.worldview.now)) c.instances.ensures.instances in
-    let count : tally c.in_ok-agenda.agenda ≡ visible_count (network_by c.args.network.now) c.args.worldview.now =
-    ap tally flags ∙ tally_visible (is_visible c.args.worldview.now) (network_by c.args.network.now).attached in
-    subst (λ n. IfOk c.settle_from.result (λ settled. settled.calls ≤ n + gains (network_by c.args.network.now) c.args.store.now c.settle_from.new.store c.args.worldview.now))
+    let flags : c.in_ok-agenda.agenda ≡ map (is_instance_visible c.args.worldview.now) (wiring c.args.network.now).attached =
+    c.in_ok-agenda.ensures ∙ c.deref.ensures.value ∙ c.in_ok-visible.ensures ∙ ap (map (is_instance_visible c.args.worldview.now)) c.instances.ensures.instances in
+    let count : tally c.in_ok-agenda.agenda ≡ visible_count (wiring c.args.network.now) c.args.worldview.now =
+    ap tally flags ∙ tally_visible (is_instance_visible c.args.worldview.now) (wiring c.args.network.now).attached in
+    subst (λ n. IfOk c.settle_from.result (λ settled. settled.calls ≤ n + gains (wiring c.args.network.now) c.args.store.now c.settle_from.new.store c.args.worldview.now))
     count
     (subst (λ (s : Store). IfOk c.settle_from.result
-    (λ settled. settled.calls ≤ tally c.in_ok-agenda.agenda + gains (network_by c.args.network.now) s c.settle_from.new.store c.args.worldview.now))
+    (λ settled. settled.calls ≤ tally c.in_ok-agenda.agenda + gains (wiring c.args.network.now) s c.settle_from.new.store c.args.worldview.now))
     c.read_kept.ensures.unchanged c.settle_from.ensures.most)

@@ -1,9 +1,9 @@
 use Rattle.std.proofs.Common.{◌≡◌, length, sym, ap, ◌∙◌}
 use Rattle.std.proofs.lemmas.List.{length-map}
 use Rattle.pw_cells.specs.Cells.{Cell}
-use Rattle.pw_network.specs.Fields.{network_by}
-use Rattle.pw_network.specs.Kept.{attached_of}
-use Rattle.pw_settle.specs.Agenda.{tally}
+use Rattle.pw_network.specs.Wiring.{wiring}
+use Rattle.pw_network.specs.inside.Held.{attachment}
+use Rattle.pw_settle.specs.inside.Progress.{tally}
 use Rattle.pw_settle.proofs.FittingValues.{fits_now}
 use Rattle.pw_settle.proofs.SettledStores.{calls_by_gains, kept_settled, settled_known}
 use Rattle.pw_settle.proofs.settling.settle_from.Goals as goal
@@ -13,13 +13,13 @@ returns-in_err-calls-clause-upstream g c given are = (c.work.ensures.upstream gi
 
 pub returns-clause-settled : goal.returns-clause-settled
 returns-clause-settled g c sound =
-    settled_known (network_by c.args.network.now) c.args.network.now.well c.args.store.now c.work.new.store c.args.worldview.now c.requires.kinds
+    settled_known (wiring c.args.network.now) c.args.network.now.well c.args.store.now c.work.new.store c.args.worldview.now c.requires.kinds
     c.work.ensures.grows c.requires.told c.work.new.agenda c.in_ok-calls.ensures.satisfied c.in_ok-calls.ensures.done sound
     c.work.new.known.infos.items c.work.new.known.supports.items _ c.in_ok-calls.calls c.in_ok-calls.ensures.kept
 
 pub returns-clause-kept : goal.returns-clause-kept
 returns-clause-kept g c sound =
-    kept_settled (network_by c.args.network.now) c.args.network.now.well c.args.store.now c.work.new.store c.args.worldview.now c.requires.kinds
+    kept_settled (wiring c.args.network.now) c.args.network.now.well c.args.store.now c.work.new.store c.args.worldview.now c.requires.kinds
     c.work.ensures.grows c.requires.told c.work.new.agenda c.in_ok-calls.ensures.satisfied c.in_ok-calls.ensures.done sound
 
 pub returns-clause-upstream : goal.returns-clause-upstream
@@ -29,12 +29,12 @@ pub returns-clause-most : goal.returns-clause-most
 returns-clause-most g c =
     let same : length c.work.new.store.cells ≡ length c.args.store.now.cells =
     sym (length-map c.work.new.store.cells (λ (x : Cell). x.kind)) ∙ ap length c.work.ensures.grows.kinds ∙ length-map c.args.store.now.cells (λ (x : Cell). x.kind) in
-    calls_by_gains (network_by c.args.network.now) c.args.store.now c.work.new.store c.args.worldview.now c.in_ok-calls.calls (tally c.args.agenda)
+    calls_by_gains (wiring c.args.network.now) c.args.store.now c.work.new.store c.args.worldview.now c.in_ok-calls.calls (tally c.args.agenda)
     same c.in_ok-calls.ensures.most
 
 pub returns-clause-fits : goal.returns-clause-fits
 returns-clause-fits g c =
-    fits_now (network_by c.args.network.now) c.args.network.now.well c.work.new.store
+    fits_now (wiring c.args.network.now) c.args.network.now.well c.work.new.store
     (record {
       infos = c.work.new.known.infos.items;
       supports = c.work.new.known.supports.items;
@@ -43,5 +43,5 @@ returns-clause-fits g c =
       calls = c.in_ok-calls.calls;
     })
     (c.work.ensures.grows.kinds ∙ c.requires.kinds)
-    (sym (length-map c.instances.result.now attached_of) ∙ ap length c.instances.ensures.instances) c.in_ok-calls.ensures.kept
+    (sym (length-map c.instances.result.now attachment) ∙ ap length c.instances.ensures.instances) c.in_ok-calls.ensures.kept
     c.work.new.agenda c.in_ok-calls.ensures.satisfied c.in_ok-calls.ensures.done

@@ -1,10 +1,10 @@
 use Rattle.std.proofs.Common.{◌≡◌, ◌+◌, Bool, false, List, length, ap, ◌∙◌, arith}
 use Rattle.std.proofs.lemmas.List.{length-map, length-set}
 use Rattle.std.proofs.lemmas.List.Sums.{count_by-le-length}
-use Rattle.pw_network.specs.Fields.{network_by}
-use Rattle.pw_settle.specs.Agenda.{is_set, tally}
-use Rattle.pw_settle.specs.Calls.{is_visible}
-use Rattle.pw_settle.specs.Progress.{weight}
+use Rattle.pw_network.specs.Wiring.{wiring}
+use Rattle.pw_settle.specs.inside.Progress.{is_set, tally}
+use Rattle.pw_settle.specs.Calls.{is_instance_visible}
+use Rattle.pw_settle.specs.inside.Progress.{weight}
 use Rattle.pw_settle.proofs.Growing.{keeps_more_then}
 use Rattle.pw_settle.proofs.SettledStores.{calls_fit, weight_most}
 use Rattle.pw_settle.proofs.TakenFlags.{taken_less, taken_others, tally_none}
@@ -13,19 +13,19 @@ use Rattle.pw_settle.proofs.settling.work.Goals as goal
 
 pub call-requires-clause-room : goal.call-requires-clause-room
 call-requires-clause-room g c =
-    calls_fit c.loop-number.calls (tally c.loop-number.agenda) (weight (network_by c.args.network.now) c.loop-number.store c.args.worldview.now)
-    (tally c.args.agenda.now) (weight (network_by c.args.network.now) c.args.store.now c.args.worldview.now)
-    (length c.args.store.now.cells) (length (network_by c.args.network.now).attached) c.loop-number.invariant.most
+    calls_fit c.loop-number.calls (tally c.loop-number.agenda) (weight (wiring c.args.network.now) c.loop-number.store c.args.worldview.now)
+    (tally c.args.agenda.now) (weight (wiring c.args.network.now) c.args.store.now c.args.worldview.now)
+    (length c.args.store.now.cells) (length (wiring c.args.network.now).attached) c.loop-number.invariant.most
     (omega (
       arith,
       count_by-le-length (λ (flag : Bool). flag) c.args.agenda.now,
       c.requires.flags,
     ))
-    (weight_most (network_by c.args.network.now) c.args.store.now c.args.worldview.now)
+    (weight_most (wiring c.args.network.now) c.args.store.now c.args.worldview.now)
     (omega (arith, c.cells-cells.ensures)) (omega (
       arith,
       ap length c.requires.visible,
-      length-map (network_by c.args.network.now).attached (is_visible c.args.worldview.now),
+      length-map (wiring c.args.network.now).attached (is_instance_visible c.args.worldview.now),
     ))
 
 pub call-requires-clause-others : goal.call-requires-clause-others
@@ -39,7 +39,7 @@ less g c = taken_less c.loop-number.agenda c.take.new.self c.in-Some.number c.in
 
 pub loop-number-preserved : goal.loop-number-preserved
 loop-number-preserved g c = record {
-  grows = keeps_more_then (network_by c.args.network.now) c.args.store.now c.loop-number.store c.call.new.store c.loop-number.invariant.grows c.call.ensures.grows;
+  grows = keeps_more_then (wiring c.args.network.now) c.args.store.now c.loop-number.store c.call.new.store c.loop-number.invariant.grows c.call.ensures.grows;
   upstream = λ given are. c.call.ensures.upstream given (c.loop-number.invariant.upstream given are);
   kept = c.in_ok-call.ensures.kept;
   flags = c.call.ensures.flags ∙ ap length c.in-Some.ensures.some.1 ∙ length-set c.loop-number.agenda c.in-Some.number false ∙ c.loop-number.invariant.flags;
@@ -51,7 +51,7 @@ loop-number-preserved g c = record {
 
 pub returns-in_err-call-clause-grows : goal.returns-in_err-call-clause-grows
 returns-in_err-call-clause-grows g c =
-    keeps_more_then (network_by c.args.network.now) c.args.store.now c.loop-number.store c.call.new.store c.loop-number.invariant.grows c.call.ensures.grows
+    keeps_more_then (wiring c.args.network.now) c.args.store.now c.loop-number.store c.call.new.store c.loop-number.invariant.grows c.call.ensures.grows
 
 pub returns-in_err-call-clause-upstream : goal.returns-in_err-call-clause-upstream
 returns-in_err-call-clause-upstream g c given are = c.call.ensures.upstream given (c.loop-number.invariant.upstream given are)

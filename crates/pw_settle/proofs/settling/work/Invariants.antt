@@ -1,26 +1,26 @@
 use Rattle.std.proofs.Common.{◌≡◌, ◌+◌, ◌≤◌, ℕ, Bool, true, length}
 use Rattle.pw_cells.specs.Cells.{kept_in}
-use Rattle.pw_network.specs.Fields.{network_by}
-use Rattle.pw_settle.specs.Agenda.{is_set, tally}
+use Rattle.pw_network.specs.Wiring.{wiring}
+use Rattle.pw_settle.specs.inside.Progress.{is_set, tally}
 use Rattle.pw_settle.specs.Calls.{visible_at}
 use Rattle.pw_settle.specs.Growth.{KeepsMore}
-use Rattle.pw_settle.specs.Known.{AreKept, AreUpstream}
-use Rattle.pw_settle.specs.Progress.{AreSatisfied, weight}
+use Rattle.pw_settle.specs.inside.Known.{AreKept, AreUpstream}
+use Rattle.pw_settle.specs.inside.Progress.{AreSatisfied, weight}
 use Rattle.pw_settle.proofs.settling.work.Given as goal
 
 abbrev pub invariant-loop-number : goal.invariant-loop-number
 invariant-loop-number g l = record {
-  grows : KeepsMore (network_by l.network) l.fn.store l.store;
-  upstream : (given : ℕ → ℕ → Bool) → AreUpstream (network_by l.network) given l.fn.store l.fn.known.supports.items
-      → AreUpstream (network_by l.network) given l.store l.known.supports.items;
+  grows : KeepsMore (wiring l.network) l.fn.store l.store;
+  upstream : (given : ℕ → ℕ → Bool) → AreUpstream (wiring l.network) given l.fn.store l.fn.known.supports.items
+      → AreUpstream (wiring l.network) given l.store l.known.supports.items;
   kept : AreKept l.store l.worldview l.known.infos.items l.known.supports.items;
-  flags : length l.agenda ≡ length (network_by l.network).attached;
-  seen : (n : ℕ) → is_set l.agenda n ≡ true → visible_at (network_by l.network) l.worldview n ≡ true;
-  satisfied : AreSatisfied (network_by l.network) l.worldview (λ cell. kept_in l.store cell l.worldview) l.agenda;
+  flags : length l.agenda ≡ length (wiring l.network).attached;
+  seen : (n : ℕ) → is_set l.agenda n ≡ true → visible_at (wiring l.network) l.worldview n ≡ true;
+  satisfied : AreSatisfied (wiring l.network) l.worldview (λ cell. kept_in l.store cell l.worldview) l.agenda;
   least : tally l.fn.agenda ≤ l.calls + tally l.agenda;
-  most : l.calls + (tally l.agenda + weight (network_by l.network) l.store l.worldview)
-      ≤ tally l.fn.agenda + weight (network_by l.network) l.fn.store l.worldview;
+  most : l.calls + (tally l.agenda + weight (wiring l.network) l.store l.worldview)
+      ≤ tally l.fn.agenda + weight (wiring l.network) l.fn.store l.worldview;
 }
 
 abbrev pub decreases-loop-number : goal.decreases-loop-number
-decreases-loop-number g l = tally l.agenda + weight (network_by l.network) l.store l.worldview
+decreases-loop-number g l = tally l.agenda + weight (wiring l.network) l.store l.worldview

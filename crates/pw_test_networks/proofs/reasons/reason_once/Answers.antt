@@ -1,22 +1,22 @@
-use Rattle.pw_network.specs.Fields.{network_by}
+use Rattle.pw_network.specs.Wiring.{wiring}
 use Rattle.pw_settle.proofs.Growing.{settled_still}
 use Rattle.pw_reasons.proofs.NogoodLemmas.{nogoods_same}
 use Rattle.pw_test_networks.proofs.reasons.reason_once.Goals as goal
 
 pub reason-requires-clause-nogoods : goal.reason-requires-clause-nogoods
 reason-requires-clause-nogoods g c =
-    nogoods_same (network_by c.args.network.now) c.args.store.now c.settle.new.store c.settle.ensures.grows.told c.args.nogoods.now c.requires.nogoods
+    nogoods_same (wiring c.args.network.now) c.args.store.now c.settle.new.store c.settle.ensures.grows.told c.args.nogoods.now c.requires.nogoods
 
 pub returns-in_err-settled-clause-nogoods : goal.returns-in_err-settled-clause-nogoods
 returns-in_err-settled-clause-nogoods g c =
-    nogoods_same (network_by c.args.network.now) c.args.store.now c.settle.new.store c.settle.ensures.grows.told c.args.nogoods.now c.requires.nogoods
+    nogoods_same (wiring c.args.network.now) c.args.store.now c.settle.new.store c.settle.ensures.grows.told c.args.nogoods.now c.requires.nogoods
 
 pub reason-requires-clause-settled : goal.reason-requires-clause-settled
 reason-requires-clause-settled g c =
-    settled_still (network_by c.args.network.now) c.args.store.now c.settle.new.store c.args.worldview.now c.in_ok-settled.settled
+    settled_still (wiring c.args.network.now) c.args.store.now c.settle.new.store c.args.worldview.now c.in_ok-settled.settled
     c.settle.ensures.grows (c.in_ok-settled.ensures.settled c.requires.ready.sound)
 
 pub returns-clause-nogoods : goal.returns-clause-nogoods
 returns-clause-nogoods g c =
-    nogoods_same (network_by c.args.network.now) c.settle.new.store c.reason.new.store c.reason.ensures.grows.told c.reason.new.nogoods
+    nogoods_same (wiring c.args.network.now) c.settle.new.store c.reason.new.store c.reason.ensures.grows.told c.reason.new.nogoods
     c.reason.ensures.nogoods

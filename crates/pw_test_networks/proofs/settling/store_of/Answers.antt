@@ -1,7 +1,7 @@
 use Rattle.std.proofs.Common.{◌≡◌, List, [], ◌++◌, length, map, ap, ◌∙◌, arith}
 use Rattle.std.proofs.lemmas.List.{length-map}
 use Rattle.pw_cells.specs.Cells.{Cell, Store, new_cell}
-use Rattle.pw_network.specs.Fields.{network_by}
+use Rattle.pw_network.specs.Wiring.{wiring}
 use Rattle.pw_settle.specs.Values.{kinds_in}
 use Rattle.pw_settle.proofs.SoundStores.{sound_new}
 use Rattle.pw_settle.proofs.StoreCells.{cells_kept, kinds_added}
@@ -18,7 +18,7 @@ add_cells-requires g c =
     let long = ap length c.deref.ensures.value in
     let kinds = c.in_ok-kinds.kinds.items in
     let made : Store = record { cells = map new_cell kinds; room = 0 } in
-    let many = cells_kept (network_by c.args.network.now) made c.args.network.now.well (kinds_added [] kinds ∙ c.in_ok-kinds.ensures) in
+    let many = cells_kept (wiring c.args.network.now) made c.args.network.now.well (kinds_added [] kinds ∙ c.in_ok-kinds.ensures) in
     omega (arith, ap length none, long, many, length-map kinds new_cell, c.cells.ensures.count, c.cells.ensures.most)
 
 pub returns : goal.returns
@@ -32,5 +32,5 @@ returns g c =
     let kinds = ap (map (λ (x : Cell). x.kind)) new ∙ kinds_added [] c.in_ok-kinds.kinds.items ∙ c.in_ok-kinds.ensures in
     record {
       kinds = kinds;
-      sound = sound_new (network_by c.args.network.now) c.add_cells.new.self c.in_ok-kinds.kinds.items kinds new;
+      sound = sound_new (wiring c.args.network.now) c.add_cells.new.self c.in_ok-kinds.kinds.items kinds new;
     }

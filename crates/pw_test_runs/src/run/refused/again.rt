@@ -1,4 +1,5 @@
-//! Lines that run out of memory: they leave nothing, and a question gets its answer when it is asked again.
+//! Lines that run out of memory: they leave nothing, and a question gets its answer when it is
+//! asked again.
 
 use super::super::worked::{APART, Session};
 use super::{growths_of, run_with, wrote};
@@ -55,8 +56,8 @@ fn replies_without(alloc: Global, session: Session<'_>, before: usize) -> Result
     Ok(answered(alloc, &rows)?)
 }
 
-// Refuses each growth in turn that the line after the first `before` lines asks for. Checks that the session gets these replies
-// each time.
+// Refuses each growth in turn that the line after the first `before` lines asks for. Checks that
+// the session gets these replies each time.
 fn is_refused_alone<R: Abort + AllocGlobal>(
     rt: &R,
     session: Session<'_>,
@@ -73,7 +74,8 @@ fn is_refused_alone<R: Abort + AllocGlobal>(
     Ok(())
 }
 
-// Checks that the last line of the session gets its reply when the line before it, which says the same, runs out of memory.
+// Checks that the last line of the session gets its reply when the line before it, which says the
+// same, runs out of memory.
 fn is_answered_again<R: Abort + AllocGlobal>(rt: &R, session: Session<'_>) -> Result<(), Fail> {
     let before = session.rows.len().saturating_sub(2);
     let replies = replies_without(rt.alloc(), session, before)?;
@@ -95,7 +97,8 @@ fn conflicts_are_listed_again(rt: HostRuntime) -> Result<(), Fail> {
     is_answered_again(&rt, CONFLICTING)
 }
 
-// The first growth that the attachment asks for is that of the store, before there is any inner cell or instance.
+// The first growth that the attachment asks for is that of the store, before there is any inner
+// cell or instance.
 #[test]
 fn an_attachment_that_memory_is_refused_to_leaves_nothing(rt: HostRuntime) -> Result<(), Fail> {
     let replies = "1: ok\n2: ok\n12: refused 11 memory\n13: conflicts none\n14: 1\n";

@@ -1,5 +1,5 @@
-//! Commands that take no memory, with every growth refused: those on beliefs, and an ask of a cell that no instance under
-//! believed premises writes.
+//! Commands that take no memory, with every growth refused: those on beliefs, and an ask of a cell
+//! that no instance under believed premises writes.
 
 use super::super::worked::Session;
 use super::{growths_of, run_with, wrote};
@@ -8,7 +8,8 @@ use pw_testing::Refusing;
 use pw_testing::worlds::GENERAL;
 use std::test::Fail;
 
-// Users tell much of one cell, and an instance writes another cell under a premise. Then a user doubts that premise.
+// Users tell much of one cell, and an instance writes another cell under a premise. Then a user
+// doubts that premise.
 const CALM: Session<'_> = Session {
     declaration: GENERAL,
     rows: &[

@@ -1,6 +1,7 @@
-//! Runs over an allocator that refuses each allocation growth in turn, alone or with all later ones. Either a run ends before it
-//! writes anything, or it answers each line as if the lines that ran out of memory were blank. Where one growth is refused alone,
-//! that is at most one line: the one that asked for it.
+//! Runs over an allocator that refuses each allocation growth in turn, alone or with all later
+//! ones. Either a run ends before it writes anything, or it answers each line as if the lines that
+//! ran out of memory were blank. Where one growth is refused alone, that is at most one line: the
+//! one that asked for it.
 
 use super::super::worked::{
     APART, BUILDING, COPYING, DISAGREEING, SUMMING, SWITCHING, Session, TWICE,
@@ -60,7 +61,8 @@ fn blanked<'a>(
     Ok(left)
 }
 
-// Checks that the other replies are those of a run with ample memory over the session with the refused lines made blank.
+// Checks that the other replies are those of a run with ample memory over the session with the
+// refused lines made blank.
 fn are_as_if_blank<R: Abort + AllocGlobal>(
     rt: &R,
     session: Session<'_>,
@@ -77,7 +79,8 @@ fn are_as_if_blank<R: Abort + AllocGlobal>(
     Ok(())
 }
 
-// Checks that a run that ended well answered each line as if the refused lines were blank. Answers which lines were refused.
+// Checks that a run that ended well answered each line as if the refused lines were blank. Answers
+// which lines were refused.
 fn refused_in<R: Abort + AllocGlobal>(
     rt: &R,
     session: Session<'_>,
@@ -91,8 +94,8 @@ fn refused_in<R: Abort + AllocGlobal>(
     Ok(replies.refused)
 }
 
-// Refuses this growth, and checks what the run does. `growths` has the number of growths that runs ask for by the end of each
-// line. Answers how many lines ran out of memory.
+// Refuses this growth, and checks what the run does. `growths` has the number of growths that runs
+// ask for by the end of each line. Answers how many lines ran out of memory.
 fn is_refused_in_turn<R: Abort + AllocGlobal>(
     rt: &R,
     session: Session<'_>,

@@ -1,4 +1,5 @@
-//! A refused growth and a failing output in one run. The run writes a front of what it writes where the growth alone is refused.
+//! A refused growth and a failing output in one run. The run writes a front of what it writes where
+//! the growth alone is refused.
 
 use super::super::worked::{COPYING, Session};
 use super::{Outcome, growths_of, run_with};
@@ -58,7 +59,8 @@ fn run_faulty<R: Abort + AllocGlobal>(
     })
 }
 
-// Checks that a run over the session with this fault writes what it writes where the growth alone is refused, up to the byte.
+// Checks that a run over the session with this fault writes what it writes where the growth alone
+// is refused, up to the byte.
 fn writes_a_front<R: Abort + AllocGlobal>(
     rt: &R,
     session: Session<'_>,

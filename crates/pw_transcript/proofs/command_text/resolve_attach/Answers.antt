@@ -2,18 +2,18 @@ use Rattle.std.proofs.Common.{◌≡◌, true, ap, sym, ◌∙◌, refl, length}
 use Rattle.std.specs.List.{list_all}
 use Rattle.std.proofs.lemmas.Bool.{false≢true}
 use Rattle.pw_premises.specs.Premises.{Premises}
-use Rattle.pw_procs.specs.Arguments.{cells_of}
+use Rattle.pw_procs.specs.Registry.{cells_of}
 use Rattle.pw_decl.proofs.CompoundLemmas.{places_there, accepts_same}
-use Rattle.pw_decl.specs.Fields.{declared_by}
+use Rattle.pw_decl.specs.inside.Fields.{declared}
 use Rattle.pw_sessions.specs.declared.command.Command.TheVariants as commands
 use Rattle.pw_transcript.specs.Reading.{cells_named, is_cell}
-use Rattle.pw_transcript.specs.Steps.Forms.{before_under}
+use Rattle.pw_transcript.specs.inside.Forms.{before_under}
 use Rattle.pw_transcript.proofs.CellLists.{too_many, wrong_arguments}
 use Rattle.pw_transcript.proofs.command_text.resolve_attach.Goals as goal
 
 pub returns-in_default-named_cells-clause-err : goal.returns-in_default-named_cells-clause-err
 returns-in_default-named_cells-clause-err g c =
-    let d = declared_by c.args.declaration.now in
+    let d = declared c.args.declaration.now in
     let words = before_under c.args.cells in
     let all : list_all (is_cell d) words ≡ true = sym (rw c.again.ensures at c.if-not-are_cells.ensures) in
     wrong_arguments d c.args.user c.args.callable.now words c.args.under c.in-Some.callable (sym c.in-Some.ensures.named) all
@@ -21,13 +21,13 @@ returns-in_default-named_cells-clause-err g c =
 
 pub accepts_at-requires-clause-places : goal.accepts_at-requires-clause-places
 accepts_at-requires-clause-places g c =
-    let d = declared_by c.args.declaration.now in
+    let d = declared c.args.declaration.now in
     places_there d.cells (before_under c.args.cells) (cells_of c.in-Some-named_cells.cells) c.kinds.result.now c.in-Some-named_cells.ensures.some.0
     (sym c.limits.ensures.kinds ∙ ap length (sym c.kinds.ensures.kinds))
 
 pub returns-then-not-accepts_at-clause-err : goal.returns-then-not-accepts_at-clause-err
 returns-then-not-accepts_at-clause-err g c =
-    let d = declared_by c.args.declaration.now in
+    let d = declared c.args.declaration.now in
     let words = before_under c.args.cells in
     let all : list_all (is_cell d) words ≡ true = sym (rw c.again.ensures at c.if-not-are_cells.ensures) in
     let same = accepts_same d.procedures d.compounds c.in-Some.callable c.kinds.result.now d.kinds (cells_of c.in-Some-named_cells.cells) (cells_named d words)
@@ -37,7 +37,7 @@ returns-then-not-accepts_at-clause-err g c =
 
 pub returns-clause-ok : goal.returns-clause-ok
 returns-clause-ok g c =
-    let d = declared_by c.args.declaration.now in
+    let d = declared c.args.declaration.now in
     let words = before_under c.args.cells in
     let cells = c.in-Some-named_cells.cells in
     let all : list_all (is_cell d) words ≡ true = sym (rw c.again.ensures at c.if-not-are_cells.ensures) in

@@ -1,18 +1,18 @@
 use Rattle.std.proofs.Common.{◌≡◌, ℕ, ◌+◌, List, [], ◌++◌, drop, get_or, map, take, sym, ap, ◌∙◌, subst}
 use Rattle.std.specs.List.{flat_map}
 use Rattle.std.proofs.lemmas.Option.{get_or_from_slice_get}
-use Rattle.pw_info.specs.Passing.{IsWritten}
+use Rattle.pw_info.specs.Passing.{IsPassed}
 use Rattle.pw_info.specs.SetNames.{name_at}
 use Rattle.pw_info.proofs.PassingFacts.{broken_off_then, first_fails, written_then}
 use Rattle.pw_decl.specs.Declaration.{Declared}
-use Rattle.pw_decl.specs.Fields.{declared_by}
+use Rattle.pw_decl.specs.inside.Fields.{declared}
 use Rattle.pw_transcript.specs.ReplyText.{after_space}
 use Rattle.pw_transcript.proofs.RowTexts.{row_more, row_whole}
 use Rattle.pw_transcript.proofs.reply_text.write_cells.Goals as goal
 
 pub returns-in_err-write_after_space : goal.returns-in_err-write_after_space
 returns-in_err-write_after_space g c =
-    let d : Declared = declared_by c.args.declaration.now in
+    let d : Declared = declared c.args.declaration.now in
     let at : ℕ = c.loop-cell.cell-index in
     let so_far : List ℕ = flat_map after_space (map (name_at d.cells) (take at c.args.cells.now)) in
     let name : name_at d.cells (get_or c.args.cells.now at 0) ≡ c.cell_name.result.now =
@@ -25,12 +25,12 @@ returns-in_err-write_after_space g c =
 
 pub loop-cell-preserved : goal.loop-cell-preserved
 loop-cell-preserved g c =
-    let d : Declared = declared_by c.args.declaration.now in
+    let d : Declared = declared c.args.declaration.now in
     let at : ℕ = c.loop-cell.cell-index in
     let so_far : List ℕ = flat_map after_space (map (name_at d.cells) (take at c.args.cells.now)) in
     let name : name_at d.cells (get_or c.args.cells.now at 0) ≡ c.cell_name.result.now =
     get_or_from_slice_get d.cells (get_or c.args.cells.now at 0) c.cell_name.result.now [] c.cell_name.ensures.name in
-    subst (IsWritten g.O.Output.passes g.O.Output.has_failed c.args.output.now c.write_after_space.new.output)
+    subst (IsPassed g.O.Output.passes g.O.Output.has_failed c.args.output.now c.write_after_space.new.output)
     (sym (row_more (name_at d.cells) c.args.cells.now at c.loop-cell-test.true ∙ ap (λ n. so_far ++ after_space n) name))
     (written_then g.O.Output.passes g.O.Output.has_failed g.met.O.Output.joins c.args.output.now c.loop-cell.output c.write_after_space.new.output
     so_far (after_space c.cell_name.result.now) c.loop-cell.invariant c.in_ok-write_after_space.ensures)

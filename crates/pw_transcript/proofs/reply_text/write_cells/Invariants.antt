@@ -1,13 +1,13 @@
 use Rattle.std.proofs.Common.{map, take}
 use Rattle.std.specs.List.{flat_map}
-use Rattle.pw_info.specs.Passing.{IsWritten}
+use Rattle.pw_info.specs.Passing.{IsPassed}
 use Rattle.pw_info.specs.SetNames.{name_at}
-use Rattle.pw_decl.specs.Fields.{declared_by}
+use Rattle.pw_decl.specs.inside.Fields.{declared}
 use Rattle.pw_transcript.specs.ReplyText.{after_space}
 use Rattle.pw_transcript.proofs.reply_text.write_cells.Given as goal
 
 -- the names of the cells so far are written
 abbrev pub invariant-loop-cell : goal.invariant-loop-cell
 invariant-loop-cell g l =
-    IsWritten g.O.Output.passes g.O.Output.has_failed l.fn.output l.output
-    (flat_map after_space (map (name_at (declared_by l.declaration).cells) (take l.cell-index l.cells)))
+    IsPassed g.O.Output.passes g.O.Output.has_failed l.fn.output l.output
+    (flat_map after_space (map (name_at (declared l.declaration).cells) (take l.cell-index l.cells)))

@@ -2,8 +2,8 @@ use Rattle.std.proofs.Common.{◌+◌, ◌<◌, List, ℕ, ◌++◌, length, cod
 use Rattle.std.specs.Fmt.{decimal}
 use Rattle.std.specs.List.{flat_map}
 use Rattle.pw_decl.specs.Declaration.{Declared}
-use Rattle.pw_decl.specs.Fields.{declared_by}
-use Rattle.pw_info.specs.Passing.{IsBrokenOff, IsWritten, Writes}
+use Rattle.pw_decl.specs.inside.Fields.{declared}
+use Rattle.pw_info.specs.Passing.{IsBrokenOff, IsPassed, Writes}
 use Rattle.pw_info.specs.SetNames.{name_at}
 use Rattle.pw_info.proofs.PassingFacts.{first_fails, second_writes}
 use Rattle.pw_reasons.specs.Conflicts.{Conflicts}
@@ -14,7 +14,7 @@ use Rattle.pw_transcript.proofs.reply_text.write_conflict_names.Goals.{else-is_e
 
 pub returns-in_err-write_cells : goal.returns-in_err-write_cells
 returns-in_err-write_cells g c =
-    let d : Declared = declared_by c.args.declaration.now in
+    let d : Declared = declared c.args.declaration.now in
     let conflicts : Conflicts = c.args.conflicts.now in
     let cells : List ℕ = flat_map after_space (map (name_at d.cells) conflicts.cells) in
     let lines : List ℕ = flat_map after_space (map (λ line. codes "line " ++ decimal line) conflicts.lines) in
@@ -30,7 +30,7 @@ returns-in_err-write_cells g c =
 
 pub returns : goal.returns
 returns g c =
-    let d : Declared = declared_by c.args.declaration.now in
+    let d : Declared = declared c.args.declaration.now in
     let conflicts : Conflicts = c.args.conflicts.now in
     let cells : List ℕ = flat_map after_space (map (name_at d.cells) conflicts.cells) in
     let lines : List ℕ = flat_map after_space (map (λ line. codes "line " ++ decimal line) conflicts.lines) in
@@ -39,7 +39,7 @@ returns g c =
       | else-is_empty-via-else-is_empty w ↦ some_cell conflicts c.cells.result.now c.cells.ensures w.if-is_empty.ensures
     ] in
     second_writes g.O.Output.passes g.O.Output.has_failed g.met.O.Output.joins _ _ _ c.write_lines.result _ cells lines
-    (subst (λ (l : List ℕ). IsWritten g.O.Output.passes g.O.Output.has_failed c.args.output.now c.write_cells.new.output (flat_map after_space (map (name_at d.cells) l))) c.cells-2.ensures
+    (subst (λ (l : List ℕ). IsPassed g.O.Output.passes g.O.Output.has_failed c.args.output.now c.write_cells.new.output (flat_map after_space (map (name_at d.cells) l))) c.cells-2.ensures
     c.in_ok-write_cells.ensures)
     (subst (λ (l : List ℕ). Writes g.O.Output.passes g.O.Output.has_failed c.write_cells.new.output c.write_lines.new.output c.write_lines.result (flat_map after_space (map (λ line. codes "line " ++ decimal line) l)))
     c.lines-2.ensures c.write_lines.ensures)

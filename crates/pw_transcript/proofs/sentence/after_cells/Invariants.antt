@@ -1,5 +1,5 @@
 use Rattle.std.proofs.Common.{◌≡◌, length}
-use Rattle.pw_transcript.specs.Steps.Forms.{from_under}
+use Rattle.pw_transcript.specs.inside.Forms.{from_under}
 use Rattle.pw_transcript.proofs.sentence.after_cells.Given as goal
 
 -- the first `under` is among the remaining words

@@ -1,5 +1,5 @@
 use Rattle.std.proofs.Common.{rules}
-use Rattle.pw_decl.specs.Fields.{declared_by}
+use Rattle.pw_decl.specs.inside.Fields.{declared}
 use Rattle.pw_transcript.proofs.RunLemmas.{if_ok_both, gathered_to_all, gathered_to_ended, gathered_failed, gathered_in_part, gathered_up_to_limit, gathered_works, nothing_in_part}
 use Rattle.pw_transcript.proofs.transcript.run.Goals as goal
 
@@ -21,7 +21,7 @@ returns-clause-write g c = λ e.
 pub returns-clause-write_failed : goal.returns-clause-write_failed
 returns-clause-write_failed g c = λ e.
     let write = c.answer_all.ensures.write e in
-    gathered_failed g.O.Output.passes (declared_by c.args.d.now) _ c.args.output.now _ c.new-gathered.result c.answer_all.new.output g.I.Input.takes
+    gathered_failed g.O.Output.passes (declared c.args.d.now) _ c.args.output.now _ c.new-gathered.result c.answer_all.new.output g.I.Input.takes
     c.args.input.now c.answer_all.new.input g.O.Output.has_failed g.I.Input.has_ended c.new-gathered.ensures.same_reference write (c.answer_all.ensures.write_failed e)
     c.output-1.given.1
 
@@ -33,7 +33,7 @@ returns-clause-limit g c = λ e.
 
 pub returns-then-failed-clause-write : goal.returns-then-failed-clause-write
 returns-then-failed-clause-write g c = λ e.
-    nothing_in_part g.I.Input.takes g.O.Output.passes (declared_by c.args.d.now) g.I.Input.has_ended c.args.input.now c.args.output.now
+    nothing_in_part g.I.Input.takes g.O.Output.passes (declared c.args.d.now) g.I.Input.has_ended c.args.input.now c.args.output.now
     (g.met.I.Input.none c.args.input.now) (g.met.O.Output.none c.args.output.now)
 
 pub returns-clause-works : goal.returns-clause-works

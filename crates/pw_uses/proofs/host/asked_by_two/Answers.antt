@@ -1,10 +1,10 @@
 use Rattle.std.proofs.Common.{refl}
 use Rattle.std.specs.FinSet.{empty}
 use Rattle.pw_decl.specs.Declaration.{Declared}
-use Rattle.pw_decl.specs.Fields.{declared_by}
+use Rattle.pw_decl.specs.inside.Fields.{declared}
 use Rattle.pw_sessions.specs.declared.command.Command.TheVariants as commands
 use Rattle.pw_sessions.specs.Reply as reply
-use Rattle.pw_sessions.specs.Fields.{workbench_by}
+use Rattle.pw_sessions.specs.inside.Fields.{state}
 use Rattle.pw_sessions.specs.Workbench.{Workbench}
 use Rattle.pw_uses.specs.declared.host.Matter.{Matter}
 use Rattle.pw_uses.proofs.HostLemmas as host
@@ -12,29 +12,29 @@ use Rattle.pw_uses.proofs.host.asked_by_two.Goals as goal
 
 pub command-requires : goal.command-requires
 command-requires g c =
-    let d : Declared = declared_by c.args.declaration.now in
+    let d : Declared = declared c.args.declaration.now in
     let m : Matter = c.args.matter.now in
-    let made : Workbench = workbench_by c.in-Ok-new.workbench in
+    let made : Workbench = state c.in-Ok-new.workbench in
     host.can_by made 1 c.attaching.result (host.attach d m c.requires empty) c.attaching.ensures
     (host.can_attach d m c.requires empty made c.in-Ok-new.ensures.left)
 
 pub command-requires-2 : goal.command-requires-2
 command-requires-2 g c =
-    let d : Declared = declared_by c.args.declaration.now in
+    let d : Declared = declared c.args.declaration.now in
     let m : Matter = c.args.matter.now in
-    let made : Workbench = workbench_by c.in-Ok-new.workbench in
-    let one : Workbench = workbench_by c.command.new.self in
+    let made : Workbench = state c.in-Ok-new.workbench in
+    let one : Workbench = state c.command.new.self in
     let left_1 = host.attached d m c.requires empty made one c.in-Ok-new.ensures.left
     (host.out_by made 1 c.attaching.result (host.attach d m c.requires empty) one reply.Done c.attaching.ensures c.in-Done.ensures.carried) in
     host.can_by one 2 c.telling.result (host.tell d m c.requires empty) c.telling.ensures (host.can_tell d m c.requires empty one left_1)
 
 pub command-requires-3 : goal.command-requires-3
 command-requires-3 g c =
-    let d : Declared = declared_by c.args.declaration.now in
+    let d : Declared = declared c.args.declaration.now in
     let m : Matter = c.args.matter.now in
-    let made : Workbench = workbench_by c.in-Ok-new.workbench in
-    let one : Workbench = workbench_by c.command.new.self in
-    let two : Workbench = workbench_by c.command-2.new.self in
+    let made : Workbench = state c.in-Ok-new.workbench in
+    let one : Workbench = state c.command.new.self in
+    let two : Workbench = state c.command-2.new.self in
     let left_1 = host.attached d m c.requires empty made one c.in-Ok-new.ensures.left
     (host.out_by made 1 c.attaching.result (host.attach d m c.requires empty) one reply.Done c.attaching.ensures c.in-Done.ensures.carried) in
     let left_2 = host.told d m c.requires empty one two left_1
@@ -43,12 +43,12 @@ command-requires-3 g c =
 
 pub command-requires-4 : goal.command-requires-4
 command-requires-4 g c =
-    let d : Declared = declared_by c.args.declaration.now in
+    let d : Declared = declared c.args.declaration.now in
     let m : Matter = c.args.matter.now in
-    let made : Workbench = workbench_by c.in-Ok-new.workbench in
-    let one : Workbench = workbench_by c.command.new.self in
-    let two : Workbench = workbench_by c.command-2.new.self in
-    let three : Workbench = workbench_by c.command-3.new.self in
+    let made : Workbench = state c.in-Ok-new.workbench in
+    let one : Workbench = state c.command.new.self in
+    let two : Workbench = state c.command-2.new.self in
+    let three : Workbench = state c.command-3.new.self in
     let left_1 = host.attached d m c.requires empty made one c.in-Ok-new.ensures.left
     (host.out_by made 1 c.attaching.result (host.attach d m c.requires empty) one reply.Done c.attaching.ensures c.in-Done.ensures.carried) in
     let left_2 = host.told d m c.requires empty one two left_1
@@ -59,13 +59,13 @@ command-requires-4 g c =
 
 pub command-requires-5 : goal.command-requires-5
 command-requires-5 g c =
-    let d : Declared = declared_by c.args.declaration.now in
+    let d : Declared = declared c.args.declaration.now in
     let m : Matter = c.args.matter.now in
-    let made : Workbench = workbench_by c.in-Ok-new.workbench in
-    let one : Workbench = workbench_by c.command.new.self in
-    let two : Workbench = workbench_by c.command-2.new.self in
-    let three : Workbench = workbench_by c.command-3.new.self in
-    let four : Workbench = workbench_by c.command-4.new.self in
+    let made : Workbench = state c.in-Ok-new.workbench in
+    let one : Workbench = state c.command.new.self in
+    let two : Workbench = state c.command-2.new.self in
+    let three : Workbench = state c.command-3.new.self in
+    let four : Workbench = state c.command-4.new.self in
     let left_1 = host.attached d m c.requires empty made one c.in-Ok-new.ensures.left
     (host.out_by made 1 c.attaching.result (host.attach d m c.requires empty) one reply.Done c.attaching.ensures c.in-Done.ensures.carried) in
     let left_2 = host.told d m c.requires empty one two left_1
@@ -78,14 +78,14 @@ command-requires-5 g c =
 
 pub returns : goal.returns
 returns g c =
-    let d : Declared = declared_by c.args.declaration.now in
+    let d : Declared = declared c.args.declaration.now in
     let m : Matter = c.args.matter.now in
-    let made : Workbench = workbench_by c.in-Ok-new.workbench in
-    let one : Workbench = workbench_by c.command.new.self in
-    let two : Workbench = workbench_by c.command-2.new.self in
-    let three : Workbench = workbench_by c.command-3.new.self in
-    let four : Workbench = workbench_by c.command-4.new.self in
-    let five : Workbench = workbench_by c.command-5.new.self in
+    let made : Workbench = state c.in-Ok-new.workbench in
+    let one : Workbench = state c.command.new.self in
+    let two : Workbench = state c.command-2.new.self in
+    let three : Workbench = state c.command-3.new.self in
+    let four : Workbench = state c.command-4.new.self in
+    let five : Workbench = state c.command-5.new.self in
     let left_1 = host.attached d m c.requires empty made one c.in-Ok-new.ensures.left
     (host.out_by made 1 c.attaching.result (host.attach d m c.requires empty) one reply.Done c.attaching.ensures c.in-Done.ensures.carried) in
     let left_2 = host.told d m c.requires empty one two left_1

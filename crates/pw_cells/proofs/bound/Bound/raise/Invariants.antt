@@ -1,6 +1,6 @@
 use Rattle.std.proofs.Common.{◌-◌, length}
 use Rattle.pw_info.specs.Information.{kind_of}
-use Rattle.pw_cells.specs.Bound.{Bounds}
+use Rattle.pw_cells.specs.inside.OneCell.{Bounds}
 use Rattle.pw_cells.proofs.bound.Bound.raise.Given as goal
 
 abbrev pub invariant-loop-self : goal.invariant-loop-self

@@ -4,11 +4,11 @@ use Rattle.std.proofs.lemmas.Bool.{not-false}
 use Rattle.pw_info.specs.Information.{kind_of, meet}
 use Rattle.pw_facts.specs.declared.fact.Fact.{Fact}
 use Rattle.pw_facts.specs.Facts.{shows}
-use Rattle.pw_cells.specs.Assimilated.{assimilated, all_assimilated}
-use Rattle.pw_cells.specs.Bound.{Bounds}
+use Rattle.pw_cells.specs.Cells.{assimilated, all_assimilated}
+use Rattle.pw_cells.specs.inside.OneCell.{Bounds}
 use Rattle.pw_cells.specs.Cells.{Cell, shown_by, IsSubsumedBy}
 use Rattle.pw_cells.specs.Changes.{Assimilates}
-use Rattle.pw_cells.specs.OneCell.{AreOfKind}
+use Rattle.pw_cells.specs.inside.OneCell.{AreOfKind}
 use Rattle.pw_cells.proofs.Late.{any_subsumes, assimilated_known}
 use Rattle.pw_cells.proofs.Tells.{whole_caught_up, whole_kept, kept_more}
 use Rattle.pw_cells.proofs.cell_facts.CellFacts.keep.Goals as goal

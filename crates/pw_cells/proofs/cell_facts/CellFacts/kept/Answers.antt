@@ -1,11 +1,11 @@
 use Rattle.std.proofs.Common.{List, sym, ◌∙◌, ap, subst, arith}
 use Rattle.pw_info.specs.Information.{kind_of}
 use Rattle.pw_facts.specs.declared.fact.Fact.{Fact}
-use Rattle.pw_cells.specs.Bound.{Bounds}
+use Rattle.pw_cells.specs.inside.OneCell.{Bounds}
 use Rattle.pw_cells.specs.Cells.{Cell}
-use Rattle.pw_cells.specs.OneCell.{AreOfKind}
+use Rattle.pw_cells.specs.inside.OneCell.{AreOfKind}
 use Rattle.pw_cells.proofs.Tells.{whole_caught_up}
-use Rattle.pw_cells.specs.Assimilated.{all_assimilated}
+use Rattle.pw_cells.specs.Cells.{all_assimilated}
 use Rattle.pw_cells.proofs.Together.{kind-shown_by, larger_shown}
 use Rattle.pw_cells.proofs.cell_facts.CellFacts.kept.Goals as goal
 

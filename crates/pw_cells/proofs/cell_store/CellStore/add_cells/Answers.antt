@@ -1,7 +1,7 @@
 use Rattle.std.proofs.Common.{◌≡◌, ◌+◌, ◌≤◌, ◌++◌, ◌∙◌, List, map, length, sym, ap, subst, arith}
 use Rattle.std.proofs.lemmas.List.{length-append, length-map}
 use Rattle.pw_cells.specs.Cells.{Cell, Store, new_cell}
-use Rattle.pw_cells.specs.Recalled.{AreRight}
+use Rattle.pw_cells.specs.inside.OneCell.{AreRight}
 use Rattle.pw_cells.proofs.RightAnswers.{more_cells, slots_still}
 use Rattle.pw_cells.proofs.cell_store.CellStore.add_cells.Goals as goal
 

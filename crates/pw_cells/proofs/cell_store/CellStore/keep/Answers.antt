@@ -3,7 +3,7 @@ use Rattle.std.specs.Prelude.{◌↔◌, IfOk, OnOk}
 use Rattle.pw_info.specs.declared.kind.Kind.TheVariants as kinds
 use Rattle.pw_cells.specs.Cells.{Cell, Store, new_cell, shown_by, told_of, kept_of, IsSubsumedBy}
 use Rattle.pw_cells.specs.Changes.{GainsFact, Assimilates}
-use Rattle.pw_cells.specs.Recalled.{AreRight}
+use Rattle.pw_cells.specs.inside.OneCell.{AreRight}
 use Rattle.pw_cells.proofs.RightAnswers.{cell_told_the_same, slots_still}
 use Rattle.pw_cells.proofs.Stores.{cell_read, cell_changed, same_kinds, same_store, OnErr_then, IfOk_then}
 use Rattle.pw_cells.proofs.cell_store.CellStore.keep.Goals as goal

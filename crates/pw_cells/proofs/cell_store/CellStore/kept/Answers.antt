@@ -1,9 +1,9 @@
 use Rattle.std.proofs.Common.{◌≡◌, ◌<◌, length, set, length-set, sym, subst, ap, arith}
 use Rattle.pw_info.specs.Information.{kind_of, Implies}
 use Rattle.pw_facts.specs.Facts.{IsMergeOfAll, visible_facts}
-use Rattle.pw_facts.specs.Worldviews.{IsLeastAbove, IsMostBelow}
+use Rattle.pw_facts.specs.Facts.{IsLeastAbove, IsMostBelow}
 use Rattle.pw_cells.specs.Cells.{Cell, Store, told_of, kept_of, ArePremisesOf}
-use Rattle.pw_cells.specs.Recalled.{AreRight}
+use Rattle.pw_cells.specs.inside.OneCell.{AreRight}
 use Rattle.pw_cells.proofs.RightAnswers.{cell_told_the_same, slots_still}
 use Rattle.pw_cells.proofs.Stores.{cell_read, same_store}
 use Rattle.pw_cells.proofs.cell_store.CellStore.kept.Goals as goal

@@ -2,7 +2,7 @@ use Rattle.std.proofs.Common.{◌≡◌, ◌<◌, List, length, get_or, set, map
 use Rattle.std.specs.Prelude.{All, Option, IfSome}
 use Rattle.pw_info.specs.Information.{kind_of}
 use Rattle.pw_cells.specs.declared.recalled.Recalled.{Recalled}
-use Rattle.pw_cells.specs.Recalled.{AreRight, after_tell}
+use Rattle.pw_cells.specs.inside.OneCell.{AreRight, after_tell}
 use Rattle.pw_cells.proofs.RightAnswers.{kind_of_answer, answers_after, cell_told_the_same, slots_still, slots_then}
 use Rattle.pw_info.specs.declared.kind.Kind.TheVariants as kinds
 use Rattle.pw_cells.specs.Cells.{Cell, Store, new_cell, told_of, kept_of}

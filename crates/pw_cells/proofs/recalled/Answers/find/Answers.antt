@@ -2,7 +2,7 @@ use Rattle.std.proofs.Common.{List, Option, sym, ◌∙◌, subst, arith}
 use Rattle.std.specs.Prelude.{IfSome}
 use Rattle.pw_premises.specs.PremiseSubsets.{same_numbers_equal}
 use Rattle.pw_cells.specs.declared.recalled.Recalled.{Recalled}
-use Rattle.pw_cells.specs.Recalled.{AreRight}
+use Rattle.pw_cells.specs.inside.OneCell.{AreRight}
 use Rattle.pw_cells.proofs.RightAnswers.{answer_is}
 use Rattle.pw_cells.proofs.recalled.Answers.find.Goals as goal
 

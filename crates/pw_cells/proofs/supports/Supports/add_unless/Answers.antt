@@ -1,7 +1,7 @@
 use Rattle.std.proofs.Common.{◌≡◌, false, None, [], ◌∷◌, ◌++◌, cond, Option, Some, is_some, refl, sym, ◌∙◌, ap}
 use Rattle.std.specs.List.{list_any}
 use Rattle.pw_premises.specs.PremiseSubsets.{has_same_numbers}
-use Rattle.pw_cells.specs.OneCell.{place_of_support}
+use Rattle.pw_cells.specs.inside.OneCell.{place_of_support}
 use Rattle.pw_cells.proofs.ToldSupports.{no_place}
 use Rattle.pw_cells.proofs.supports.Supports.add_unless.Goals as goal
 

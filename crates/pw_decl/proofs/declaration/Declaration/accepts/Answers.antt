@@ -1,7 +1,7 @@
 use Rattle.std.proofs.Common.{◌<◌, length, arith}
 use Rattle.pw_procs.specs.Procedure.{procedure_of}
 use Rattle.pw_procs.specs.Registry.{procedures_in}
-use Rattle.pw_decl.specs.Kept.{compound_of, compounds_of}
+use Rattle.pw_decl.specs.inside.Held.{compound_of, compounds_of}
 use Rattle.std.proofs.lemmas.List.{length-map}
 use Rattle.pw_decl.proofs.KeptLemmas.{got, stored_accepts, compound_accepts}
 use Rattle.pw_decl.proofs.declaration.Declaration.accepts.Goals as goal

@@ -1,8 +1,8 @@
 use Rattle.std.proofs.Common.{◌<◌, length, ap, arith}
-use Rattle.pw_decl.specs.Flat.{instances_of}
-use Rattle.pw_decl.specs.Kept.{compounds_of}
+use Rattle.pw_decl.specs.inside.Held.{instances_of}
+use Rattle.pw_decl.specs.inside.Held.{compounds_of}
 use Rattle.std.proofs.lemmas.List.{length-map}
-use Rattle.pw_decl.proofs.FlatKept.{are_calls, calls_kept_at, length-calls_of, stands}
+use Rattle.pw_decl.proofs.FlatKept.{are_calls, calls_held_at, length-calls_of, stands}
 use Rattle.pw_decl.proofs.KeptLemmas.{got}
 use Rattle.pw_decl.proofs.declaration.Declaration.flat_calls.Goals as goal
 
@@ -27,5 +27,5 @@ returns g c =
     let read = rw c.from.ensures at c.index.ensures in
     let (compound, at) = stands compounds n c.requires in
     let here = got (λ kept. instances_of kept.calls.items) kept n c.index.result.now there read in
-    let is = calls_kept_at compounds _ n compound (instances_of c.index.result.now.calls.items) c.args.self.now.calls at here in
+    let is = calls_held_at compounds _ n compound (instances_of c.index.result.now.calls.items) c.args.self.now.calls at here in
     rw c.deref.ensures.value (are_calls compounds n compound c.index.result.now.calls.items at is)

@@ -1,7 +1,7 @@
 use Rattle.std.proofs.Common.{◌<◌, length, ap, arith, ◌∙◌}
-use Rattle.pw_decl.specs.Kept.{compounds_of}
+use Rattle.pw_decl.specs.inside.Held.{compounds_of}
 use Rattle.std.proofs.lemmas.List.{length-map}
-use Rattle.pw_decl.proofs.FlatKept.{few_inner, inner_kept_at, length-inner_of}
+use Rattle.pw_decl.proofs.FlatKept.{few_inner, inner_held_at, length-inner_of}
 use Rattle.pw_decl.proofs.KeptLemmas.{got}
 use Rattle.pw_decl.proofs.declaration.Declaration.inner_kinds.Goals as goal
 
@@ -24,7 +24,7 @@ returns-clause-kinds g c =
     let there : n < length kept = omega (arith, many, same, all, c.requires) in
     let read = rw c.from.ensures at c.index.ensures in
     let here = got (λ kept. kept.inner.items) kept n c.index.result.now there read in
-    c.deref.ensures.value ∙ inner_kept_at compounds _ n c.index.result.now.inner.items c.args.self.now.inner here
+    c.deref.ensures.value ∙ inner_held_at compounds _ n c.index.result.now.inner.items c.args.self.now.inner here
 
 pub returns-clause-most : goal.returns-clause-most
 returns-clause-most g c =

@@ -1,7 +1,7 @@
 use Rattle.std.proofs.Common.{◌<◌, List, length, sym, subst, arith}
 use Rattle.std.specs.Prelude.{All}
 use Rattle.pw_decl.specs.Compound.{Size}
-use Rattle.pw_decl.specs.Kept.{compound_of, size_of}
+use Rattle.pw_decl.specs.inside.Held.{compound_of, size_of}
 use Rattle.pw_decl.specs.WellDeclared.{IsSmall}
 use Rattle.std.proofs.lemmas.List.{length-map}
 use Rattle.pw_decl.proofs.KeptLemmas.{holds_at}

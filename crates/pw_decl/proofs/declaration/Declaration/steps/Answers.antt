@@ -1,5 +1,5 @@
 use Rattle.std.proofs.Common.{◌<◌, length, ap, arith}
-use Rattle.pw_decl.specs.Kept.{compound_of, steps_of}
+use Rattle.pw_decl.specs.inside.Held.{compound_of, steps_of}
 use Rattle.std.proofs.lemmas.List.{length-map}
 use Rattle.pw_decl.proofs.KeptLemmas.{got}
 use Rattle.pw_decl.proofs.declaration.Declaration.steps.Goals as goal

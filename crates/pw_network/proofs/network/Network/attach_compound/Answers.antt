@@ -1,8 +1,8 @@
 use Rattle.std.proofs.Common.{length, ap, subst, sym, arith}
-use Rattle.pw_procs.specs.Arguments.{cells_of}
+use Rattle.pw_procs.specs.Registry.{cells_of}
 use Rattle.pw_decl.specs.declared.step.Callable.TheVariants as callables
-use Rattle.pw_decl.specs.Fields.{declared_by}
-use Rattle.pw_network.specs.Fields.{network_by}
+use Rattle.pw_decl.specs.inside.Fields.{declared}
+use Rattle.pw_network.specs.Wiring.{wiring}
 use Rattle.pw_network.specs.Network.{IsWellNetwork, cells_in}
 use Rattle.pw_network.proofs.AttachedCalls.{calls_here, compound_attached}
 use Rattle.pw_network.proofs.WellNetworks.{cells_after, well_with_attached}
@@ -10,7 +10,7 @@ use Rattle.pw_network.proofs.network.Network.attach_compound.Goals as goal
 
 pub append_instances-requires-clause-here : goal.append_instances-requires-clause-here
 append_instances-requires-clause-here g c =
-    let here = calls_here (network_by c.args.self.now) c.args.line c.args.compound c.args.calls.now (cells_of c.args.cells) c.args.support c.args.self.now.well
+    let here = calls_here (wiring c.args.self.now) c.args.line c.args.compound c.args.calls.now (cells_of c.args.cells) c.args.support c.args.self.now.well
     c.requires.calls c.requires.may (let few = c.requires.few in let long = ap length c.requires.kinds in omega arith)
     c.cells-first.result c.add_cells.new.self.ends.len c.cells-first.ensures.count
     (let long = ap length c.requires.kinds in omega (arith, c.add_cells.ensures.cells, c.reserve-3.ensures.cells, c.args.self.now.cells)) in
@@ -18,7 +18,7 @@ append_instances-requires-clause-here g c =
 
 pub returns-clause-ok : goal.returns-clause-ok
 returns-clause-ok g c =
-    compound_attached (declared_by c.args.self.now.declaration.now) c.args.self.now.inner.items c.reserve.new.self.items c.append_inner.new.inner.items
+    compound_attached (declared c.args.self.now.declaration.now) c.args.self.now.inner.items c.reserve.new.self.items c.append_inner.new.inner.items
     c.args.self.now.instances.items c.reserve-2.new.self.items c.append_instances.new.instances.items
     c.args.self.now.last_line c.args.line c.args.compound c.args.calls.now c.args.kinds.now (cells_of c.args.cells) c.args.support
     c.args.self.now.well c.requires.calls c.requires.may c.requires.kinds c.requires.few c.cells-first.result c.cells-first.ensures.count
@@ -26,9 +26,9 @@ returns-clause-ok g c =
 
 pub invariant_of-self-2 : goal.invariant_of-self-2
 invariant_of-self-2 g c =
-    let network = network_by c.args.self.now in
+    let network = wiring c.args.self.now in
     let cells = cells_of c.args.cells in
-    let after = compound_attached (declared_by c.args.self.now.declaration.now) c.args.self.now.inner.items c.reserve.new.self.items c.append_inner.new.inner.items
+    let after = compound_attached (declared c.args.self.now.declaration.now) c.args.self.now.inner.items c.reserve.new.self.items c.append_inner.new.inner.items
     c.args.self.now.instances.items c.reserve-2.new.self.items c.append_instances.new.instances.items
     c.args.self.now.last_line c.args.line c.args.compound c.args.calls.now c.args.kinds.now cells c.args.support
     c.args.self.now.well c.requires.calls c.requires.may c.requires.kinds c.requires.few c.cells-first.result c.cells-first.ensures.count

@@ -1,8 +1,8 @@
 use Rattle.std.proofs.Common.{subst, sym, arith}
-use Rattle.pw_procs.specs.Arguments.{cells_of}
+use Rattle.pw_procs.specs.Registry.{cells_of}
 use Rattle.pw_decl.specs.declared.step.Callable.TheVariants as callables
-use Rattle.pw_decl.specs.Fields.{declared_by}
-use Rattle.pw_network.specs.Fields.{network_by}
+use Rattle.pw_decl.specs.inside.Fields.{declared}
+use Rattle.pw_network.specs.Wiring.{wiring}
 use Rattle.pw_network.specs.Network.{IsWellNetwork}
 use Rattle.pw_network.proofs.AttachedCalls.{procedure_attached}
 use Rattle.pw_network.proofs.WellNetworks.{well_with_attached}
@@ -10,7 +10,7 @@ use Rattle.pw_network.proofs.network.Network.attach_procedure.Goals as goal
 
 pub invariant_of-self-2-clause-well : goal.invariant_of-self-2-clause-well
 invariant_of-self-2-clause-well g c =
-    let network = network_by c.args.self.now in
+    let network = wiring c.args.self.now in
     let after = procedure_attached network.declared c.args.self.now.inner.items c.args.self.now.instances.items c.reserve.new.self.items c.append_instance.new.instances.items
     c.args.self.now.last_line c.args.line c.args.procedure (cells_of c.args.cells) c.args.support c.new-instance.result
     c.reserve.ensures.items c.append_instance.ensures.items c.new-instance.ensures.instance c.new-instance.ensures.line c.new-instance.ensures.support in
@@ -19,6 +19,6 @@ invariant_of-self-2-clause-well g c =
 
 pub returns-clause-ok : goal.returns-clause-ok
 returns-clause-ok g c =
-    procedure_attached (declared_by c.args.self.now.declaration.now) c.args.self.now.inner.items c.args.self.now.instances.items c.reserve.new.self.items c.append_instance.new.instances.items
+    procedure_attached (declared c.args.self.now.declaration.now) c.args.self.now.inner.items c.args.self.now.instances.items c.reserve.new.self.items c.append_instance.new.instances.items
     c.args.self.now.last_line c.args.line c.args.procedure (cells_of c.args.cells) c.args.support c.new-instance.result
     c.reserve.ensures.items c.append_instance.ensures.items c.new-instance.ensures.instance c.new-instance.ensures.line c.new-instance.ensures.support

@@ -1,7 +1,7 @@
 use Rattle.std.proofs.Common.{ℕ, ◌-◌, ◌∙◌, Option, Some, None, map, refl, sym, arith}
 use Rattle.std.proofs.lemmas.List.{length-map}
-use Rattle.pw_network.specs.Fields.{network_by}
-use Rattle.pw_network.specs.Kept.{inner_of}
+use Rattle.pw_network.specs.Wiring.{wiring}
+use Rattle.pw_network.specs.inside.Held.{inner_of}
 use Rattle.pw_network.proofs.CellLemmas.{after_declared, among_declared}
 use Rattle.pw_network.proofs.network.Network.inner.Goals as goal
 
@@ -10,13 +10,13 @@ no_origin = None
 
 pub returns-then-cell-declared-clause-origin : goal.returns-then-cell-declared-clause-origin
 returns-then-cell-declared-clause-origin g c =
-    let network = network_by c.args.self.now in
+    let network = wiring c.args.self.now in
     among_declared network.declared.cells (map (λ inner. Some (inner.line, inner.number)) network.inner) c.args.cell None
     (omega (arith, c.if-cell-declared.true, c.cells-declared.ensures.count))
 
 pub returns-clause-origin : goal.returns-clause-origin
 returns-clause-origin g c =
-    let network = network_by c.args.self.now in
+    let network = wiring c.args.self.now in
     let inner = c.args.self.now.inner.items in
     let many = length-map inner inner_of in
     let named = length-map network.declared.cells (λ name. no_origin) in

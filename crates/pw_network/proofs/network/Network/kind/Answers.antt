@@ -1,14 +1,14 @@
 use Rattle.std.proofs.Common.{◌-◌, ◌∙◌, refl, sym, arith}
 use Rattle.std.proofs.lemmas.List.{length-map}
 use Rattle.pw_info.specs.declared.kind.Kind.TheVariants as kinds
-use Rattle.pw_network.specs.Fields.{network_by}
-use Rattle.pw_network.specs.Kept.{inner_of}
+use Rattle.pw_network.specs.Wiring.{wiring}
+use Rattle.pw_network.specs.inside.Held.{inner_of}
 use Rattle.pw_network.proofs.CellLemmas.{after_declared}
 use Rattle.pw_network.proofs.network.Network.kind.Goals as goal
 
 pub returns : goal.returns
 returns g c =
-    let network = network_by c.args.self.now in
+    let network = wiring c.args.self.now in
     let inner = c.args.self.now.inner.items in
     let many = length-map inner inner_of in
     after_declared (λ cell. cell.kind) network.declared.kinds inner c.cells-declared.result c.args.cell (c.args.cell - c.cells-declared.result) c.index.result.now kinds.Interval

@@ -1,6 +1,6 @@
 use Rattle.std.proofs.Common.{◌+◌, ◌<◌, refl, arith}
-use Rattle.pw_network.specs.declared.link.Ends.{Ends}
-use Rattle.pw_network.specs.ReaderLists.{no_place}
+use Rattle.pw_network.specs.declared.reader_lists.Ends.{Ends}
+use Rattle.pw_network.specs.Readers.{no_place}
 use Rattle.pw_network.proofs.LinkLemmas.{linked_resized}
 use Rattle.pw_network.proofs.reader_lists.ReaderLists.add_cells.Goals as goal
 

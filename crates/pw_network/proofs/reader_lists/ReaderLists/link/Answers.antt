@@ -1,5 +1,5 @@
 use Rattle.std.proofs.Common.{◌≡◌, ◌+◌, ◌<◌, ◌≤◌, ◌++◌, ◌∷◌, [], ◌∙◌, length, sym, rules, arith}
-use Rattle.pw_network.specs.ReaderLists.{no_place}
+use Rattle.pw_network.specs.Readers.{no_place}
 use Rattle.pw_network.proofs.LinkLemmas.{linked_after}
 use Rattle.pw_network.proofs.reader_lists.ReaderLists.link.Goals as goal
 

@@ -1,5 +1,5 @@
 use Rattle.std.proofs.Common.{sym, ◌∙◌, arith}
-use Rattle.pw_network.specs.declared.link.Link.{Link}
+use Rattle.pw_network.specs.declared.reader_lists.Link.{Link}
 use Rattle.pw_network.proofs.WalkLemmas.{walk_on, walk_steps}
 use Rattle.pw_network.proofs.readers.ReadersIterator.next.Goals as goal
 

@@ -1,8 +1,8 @@
 use Rattle.std.proofs.Common.{◌≡◌, ◌∙◌, map, None, ap}
 use Rattle.std.proofs.lemmas.Str.{IsUtf8-string_bytes}
 use Rattle.std.specs.Str.{IsUtf8}
-use Rattle.pw_procs.specs.Place.{place_of_name}
-use Rattle.pw_procs.specs.Name.{name_bytes}
+use Rattle.pw_procs.specs.Registering.{place_of_name}
+use Rattle.pw_procs.specs.inside.Shapes.{name_bytes}
 use Rattle.pw_procs.specs.declared.name.Name.TheVariants.{Kept}
 use Rattle.pw_procs.proofs.PlaceLemmas.{added, texts_added}
 use Rattle.pw_procs.proofs.name_table.NameTable.add.Goals as goal

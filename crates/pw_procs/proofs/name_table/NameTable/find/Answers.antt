@@ -1,6 +1,6 @@
 use Rattle.std.proofs.Common.{◌≡◌, ◌∙◌, map}
-use Rattle.pw_procs.specs.Place.{place_of_name}
-use Rattle.pw_procs.specs.Name.{name_bytes}
+use Rattle.pw_procs.specs.Registering.{place_of_name}
+use Rattle.pw_procs.specs.inside.Shapes.{name_bytes}
 use Rattle.pw_procs.proofs.PlaceLemmas.{place}
 use Rattle.pw_procs.proofs.name_table.NameTable.find.Goals as goal
 

@@ -1,5 +1,5 @@
 use Rattle.std.proofs.Common.{◌∙◌}
-use Rattle.pw_procs.specs.Name.{name_bytes}
+use Rattle.pw_procs.specs.inside.Shapes.{name_bytes}
 use Rattle.pw_procs.proofs.PlaceLemmas.{place}
 use Rattle.pw_procs.proofs.name_table.NameTable.find_by_hash.Goals as goal
 

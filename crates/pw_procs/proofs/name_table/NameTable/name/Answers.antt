@@ -2,7 +2,7 @@ use Rattle.std.proofs.Common.{◌≡◌, get_or, ap, sym, subst, length, ◌<◌
 use Rattle.std.proofs.lemmas.List.{length-map}
 use Rattle.std.proofs.lemmas.List.Elements.{All-get_or}
 use Rattle.std.specs.Str.{IsUtf8}
-use Rattle.pw_procs.specs.Name.{name_bytes}
+use Rattle.pw_procs.specs.inside.Shapes.{name_bytes}
 use Rattle.pw_procs.proofs.PlaceLemmas.{own_name, name_there}
 use Rattle.pw_procs.proofs.name_table.NameTable.name.Goals as goal
 

@@ -1,7 +1,7 @@
 use Rattle.std.proofs.Common.{◌≡◌, List, [], ◌∷◌, ◌++◌, sym, ap, ◌∙◌, subst, arith, rules}
 use Rattle.std.specs.Prelude.{Contains}
 use Rattle.pw_premises.specs.Premises.{Premises}
-use Rattle.pw_reasons.specs.Nogoods.{covers}
+use Rattle.pw_reasons.specs.Nogood.{covers}
 use Rattle.pw_reasons.proofs.NogoodLemmas.{covers_already, covers_noted, noted_after, noted_within, others}
 use Rattle.pw_reasons.proofs.nogoods.Nogoods.note.Given as given
 use Rattle.pw_reasons.proofs.nogoods.Nogoods.note.Goals as goal

@@ -1,11 +1,11 @@
 use Rattle.std.proofs.Common.{◌≡◌, true, Some, refl, sym, ap, ◌∙◌, subst, arith, inl}
 use Rattle.std.proofs.lemmas.Bool.{both_ways}
 use Rattle.pw_cells.specs.Cells.{Store, told_in}
-use Rattle.pw_network.specs.Fields.{network_by}
-use Rattle.pw_sessions.specs.Fields.{workbench_by}
+use Rattle.pw_network.specs.Wiring.{wiring}
+use Rattle.pw_sessions.specs.inside.Fields.{state}
 use Rattle.pw_sessions.specs.Freshness.{IsAsked}
 use Rattle.pw_sessions.specs.Reply as reply
-use Rattle.pw_sessions.specs.Steps.{OnlyKeepsMore, is_written}
+use Rattle.pw_sessions.specs.inside.Steps.{OnlyKeepsMore, is_written}
 use Rattle.pw_sessions.specs.Workbench.{Workbench, beliefs_in}
 use Rattle.pw_sessions.proofs.AskedCells.{told_answers}
 use Rattle.pw_sessions.proofs.FreshUsers.{asked_known, asked_quiet, asked_remembered}
@@ -16,7 +16,7 @@ use Rattle.pw_sessions.proofs.workbench.Workbench.ask.Goals as goal
 
 pub recall-requires : goal.recall-requires
 recall-requires g c =
-    let same = cells_kept (network_by c.args.self.now.network) c.args.self.now.store c.args.self.now.network.well c.requires.fits.kinds in
+    let same = cells_kept (wiring c.args.self.now.network) c.args.self.now.store c.args.self.now.network.well c.requires.fits.kinds in
     omega (arith, c.requires.cell)
 
 -- ---- what is known
@@ -26,10 +26,10 @@ returns-in-Some-clause-answer g c = λ d before left. inl (ap reply.Value c.in-S
 
 pub returns-in-Some-clause-asked : goal.returns-in-Some-clause-asked
 returns-in-Some-clause-asked g c =
-    asked_known (workbench_by c.args.self.now) c.args.user _ _ c.in-Some.ensures.fresh c.requires.calls
+    asked_known (state c.args.self.now) c.args.user _ _ c.in-Some.ensures.fresh c.requires.calls
 
 pub returns-in-Some-clause-grows : goal.returns-in-Some-clause-grows
-returns-in-Some-clause-grows g c = only_keeps_itself (workbench_by c.args.self.now) c.args.user
+returns-in-Some-clause-grows g c = only_keeps_itself (state c.args.self.now) c.args.user
 
 -- ---- the told facts
 
@@ -37,24 +37,24 @@ pub returns-then-not-is_written_by-clause-answer : goal.returns-then-not-is_writ
 returns-then-not-is_written_by-clause-answer g c = λ d before left.
     let written = c.is_written_by.ensures ∙ (λ i. is_written (c.instances.ensures.instances i) c.args.cell (c.beliefs_of-beliefs.ensures i)) in
     let told = c.recall.ensures.value ∙ ap (told_in c.args.self.now.store c.args.cell) c.beliefs_of-beliefs.ensures in
-    told_answers d before (workbench_by c.args.self.now) c.args.user c.args.cell c.recall.result c.args.self.now.network.well left c.requires.cell
+    told_answers d before (state c.args.self.now) c.args.user c.args.cell c.recall.result c.args.self.now.network.well left c.requires.cell
     (sym written ∙ c.if-not-is_written_by.true) told
 
 pub returns-then-not-is_written_by-clause-asked : goal.returns-then-not-is_written_by-clause-asked
 returns-then-not-is_written_by-clause-asked g c =
     let written = c.is_written_by.ensures ∙ (λ i. is_written (c.instances.ensures.instances i) c.args.cell (c.beliefs_of-beliefs.ensures i)) in
-    let old : Workbench = workbench_by c.args.self.now in
+    let old : Workbench = state c.args.self.now in
     let same : record old { store = c.recall.new.self } ≡ old = ap (λ (s : Store). record old { store = s }) c.recall.ensures.unchanged in
     let Settling : Type 0 = is_written old.network.attached c.args.cell (beliefs_in old c.args.user) ≡ true in
     subst (λ (new : Workbench). IsAsked old c.args.user Settling new (reply.Value c.recall.result)) (sym {A = Workbench} same)
     (asked_quiet old c.args.user Settling (reply.Value c.recall.result)
-    (λ is. both_ways (is_written (network_by c.args.self.now.network).attached c.args.cell (beliefs_in (workbench_by c.args.self.now) c.args.user))
+    (λ is. both_ways (is_written (wiring c.args.self.now.network).attached c.args.cell (beliefs_in (state c.args.self.now) c.args.user))
     (sym written ∙ c.if-not-is_written_by.true) is)
     c.requires.calls)
 
 pub returns-then-not-is_written_by-clause-grows : goal.returns-then-not-is_written_by-clause-grows
 returns-then-not-is_written_by-clause-grows g c =
-    let old : Workbench = workbench_by c.args.self.now in
+    let old : Workbench = state c.args.self.now in
     let same : record old { store = c.recall.new.self } ≡ old = ap (λ (s : Store). record old { store = s }) c.recall.ensures.unchanged in
     subst (OnlyKeepsMore old c.args.user) (sym {A = Workbench} same) (only_keeps_itself old c.args.user)
 
@@ -63,19 +63,19 @@ returns-then-not-is_written_by-clause-grows g c =
 pub returns-clause-asked : goal.returns-clause-asked
 returns-clause-asked g c =
     let written = c.is_written_by.ensures ∙ (λ i. is_written (c.instances.ensures.instances i) c.args.cell (c.beliefs_of-beliefs.ensures i)) in
-    let old : Workbench = workbench_by c.args.self.now in
+    let old : Workbench = state c.args.self.now in
     let Settling : Type 0 = is_written old.network.attached c.args.cell (beliefs_in old c.args.user) ≡ true in
     subst (λ (new : Workbench). IsAsked old c.args.user Settling new (reply.Value c.value-info.result.info)) (sym c.remember.ensures)
-    (asked_remembered old (workbench_by c.settle_for.new.self) c.args.user c.in-Ok.settled Settling (reply.Value c.value-info.result.info) (sym written ∙ c.if-not-is_written_by.false)
+    (asked_remembered old (state c.settle_for.new.self) c.args.user c.in-Ok.settled Settling (reply.Value c.value-info.result.info) (sym written ∙ c.if-not-is_written_by.false)
     (omega (arith, c.requires.session, c.settle_for.ensures.grows.users)) c.settle_for.ensures.grows.beliefs c.in-Ok.ensures.settled.worldview_is
     c.in-Ok.ensures.current c.settle_for.ensures.calls c.in-Ok.ensures.due)
 
 pub returns-clause-grows : goal.returns-clause-grows
 returns-clause-grows g c =
-    only_keeps_then (workbench_by c.args.self.now) c.args.user (workbench_by c.settle_for.new.self) (workbench_by c.remember.new.self) c.settle_for.ensures.grows
-    (subst (OnlyKeepsMore (workbench_by c.settle_for.new.self) c.args.user) (sym c.remember.ensures)
-    (only_remembers (workbench_by c.settle_for.new.self) c.args.user (Some (record { values = c.in-Ok.settled; is_current = true }))
-    (session_of (workbench_by c.args.self.now) c.args.user (workbench_by c.settle_for.new.self) c.in-Ok.settled c.args.self.now.network.well
+    only_keeps_then (state c.args.self.now) c.args.user (state c.settle_for.new.self) (state c.remember.new.self) c.settle_for.ensures.grows
+    (subst (OnlyKeepsMore (state c.settle_for.new.self) c.args.user) (sym c.remember.ensures)
+    (only_remembers (state c.settle_for.new.self) c.args.user (Some (record { values = c.in-Ok.settled; is_current = true }))
+    (session_of (state c.args.self.now) c.args.user (state c.settle_for.new.self) c.in-Ok.settled c.args.self.now.network.well
     c.settle_for.ensures.grows c.in-Ok.ensures.settled c.in-Ok.ensures.current)))
 
 -- ---- what is noted

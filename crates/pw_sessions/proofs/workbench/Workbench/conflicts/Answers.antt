@@ -1,14 +1,14 @@
 use Rattle.std.proofs.Common.{Some, true, refl, sym, ap, ◌∙◌, subst, inl, inr, arith}
-use Rattle.pw_network.specs.Fields.{network_by}
+use Rattle.pw_network.specs.Wiring.{wiring}
 use Rattle.pw_network.specs.Network.{Network}
 use Rattle.pw_settle.specs.Settled.{info_at}
 use Rattle.pw_settle.specs.Values.{value_in}
 use Rattle.pw_reasons.specs.Conflicts.{AreConflicts}
 use Rattle.pw_reasons.proofs.ConflictLemmas.{conflicts_same}
-use Rattle.pw_sessions.specs.Fields.{workbench_by}
+use Rattle.pw_sessions.specs.inside.Fields.{state}
 use Rattle.pw_sessions.specs.Freshness.{IsAsked}
 use Rattle.pw_sessions.specs.Reply as reply
-use Rattle.pw_sessions.specs.Steps.{OnlyKeepsMore}
+use Rattle.pw_sessions.specs.inside.Steps.{OnlyKeepsMore}
 use Rattle.pw_sessions.specs.Workbench.{Workbench, beliefs_in}
 use Rattle.pw_sessions.proofs.FreshUsers.{asked_refused, asked_remembered}
 use Rattle.pw_sessions.proofs.LastValues.{only_keeps_then, only_remembers, session_of}
@@ -20,8 +20,8 @@ returns-clause-answer g c =
     inl (
       c.in-Ok-list_conflicts.conflicts,
       refl,
-      conflicts_same (network_by c.args.self.now.network) (info_at c.in-Ok.settled.infos)
-          (value_in (network_by c.args.self.now.network) c.args.self.now.store (beliefs_in (workbench_by c.args.self.now) c.args.user))
+      conflicts_same (wiring c.args.self.now.network) (info_at c.in-Ok.settled.infos)
+          (value_in (wiring c.args.self.now.network) c.args.self.now.store (beliefs_in (state c.args.self.now) c.args.user))
           c.in-Ok-list_conflicts.conflicts c.in-Ok.ensures.settled.values
           (subst (λ (n : Network). AreConflicts n (info_at c.in-Ok.settled.infos) c.in-Ok-list_conflicts.conflicts) c.settle_for.ensures.grows.network
           c.in-Ok-list_conflicts.ensures),
@@ -29,29 +29,29 @@ returns-clause-answer g c =
 
 pub returns-in_default-clause-asked : goal.returns-in_default-clause-asked
 returns-in_default-clause-asked g c =
-    asked_refused (workbench_by c.args.self.now) (workbench_by c.settle_for.new.self) c.args.user Unit tt c.settle_for.ensures.calls
+    asked_refused (state c.args.self.now) (state c.settle_for.new.self) c.args.user Unit tt c.settle_for.ensures.calls
     (inl (refl, c.in_default.ensures.refused))
 
 pub returns-in_default-list_conflicts-clause-asked : goal.returns-in_default-list_conflicts-clause-asked
 returns-in_default-list_conflicts-clause-asked g c =
-    asked_refused (workbench_by c.args.self.now) (workbench_by c.settle_for.new.self) c.args.user Unit tt c.settle_for.ensures.calls
+    asked_refused (state c.args.self.now) (state c.settle_for.new.self) c.args.user Unit tt c.settle_for.ensures.calls
     (inr c.in-Ok.ensures.due)
 
 pub returns-clause-asked : goal.returns-clause-asked
 returns-clause-asked g c =
-    subst (λ (new : Workbench). IsAsked (workbench_by c.args.self.now) c.args.user Unit new (reply.Listed c.in-Ok-list_conflicts.conflicts))
+    subst (λ (new : Workbench). IsAsked (state c.args.self.now) c.args.user Unit new (reply.Listed c.in-Ok-list_conflicts.conflicts))
     (sym c.remember.ensures)
-    (asked_remembered (workbench_by c.args.self.now) (workbench_by c.settle_for.new.self) c.args.user c.in-Ok.settled Unit
+    (asked_remembered (state c.args.self.now) (state c.settle_for.new.self) c.args.user c.in-Ok.settled Unit
     (reply.Listed c.in-Ok-list_conflicts.conflicts) tt
     (omega (arith, c.requires.session, c.settle_for.ensures.grows.users)) c.settle_for.ensures.grows.beliefs c.in-Ok.ensures.settled.worldview_is
     c.in-Ok.ensures.current c.settle_for.ensures.calls c.in-Ok.ensures.due)
 
 pub returns-clause-grows : goal.returns-clause-grows
 returns-clause-grows g c =
-    only_keeps_then (workbench_by c.args.self.now) c.args.user (workbench_by c.settle_for.new.self) (workbench_by c.remember.new.self) c.settle_for.ensures.grows
-    (subst (OnlyKeepsMore (workbench_by c.settle_for.new.self) c.args.user) (sym c.remember.ensures)
-    (only_remembers (workbench_by c.settle_for.new.self) c.args.user (Some (record { values = c.in-Ok.settled; is_current = true }))
-    (session_of (workbench_by c.args.self.now) c.args.user (workbench_by c.settle_for.new.self) c.in-Ok.settled c.args.self.now.network.well
+    only_keeps_then (state c.args.self.now) c.args.user (state c.settle_for.new.self) (state c.remember.new.self) c.settle_for.ensures.grows
+    (subst (OnlyKeepsMore (state c.settle_for.new.self) c.args.user) (sym c.remember.ensures)
+    (only_remembers (state c.settle_for.new.self) c.args.user (Some (record { values = c.in-Ok.settled; is_current = true }))
+    (session_of (state c.args.self.now) c.args.user (state c.settle_for.new.self) c.in-Ok.settled c.args.self.now.network.well
     c.settle_for.ensures.grows c.in-Ok.ensures.settled c.in-Ok.ensures.current)))
 
 -- ---- what is noted

@@ -1,7 +1,7 @@
 use Rattle.std.proofs.Common.{◌≡◌, ◌++◌, map, replicate, ap, ◌∙◌}
 use Rattle.pw_cells.specs.Cells.{new_cell}
-use Rattle.pw_decl.specs.Fields.{declared_by}
-use Rattle.pw_network.specs.Fields.{network_by}
+use Rattle.pw_decl.specs.inside.Fields.{declared}
+use Rattle.pw_network.specs.Wiring.{wiring}
 use Rattle.pw_sessions.specs.Beliefs.{premises_below}
 use Rattle.pw_sessions.specs.Workbench.{Workbench}
 use Rattle.pw_sessions.proofs.WorkbenchLemmas.{IsLeftBy-new}
@@ -10,7 +10,7 @@ use Rattle.pw_sessions.proofs.workbench.Workbench.new.Goals as goal
 pub returns-clause-left : goal.returns-clause-left
 returns-clause-left g c =
     let bench : Workbench = record {
-      network = network_by c.args.network;
+      network = wiring c.args.network;
       store = c.add_cells.new.self;
       nogoods = c.new.result;
       beliefs = c.in_ok-beliefs.beliefs.items;
@@ -21,5 +21,5 @@ returns-clause-left g c =
     ∙ ap (λ cs. cs ++ map new_cell c.kinds.result.now) c.new-store.ensures ∙ ap (map new_cell) c.kinds.ensures.kinds in
     let believed : c.in_ok-beliefs.beliefs.items ≡ replicate c.users-users.result (premises_below c.premises.result) =
     c.in_ok-beliefs.ensures.items_if_clones_equal (λ y same. same) ∙ (λ i. replicate (c.from.ensures i) (c.first-premises.ensures.below i)) in
-    IsLeftBy-new (declared_by c.args.declaration.now) c.kinds.ensures.each bench c.users-users.result c.premises.result c.requires new c.new.ensures believed c.in_ok-sessions.ensures
+    IsLeftBy-new (declared c.args.declaration.now) c.kinds.ensures.each bench c.users-users.result c.premises.result c.requires new c.new.ensures believed c.in_ok-sessions.ensures
     c.users-users.ensures.count c.premises.ensures.count

@@ -1,5 +1,5 @@
 use Rattle.std.proofs.Common.{List, Option, length, refl, sym, ap, ◌∙◌, subst}
-use Rattle.pw_network.specs.Fields.{network_by}
+use Rattle.pw_network.specs.Wiring.{wiring}
 use Rattle.pw_info.specs.Information.{kind_of}
 use Rattle.pw_settle.proofs.SourceLists.{came_back}
 use Rattle.pw_sessions.specs.Session.{EachBecomes, HaveValues, IsAfterTell, Session}
@@ -9,7 +9,7 @@ use Rattle.pw_sessions.proofs.workbench.Workbench.tell.Goals as goal
 pub note_tell_in_each-requires : goal.note_tell_in_each-requires
 note_tell_in_each-requires g c =
     subst (HaveValues c.args.cell (kind_of c.args.fact.info)) (sym c.deref_mut.ensures.value)
-    (have_values (network_by c.args.self.now.network) c.args.self.now.store c.args.cell c.args.fact c.requires.fits.kinds c.requires.kind c.requires.declared
+    (have_values (wiring c.args.self.now.network) c.args.self.now.store c.args.cell c.args.fact c.requires.fits.kinds c.requires.kind c.requires.declared
     c.args.self.now.sessions.items c.requires.fits.sessions)
 
 pub returns-clause-ok : goal.returns-clause-ok

@@ -2,7 +2,7 @@ use Rattle.std.proofs.Common.{◌≡◌, ◌<◌, Some, true, refl, sym, ap, ◌
 use Rattle.pw_info.specs.declared.info.Info.{Info}
 use Rattle.pw_premises.specs.Premises.{Premises}
 use Rattle.pw_cells.specs.Cells.{Store}
-use Rattle.pw_network.specs.Fields.{network_by}
+use Rattle.pw_network.specs.Wiring.{wiring}
 use Rattle.pw_network.specs.Network.{Network, cells_in}
 use Rattle.pw_settle.specs.Settled.{IsSettled}
 use Rattle.pw_settle.specs.Sound.{IsSound}
@@ -10,11 +10,11 @@ use Rattle.pw_settle.specs.Values.{value_in}
 use Rattle.pw_settle.proofs.Growing.{same_value, settled_still}
 use Rattle.pw_reasons.specs.Nogood.{AreNogoods}
 use Rattle.pw_reasons.specs.Reason.{reason_of}
-use Rattle.pw_sessions.specs.Fields.{workbench_by}
+use Rattle.pw_sessions.specs.inside.Fields.{state}
 use Rattle.pw_sessions.specs.Carrying.{NotesReasons}
 use Rattle.pw_sessions.specs.Reply as reply
 use Rattle.pw_sessions.specs.Freshness.{IsAsked}
-use Rattle.pw_sessions.specs.Steps.{OnlyKeepsMore, StoreFits}
+use Rattle.pw_sessions.specs.inside.Steps.{OnlyKeepsMore, StoreFits}
 use Rattle.pw_sessions.specs.Workbench.{Workbench, beliefs_in}
 use Rattle.pw_sessions.proofs.AfterSettling.{due_for_still}
 use Rattle.pw_sessions.proofs.LastValues.{fits_after, only_keeps_then, only_notes, only_remembers, session_keeping, session_of}
@@ -36,33 +36,33 @@ reason-requires-clause-nogoods g c =
 pub reason-requires-clause-settled : goal.reason-requires-clause-settled
 reason-requires-clause-settled g c =
     subst (λ (n : Network). IsSettled n c.settle_for.new.self.store c.in-Ok.settled.worldview c.in-Ok.settled) (sym c.settle_for.ensures.grows.network)
-    (settled_still (network_by c.args.self.now.network) c.args.self.now.store c.settle_for.new.self.store
-    (beliefs_in (workbench_by c.args.self.now) c.args.user) c.in-Ok.settled c.settle_for.ensures.grows.grows c.in-Ok.ensures.settled)
+    (settled_still (wiring c.args.self.now.network) c.args.self.now.store c.settle_for.new.self.store
+    (beliefs_in (state c.args.self.now) c.args.user) c.in-Ok.settled c.settle_for.ensures.grows.grows c.in-Ok.ensures.settled)
 
 pub returns-in_default-reason-clause-grows : goal.returns-in_default-reason-clause-grows
 returns-in_default-reason-clause-grows g c =
-    only_keeps_then (workbench_by c.args.self.now) c.args.user (workbench_by c.settle_for.new.self)
-    (record (workbench_by c.settle_for.new.self) { store = c.reason.new.store; nogoods = c.reason.new.nogoods }) c.settle_for.ensures.grows
-    (only_notes (workbench_by c.settle_for.new.self) c.args.user c.reason.new.store c.reason.new.nogoods c.reason.ensures.grows c.reason.ensures.upstream
+    only_keeps_then (state c.args.self.now) c.args.user (state c.settle_for.new.self)
+    (record (state c.settle_for.new.self) { store = c.reason.new.store; nogoods = c.reason.new.nogoods }) c.settle_for.ensures.grows
+    (only_notes (state c.settle_for.new.self) c.args.user c.reason.new.store c.reason.new.nogoods c.reason.ensures.grows c.reason.ensures.upstream
     (λ are. c.reason.ensures.nogoods))
 
 pub returns-in_default-clause-asked : goal.returns-in_default-clause-asked
 returns-in_default-clause-asked g c =
-    asked_refused (workbench_by c.args.self.now) (workbench_by c.settle_for.new.self) c.args.user Unit tt c.settle_for.ensures.calls
+    asked_refused (state c.args.self.now) (state c.settle_for.new.self) c.args.user Unit tt c.settle_for.ensures.calls
     (inl (refl, c.in_default.ensures.refused))
 
 pub returns-in_default-reason-clause-asked : goal.returns-in_default-reason-clause-asked
 returns-in_default-reason-clause-asked g c =
-    asked_refused (workbench_by c.args.self.now) (record (workbench_by c.settle_for.new.self) { store = c.reason.new.store; nogoods = c.reason.new.nogoods }) c.args.user Unit tt
-    c.settle_for.ensures.calls (inr (due_for_still (workbench_by c.args.self.now) (workbench_by c.settle_for.new.self)
-    (record (workbench_by c.settle_for.new.self) { store = c.reason.new.store; nogoods = c.reason.new.nogoods }) c.args.user
+    asked_refused (state c.args.self.now) (record (state c.settle_for.new.self) { store = c.reason.new.store; nogoods = c.reason.new.nogoods }) c.args.user Unit tt
+    c.settle_for.ensures.calls (inr (due_for_still (state c.args.self.now) (state c.settle_for.new.self)
+    (record (state c.settle_for.new.self) { store = c.reason.new.store; nogoods = c.reason.new.nogoods }) c.args.user
     c.settle_for.ensures.grows.network c.reason.ensures.grows refl
     c.in-Ok.ensures.due))
 
 pub returns-clause-answer : goal.returns-clause-answer
 returns-clause-answer g c =
-    let network : Network = network_by c.args.self.now.network in
-    let beliefs : Premises = beliefs_in (workbench_by c.args.self.now) c.args.user in
+    let network : Network = wiring c.args.self.now.network in
+    let beliefs : Premises = beliefs_in (state c.args.self.now) c.args.user in
     let there : c.args.cell < cells_in network = omega (arith, c.requires.cell) in
     let settles : Network → Store → Premises → Info = λ n store w. value_in n store w c.args.cell in
     let value : c.value-info.result.info ≡ settles network c.args.self.now.store beliefs =
@@ -77,25 +77,25 @@ returns-clause-answer g c =
 -- the values are still current after the reason was found
 pub returns-clause-asked : goal.returns-clause-asked
 returns-clause-asked g c =
-    let found : Workbench = workbench_by c.settle_for.new.self in
+    let found : Workbench = state c.settle_for.new.self in
     let after : Workbench = record found { store = c.reason.new.store; nogoods = c.reason.new.nogoods } in
-    let fits : StoreFits found = fits_after (workbench_by c.args.self.now) c.args.user found c.settle_for.ensures.grows c.requires.fits in
-    subst (λ (new : Workbench). IsAsked (workbench_by c.args.self.now) c.args.user Unit new (reply.Because c.value-info.result.info c.in-Ok-reason.reason))
+    let fits : StoreFits found = fits_after (state c.args.self.now) c.args.user found c.settle_for.ensures.grows c.requires.fits in
+    subst (λ (new : Workbench). IsAsked (state c.args.self.now) c.args.user Unit new (reply.Because c.value-info.result.info c.in-Ok-reason.reason))
     (sym c.remember.ensures)
-    (asked_remembered (workbench_by c.args.self.now) after c.args.user c.in-Ok.settled Unit (reply.Because c.value-info.result.info c.in-Ok-reason.reason) tt
+    (asked_remembered (state c.args.self.now) after c.args.user c.in-Ok.settled Unit (reply.Because c.value-info.result.info c.in-Ok-reason.reason) tt
     (omega (arith, c.requires.session, c.settle_for.ensures.grows.users)) c.settle_for.ensures.grows.beliefs c.in-Ok.ensures.settled.worldview_is
     (current_keeping found.network found.store c.reason.new.store c.in-Ok.settled fits.kinds fits.sound c.reason.ensures.grows c.in-Ok.ensures.current)
     c.settle_for.ensures.calls
-    (due_for_still (workbench_by c.args.self.now) found after c.args.user c.settle_for.ensures.grows.network c.reason.ensures.grows refl c.in-Ok.ensures.due))
+    (due_for_still (state c.args.self.now) found after c.args.user c.settle_for.ensures.grows.network c.reason.ensures.grows refl c.in-Ok.ensures.due))
 
 pub returns-clause-grows : goal.returns-clause-grows
 returns-clause-grows g c =
-    let old : Workbench = workbench_by c.args.self.now in
-    let found : Workbench = workbench_by c.settle_for.new.self in
+    let old : Workbench = state c.args.self.now in
+    let found : Workbench = state c.settle_for.new.self in
     let after : Workbench = record found { store = c.reason.new.store; nogoods = c.reason.new.nogoods } in
     let fits : StoreFits found = fits_after old c.args.user found c.settle_for.ensures.grows c.requires.fits in
-    only_keeps_then old c.args.user found (workbench_by c.remember.new.self) c.settle_for.ensures.grows
-    (only_keeps_then found c.args.user after (workbench_by c.remember.new.self)
+    only_keeps_then old c.args.user found (state c.remember.new.self) c.settle_for.ensures.grows
+    (only_keeps_then found c.args.user after (state c.remember.new.self)
     (only_notes found c.args.user c.reason.new.store c.reason.new.nogoods c.reason.ensures.grows c.reason.ensures.upstream (λ are. c.reason.ensures.nogoods))
     (subst (OnlyKeepsMore after c.args.user) (sym c.remember.ensures)
     (only_remembers after c.args.user (Some (record { values = c.in-Ok.settled; is_current = true }))
@@ -114,13 +114,13 @@ returns-in_default-reason-clause-noted g c =
 
 pub returns-clause-noted : goal.returns-clause-noted
 returns-clause-noted g c =
-    let found : Workbench = workbench_by c.settle_for.new.self in
-    let there : c.args.cell < cells_in (network_by c.args.self.now.network) = omega (arith, c.requires.cell) in
+    let found : Workbench = state c.settle_for.new.self in
+    let there : c.args.cell < cells_in (wiring c.args.self.now.network) = omega (arith, c.requires.cell) in
     let settled : IsSettled found.network found.store c.in-Ok.settled.worldview c.in-Ok.settled =
     subst (λ (n : Network). IsSettled n found.store c.in-Ok.settled.worldview c.in-Ok.settled) (sym c.settle_for.ensures.grows.network)
-    (settled_still (network_by c.args.self.now.network) c.args.self.now.store found.store
-    (beliefs_in (workbench_by c.args.self.now) c.args.user) c.in-Ok.settled c.settle_for.ensures.grows.grows c.in-Ok.ensures.settled) in
+    (settled_still (wiring c.args.self.now.network) c.args.self.now.store found.store
+    (beliefs_in (state c.args.self.now) c.args.user) c.in-Ok.settled c.settle_for.ensures.grows.grows c.in-Ok.ensures.settled) in
     let here : c.args.cell < cells_in found.network = subst (λ (n : Network). c.args.cell < cells_in n) (sym c.settle_for.ensures.grows.network) there in
-    subst (λ (bench : Workbench). NotesReasons (workbench_by c.args.self.now).nogoods bench.nogoods (reply.Because c.value-info.result.info c.in-Ok-reason.reason)) (sym c.remember.ensures)
-    (notes_reason (workbench_by c.args.self.now).nogoods found.nogoods c.reason.new.nogoods c.value-info.result.info (value_in found.network found.store c.in-Ok.settled.worldview c.args.cell) c.in-Ok-reason.reason
+    subst (λ (bench : Workbench). NotesReasons (state c.args.self.now).nogoods bench.nogoods (reply.Because c.value-info.result.info c.in-Ok-reason.reason)) (sym c.remember.ensures)
+    (notes_reason (state c.args.self.now).nogoods found.nogoods c.reason.new.nogoods c.value-info.result.info (value_in found.network found.store c.in-Ok.settled.worldview c.args.cell) c.in-Ok-reason.reason
     c.settle_for.ensures.nogoods c.reason.ensures.covers (c.value-info.ensures.info ∙ settled.values c.args.cell here) c.in-Ok-reason.ensures.covered)

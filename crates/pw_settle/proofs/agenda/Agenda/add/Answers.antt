@@ -1,6 +1,6 @@
 use Rattle.std.proofs.Common.{◌≡◌, ◌<◌, false, length, deque_capacity, deque_len, sym, ap, ◌∙◌, arith}
 use Rattle.std.proofs.lemmas.List.{get_or_default}
-use Rattle.pw_settle.specs.Agenda.{is_set}
+use Rattle.pw_settle.specs.inside.Progress.{is_set}
 use Rattle.pw_settle.proofs.AgendaLemmas.{queue_more, tally_room}
 use Rattle.pw_settle.proofs.agenda.Agenda.add.Goals as goal
 

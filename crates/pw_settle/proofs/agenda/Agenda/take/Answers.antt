@@ -1,5 +1,5 @@
 use Rattle.std.proofs.Common.{deque_capacity, set, false, subst, sym}
-use Rattle.pw_settle.specs.Agenda.{IsQueue}
+use Rattle.pw_settle.specs.inside.Progress.{IsQueue}
 use Rattle.pw_settle.proofs.AgendaLemmas.{queue_less}
 use Rattle.pw_settle.proofs.agenda.Agenda.take.Goals as goal
 

@@ -1,10 +1,10 @@
 use Rattle.std.proofs.Common.{◌≡◌, ◌++◌, List, map, ap, ◌∙◌, arith}
 use Rattle.pw_info.specs.declared.kind.Kind.{Kind}
-use Rattle.pw_procs.specs.Arguments.{cells_of}
+use Rattle.pw_procs.specs.Registry.{cells_of}
 use Rattle.pw_cells.specs.Cells.{new_cell}
 use Rattle.pw_decl.specs.Declaration.{Declared}
 use Rattle.pw_decl.specs.Expansion.{inner_kinds_of}
-use Rattle.pw_network.specs.Fields.{network_by}
+use Rattle.pw_network.specs.Wiring.{wiring}
 use Rattle.pw_network.specs.Network.{Network}
 use Rattle.pw_settle.proofs.StoreCells.{room_for_inner}
 use Rattle.pw_test_networks.proofs.StageLemmas.{fits_attached, ready_attached}
@@ -12,7 +12,7 @@ use Rattle.pw_test_networks.proofs.settling.stages.attach_one.Goals as goal
 
 pub add_cells-requires : goal.add_cells-requires
 add_cells-requires g c =
-    let room = room_for_inner (network_by c.args.network.now) c.args.store.now c.args.network.now.well c.requires.kinds in
+    let room = room_for_inner (wiring c.args.network.now) c.args.store.now c.args.network.now.well c.requires.kinds in
     omega (arith, c.inner_kinds-kinds.ensures.most)
 
 pub returns : goal.returns
@@ -22,10 +22,10 @@ returns g c =
     (c.declaration.ensures ∙ ap (λ (n : Network). n.declared) c.in-Ok.ensures.ok) in
     let are = c.in_ok-add_cells.ensures ∙ ap (λ (ks : List Kind). c.args.store.now.cells ++ map new_cell ks) own in
     record {
-      ready = ready_attached (network_by c.args.network.now) c.args.attachment.now.line c.in_ok-callable.callable (cells_of c.in_ok-callable.cells)
-          c.args.attachment.now.support (network_by c.attach.new.self) c.args.network.now.well c.attach.new.self.well c.in-Ok.ensures.ok
+      ready = ready_attached (wiring c.args.network.now) c.args.attachment.now.line c.in_ok-callable.callable (cells_of c.in_ok-callable.cells)
+          c.args.attachment.now.support (wiring c.attach.new.self) c.args.network.now.well c.attach.new.self.well c.in-Ok.ensures.ok
           c.args.store.now c.add_cells.new.store are c.requires;
-      fits = fits_attached (network_by c.args.network.now) c.args.attachment.now.line c.in_ok-callable.callable (cells_of c.in_ok-callable.cells)
-          c.args.attachment.now.support (network_by c.attach.new.self) c.args.network.now.well c.attach.new.self.well c.in-Ok.ensures.ok
+      fits = fits_attached (wiring c.args.network.now) c.args.attachment.now.line c.in_ok-callable.callable (cells_of c.in_ok-callable.cells)
+          c.args.attachment.now.support (wiring c.attach.new.self) c.args.network.now.well c.attach.new.self.well c.in-Ok.ensures.ok
           c.args.store.now c.add_cells.new.store are c.requires;
     }

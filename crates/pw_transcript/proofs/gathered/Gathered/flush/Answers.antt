@@ -1,5 +1,5 @@
 use Rattle.std.proofs.Common.{[]}
-use Rattle.pw_transcript.specs.Steps.Gathering.{Gathers-joins}
+use Rattle.pw_transcript.specs.inside.Gathering.{Gathers-joins}
 use Rattle.pw_transcript.proofs.GatheringFacts.{Gathers-front, Gathers-kept}
 use Rattle.pw_transcript.proofs.gathered.Gathered.flush.Goals as goal
 

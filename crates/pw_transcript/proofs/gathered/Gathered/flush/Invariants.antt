@@ -1,5 +1,5 @@
 use Rattle.std.proofs.Common.{◌≡◌, [], false, length}
-use Rattle.pw_transcript.specs.Steps.Gathering.{Gathers}
+use Rattle.pw_transcript.specs.inside.Gathering.{Gathers}
 use Rattle.pw_transcript.proofs.gathered.Gathered.flush.Given as goal
 
 -- the output is the same one, which has not failed, and what it was passed so far came before what

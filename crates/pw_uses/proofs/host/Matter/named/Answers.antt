@@ -1,15 +1,15 @@
 use Rattle.std.proofs.Common.{◌≡◌, ℕ, ◌<◌, List, [], ◌∷◌, length, refl, sym, ap, ◌∙◌, subst, arith}
 use Rattle.std.specs.Prelude.{All}
 use Rattle.std.proofs.lemmas.List.Elements.{All-cons, All-nil}
-use Rattle.pw_procs.specs.Arguments.{cells_of}
+use Rattle.pw_procs.specs.Registry.{cells_of}
 use Rattle.pw_decl.proofs.CompoundLemmas.{accepts_same}
 use Rattle.pw_decl.specs.Declaration.{Declared}
-use Rattle.pw_decl.specs.Fields.{declared_by}
+use Rattle.pw_decl.specs.inside.Fields.{declared}
 use Rattle.pw_uses.proofs.host.Matter.named.Goals as goal
 
 pub returns : goal.returns
 returns g c =
-    let d : Declared = declared_by c.args.declaration.now in
+    let d : Declared = declared c.args.declaration.now in
     let told : ℕ = c.in_ok-told.told in
     let asked : ℕ = c.in_ok-asked.asked in
     let cells = c.in_ok-cells.cells in

@@ -1,0 +1,106 @@
+-- The facts of one cell in the code: how they are listed, what bounds the older ones, which answers
+-- are remembered.
+use Rattle.std.specs.Prelude.{◌≡◌, ◌≤◌, List, All, length, take, refl, ◌⊎◌, ℕ, true, if◌then◌else◌}
+use Rattle.std.specs.Prelude.{[], ◌∷◌, ◌++◌, Contains, map, position, Option, is_some, ◌<◌, ◌&&◌}
+use Rattle.std.specs.Prelude.{nat_eq}
+use Rattle.pw_info.specs.declared.kind.Kind.{Kind}
+use Rattle.pw_info.specs.Information.{kind_of, Implies, meet}
+use Rattle.pw_facts.specs.declared.fact.Fact.{Fact}
+use Rattle.pw_cells.specs.declared.bound.Bound.{Bound}
+use Rattle.std.specs.Coded.{Coded, code_by, coded×, coded_ℕ, coded_list}
+use Rattle.pw_cells.specs.Cells.{Cell, Store, shown_by, ArePremisesOf, all_assimilated, told_at}
+use Rattle.std.specs.FinSet.{is_subset}
+use Rattle.pw_premises.specs.Premises.{Premises}
+use Rattle.pw_premises.specs.PremiseSubsets.{has_same_numbers}
+use Rattle.pw_facts.specs.Facts.{shows, Subsumes}
+use Rattle.pw_cells.specs.declared.recalled.Recalled.{Recalled}
+
+-- the information is of the kind, and says at least as much as each of the first `count` facts
+pub record Bounds (kind : Kind) (facts : List Fact) (bound : Bound) : Type 0 where
+  pub of_kind : kind_of bound.info ≡ kind
+  pub within : bound.count ≤ length facts
+  pub says : All (λ f. Implies bound.info f.info) (take bound.count facts)
+
+-- a cell is stored as its kind and its two lists of facts
+abbrev pub cell_code : Coded Kind → Coded Fact → Coded Cell
+cell_code kind fact =
+    code_by _ (coded× kind (coded× (coded_list fact) (coded_list fact))) (λ c.
+    (c.kind, (c.told, c.kept)))
+    (λ p. record { kind = p.0; told = p.1.0; kept = p.1.1 }) (λ _. refl)
+
+-- a store is stored as the list of its cells and its room
+abbrev pub store_code : Coded Kind → Coded Fact → Coded Store
+store_code kind fact =
+    code_by _ (coded× (coded_list (cell_code kind fact)) coded_ℕ) (λ s. (s.cells, s.room)) (λ p.
+    record { cells = p.0; room = p.1 }) (λ _. refl)
+
+-- each of the facts is of the kind
+abbrev pub AreOfKind : Kind → List Fact → Type 0
+AreOfKind kind facts = All (λ f. kind_of f.info ≡ kind) facts
+
+-- none of the facts subsumes another
+abbrev pub AreApart : List Fact → Type 0
+AreApart facts = (f g : Fact) → Contains facts f → Contains facts g → Subsumes f g → f ≡ g
+
+-- the place of the support among these, if it is there
+abbrev pub place_of_support : Premises → List Premises → Option ℕ
+place_of_support support supports = position (has_same_numbers support) supports
+
+-- the supports, and this one too: it has the place, or is added if it has none
+abbrev pub with_support : Option ℕ → Premises → List Premises → List Premises
+with_support place support supports = if is_some place then supports else supports ++ support ∷ []
+
+-- the facts of a cell are of its kind, and the told facts have these supports; in every worldview
+-- the kept facts, after the late ones are assimilated, say at least what was told; and no kept fact
+-- subsumes another
+pub record IsCellWhole (kind : Kind) (told : List Fact) (supports : List Premises)
+    (kept late : List Fact) : Type 0 where
+  pub told_kinds : AreOfKind kind told
+  pub kept_kinds : AreOfKind kind kept
+  pub late_kinds : AreOfKind kind late
+  pub known : supports ≡ map (λ f. f.support) told
+  pub says : (w : Premises) → Implies (shown_by kind w (all_assimilated kept late))
+      (shown_by kind w told)
+  pub apart : AreApart kept
+
+-- facts of the fact's kind show more: in every worldview they show what they showed before, merged
+-- with what the fact shows there
+abbrev pub ShowsMore : Fact → List Fact → List Fact → Type 0
+ShowsMore fact old new = (w : Premises) → shown_by (kind_of fact.info) w new
+    ≡ meet (shown_by (kind_of fact.info) w old) (shows w fact)
+
+-- `rest` has exactly those of the facts that this fact does not subsume
+pub record IsRest (fact : Fact) (facts rest : List Fact) : Type 0 where
+  pub stays : All (λ f. Contains rest f ⊎ Subsumes fact f) facts
+  pub within : All (λ f. Contains facts f) rest
+  pub gone : All (λ f. Subsumes fact f → ⊥) rest
+
+-- the fact says what the facts together show in the worldview, and rests on premises of theirs that
+-- give the same
+pub record StandsFor (kind : Kind) (worldview : Premises) (facts : List Fact) (merge : Fact)
+    : Type 0 where
+  pub info : merge.info ≡ shown_by kind worldview facts
+  pub within : is_subset merge.support worldview ≡ true
+  pub same : shown_by kind merge.support facts ≡ merge.info
+  pub rests : ArePremisesOf facts merge.support
+
+-- an answer is right: it is the told information about the cell in the worldview
+abbrev pub IsRight : List Cell → Recalled → Type 0
+IsRight cells answer = (answer.cell < length cells)
+    × (answer.info ≡ told_at cells answer.cell answer.worldview)
+
+-- each of the answers is right
+abbrev pub AreRight : List Cell → List Recalled → Type 0
+AreRight cells answers = All (IsRight cells) answers
+
+-- the answer after this fact is told about this cell too
+abbrev pub after_tell : ℕ → Fact → Recalled → Recalled
+after_tell cell fact answer =
+    if nat_eq answer.cell cell && is_subset fact.support answer.worldview
+    then record {
+      cell = answer.cell;
+      worldview = answer.worldview;
+      info =
+          meet answer.info fact.info;
+    }
+    else answer

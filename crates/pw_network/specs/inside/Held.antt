@@ -1,0 +1,42 @@
+-- Instances, inner cells and a network, by the fields that the code stores.
+use Rattle.std.specs.Prelude.{ℕ, List, map}
+use Rattle.pw_decl.specs.Declaration.{Declared}
+use Rattle.pw_network.specs.declared.network.InnerCell.{InnerCell as InnerType}
+use Rattle.pw_network.specs.declared.instance.Instance.{Instance as InstanceType}
+use Rattle.pw_network.specs.Network.{Attached, InnerCell, Network, attached_at}
+use Rattle.pw_premises.specs.Premises.{Premises}
+use Rattle.pw_decl.specs.declared.flat_call.FlatCall.{FlatCall}
+use Rattle.pw_decl.specs.inside.Held.{instances_on}
+
+-- an instance, with its line and its premises
+abbrev pub attachment : InstanceType → Attached
+attachment kept =
+    record {
+      instance = record {
+        procedure = kept.procedure;
+        inputs = kept.inputs.items;
+        output =
+            kept.output;
+      };
+      line = kept.line;
+      support = kept.support;
+    }
+
+-- an inner cell
+abbrev pub inner_of : InnerType → InnerCell
+inner_of kept = record { line = kept.line; number = kept.number; kind = kept.kind }
+
+-- the network that the fields store
+abbrev pub wiring_from : Declared → List InnerType → List InstanceType → ℕ → Network
+wiring_from declared inner instances last_line =
+    record {
+      declared = declared;
+      inner = map inner_of inner;
+      attached = map attachment instances;
+      last_line = last_line;
+    }
+
+-- what calls over places are on these cells, attached in this line under these premises
+abbrev pub attached_on : ℕ → Premises → List ℕ → ℕ → List FlatCall → List Attached
+attached_on line support cells first calls = map (attached_at line support)
+    (instances_on cells first calls)

@@ -1,0 +1,2 @@
+-- What only the steps of the code and their proofs speak of.
+pub mod Shapes

@@ -1,0 +1,168 @@
+-- The conditions that the steps of a command put on a workbench, and their results.
+use Rattle.std.specs.Prelude.{◌≡◌, ◌⊎◌, ℕ, ◌+◌, ◌<◌, ◌≤◌, Bool, true, ◌&&◌, List, ◌++◌, length, map}
+use Rattle.std.specs.Prelude.{nat_eq, Some, slice_set}
+use Rattle.std.specs.Option.{option_map}
+use Rattle.std.specs.List.{list_any}
+use Rattle.std.specs.FinSet.{is_subset}
+use Rattle.pw_premises.specs.Premises.{Premises}
+use Rattle.pw_facts.specs.declared.fact.Fact.{Fact}
+use Rattle.pw_cells.specs.Cells.{Store, kinds_of, new_cell}
+use Rattle.pw_cells.specs.Changes.{AssimilatesAt, GainsKept, GainsTold, LeavesOthers}
+use Rattle.pw_decl.specs.declared.step.Callable.{Callable}
+use Rattle.pw_decl.specs.Declaration.{Declared}
+use Rattle.pw_decl.specs.Expansion.{inner_kinds_of}
+use Rattle.pw_network.specs.Network.{last_attachment_line}
+use Rattle.pw_network.specs.Network.{Attached, with_attached}
+use Rattle.pw_settle.specs.Growth.{KeepsMore, StaysUpstream}
+use Rattle.pw_settle.specs.Sound.{IsSound}
+use Rattle.pw_settle.specs.Values.{kinds_in, value_in}
+use Rattle.pw_reasons.specs.Conflicts.{Conflicts, AreConflicts}
+use Rattle.pw_reasons.specs.Nogood.{AreNogoods}
+use Rattle.pw_reasons.specs.Reason.{reason_of}
+use Rattle.pw_sessions.specs.declared.command.Command.{Command}
+use Rattle.pw_sessions.specs.Reply.{Reply}
+use Rattle.pw_sessions.specs.Reply as reply
+use Rattle.pw_sessions.specs.declared.reply.Refusal.TheVariants as refusal
+use Rattle.pw_sessions.specs.Reply.{LineReading, Says}
+use Rattle.pw_sessions.specs.Command.{IsDeclared}
+use Rattle.pw_sessions.specs.Session.{EachBecomes, IsAfterTell, after_entry}
+use Rattle.pw_sessions.specs.Workbench.{Workbench, IsLeftBy, IsSetUpFor, IsCarriedOut, SessionsFit}
+use Rattle.pw_sessions.specs.Workbench.{beliefs_in, session_in}
+use Rattle.pw_settle.specs.Settled.{Settled}
+
+-- the workbench can carry out the command: what it names is declared, and the line comes after
+-- those of all attachments
+pub record CanCarryOut (workbench : Workbench) (line : ℕ) (command : Command) : Type 0 where
+  pub set_up : IsSetUpFor workbench.network.declared workbench
+  pub declared : IsDeclared workbench.network.declared (Says command)
+  pub next : workbench.network.last_line < line
+  pub most : line ≤ last_attachment_line
+
+-- for every declaration and all readings of the earlier lines, of which this is the next: the
+-- command was carried out
+abbrev pub CarriesOutNext : Workbench → ℕ → Command → Workbench → Reply → Type 0
+CarriesOutNext old line command new reply =
+    (d : Declared) (before : List LineReading) → IsLeftBy d before old → length before + 1 ≡ line →
+    IsDeclared d (Says command)
+    → IsCarriedOut d before command new reply
+
+-- the store has the cells of the network, with their kinds, and keeps only what follows; the noted
+-- sets contradict themselves; and the last session of each user fits
+pub record StoreFits (workbench : Workbench) : Type 0 where
+  pub kinds : kinds_of workbench.store ≡ kinds_in workbench.network
+  pub sound : IsSound workbench.network workbench.store
+  pub nogoods : AreNogoods workbench.network workbench.store workbench.nogoods
+  pub sessions : SessionsFit workbench.network workbench.store workbench.sessions
+
+-- an instance that is visible in the worldview writes the cell
+abbrev pub is_written : List Attached → ℕ → Premises → Bool
+is_written attached cell worldview =
+    list_any (λ (a : Attached). nat_eq a.instance.output cell
+    && is_subset a.support worldview) attached
+
+-- the store took a fact that was told about the cell
+pub record TakesFact (cell : ℕ) (fact : Fact) (old new : Store) : Type 0 where
+  pub told : GainsTold cell fact old new
+  pub kept : GainsKept cell fact old new
+  pub assimilates : AssimilatesAt cell fact old new
+  pub others : LeavesOthers cell old new
+  pub kinds : kinds_of new ≡ kinds_of old
+
+-- a fact was told about the cell: the store took it, and each session knows whether it is news
+pub record IsTold (old : Workbench) (cell : ℕ) (fact : Fact) (new : Workbench) : Type 0 where
+  pub network : new.network ≡ old.network
+  pub store : TakesFact cell fact old.store new.store
+  pub nogoods : new.nogoods ≡ old.nogoods
+  pub beliefs : new.beliefs ≡ old.beliefs
+  pub sessions : EachBecomes (IsAfterTell cell fact) old.sessions new.sessions
+  pub calls : new.calls ≡ old.calls
+
+-- a callable was attached, and its inner cells added, about which nothing was told; and sessions
+-- know that it came
+pub record IsAttached (old : Workbench) (line : ℕ) (callable : Callable) (cells : List ℕ)
+    (support : Premises) (new : Workbench) : Type 0 where
+  pub network : new.network ≡ with_attached old.network line callable cells support
+  pub cells_are : new.store.cells ≡ old.store.cells
+      ++ map new_cell (inner_kinds_of old.network.declared.compounds callable)
+  pub nogoods : new.nogoods ≡ old.nogoods
+  pub beliefs : new.beliefs ≡ old.beliefs
+  pub sessions : new.sessions ≡ map (option_map (after_entry support)) old.sessions
+
+-- the same network, facts, nogoods, beliefs and sessions; only the room for cells and the number of
+-- procedure calls may differ
+pub record IsAsBefore (old new : Workbench) : Type 0 where
+  pub network : new.network ≡ old.network
+  pub cells_are : new.store.cells ≡ old.store.cells
+  pub nogoods : new.nogoods ≡ old.nogoods
+  pub beliefs : new.beliefs ≡ old.beliefs
+  pub sessions : new.sessions ≡ old.sessions
+
+-- the same network, beliefs and told facts; more may be kept, other sets may be noted, which
+-- contradict themselves as before, and the user may have another last session, which fits
+pub record OnlyKeepsMore (old : Workbench) (user : ℕ) (new : Workbench) : Type 0 where
+  pub network : new.network ≡ old.network
+  pub beliefs : new.beliefs ≡ old.beliefs
+  pub users : length new.sessions ≡ length old.sessions
+  pub others : (other : ℕ) → (other ≡ user → ⊥) → session_in new other ≡ session_in old other
+  pub sessions : StoreFits old → SessionsFit old.network new.store new.sessions
+  pub nogoods : AreNogoods old.network old.store old.nogoods →
+      AreNogoods old.network new.store new.nogoods
+  pub grows : KeepsMore old.network old.store new.store
+  pub upstream : StaysUpstream old.network old.store new.store
+
+-- an ask of the cell by the user was answered: with what settles in the network under the user's
+-- beliefs; or, if a visible instance writes the cell, with out of memory
+abbrev pub AnswersAsk : Workbench → ℕ → ℕ → Reply → Type 0
+AnswersAsk workbench user cell answer =
+    (answer ≡ reply.Value (value_in workbench.network workbench.store (beliefs_in workbench user)
+    cell))
+    ⊎ ((answer ≡ reply.Refused refusal.Memory)
+    × (is_written workbench.network.attached cell (beliefs_in workbench user) ≡ true))
+
+-- a why of the cell by the user was answered: with what settles in the network under the user's
+-- beliefs, and its reason; or with out of memory
+abbrev pub AnswersWhy : Workbench → ℕ → ℕ → Reply → Type 0
+AnswersWhy workbench user cell answer =
+    (answer ≡ reply.Because (value_in workbench.network workbench.store (beliefs_in workbench user)
+    cell)
+    (reason_of (λ w. value_in workbench.network workbench.store w cell)
+    (beliefs_in workbench user)))
+    ⊎ (answer ≡ reply.Refused refusal.Memory)
+
+-- a question for conflicts by the user was answered: with the conflicts of what settles in the
+-- network under the user's beliefs; or with out of memory
+abbrev pub AnswersConflicts : Workbench → ℕ → Reply → Type 0
+AnswersConflicts workbench user answer =
+    ((conflicts : Conflicts) × (answer ≡ reply.Listed conflicts)
+    × AreConflicts workbench.network (value_in workbench.network workbench.store
+    (beliefs_in workbench user)) conflicts)
+    ⊎ (answer ≡ reply.Refused refusal.Memory)
+
+-- whatever lines left the workbench, the answer is that of `ask`
+abbrev pub AnswersAskIfLeft : Workbench → ℕ → ℕ → Reply → Type 0
+AnswersAskIfLeft workbench user cell answer =
+    (d : Declared) (before : List LineReading) → IsLeftBy d before workbench →
+    AnswersAsk workbench user cell answer
+
+-- an instance that the user sees writes the cell
+abbrev pub SeesWriter : Workbench → ℕ → ℕ → Type 0
+SeesWriter workbench user cell = is_written workbench.network.attached cell
+    (beliefs_in workbench user) ≡ true
+
+-- the workbench with these as the last values of the user, which are current
+abbrev pub remembering : Workbench → ℕ → Settled → Workbench
+remembering workbench user settled =
+    record workbench {
+      sessions = slice_set workbench.sessions user (Some (record {
+        values =
+            settled;
+        is_current = true;
+      }));
+    }
+
+-- the workbench where the user believes these premises
+abbrev pub believing : Workbench → ℕ → Premises → Workbench
+believing workbench user premises = record workbench {
+  beliefs =
+      slice_set workbench.beliefs user premises;
+}

@@ -1,0 +1,4 @@
+-- What only the steps of the code and their proofs speak of.
+pub mod Due
+pub mod Known
+pub mod Progress

@@ -1,0 +1,110 @@
+-- What is kept of each cell in a worldview, as a settling has it at hand.
+use Rattle.std.specs.Prelude.{◌≡◌, ℕ, ◌<◌, Bool, true, List, length, fold, set, refl, [], ◌∷◌, All}
+use Rattle.std.specs.FinSet.{union, is_subset, code}
+use Rattle.pw_info.specs.declared.info.Info.{Info}
+use Rattle.pw_info.specs.Information.{Implies, meet}
+use Rattle.pw_premises.specs.Premises.{Premises}
+use Rattle.pw_facts.specs.declared.fact.Fact.{Fact}
+use Rattle.pw_facts.specs.Facts.{ShowTogether, IsLeastAbove}
+use Rattle.pw_cells.specs.Cells.{Store, kept_in, told_in}
+use Rattle.pw_network.specs.Network.{Network, Attached}
+use Rattle.pw_settle.specs.Settled.{info_at, support_at, Settled}
+use Rattle.pw_settle.specs.Sound.{LiesUpstream, RestsUpstream}
+use Rattle.pw_info.specs.declared.kind.Kind.{Kind}
+use Rattle.pw_procs.specs.Procedure.{Procedure}
+use Rattle.pw_decl.specs.Expansion.{Instance, SpeaksOf, FitsCells}
+use Rattle.pw_settle.specs.Values.{numbered, propagators_of}
+use Rattle.std.specs.Coded.{Coded, code_by, coded×, coded_ℕ, coded_list}
+use Rattle.pw_settle.specs.Sources.{said_by}
+
+-- for each cell of the store, the information that is kept in the worldview, and premises of the
+-- worldview that are enough for it
+pub record AreKept (store : Store) (w : Premises) (infos : List Info) (supports : List Premises)
+    : Type 0 where
+  pub many : length infos ≡ length store.cells
+  pub as_many : length supports ≡ length store.cells
+  pub infos_are : (cell : ℕ) → info_at infos cell ≡ kept_in store cell w
+  pub within : (cell : ℕ) → is_subset (support_at supports cell) w ≡ true
+  pub enough : (cell : ℕ) → IsLeastAbove (support_at supports cell) (kept_in store cell)
+      (info_at infos cell)
+
+-- what is kept says at least what was told
+abbrev pub SaysTold : Store → Premises → Type 0
+SaysTold store w = (cell : ℕ) → cell < length store.cells →
+    Implies (kept_in store cell w) (told_in store cell w)
+
+-- the premises at hand for each cell lie upstream of it
+abbrev pub LieUpstream : Network → (ℕ → ℕ → Bool) → List Premises → Type 0
+LieUpstream network given supports = (cell : ℕ) →
+    LiesUpstream network given cell (support_at supports cell)
+
+-- the premises that the kept facts rest on lie upstream too
+pub record AreUpstream (network : Network) (given : ℕ → ℕ → Bool) (store : Store)
+    (supports : List Premises) : Type 0 where
+  pub kept : RestsUpstream network given store
+  pub known : LieUpstream network given supports
+
+-- the premises of an instance, and those at hand for its inputs
+abbrev pub joined : List Premises → Premises → List ℕ → Premises
+joined supports support inputs = fold (λ all input.
+    union all (support_at supports input)) support inputs
+
+-- a fact is merged into what is at hand for a cell: the informations are merged, and the new
+-- premises are among the old ones and the fact's, and are enough for the merge
+pub record TakesIn (cell : ℕ) (fact : Fact) (infos new_infos : List Info)
+    (supports new_supports : List Premises) : Type 0 where
+  pub infos_are : new_infos ≡ set infos cell (meet (info_at infos cell) fact.info)
+  pub supports_are : new_supports ≡ set supports cell (support_at new_supports cell)
+  pub rests : is_subset (support_at new_supports cell)
+      (union (support_at supports cell) fact.support) ≡ true
+  pub together : ShowTogether
+      (record { info = info_at infos cell; support = support_at supports cell }) fact
+      (record {
+        info = meet (info_at infos cell) fact.info;
+        support =
+            support_at new_supports cell;
+      })
+
+-- the instance reads and writes existing cells, of kinds that its procedure accepts
+abbrev pub IsPlaced : List Procedure → List Kind → Instance ℕ → Type 0
+IsPlaced procedures kinds instance =
+    SpeaksOf (λ cell. cell < length kinds) instance
+    × ∥ FitsCells procedures (numbered kinds).kind instance ∥₁
+
+-- it is stored as the list of informations, the list of premises, the worldview and the two counts
+abbrev pub settled_code : Coded Info → Coded Settled
+settled_code info =
+    code_by _ (coded× (coded_list info) (coded× (coded_list (code coded_ℕ))
+    (coded× (code coded_ℕ) (coded× coded_ℕ coded_ℕ))))
+    (λ s. (s.infos, (s.supports, (s.worldview, (s.instances, s.calls)))))
+    (λ p. record {
+      infos = p.0;
+      supports = p.1.0;
+      worldview = p.1.1.0;
+      instances =
+          p.1.1.1.0;
+      calls = p.1.1.1.1;
+    }) (λ _. refl)
+
+-- where what is kept rests on premises upstream alone, so do the values that are read from it
+abbrev pub ReadsUpstream : Network → Store → List Premises → Type 0
+ReadsUpstream network store supports =
+    (given : ℕ → ℕ → Bool) → RestsUpstream network given store → LieUpstream network given supports
+
+-- where all lay upstream before, it does now
+abbrev pub StayUpstream : Network → Store → List Premises → Store → List Premises → Type 0
+StayUpstream network old supports new now =
+    (given : ℕ → ℕ → Bool) → AreUpstream network given old supports →
+    AreUpstream network given new now
+
+-- where all lay upstream before, what is kept now rests upstream
+abbrev pub SettlesUpstream : Network → Store → List Premises → Store → Type 0
+SettlesUpstream network old supports new =
+    (given : ℕ → ℕ → Bool) → AreUpstream network given old supports →
+    RestsUpstream network given new
+
+-- the procedure of the instance makes this of what is known of its inputs
+abbrev pub Gives : List Procedure → List Info → Attached → Info → Type 0
+Gives procedures known a info =
+    All (λ source. said_by (info_at known) source
+    ≡ info) (propagators_of procedures (a.instance ∷ []))

@@ -1,0 +1,6 @@
+-- What only the steps of the code and their proofs speak of.
+pub mod Answering
+pub mod Forms
+pub mod Gathering
+pub mod Resolving
+pub mod Running

@@ -1,0 +1,71 @@
+-- The answer to one line, as a step from what the lines before it left to what they leave with it.
+use Rattle.std.specs.Prelude.{◌≡◌, ℕ, ◌+◌, nat_le, List, [], ◌∷◌, ◌++◌, length, Option, Some, None}
+use Rattle.std.specs.Prelude.{is_some, Bool, if◌then◌else◌}
+use Rattle.pw_info.specs.Passing.{PassesPart}
+use Rattle.pw_sessions.specs.Reply.{Reply}
+use Rattle.pw_decl.specs.Declaration.{Declared}
+use Rattle.pw_sessions.specs.Reply.{LineReading}
+use Rattle.pw_transcript.specs.Limits.{most_command_bytes}
+use Rattle.pw_sessions.specs.Answer.{reply_to}
+use Rattle.pw_sessions.specs.Workbench.{Workbench, IsLeftBy}
+use Rattle.pw_transcript.specs.ReplyText.{text_if_any}
+use Rattle.pw_transcript.specs.FromScratch.{ComesTo}
+
+-- the held part of a line: the line, or nothing if it is longer than a line that is read
+abbrev pub held_line : List ℕ → Option (List ℕ)
+held_line line = if nat_le (length line) most_command_bytes then Some line else None
+
+-- the lines before the line of this number left it
+abbrev pub IsLeft : Declared → ℕ → Workbench → Type 0
+IsLeft d number workbench = (before : List LineReading) × (length before + 1 ≡ number)
+    × IsLeftBy d before workbench
+
+-- After lines that got these readings, this line got a reading, this is its reply if it gets one,
+-- and the new workbench is what the lines leave with it.
+pub record RepliesToLine (d : Declared) (before : List LineReading) (line : List ℕ)
+    (new : Workbench) (answer : Option Reply) : Type 0 where
+  pub reading : LineReading
+  pub comes : ComesTo d before line reading
+  pub left : IsLeftBy d (before ++ reading ∷ []) new
+  pub answer_is : reply_to d before reading ≡ answer
+
+-- for all lines before the line of this number, and every line held like this: the reply to it
+abbrev pub RepliesToHeld : Declared → ℕ → Option (List ℕ) → Workbench → Workbench → Option Reply →
+    Type 0
+RepliesToHeld d number held old new answer =
+    (before : List LineReading) (line : List ℕ) → IsLeftBy d before old → length before + 1
+    ≡ number → held ≡ held_line line
+    → RepliesToLine d before line new answer
+
+module _ {O : Type 0} (passes : O → List ℕ → O → Type 0) (d : Declared) where
+  -- the same, and the reply was passed if the line gets one
+  pub record PassesReply (number : ℕ) (before : List LineReading) (line : List ℕ) (new : Workbench)
+      (o o' : O) (replied : Bool) : Type 0 where
+    pub reading : LineReading
+    pub comes : ComesTo d before line reading
+    pub left : IsLeftBy d (before ++ reading ∷ []) new
+    pub passed : passes o (text_if_any d number (reply_to d before reading)) o'
+    pub replied_is : replied ≡ is_some (reply_to d before reading)
+
+  -- the line got a reading, and the output failed while its reply was passed
+  pub record FailsInReply (number : ℕ) (before : List LineReading) (line : List ℕ) (o o' : O)
+      : Type 0 where
+    pub reading : LineReading
+    pub comes : ComesTo d before line reading
+    pub part : PassesPart passes o o' (text_if_any d number (reply_to d before reading))
+
+  -- for all lines before the line of this number, and every line held like this: its reply was
+  -- passed
+  abbrev pub PassesHeldReply : ℕ → Option (List ℕ) → Workbench → Workbench → O → O → Bool → Type 0
+  PassesHeldReply number held old new o o' replied =
+      (before : List LineReading) (line : List ℕ) → IsLeftBy d before old → length before + 1
+      ≡ number → held ≡ held_line line
+      → PassesReply number before line new o o' replied
+
+  -- for all lines before the line of this number, and every line held like this: the output failed
+  -- while its reply was passed
+  abbrev pub FailsInHeldReply : ℕ → Option (List ℕ) → Workbench → O → O → Type 0
+  FailsInHeldReply number held old o o' =
+      (before : List LineReading) (line : List ℕ) → IsLeftBy d before old → length before + 1
+      ≡ number → held ≡ held_line line
+      → FailsInReply number before line o o'

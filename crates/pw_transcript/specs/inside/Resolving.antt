@@ -1,0 +1,37 @@
+-- The result of the words of a known user.
+use Rattle.std.specs.Prelude.{ℕ, List, [], ◌∷◌}
+use Rattle.pw_info.specs.Lines.{IsFirstIn, HoldsOfNone}
+use Rattle.pw_decl.specs.Declaration.{Declared}
+use Rattle.pw_sessions.specs.declared.reply.Refusal.{Refusal}
+use Rattle.pw_sessions.specs.declared.reply.Refusal.TheVariants as refusal
+use Rattle.pw_transcript.specs.Sentence.{Said}
+use Rattle.pw_transcript.specs.Reading.{HasUnknownCommand, HasUnknownCell, HasUnknownProcedure}
+use Rattle.pw_transcript.specs.Reading.{HasWrongInformation, HasWrongArguments, HasUnknownPremise}
+use Rattle.pw_transcript.specs.Reading.{HasAnothersPremise}
+
+-- the condition of each refusal on this user's words
+abbrev pub RefusalAppliesToSaid : Declared → ℕ → Said → Refusal → Type 0
+RefusalAppliesToSaid d user said refusal.UnknownCommand = HasUnknownCommand said
+RefusalAppliesToSaid d user said refusal.UnknownCell = HasUnknownCell d said
+RefusalAppliesToSaid d user said refusal.WrongInformation = HasWrongInformation d said
+RefusalAppliesToSaid d user said refusal.UnknownProcedure = HasUnknownProcedure d said
+RefusalAppliesToSaid d user said refusal.WrongArguments = HasWrongArguments d said
+RefusalAppliesToSaid d user said refusal.UnknownPremise = HasUnknownPremise d said
+RefusalAppliesToSaid d user said refusal.NotYourPremise = HasAnothersPremise d user said
+RefusalAppliesToSaid d user said refusal = ⊥
+
+-- the refusals of a user's words, in the order in which they are tried
+abbrev pub said_refusals : List Refusal
+said_refusals =
+    refusal.UnknownCommand ∷ refusal.UnknownCell ∷ refusal.UnknownProcedure ∷
+    refusal.WrongInformation ∷ refusal.WrongArguments
+    ∷ refusal.UnknownPremise ∷ refusal.NotYourPremise ∷ []
+
+-- no refusal applies to this user's words
+abbrev pub IsFree : Declared → ℕ → Said → Type 0
+IsFree d user said = HoldsOfNone (RefusalAppliesToSaid d user said) said_refusals
+
+-- this is the first refusal that applies to this user's words
+abbrev pub IsRefusedFor : Declared → ℕ → Said → Refusal → Type 0
+IsRefusedFor d user said refusal = IsFirstIn (RefusalAppliesToSaid d user said) said_refusals
+    refusal
