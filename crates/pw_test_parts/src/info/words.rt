@@ -2,7 +2,7 @@
 
 ghost use Rattle.pw_test_parts.specs.ExampleNames.{colours};
 
-use super::outputs::Trickle;
+use super::Trickle;
 use pw_info::{Info, Kind, KindNames, SetKind, Writing, read_info, write_info};
 use pw_kinds::{Exact, Interval, Members};
 

@@ -1,7 +1,7 @@
 use Rattle.std.proofs.Common.{◌≡◌, [], ◌∷◌}
 use Rattle.pw_info.specs.declared.kind.Kind.TheVariants as kinds
 use Rattle.pw_cells.specs.Cells.{kinds_of}
-use Rattle.pw_test_parts.proofs.store.rows.tell_under_each.Given as goal
+use Rattle.pw_test_parts.proofs.store.tell_under_each.Given as goal
 
 abbrev pub invariant-loop-premise : goal.invariant-loop-premise
 invariant-loop-premise l = kinds_of l.store ≡ kinds.Interval ∷ kinds.Exact ∷ []
