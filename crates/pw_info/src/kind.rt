@@ -1,4 +1,5 @@
-//! The kinds of values.
+//! The kinds of values that cells hold information about: intervals, members of sets, exact
+//! numbers.
 ghost use Rattle.pw_kinds.specs.Places.{IsSize};
 
 /// A kind whose values are the members of a set, each identified by its place, from 0 on. Two set

@@ -3,8 +3,7 @@ ghost use Rattle.std.specs.Prelude.{[], Some};
 
 use pw_info::{Failed, Info, Kind, Output, Writing, put_all, read_info, write_info};
 use pw_kinds::{Exact, Interval};
-use std::io;
-use std::io::{ErrorKind, Write};
+use std::io::{self, ErrorKind, Write};
 use std::test::Fail;
 
 mod words;

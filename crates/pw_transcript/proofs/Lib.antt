@@ -8,5 +8,7 @@ pub mod PremiseTexts
 pub mod ReadingLemmas
 pub mod ReplyLemmas
 pub mod RowTexts
+pub mod RunEnds
 pub mod RunLemmas
+pub mod RunParts
 pub mod SentenceLemmas

@@ -6,7 +6,9 @@ use Rattle.pw_transcript.specs.Limits.{most_bytes, most_at_once}
 use Rattle.pw_sessions.specs.Workbench.{IsLeftBy}
 use Rattle.pw_transcript.specs.inside.Gathering.{GatheredPasses, GatheredPasses-none, GatheredPasses-joins}
 use Rattle.pw_transcript.specs.inside.Running.{AnsweredSoFar}
-use Rattle.pw_transcript.proofs.RunLemmas.{SoFar-start, SoFar-still, SoFar-ended_lines, LimitSoFar-still, PassesAll-still, PassesAll-front, flush_failed, replies_in_part, replies_in_part_at_end, replies_up_to_line, replies_up_to_byte, taken_no_more, kept_whole, kept_all, kept_size, length_taken, length_kept}
+use Rattle.pw_transcript.proofs.RunParts.{kept_whole, kept_all, kept_size, length_taken, length_kept}
+use Rattle.pw_transcript.proofs.RunLemmas.{SoFar-start, SoFar-still, SoFar-ended_lines, LimitSoFar-still, PassesAll-still, PassesAll-front, flush_failed}
+use Rattle.pw_transcript.proofs.RunEnds.{replies_in_part, replies_in_part_at_end, replies_up_to_line, replies_up_to_byte, taken_no_more}
 use Rattle.pw_transcript.proofs.transcript.answer_all.Goals as goal
 
 pub loop-taken-init : goal.loop-taken-init

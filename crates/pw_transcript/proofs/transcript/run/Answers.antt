@@ -1,6 +1,7 @@
 use Rattle.std.proofs.Common.{rules}
 use Rattle.pw_decl.specs.inside.Fields.{declared}
-use Rattle.pw_transcript.proofs.RunLemmas.{if_ok_both, gathered_to_all, gathered_to_ended, gathered_failed, gathered_in_part, gathered_up_to_limit, gathered_works, nothing_in_part}
+use Rattle.pw_transcript.proofs.RunParts.{if_ok_both}
+use Rattle.pw_transcript.proofs.RunEnds.{gathered_to_all, gathered_to_ended, gathered_failed, gathered_in_part, gathered_up_to_limit, gathered_works, nothing_in_part}
 use Rattle.pw_transcript.proofs.transcript.run.Goals as goal
 
 pub returns-clause-ok : goal.returns-clause-ok

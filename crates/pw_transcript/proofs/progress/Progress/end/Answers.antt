@@ -1,7 +1,9 @@
 use Rattle.std.proofs.Common.{[]}
 use Rattle.pw_decl.specs.inside.Fields.{declared}
 use Rattle.pw_transcript.specs.inside.Running.{progress}
-use Rattle.pw_transcript.proofs.RunLemmas.{on_ok_both, on_err_then, not_full, SoFar-empty, SoFar-last, SoFar-last_front}
+use Rattle.pw_transcript.proofs.RunParts.{on_ok_both, on_err_then}
+use Rattle.pw_transcript.proofs.RunLemmas.{SoFar-empty, SoFar-last, SoFar-last_front}
+use Rattle.pw_transcript.proofs.RunEnds.{not_full}
 use Rattle.pw_transcript.proofs.progress.Progress.end.Goals as goal
 
 pub returns-then-is_empty-clause-ok : goal.returns-then-is_empty-clause-ok

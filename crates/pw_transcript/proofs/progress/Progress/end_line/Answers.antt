@@ -1,7 +1,8 @@
 use Rattle.std.proofs.Common.{◌∙◌}
 use Rattle.pw_decl.specs.inside.Fields.{declared}
 use Rattle.pw_transcript.specs.inside.Running.{progress}
-use Rattle.pw_transcript.proofs.RunLemmas.{on_err_holds, SoFar-ended, SoFar-failed}
+use Rattle.pw_transcript.proofs.RunParts.{on_err_holds}
+use Rattle.pw_transcript.proofs.RunLemmas.{SoFar-ended, SoFar-failed}
 use Rattle.pw_transcript.proofs.progress.Progress.end_line.Goals as goal
 
 pub returns-in_err-replied-clause-err : goal.returns-in_err-replied-clause-err

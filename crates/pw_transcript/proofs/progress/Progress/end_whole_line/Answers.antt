@@ -2,7 +2,8 @@ use Rattle.std.proofs.Common.{ℕ, List, ◌∷◌, [], ◌++◌, Some, refl, su
 use Rattle.pw_decl.specs.inside.Fields.{declared}
 use Rattle.pw_transcript.specs.inside.Running.{progress}
 use Rattle.pw_transcript.specs.inside.Running.{Progress, AnsweredSoFar, FrontSoFar}
-use Rattle.pw_transcript.proofs.RunLemmas.{on_err_holds, held_whole, SoFar-held, SoFar-ended, SoFar-failed}
+use Rattle.pw_transcript.proofs.RunParts.{on_err_holds, held_whole}
+use Rattle.pw_transcript.proofs.RunLemmas.{SoFar-held, SoFar-ended, SoFar-failed}
 use Rattle.pw_transcript.proofs.progress.Progress.end_whole_line.Goals as goal
 
 pub returns-in_err-replied-clause-err : goal.returns-in_err-replied-clause-err

@@ -2,7 +2,8 @@ use Rattle.std.proofs.Common.{◌∷◌, [], ◌++◌, refl, subst, append_assoc
 use Rattle.pw_decl.specs.inside.Fields.{declared}
 use Rattle.pw_transcript.specs.inside.Running.{progress}
 use Rattle.pw_transcript.specs.inside.Running.{Progress, AnsweredSoFar, FrontSoFar}
-use Rattle.pw_transcript.proofs.RunLemmas.{on_ok_both, on_err_then, SoFar-held}
+use Rattle.pw_transcript.proofs.RunParts.{on_ok_both, on_err_then}
+use Rattle.pw_transcript.proofs.RunLemmas.{SoFar-held}
 use Rattle.pw_transcript.proofs.progress.Progress.end_with.Goals as goal
 
 pub returns-clause-ok : goal.returns-clause-ok

@@ -4,7 +4,8 @@ use Rattle.pw_decl.specs.inside.Fields.{declared}
 use Rattle.pw_transcript.specs.inside.Running.{progress}
 use Rattle.pw_transcript.specs.Limits.{most_lines}
 use Rattle.pw_transcript.specs.inside.Running.{AnsweredSoFar, FrontSoFar}
-use Rattle.pw_transcript.proofs.RunLemmas.{SoFar-held, SoFar-limit, FrontSoFar-more, before_rest, line_done}
+use Rattle.pw_transcript.proofs.RunParts.{before_rest, line_done}
+use Rattle.pw_transcript.proofs.RunLemmas.{SoFar-held, SoFar-limit, FrontSoFar-more}
 use Rattle.pw_transcript.proofs.progress.Progress.feed.Goals as goal
 
 pub loop-rest-init : goal.loop-rest-init
