@@ -1,5 +1,4 @@
-//! The kinds of values that cells hold information about: intervals, members of sets, exact
-//! numbers.
+//! The kinds of values.
 ghost use Rattle.pw_kinds.specs.Places.{IsSize};
 
 /// A kind whose values are the members of a set, each identified by its place, from 0 on. Two set

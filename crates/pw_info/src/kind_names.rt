@@ -1,5 +1,4 @@
-//! Looks up the names of the members of sets: a declaration has them, and the readers and writers
-//! of informations ask for them.
+//! Where the names of the members of sets are looked up.
 ghost use Rattle.std.specs.Prelude.{◌≡◌, ◌<◌, ℕ, List, length, Some, IfSome, IfNone, slice_get};
 ghost use Rattle.std.specs.Prelude.{Contains};
 ghost use Rattle.pw_info.specs.SetNames.{AreNames};

@@ -138,7 +138,7 @@ AnswersConflicts workbench user answer =
     (beliefs_in workbench user)) conflicts)
     ⊎ (answer ≡ reply.Refused refusal.Memory)
 
--- whatever lines left the workbench, the answer is that of `ask`
+-- after all lines that leave the workbench, the answer is that of `ask`
 abbrev pub AnswersAskIfLeft : Workbench → ℕ → ℕ → Reply → Type 0
 AnswersAskIfLeft workbench user cell answer =
     (d : Declared) (before : List LineReading) → IsLeftBy d before workbench →
