@@ -37,7 +37,7 @@ more_cells old more answers longer right =
     (λ c w below. ap (λ (x : Cell). told_of x w) (get_or_append_left old more (new_cell kinds.Interval) c below)) right
 
 -- one cell is written, about which the same is told
-pub cell_told_the_same : (old : List Cell) (c : ℕ) (x y : Cell) (answers : List Recalled) → x ≡ get_or old c x → c < length old
+cell_told_the_same : (old : List Cell) (c : ℕ) (x y : Cell) (answers : List Recalled) → x ≡ get_or old c x → c < length old
     → ((w : Premises) → told_of y w ≡ told_of x w) → AreRight old answers → AreRight (set old c y) answers
 cell_told_the_same old c x y answers read within same right =
     told_the_same old (set old c y) answers (omega (arith, length-set old c y))
@@ -120,6 +120,11 @@ slots_then P Q (Some l) f then holds = then l holds
 pub slots_still : (P Q : List Recalled → Type 0) (slots : Option (List Recalled)) → ((l : List Recalled) → P l → Q l) → IfSome slots P → IfSome slots Q
 slots_still P Q None then holds = tt
 slots_still P Q (Some l) then holds = then l holds
+
+pub slots_told_the_same : (old : List Cell) (c : ℕ) (x y : Cell) (slots : Option (List Recalled)) → x ≡ get_or old c x → c < length old
+    → ((w : Premises) → told_of y w ≡ told_of x w) → IfSome slots (AreRight old) → IfSome slots (AreRight (set old c y))
+slots_told_the_same old c x y slots read within same =
+    slots_still (AreRight old) (AreRight (set old c y)) slots (λ answers. cell_told_the_same old c x y answers read within same)
 
 -- one more element of a list was made what f makes of it
 pub made_next : {X : Type 0} (f : X → X) (old now next : List X) (i : ℕ) (x y : X) → i < length now → length now ≡ length old → take i now ≡ map f (take i old) → drop i now ≡ drop i old
