@@ -30,10 +30,10 @@ product_read a b p at_a at_b e =
     rw same_p same
 
 -- factors in order give products in order, reversed by a negative factor
-product_up : (a b : ℤ) (k : ℕ) → a ≤ℤ b → (a *ℤ pos k) ≤ℤ (b *ℤ pos k)
+pub product_up : (a b : ℤ) (k : ℕ) → a ≤ℤ b → (a *ℤ pos k) ≤ℤ (b *ℤ pos k)
 product_up a b k h = omega (arith, ints, mul-le-mul_right k (le_out a b h))
 
-product_down : (a b : ℤ) (k : ℕ) → a ≤ℤ b → (b *ℤ negsuc k) ≤ℤ (a *ℤ negsuc k)
+pub product_down : (a b : ℤ) (k : ℕ) → a ≤ℤ b → (b *ℤ negsuc k) ≤ℤ (a *ℤ negsuc k)
 product_down a b k h = omega (arith, ints, mul-le-mul_right (suc k) (le_out a b h))
 
 -- a product with a factor between two others lies where their products lie
