@@ -37,7 +37,7 @@ more_cells old more answers longer right =
     (λ c w below. ap (λ (x : Cell). told_of x w) (get_or_append_left old more (new_cell kinds.Interval) c below)) right
 
 -- one cell is written, about which the same is told
-pub cell_told_the_same : (old : List Cell) (c : ℕ) (x y : Cell) (answers : List Recalled) → x ≡ get_or old c x → c < length old
+cell_told_the_same : (old : List Cell) (c : ℕ) (x y : Cell) (answers : List Recalled) → x ≡ get_or old c x → c < length old
     → ((w : Premises) → told_of y w ≡ told_of x w) → AreRight old answers → AreRight (set old c y) answers
 cell_told_the_same old c x y answers read within same right =
     told_the_same old (set old c y) answers (omega (arith, length-set old c y))
@@ -56,6 +56,22 @@ kind_of_answer old c x a read within right is =
     ap kind_of right.1 ∙ ap (λ n. kind_of (told_at old n a.worldview)) is ∙ kind-shown_by (cell_of old c).kind a.worldview (cell_of old c).told
     ∙ ap (λ (z : Cell). z.kind) (sym (read ∙ get_or_default old c x (new_cell kinds.Interval) within))
 
+-- what a fact that was told makes of an answer
+pub taken_in : (c : ℕ) (f : Fact) (a : Recalled) → nat_eq a.cell c ≡ true → is_subset f.support a.worldview ≡ true
+    → record { cell = a.cell; worldview = a.worldview; info = meet a.info f.info } ≡ after_tell c f a
+taken_in c f a here seen =
+    sym (ap (λ b. cond (b && is_subset f.support a.worldview) (record { cell = a.cell; worldview = a.worldview; info = meet a.info f.info }) a) here
+    ∙ ap (λ b. cond b (record { cell = a.cell; worldview = a.worldview; info = meet a.info f.info }) a) seen)
+
+pub left_unseen : (c : ℕ) (f : Fact) (a : Recalled) → nat_eq a.cell c ≡ true → is_subset f.support a.worldview ≡ false → a ≡ after_tell c f a
+left_unseen c f a here unseen =
+    sym (ap (λ b. cond (b && is_subset f.support a.worldview) (record { cell = a.cell; worldview = a.worldview; info = meet a.info f.info }) a) here
+    ∙ ap (λ b. cond b (record { cell = a.cell; worldview = a.worldview; info = meet a.info f.info }) a) unseen)
+
+pub left_elsewhere : (c : ℕ) (f : Fact) (a : Recalled) → nat_eq a.cell c ≡ false → a ≡ after_tell c f a
+left_elsewhere c f a elsewhere =
+    sym (ap (λ b. cond (b && is_subset f.support a.worldview) (record { cell = a.cell; worldview = a.worldview; info = meet a.info f.info }) a) elsewhere)
+
 -- an answer that a fact was taken into
 answer_after : (old : List Cell) (c : ℕ) (x y : Cell) (f : Fact) (a : Recalled) → x ≡ get_or old c x → c < length old
     → kind_of f.info ≡ x.kind → GainsFact f (told_of x) (told_of y) → IsRight old a → IsRight (set old c y) (after_tell c f a)
@@ -71,23 +87,15 @@ answer_after old c x y f a read within is gains right = elim (cases_eq a.cell c)
       let there : a.cell < length (set old c y) = omega (arith, e, within, length-set old c y) in
       elim (cases_Bool (is_subset f.support a.worldview)) [
         | inl seen ↦
-            let taken : after_tell c f a ≡ record { cell = a.cell; worldview = a.worldview; info = meet a.info f.info } =
-            ap (λ b. cond (b && is_subset f.support a.worldview) (record { cell = a.cell; worldview = a.worldview; info = meet a.info f.info }) a) here
-            ∙ ap (λ b. cond b (record { cell = a.cell; worldview = a.worldview; info = meet a.info f.info }) a) seen in
-            subst (IsRight (set old c y)) (sym taken) (there, sym (now ∙ ap (meet a.info) (shows-supported a.worldview f seen)))
+            subst (IsRight (set old c y)) (taken_in c f a here seen) (there, sym (now ∙ ap (meet a.info) (shows-supported a.worldview f seen)))
         | inr unseen ↦
-            let left : after_tell c f a ≡ a =
-            ap (λ b. cond (b && is_subset f.support a.worldview) (record { cell = a.cell; worldview = a.worldview; info = meet a.info f.info }) a) here
-            ∙ ap (λ b. cond b (record { cell = a.cell; worldview = a.worldview; info = meet a.info f.info }) a) unseen in
             let same : meet a.info (shows a.worldview f) ≡ a.info =
             subst (λ i. meet i (shows a.worldview f) ≡ i) (sym info) (shown_unsupported x.kind a.worldview x.told f is unseen) in
-            subst (IsRight (set old c y)) (sym left) (there, sym (now ∙ same))
+            subst (IsRight (set old c y)) (left_unseen c f a here unseen) (there, sym (now ∙ same))
       ]
   | inr other ↦
       let elsewhere : nat_eq a.cell c ≡ false = elim (cases_Bool (nat_eq a.cell c)) [ inl e ↦ absurd (other (eqb-true a.cell c e)) | inr e ↦ e ] in
-      let left : after_tell c f a ≡ a =
-      ap (λ b. cond (b && is_subset f.support a.worldview) (record { cell = a.cell; worldview = a.worldview; info = meet a.info f.info }) a) elsewhere in
-      subst (IsRight (set old c y)) (sym left) (
+      subst (IsRight (set old c y)) (left_elsewhere c f a elsewhere) (
         omega (arith, right.0, length-set old c y),
         right.1 ∙ sym (ap (λ (z : Cell). told_of z a.worldview) (get_or-set_other old c a.cell y (new_cell kinds.Interval) other)),
       )
@@ -121,6 +129,11 @@ pub slots_still : (P Q : List Recalled → Type 0) (slots : Option (List Recalle
 slots_still P Q None then holds = tt
 slots_still P Q (Some l) then holds = then l holds
 
+pub slots_told_the_same : (old : List Cell) (c : ℕ) (x y : Cell) (slots : Option (List Recalled)) → x ≡ get_or old c x → c < length old
+    → ((w : Premises) → told_of y w ≡ told_of x w) → IfSome slots (AreRight old) → IfSome slots (AreRight (set old c y))
+slots_told_the_same old c x y slots read within same =
+    slots_still (AreRight old) (AreRight (set old c y)) slots (λ answers. cell_told_the_same old c x y answers read within same)
+
 -- one more element of a list was made what f makes of it
 pub made_next : {X : Type 0} (f : X → X) (old now next : List X) (i : ℕ) (x y : X) → i < length now → length now ≡ length old → take i now ≡ map f (take i old) → drop i now ≡ drop i old
     → x ≡ get_or now i x → y ≡ f x → next ≡ set now i y
@@ -141,19 +154,3 @@ pub left_next : {X : Type 0} (f : X → X) (old now next : List X) (i : ℕ) (x 
     → (take (i + 1) next ≡ map f (take (i + 1) old)) × (drop (i + 1) next ≡ drop (i + 1) old) × (length next ≡ length old)
 left_next f old now next i x within long done ahead read same is =
     made_next f old now next i x x within long done ahead read same (is ∙ sym (ap (set now i) read ∙ set-get_or now i x))
-
--- what a fact that was told makes of an answer
-pub taken_in : (c : ℕ) (f : Fact) (a : Recalled) → nat_eq a.cell c ≡ true → is_subset f.support a.worldview ≡ true
-    → record { cell = a.cell; worldview = a.worldview; info = meet a.info f.info } ≡ after_tell c f a
-taken_in c f a here seen =
-    sym (ap (λ b. cond (b && is_subset f.support a.worldview) (record { cell = a.cell; worldview = a.worldview; info = meet a.info f.info }) a) here
-    ∙ ap (λ b. cond b (record { cell = a.cell; worldview = a.worldview; info = meet a.info f.info }) a) seen)
-
-pub left_unseen : (c : ℕ) (f : Fact) (a : Recalled) → nat_eq a.cell c ≡ true → is_subset f.support a.worldview ≡ false → a ≡ after_tell c f a
-left_unseen c f a here unseen =
-    sym (ap (λ b. cond (b && is_subset f.support a.worldview) (record { cell = a.cell; worldview = a.worldview; info = meet a.info f.info }) a) here
-    ∙ ap (λ b. cond b (record { cell = a.cell; worldview = a.worldview; info = meet a.info f.info }) a) unseen)
-
-pub left_elsewhere : (c : ℕ) (f : Fact) (a : Recalled) → nat_eq a.cell c ≡ false → a ≡ after_tell c f a
-left_elsewhere c f a elsewhere =
-    sym (ap (λ b. cond (b && is_subset f.support a.worldview) (record { cell = a.cell; worldview = a.worldview; info = meet a.info f.info }) a) elsewhere)

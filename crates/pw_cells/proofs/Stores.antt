@@ -6,7 +6,8 @@ use Rattle.std.proofs.Math.Seq.{map-set_same}
 use Rattle.pw_info.specs.declared.kind.Kind.TheVariants as kinds
 use Rattle.pw_cells.specs.Cells.{Cell, Store, cell_at, new_cell, kinds_of}
 
-there : (inside now : Store) (c : ℕ) → inside ≡ now → c < length now.cells → c < length inside.cells
+-- a number of a cell is one inside
+pub there : (inside now : Store) (c : ℕ) → inside ≡ now → c < length now.cells → c < length inside.cells
 there inside now c is within = subst (λ (s : Store). c < length s.cells) (sym is) within
 
 -- what is read at a place is the cell of this number

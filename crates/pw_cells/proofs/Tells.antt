@@ -9,8 +9,9 @@ use Rattle.pw_info.specs.Information.{kind_of, meet, Implies}
 use Rattle.pw_premises.specs.Premises.{Premises}
 use Rattle.pw_facts.specs.declared.fact.Fact.{Fact}
 use Rattle.pw_facts.specs.Facts.{shows}
-use Rattle.pw_cells.specs.Cells.{shown_by, IsSubsumedBy}
+use Rattle.pw_cells.specs.Cells.{Cell, shown_by, kept_of, IsSubsumedBy}
 use Rattle.pw_cells.specs.Cells.{assimilated, all_assimilated}
+use Rattle.pw_cells.specs.Changes.{GainsFact, Assimilates}
 use Rattle.pw_cells.specs.inside.OneCell.{AreOfKind, IsCellWhole, ShowsMore}
 use Rattle.pw_cells.proofs.Together.{kind_together, meet_first, meet_keeps}
 use Rattle.pw_cells.proofs.Late.{IsAssimilation, assimilation, any_subsumes, assimilated_known, late_kinds_apart, late_push, subsumed_late}
@@ -21,6 +22,19 @@ pub kept_more : (k : Kind) (f : Fact) (told : List Fact) (supports : List Premis
 kept_more k f told supports kept late is whole =
     let both = late_kinds_apart k kept late whole.kept_kinds whole.late_kinds whole.apart in
     assimilation k f (all_assimilated kept late) is both.0 both.1
+
+-- the facts kept of a cell gain a fact of its kind, and assimilate it
+pub record KeepsMore (f : Fact) (old : Cell) (k : Kind) (new : List Fact) : Type 0 where
+  pub gains : GainsFact f (kept_of old) (λ w. shown_by k w new)
+  pub assimilates : Assimilates f old.kept new
+
+pub keeps_more : (old : Cell) (k : Kind) (f : Fact) (told : List Fact) (supports : List Premises) (kept late new : List Fact)
+    → record { kind = k; told = told; kept = all_assimilated kept late } ≡ old → kind_of f.info ≡ k → IsCellWhole k told supports kept late
+    → new ≡ assimilated (all_assimilated kept late) f → KeepsMore f old k new
+keeps_more old k f told supports kept late new view is whole after =
+    let more = kept_more k f told supports kept late is whole in
+    subst (λ (cell : Cell). KeepsMore f cell k new) view (subst (KeepsMore f (record { kind = k; told = told; kept = all_assimilated kept late }) k) (sym {A = List Fact} after)
+    (record { gains = more.shown; assimilates = more.assimilates }))
 
 -- a fact that is added to those that are late is assimilated in the end, and so is one that
 -- something late subsumes

@@ -2,8 +2,9 @@
 use Rattle.std.proofs.Common.{◌≡◌, ℕ, suc, ◌+◌, ◌<◌, ◌≤◌, List, [], ◌∷◌, ◌++◌, Option, Some, None, length, take, get_or, set, refl, sym, ap, ◌∙◌, arith, append_assoc}
 use Rattle.std.specs.Prelude.{All, slice_get, is_some, IsSome, ◌≢◌, ◌⊎◌}
 use Rattle.std.specs.Str.{bytes_eq}
-use Rattle.std.proofs.Common.{subst, inl, inr, Bool, true, false, ◌&&◌, ◌↔◌, length-append, length-take, slice_index_or}
+use Rattle.std.proofs.Common.{subst, inl, inr, true, false, ◌↔◌, length-append, length-take, slice_index_or}
 use Rattle.std.proofs.lemmas.Bool.{false≢true}
+use Rattle.pw_kinds.proofs.Order.{true_both}
 use Rattle.pw_procs.specs.Registering.{place_of_name}
 use Rattle.pw_procs.specs.Procedure.{Procedure}
 use Rattle.std.specs.List.{filter_map, list_all, cons_option, AllByRecursion, IsDistinct}
@@ -253,14 +254,14 @@ begin_limit d name parameters fresh differ known some large =
 -- ---- a compound that has begun
 
 -- as many kinds as words that name them
-length-named : (d : Declared) (words : List (List ℕ)) (kinds : List Kind) → NameKinds d words kinds → length words ≡ length kinds
+pub length-named : (d : Declared) (words : List (List ℕ)) (kinds : List Kind) → NameKinds d words kinds → length words ≡ length kinds
 length-named d [] [] named = refl
 length-named d [] (kind ∷ kinds) named = absurd named
 length-named d (word ∷ words) [] named = absurd named
 length-named d (word ∷ words) (kind ∷ kinds) named = ap suc (length-named d words kinds named.1)
 
 -- as many kinds as names
-length-parameters : (words : List (List ℕ)) → length (parameter_names words) ≡ length (parameter_kinds words)
+pub length-parameters : (words : List (List ℕ)) → length (parameter_names words) ≡ length (parameter_kinds words)
 length-parameters [] = refl
 length-parameters (name ∷ []) = refl
 length-parameters (name ∷ kind ∷ words) = ap suc (length-parameters words)
@@ -310,10 +311,6 @@ places_there names words places kinds is same =
     (subst (λ (x : List ℕ). AllByRecursion (λ place. place < length kinds) x) (sym is)
     (subst (λ (n : ℕ). AllByRecursion (λ place. place < n) (filter_map (place_of_name names) words)) same (places_within names words)))
 
-and_both : (a b : Bool) → (a && b) ≡ true → (a ≡ true) × (b ≡ true)
-and_both true b both = (refl, both)
-and_both false b both = absurd (false≢true both)
-
 length-some : {Y : Type 0} (o : Option Y) (rest : List Y) → is_some o ≡ true → length (cons_option o rest) ≡ suc (length rest)
 length-some None rest there = absurd (false≢true there)
 length-some (Some y) rest there = refl
@@ -322,7 +319,7 @@ length-some (Some y) rest there = refl
 length-found : {X Y : Type 0} (f : X → Option Y) (xs : List X) → list_all (λ x. is_some (f x)) xs ≡ true → length (filter_map f xs) ≡ length xs
 length-found f [] all = refl
 length-found f (x ∷ xs) all =
-    let both = and_both (is_some (f x)) (list_all (λ y. is_some (f y)) xs) all in
+    let both = true_both (is_some (f x)) (list_all (λ y. is_some (f y)) xs) all in
     length-some (f x) (filter_map f xs) both.0 ∙ ap suc (length-found f xs both.1)
 
 length-at : (kinds : List Kind) (places : List ℕ) → AllByRecursion (λ place. place < length kinds) places → length (kinds_at kinds places) ≡ length places

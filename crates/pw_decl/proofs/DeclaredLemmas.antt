@@ -46,28 +46,38 @@ well_at_first procedures =
       few = All-nil (λ (compound : Compound). length compound.parameters ≤ most_parameters);
     }
 
--- and still with one more user
-pub well_with_user : (d : Declared) (name : List ℕ) → IsWellDeclared d → length d.users < most_users → IsWellDeclared (with_user d name)
-well_with_user d name well room =
-    let longer : length (d.users ++ name ∷ []) ≡ length d.users + 1 = length-append d.users (name ∷ []) in
+-- and with other users, premises and cells, of which it still holds
+well_beside : (d : Declared) (users premises : List (List ℕ)) (owners : List (Option ℕ)) (cells : List (List ℕ)) (kinds : List Kind) → IsWellDeclared d
+    → length users ≤ most_users → length premises ≤ most_premises → length owners ≡ length premises → length cells ≤ most_cells → length kinds ≡ length cells
+    → All (λ owner. IfSome owner (λ user. user < length users)) owners → All (IsNamed (members_of d)) kinds
+    → IsWellDeclared (record d { users = users; premises = premises; owners = owners; cells = cells; kinds = kinds })
+well_beside d users premises owners cells kinds well few_users few_premises same_owners few_cells same_kinds owned known =
     record {
-      users = omega arith;
-      premises = well.premises;
-      owners = well.owners;
-      cells = well.cells;
-      kinds = well.kinds;
-      owned = All-weaker (λ owner. IfSome owner (λ user. user < length d.users)) (λ owner. IfSome owner (λ user. user < length (d.users ++ name ∷ []))) (still_user (length d.users) (length (d.users ++ name ∷ [])) (omega arith)) d.owners well.owned;
+      users = few_users;
+      premises = few_premises;
+      owners = same_owners;
+      cells = few_cells;
+      kinds = same_kinds;
+      owned = owned;
       sets = well.sets;
       set_names = well.set_names;
       sizes = well.sizes;
       named = well.named;
-      known = well.known;
+      known = known;
       compound_names = well.compound_names;
       compounds = well.compounds;
       steps = well.steps;
       expansions = well.expansions;
       few = well.few;
     }
+
+-- as with one more user
+pub well_with_user : (d : Declared) (name : List ℕ) → IsWellDeclared d → length d.users < most_users → IsWellDeclared (with_user d name)
+well_with_user d name well room =
+    let longer : length (d.users ++ name ∷ []) ≡ length d.users + 1 = length-append d.users (name ∷ []) in
+    well_beside d (d.users ++ name ∷ []) d.premises d.owners d.cells d.kinds well (omega arith) well.premises well.owners well.cells well.kinds
+    (All-weaker (λ owner. IfSome owner (λ user. user < length d.users)) (λ owner. IfSome owner (λ user. user < length (d.users ++ name ∷ []))) (still_user (length d.users) (length (d.users ++ name ∷ [])) (omega arith)) d.owners well.owned)
+    well.known
 
 -- with one more premise, of a user or of none
 pub well_with_premise : (d : Declared) (name : List ℕ) (owner : Option ℕ) → IsWellDeclared d → length d.premises < most_premises → IfSome owner (λ user. user < length d.users)
@@ -76,24 +86,8 @@ well_with_premise d name owner well room own =
     let longer : length (d.premises ++ name ∷ []) ≡ length d.premises + 1 = length-append d.premises (name ∷ []) in
     let more : length (d.owners ++ owner ∷ []) ≡ length d.owners + 1 = length-append d.owners (owner ∷ []) in
     let alike : length d.owners ≡ length d.premises = well.owners in
-    record {
-      users = well.users;
-      premises = omega arith;
-      owners = omega arith;
-      cells = well.cells;
-      kinds = well.kinds;
-      owned = All-push (λ o. IfSome o (λ user. user < length d.users)) d.owners owner well.owned own;
-      sets = well.sets;
-      set_names = well.set_names;
-      sizes = well.sizes;
-      named = well.named;
-      known = well.known;
-      compound_names = well.compound_names;
-      compounds = well.compounds;
-      steps = well.steps;
-      expansions = well.expansions;
-      few = well.few;
-    }
+    well_beside d d.users (d.premises ++ name ∷ []) (d.owners ++ owner ∷ []) d.cells d.kinds well well.users (omega arith) (omega arith) well.cells well.kinds
+    (All-push (λ o. IfSome o (λ user. user < length d.users)) d.owners owner well.owned own) well.known
 
 -- with one more cell, of a kind that exists
 pub well_with_cell : (d : Declared) (name : List ℕ) (kind : Kind) → IsWellDeclared d → length d.cells < most_cells → IsNamed (members_of d) kind
@@ -102,24 +96,8 @@ well_with_cell d name kind well room known =
     let longer : length (d.cells ++ name ∷ []) ≡ length d.cells + 1 = length-append d.cells (name ∷ []) in
     let more : length (d.kinds ++ kind ∷ []) ≡ length d.kinds + 1 = length-append d.kinds (kind ∷ []) in
     let alike : length d.kinds ≡ length d.cells = well.kinds in
-    record {
-      users = well.users;
-      premises = well.premises;
-      owners = well.owners;
-      cells = omega arith;
-      kinds = omega arith;
-      owned = well.owned;
-      sets = well.sets;
-      set_names = well.set_names;
-      sizes = well.sizes;
-      named = well.named;
-      known = All-push (IsNamed (members_of d)) d.kinds kind well.known known;
-      compound_names = well.compound_names;
-      compounds = well.compounds;
-      steps = well.steps;
-      expansions = well.expansions;
-      few = well.few;
-    }
+    well_beside d d.users d.premises d.owners (d.cells ++ name ∷ []) (d.kinds ++ kind ∷ []) well well.users well.premises well.owners (omega arith) (omega arith)
+    well.owned (All-push (IsNamed (members_of d)) d.kinds kind well.known known)
 
 -- and with one more set, of members that have names
 pub well_with_set : (d : Declared) (name : List ℕ) (members : List (List ℕ)) → IsWellDeclared d → length d.sets < most_sets → IsSize (length members) → AreNames members

@@ -1,6 +1,6 @@
 -- Each line has a fault or leads on, and each text has a first fault or spells a declaration.
 use Rattle.std.proofs.Common.{◌≡◌, ℕ, zero, suc, ◌+◌, ◌<◌, ◌≤◌, true, false, List, [], ◌∷◌, ◌++◌, length, Option, Some, None, ◌⊎◌, inl, inr, sym, refl, ap, subst, ◌∙◌, arith, append-nil}
-use Rattle.std.specs.Prelude.{All, IsSome}
+use Rattle.std.specs.Prelude.{All}
 use Rattle.std.specs.List.{list_all}
 use Rattle.std.proofs.lemmas.Bool.{cases_Bool, false≢true}
 use Rattle.std.proofs.Math.Nat.{lt_of_not-le}
@@ -25,9 +25,11 @@ use Rattle.pw_decl.specs.Prelude.{prelude_compounds, prelude_text}
 use Rattle.pw_decl.specs.WellDeclared.{IsWellDeclared, IsWellSoFar}
 use Rattle.pw_decl.specs.inside.Forms.{sentence_at}
 use Rattle.pw_decl.proofs.CompoundLaws.{well_begun, well_with_local, well_with_call, places_there}
+use Rattle.pw_decl.proofs.CompoundLemmas.{length-named, length-parameters}
 use Rattle.pw_decl.proofs.Decided.{Decided, first_or_none, decided_not, decided_or, decided_less, decided_at_most, decided_some, decided_none, decided_distinct, decided_false, decided_nil, decided_there, decided_accepts_kinds}
 use Rattle.pw_decl.proofs.DeclaredLemmas.{well_at_first, well_with_user, well_with_premise, well_with_cell, well_with_set, well_with_compound}
 use Rattle.pw_decl.proofs.LineFaults.{found, given, one_sentence, one_declared}
+use Rattle.pw_decl.proofs.ParameterLemmas.{none_there}
 use Rattle.pw_decl.proofs.Places.{place_of_name-lt}
 use Rattle.pw_decl.proofs.SetLemmas.{unnamed}
 
@@ -79,19 +81,6 @@ named_all_or_not d (word ∷ words) well =
           ]
       | inr none ↦ inr (first_unnamed d word words none)
     ]
-
--- if all words name kinds, there are as many kinds as words
-length_of_kinds : (d : Declared) (words : List (List ℕ)) (kinds : List Kind) → NameKinds d words kinds → length words ≡ length kinds
-length_of_kinds d [] [] named = refl
-length_of_kinds d [] (kind ∷ kinds) named = absurd named
-length_of_kinds d (word ∷ words) [] named = absurd named
-length_of_kinds d (word ∷ words) (kind ∷ kinds) (first, named) = ap suc (length_of_kinds d words kinds named)
-
--- there are as many names of parameters as kinds
-length_of_names : (parameters : List (List ℕ)) → length (parameter_names parameters) ≡ length (parameter_kinds parameters)
-length_of_names [] = refl
-length_of_names (name ∷ []) = refl
-length_of_names (name ∷ kind ∷ words) = ap suc (length_of_names words)
 
 -- ---- what can be wrong with a sentence
 
@@ -224,10 +213,6 @@ premise_made d name user well room None none there = absurd (there refl)
 premise_made d name user well room (Some owner) at there =
     (Outside (with_premise d name (Some owner)), (owner, at, refl), well_with_premise d name (Some owner) well room (place_of_name-lt d.users user owner at))
 
-absent : {A : Type 0} (o : Option A) → (IsSome o → ⊥) → o ≡ None
-absent None none = refl
-absent (Some x) none = absurd (none refl)
-
 -- a compound of parameters whose kinds are there
 begin_made : (d : Declared) (name : List ℕ) (parameters : List (List ℕ)) → IsWellDeclared d →
     (HasDuplicate (Outside d) (Begin name parameters) → ⊥) → (HasUnknown (Outside d) (Begin name parameters) → ⊥) →
@@ -236,10 +221,10 @@ begin_made d name parameters well new known few =
     elim (named_all_or_not d (parameter_kinds parameters) well) [
       | inl named ↦
           let names = parameter_names parameters in
-          let alike : length names ≡ length named.0 = length_of_names parameters ∙ length_of_kinds d (parameter_kinds parameters) named.0 named.1 in
+          let alike : length names ≡ length named.0 = length-parameters parameters ∙ length-named d (parameter_kinds parameters) named.0 named.1 in
           let room : length d.compounds < prelude_compounds + most_compounds = lt_of_not-le (λ many. few (inl many)) in
           let most : (most_parameters < length names → ⊥) = λ many. few (inr many) in
-          let fresh : callable_named d name ≡ None = absent (callable_named d name) (λ old. new (inl old)) in
+          let fresh : callable_named d name ≡ None = none_there (callable_named d name) (λ old. new (inl old)) in
           (Inside d (begun name names named.0), (named.0, named.1, refl), (well, well_begun d name names named.0 room fresh alike (omega arith)))
       | inr none ↦ absurd (known none)
     ]

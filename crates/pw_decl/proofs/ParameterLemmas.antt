@@ -1,9 +1,9 @@
 -- The parameters of a compound: alternating names and kinds.
-use Rattle.std.proofs.Common.{◌≡◌, ◌↔◌, ℕ, sym, ap, ◌∙◌, true, false, List, [], ◌∷◌, ◌++◌, Option, None, Some, Bool, ◌&&◌, append_assoc}
+use Rattle.std.proofs.Common.{◌≡◌, ◌↔◌, ℕ, refl, sym, ap, ◌∙◌, true, false, List, [], ◌∷◌, ◌++◌, Option, None, Some, Bool, ◌&&◌, append_assoc}
 use Rattle.std.proofs.lemmas.Bool.{false≢true}
 use Rattle.pw_info.specs.Name.{is_name}
 use Rattle.pw_decl.specs.inside.Forms.{are_parameters}
-use Rattle.std.specs.Prelude.{IfSome, IfNone, is_some}
+use Rattle.std.specs.Prelude.{IfSome, IsSome, is_some}
 use Rattle.pw_info.specs.declared.kind.Kind.{Kind}
 use Rattle.pw_decl.specs.Declaration.{Declared, NamesKind, NameKinds}
 
@@ -58,11 +58,11 @@ pub at_some : {X : Type 0} (o : Option X) {P : X → Type 0} → is_some o ≡ t
 at_some None there p = absurd (cc)
 at_some (Some x) there p = (x, p)
 
-pub at_none : {X : Type 0} (o : Option X) {P : Type 0} → is_some o ≡ false → IfNone o P → P
-at_none None absent p = p
-at_none (Some x) absent p = absurd (cc)
-
 -- what is not there, is none
 pub none_where : {X : Type 0} (o p : Option X) → is_some o ≡ false → o ≡ p → p ≡ None
 none_where None p absent is = sym is
 none_where (Some x) p absent is = absurd (cc)
+
+pub none_there : {X : Type 0} (o : Option X) → (IsSome o → ⊥) → o ≡ None
+none_there None none = refl
+none_there (Some x) none = absurd (none refl)

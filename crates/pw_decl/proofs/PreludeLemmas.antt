@@ -1,6 +1,5 @@
 -- What the prelude declares: three compounds, by their names, with parameters of their kinds.
 use Rattle.std.proofs.Common.{◌≡◌, ℕ, Bool, true, false, not, ◌&&◌, List, [], ◌∷◌, ◌++◌, Option, Some, None, inl, inr, refl, sym, subst, ◌∙◌, codes}
-use Rattle.std.specs.Prelude.{IsSome}
 use Rattle.std.specs.List.{list_all}
 use Rattle.std.specs.Option.{option_map, option_or}
 use Rattle.std.proofs.lemmas.Bool.{cases_Bool, false≢true}
@@ -20,6 +19,7 @@ use Rattle.pw_decl.specs.Faults.{SaysInPlace, Declares, Leads, PreludeDeclares}
 use Rattle.pw_decl.specs.Prelude.{prelude_text}
 use Rattle.pw_decl.specs.inside.Forms.{sentence_at, outer_sentence_of, inner_sentence_of}
 use Rattle.pw_decl.proofs.LineFaults.{found, one_sentence, same_kinds, outside_is}
+use Rattle.pw_decl.proofs.ParameterLemmas.{none_there}
 
 -- ---- a line whose sentence is known
 
@@ -30,10 +30,6 @@ made_by so_far line s after spoken formed (none, inl (idle, is)) = absurd (false
 made_by so_far line s after spoken formed (none, inr (t, says, makes)) =
     subst (λ (x : DeclarationSentence). SaysInPlace so_far line x × Makes so_far x after)
     (one_sentence so_far (words_of line) t s says.words (found so_far (words_of line) s formed)) (says, makes)
-
-none_there : {A : Type 0} (o : Option A) → (IsSome o → ⊥) → o ≡ None
-none_there None none = refl
-none_there (Some x) none = absurd (none refl)
 
 -- ---- a compound among lines
 

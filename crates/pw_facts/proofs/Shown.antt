@@ -3,10 +3,9 @@ use Rattle.std.proofs.Common.{◌≡◌, true, false, inl, inr, sym, ◌∙◌, 
 use Rattle.std.specs.Prelude.{if◌then◌else◌}
 use Rattle.std.specs.FinSet.{is_subset}
 use Rattle.std.proofs.lemmas.Bool.{cases_Bool}
-use Rattle.pw_info.specs.declared.kind.Kind.{Kind}
 use Rattle.pw_info.specs.declared.info.Info.{Info}
-use Rattle.pw_info.specs.Information.{kind_of, is_value, allows, nothing, Implies}
-use Rattle.pw_info.proofs.Informations.{kind-closest, allows-nothing, allows_value, Implies-antisym}
+use Rattle.pw_info.specs.Information.{kind_of, allows, nothing, Implies}
+use Rattle.pw_info.proofs.Informations.{kind-closest, implies_nothing, Implies-antisym}
 use Rattle.pw_premises.specs.PremiseSubsets.{is_subset_refl, is_subset_trans, is_subset_antisym}
 use Rattle.pw_premises.specs.Premises.{Premises}
 use Rattle.pw_facts.specs.declared.fact.Fact.{Fact}
@@ -26,10 +25,6 @@ kind-shows w f = elim (cases_Bool (is_subset f.support w)) [
   | inl e ↦ ap kind_of (shows-supported w f e)
   | inr e ↦ ap kind_of (shows-unsupported w f e) ∙ kind-closest (kind_of f.info) (λ v. true)
 ]
-
--- an information implies the nothing of its kind
-implies_nothing : (i : Info) (k : Kind) → kind_of i ≡ k → Implies i (nothing k)
-implies_nothing i k of_kind v e = allows-nothing k v ∙ subst (λ (x : Kind). is_value x v ≡ true) of_kind (allows_value i v e)
 
 -- equal informations imply each other
 pub implies_same : (i j : Info) → i ≡ j → Implies i j

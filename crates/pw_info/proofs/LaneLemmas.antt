@@ -87,3 +87,7 @@ run_goes_on p bytes at n room whole =
       | inl all ↦ run_on p bytes at n room ∙ cond-true _ _ _ (eq-eqb _ _ all)
       | inr other ↦ absurd (none-some _ (sym whole ∙ cond-false _ _ _ (ne_eqb _ _ other)))
     ]
+
+-- so many bytes at the front are in the run, and it goes on with those behind them as from there
+abbrev pub IsInRun : (ℕ → Bool) → List ℕ → ℕ → Type 0
+IsInRun p bytes end = (end ≤ length bytes) × (prefix_len p bytes ≡ end + prefix_len p (drop end bytes))

@@ -15,10 +15,10 @@ use Rattle.std.proofs.lemmas.Map.Views.{any-filter_same}
 use Rattle.std.proofs.lemmas.Option.{get_or_from_slice_get}
 use Rattle.pw_kinds.specs.declared.members.Members.{Members}
 use Rattle.pw_kinds.specs.Members.{size_of, allows, IsEmpty, IsFull}
-use Rattle.pw_kinds.proofs.MemberSets.{allows_below, place_negative, true_place}
+use Rattle.pw_kinds.proofs.MemberSets.{allows_below}
 use Rattle.pw_kinds.proofs.Order.{both_true, is_false, not_both, same_test, true_both}
 use Rattle.pw_info.specs.declared.info.Info.TheVariants as info
-use Rattle.pw_info.specs.Information.{set_kind, IsNothing}
+use Rattle.pw_info.specs.Information.{set_kind}
 use Rattle.pw_info.specs.inside.Scanning.{mark_after, opened, places_below}
 use Rattle.pw_info.specs.Passing.{PassesPart, IsPassed, IsBrokenOff}
 use Rattle.pw_info.specs.SetNames.{SetNames, name_at}
@@ -26,6 +26,7 @@ use Rattle.pw_info.specs.SetNames.{ArePlaces, is_one_of, text_of_set}
 use Rattle.pw_info.specs.Spelling.{SpellsInfo}
 use Rattle.pw_info.specs.Text.{possible_places, text_of_members, text_of_places}
 use Rattle.pw_info.proofs.PassingFacts.{PassesPart-append, broken_off_then, written_then}
+use Rattle.pw_info.proofs.Informations.{full_nothing}
 
 -- ---- the possible places
 
@@ -301,11 +302,6 @@ module _ {S : Type 0} (passes : S → List ℕ → S → Type 0) (has_failed : S
 
 -- ---- what is written spells what it was written for
 
--- if every member is possible, every value of the kind is
-nothing_known : (number : ℕ) (part : Members) → IsFull part → IsNothing (info.Members number part)
-nothing_known number part every (pos k) is = every k (true_place (size_of part) k is)
-nothing_known number part every (negsuc k) is = absurd (not_both _ is (place_negative (size_of part) k))
-
 pub members_spelled : (sets : SetNames) (number : ℕ) (part : Members)
     → SpellsInfo sets (text_of_members (sets number) part) (set_kind number part) (info.Members number part)
 members_spelled sets number part = elim (some_or_none (possible_places part)) [
@@ -315,7 +311,7 @@ members_spelled sets number part = elim (some_or_none (possible_places part)) [
   | inl some ↦ elim (cases_Bool (length (possible_places part) == size_of part)) [
     | inl long ↦
         let same : length (possible_places part) ≡ size_of part = eqb-true (length (possible_places part)) (size_of part) long in
-        (refl, inl (text_of_every (sets number) (size_of part) (possible_places part) some same, nothing_known number part (full_from_length part same)))
+        (refl, inl (text_of_every (sets number) (size_of part) (possible_places part) some same, full_nothing number part (full_from_length part same)))
     | inr fewer ↦
         let text = text_of_fewer (sets number) (size_of part) (possible_places part) some fewer in
         (refl, inr (inr (possible_places part, places_are part some, text, places_allowed part)))

@@ -13,7 +13,7 @@ use Rattle.pw_kinds.proofs.Intervals.{allows_between_allowed}
 use Rattle.pw_info.specs.declared.info.Info.TheVariants as info
 use Rattle.pw_procs.specs.Values.{IsImageOfOne, IsImageOfTwo}
 use Rattle.pw_procs.specs.Meaning.{product_of, square_of}
-use Rattle.pw_procs.proofs.Hulls.{image_one, image_two, is_hull_of}
+use Rattle.pw_procs.proofs.Hulls.{image_one, is_hull_of, hull_between}
 
 -- a number from lo to hi
 abbrev pub IsBetween : ℤ → ℤ → ℤ → Type 0
@@ -30,10 +30,10 @@ product_read a b p at_a at_b e =
     rw same_p same
 
 -- factors in order give products in order, reversed by a negative factor
-product_up : (a b : ℤ) (k : ℕ) → a ≤ℤ b → (a *ℤ pos k) ≤ℤ (b *ℤ pos k)
+pub product_up : (a b : ℤ) (k : ℕ) → a ≤ℤ b → (a *ℤ pos k) ≤ℤ (b *ℤ pos k)
 product_up a b k h = omega (arith, ints, mul-le-mul_right k (le_out a b h))
 
-product_down : (a b : ℤ) (k : ℕ) → a ≤ℤ b → (b *ℤ negsuc k) ≤ℤ (a *ℤ negsuc k)
+pub product_down : (a b : ℤ) (k : ℕ) → a ≤ℤ b → (b *ℤ negsuc k) ≤ℤ (a *ℤ negsuc k)
 product_down a b k h = omega (arith, ints, mul-le-mul_right (suc k) (le_out a b h))
 
 -- a product with a factor between two others lies where their products lie
@@ -79,22 +79,19 @@ pub product_is : (x y r : Interval) (a b c d p q s t : ℤ) → IsLeastOf x a �
     → p ≡ a *ℤ c → q ≡ a *ℤ d → s ≡ b *ℤ c → t ≡ b *ℤ d
     → ((v : ℤ) → interval.allows r v ≡ (is_in_interval_range v && le_z (int_min (int_min p q) (int_min s t)) v && le_z v (int_max (int_max p q) (int_max s t))))
     → info.Interval r ≡ product_of (info.Interval x) (info.Interval y)
-product_is x y r a b c d p q s t (a_in, from_a) (b_in, to_b) (c_in, from_c) (d_in, to_d) ac ad bc bd =
+product_is x y r a b c d p q s t least_x greatest_x least_y greatest_y ac ad bc bd =
     let lo : ℤ = int_min (int_min p q) (int_min s t) in
     let hi : ℤ = int_max (int_max p q) (int_max s t) in
-    let at_p : IsProduct x y p = (a, c, a_in, c_in, ac) in
-    let at_q : IsProduct x y q = (a, d, a_in, d_in, ad) in
-    let at_s : IsProduct x y s = (b, c, b_in, c_in, bc) in
-    let at_t : IsProduct x y t = (b, d, b_in, d_in, bd) in
-    is_hull_of _ _ lo hi r (image_two (λ v w. v *ℤ w) (info.Interval x) (info.Interval y))
+    let at_p : IsProduct x y p = (a, c, least_x.0, least_y.0, ac) in
+    let at_q : IsProduct x y q = (a, d, least_x.0, greatest_y.0, ad) in
+    let at_s : IsProduct x y s = (b, c, greatest_x.0, least_y.0, bc) in
+    let at_t : IsProduct x y t = (b, d, greatest_x.0, greatest_y.0, bd) in
+    hull_between (λ v w. v *ℤ w) x y r a b c d lo hi least_x greatest_x least_y greatest_y
     (of_least (IsProduct x y) _ _ (of_least (IsProduct x y) p q at_p at_q) (of_least (IsProduct x y) s t at_s at_t))
     (of_greatest (IsProduct x y) _ _ (of_greatest (IsProduct x y) p q at_p at_q) (of_greatest (IsProduct x y) s t at_s at_t))
-    (λ z member.
-    let (v, w, here, there, same) = member in
-    let at : IsBetween lo hi (v *ℤ w) = product_within lo hi a b c d v w (from_a v here, to_b v here) (from_c w there, to_d w there)
+    (λ v w from_v to_v from_w to_w. product_within lo hi a b c d v w (from_v, to_v) (from_w, to_w)
     (omega (arith, ints, clamps), omega (arith, ints, clamps)) (omega (arith, ints, clamps), omega (arith, ints, clamps))
-    (omega (arith, ints, clamps), omega (arith, ints, clamps)) (omega (arith, ints, clamps), omega (arith, ints, clamps)) in
-    subst (IsBetween lo hi) (sym same) at)
+    (omega (arith, ints, clamps), omega (arith, ints, clamps)) (omega (arith, ints, clamps), omega (arith, ints, clamps)))
 
 -- a number is the square of a possible number
 abbrev IsSquare : Interval → ℤ → Type 0

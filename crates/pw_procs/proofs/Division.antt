@@ -2,10 +2,10 @@
 use Rattle.std.proofs.Common.{◌≡◌, ℕ, ℤ, pos, negsuc, ◌≤ℤ◌, ◌<ℤ◌, ◌*ℤ◌, neg_ℤ, ◌≤◌, ◌<◌, ◌*◌, ◌/◌, suc, zero, Bool, true, false, ◌&&◌, ◌||◌, if◌then◌else◌, ◌⊎◌, inl, inr, arith, refl, sym, ◌∙◌, ap}
 use Rattle.std.specs.Int.Signed.{le_z, lt_z}
 use Rattle.std.specs.Int.{int_div_euclid, int_min, int_max}
-use Rattle.std.proofs.Math.Nat.{le-div_iff_mul-le, mul-le-mul_right, div-lt_iff_lt-mul}
+use Rattle.std.proofs.Math.Nat.{le-div_iff_mul-le, div-lt_iff_lt-mul}
 use Rattle.std.proofs.Math.IntN.{zero-*ℤ, *ℤ_comm}
+use Rattle.std.proofs.lemmas.Bool.{or_cases, or_left, or_right}
 use Rattle.std.proofs.lemmas.Int.{ints, clamps, by_lt_z}
-use borrow.Author.Differences.{le_out}
 use Rattle.pw_kinds.specs.declared.interval.Interval.{Interval}
 use Rattle.pw_kinds.specs.Ranges.{interval_lowest, interval_highest, is_in_interval_range}
 use Rattle.pw_kinds.specs.Interval as interval
@@ -19,16 +19,10 @@ use Rattle.pw_info.specs.Information.{allows, nothing}
 use Rattle.pw_procs.specs.Values.{some, is_possible}
 use Rattle.pw_procs.specs.Meaning.{is_quotient_at_most, is_quotient_at_least, between_quotients, quotient_of}
 use Rattle.pw_procs.proofs.Possible.{some_true, true_some, some_same}
+use Rattle.pw_procs.proofs.Corners.{product_up, product_down}
+use Rattle.pw_procs.proofs.TruthSets.{true_lt}
 
 -- ---- products, and a quotient rounded down
-
--- a greater number times a number that is not negative is greater
-product_up : (a b : ℤ) (k : ℕ) → a ≤ℤ b → (a *ℤ pos k) ≤ℤ (b *ℤ pos k)
-product_up a b k h = omega (arith, ints, mul-le-mul_right k (le_out a b h))
-
--- a greater number times a negative number is less
-product_down : (a b : ℤ) (k : ℕ) → a ≤ℤ b → (b *ℤ negsuc k) ≤ℤ (a *ℤ negsuc k)
-product_down a b k h = omega (arith, ints, mul-le-mul_right (suc k) (le_out a b h))
 
 -- a number is at or below the quotient rounded down exactly if its product with the divisor is at
 -- or below the dividend
@@ -78,21 +72,6 @@ ceil_is t x y s f r below same d e q =
     let m : neg_ℤ q ≤ℤ f = le_true (neg_ℤ q) f (below (neg_ℤ q) ∙ true_le (neg_ℤ q *ℤ y) s (omega (arith, ints, l, n, d))) in
     true_le r q (omega (arith, ints, m, e)))
 
--- ---- tests of one or the other
-
--- one of two tests passes if the first does, and if the second does, and only there
-left_true : (a b : Bool) → a ≡ true → (a || b) ≡ true
-left_true true b p = refl
-left_true false b p = absurd (cc)
-
-right_true : (a b : Bool) → b ≡ true → (a || b) ≡ true
-right_true true b p = refl
-right_true false b p = p
-
-either_true : (a b : Bool) → (a || b) ≡ true → (a ≡ true) ⊎ (b ≡ true)
-either_true true b p = inl refl
-either_true false b p = inr p
-
 -- tests that are the same one by one are the same together
 both_same : {a b c d : Bool} → a ≡ b → c ≡ d → (b && d) ≡ (a && c)
 both_same p q = λ k. sym p k && sym q k
@@ -105,8 +84,8 @@ min_below : (a b v : ℤ) → le_z (int_min a b) v ≡ (le_z a v || le_z b v)
 min_below a b v = same_test _ _
     (λ e.
     let h : int_min a b ≤ℤ v = le_true (int_min a b) v e in
-    by_lt_z v a (λ l. right_true (le_z a v) (le_z b v) (true_le b v (omega (arith, ints, clamps)))) (λ l. left_true (le_z a v) (le_z b v) (true_le a v l)))
-    (λ e. elim (either_true (le_z a v) (le_z b v) e) [
+    by_lt_z v a (λ l. or_right (le_z a v) (le_z b v) (true_le b v (omega (arith, ints, clamps)))) (λ l. or_left (le_z a v) (le_z b v) (true_le a v l)))
+    (λ e. elim (or_cases (le_z a v) (le_z b v) e) [
       | inl l ↦ let h : a ≤ℤ v = le_true a v l in true_le (int_min a b) v (omega (arith, ints, clamps))
       | inr l ↦ let h : b ≤ℤ v = le_true b v l in true_le (int_min a b) v (omega (arith, ints, clamps))
     ])
@@ -116,8 +95,8 @@ max_above : (a b v : ℤ) → le_z v (int_max a b) ≡ (le_z v a || le_z v b)
 max_above a b v = same_test _ _
     (λ e.
     let h : v ≤ℤ int_max a b = le_true v (int_max a b) e in
-    by_lt_z a v (λ l. right_true (le_z v a) (le_z v b) (true_le v b (omega (arith, ints, clamps)))) (λ l. left_true (le_z v a) (le_z v b) (true_le v a l)))
-    (λ e. elim (either_true (le_z v a) (le_z v b) e) [
+    by_lt_z a v (λ l. or_right (le_z v a) (le_z v b) (true_le v b (omega (arith, ints, clamps)))) (λ l. or_left (le_z v a) (le_z v b) (true_le v a l)))
+    (λ e. elim (or_cases (le_z v a) (le_z v b) e) [
       | inl l ↦ let h : v ≤ℤ a = le_true v a l in true_le v (int_max a b) (omega (arith, ints, clamps))
       | inr l ↦ let h : v ≤ℤ b = le_true v b l in true_le v (int_max a b) (omega (arith, ints, clamps))
     ])
@@ -165,11 +144,11 @@ below_corners t x t_lo x_lo x_hi (lo_here, lo_least) (one_here, one_least) (othe
     let least : t_lo ≤ℤ a = lo_least a a_here in
     let below : a ≤ℤ (q *ℤ b) = le_true a (q *ℤ b) passes in
     elim (product_most q x_lo b x_hi (one_least b b_here) (other_most b b_here)) [
-      | inl l ↦ left_true (le_z t_lo (q *ℤ x_lo)) (le_z t_lo (q *ℤ x_hi)) (true_le t_lo (q *ℤ x_lo) (omega (arith, ints, l)))
-      | inr l ↦ right_true (le_z t_lo (q *ℤ x_lo)) (le_z t_lo (q *ℤ x_hi)) (true_le t_lo (q *ℤ x_hi) (omega (arith, ints, l)))
+      | inl l ↦ or_left (le_z t_lo (q *ℤ x_lo)) (le_z t_lo (q *ℤ x_hi)) (true_le t_lo (q *ℤ x_lo) (omega (arith, ints, l)))
+      | inr l ↦ or_right (le_z t_lo (q *ℤ x_lo)) (le_z t_lo (q *ℤ x_hi)) (true_le t_lo (q *ℤ x_hi) (omega (arith, ints, l)))
     ])
     (λ e. true_some (info.Interval t) (λ a. some (info.Interval x) (λ b. le_z a (q *ℤ b))) t_lo lo_here
-    (elim (either_true (le_z t_lo (q *ℤ x_lo)) (le_z t_lo (q *ℤ x_hi)) e) [
+    (elim (or_cases (le_z t_lo (q *ℤ x_lo)) (le_z t_lo (q *ℤ x_hi)) e) [
       | inl l ↦ true_some (info.Interval x) (λ b. le_z t_lo (q *ℤ b)) x_lo one_here l
       | inr l ↦ true_some (info.Interval x) (λ b. le_z t_lo (q *ℤ b)) x_hi other_here l
     ]))
@@ -185,21 +164,18 @@ above_corners t x t_hi x_lo x_hi (hi_here, hi_most) (one_here, one_least) (other
     let most : a ≤ℤ t_hi = hi_most a a_here in
     let below : (q *ℤ b) ≤ℤ a = le_true (q *ℤ b) a passes in
     elim (product_least q x_lo b x_hi (one_least b b_here) (other_most b b_here)) [
-      | inl l ↦ left_true (le_z (q *ℤ x_lo) t_hi) (le_z (q *ℤ x_hi) t_hi) (true_le (q *ℤ x_lo) t_hi (omega (arith, ints, l)))
-      | inr l ↦ right_true (le_z (q *ℤ x_lo) t_hi) (le_z (q *ℤ x_hi) t_hi) (true_le (q *ℤ x_hi) t_hi (omega (arith, ints, l)))
+      | inl l ↦ or_left (le_z (q *ℤ x_lo) t_hi) (le_z (q *ℤ x_hi) t_hi) (true_le (q *ℤ x_lo) t_hi (omega (arith, ints, l)))
+      | inr l ↦ or_right (le_z (q *ℤ x_lo) t_hi) (le_z (q *ℤ x_hi) t_hi) (true_le (q *ℤ x_hi) t_hi (omega (arith, ints, l)))
     ])
     (λ e. true_some (info.Interval t) (λ a. some (info.Interval x) (λ b. le_z (q *ℤ b) a)) t_hi hi_here
-    (elim (either_true (le_z (q *ℤ x_lo) t_hi) (le_z (q *ℤ x_hi) t_hi) e) [
+    (elim (or_cases (le_z (q *ℤ x_lo) t_hi) (le_z (q *ℤ x_hi) t_hi) e) [
       | inl l ↦ true_some (info.Interval x) (λ b. le_z (q *ℤ b) t_hi) x_lo one_here l
       | inr l ↦ true_some (info.Interval x) (λ b. le_z (q *ℤ b) t_hi) x_hi other_here l
     ]))
 
 -- ---- quotients of intervals
 
--- a test of order, and the fact that it tests
-lt_true : (a b : ℤ) → a <ℤ b → lt_z a b ≡ true
-lt_true a b h = grind (arith, ints)
-
+-- a test of order fails where it does not hold
 lt_false : (a b : ℤ) → b ≤ℤ a → lt_z a b ≡ false
 lt_false a b h = grind (arith, ints)
 
@@ -250,7 +226,7 @@ any_quotient t x t_lo x_lo x_hi t_least x_least x_most below above =
 -- the sign of possible divisors: that of the least, if it is positive, and of the greatest, if it
 -- is negative
 positive_sign : (x : Interval) (x_lo b : ℤ) → IsLeastOf x x_lo → pos 0 <ℤ x_lo → interval.allows x b ≡ true → lt_z (pos 0) b ≡ true
-positive_sign x x_lo b (here, least) p e = let l : x_lo ≤ℤ b = least b e in lt_true (pos 0) b (omega (arith, ints))
+positive_sign x x_lo b (here, least) p e = let l : x_lo ≤ℤ b = least b e in true_lt (pos 0) b (omega (arith, ints))
 
 negative_sign : (x : Interval) (x_hi b : ℤ) → IsGreatestOf x x_hi → x_hi <ℤ pos 0 → interval.allows x b ≡ true → lt_z (pos 0) b ≡ false
 negative_sign x x_hi b (here, most) p e = let l : b ≤ℤ x_hi = most b e in lt_false (pos 0) b (omega (arith, ints))

@@ -1,5 +1,5 @@
 -- What a hull leaves possible, and how hulls and truths grow with their inputs.
-use Rattle.std.proofs.Common.{◌≡◌, ℕ, ℤ, pos, negsuc, ◌<◌, ◌≤ℤ◌, ◌<ℤ◌, ◌+ℤ◌, ◌-ℤ◌, Bool, true, false, not, ◌&&◌, ◌||◌, ◌⊎◌, inl, inr, arith, refl, sym, ◌∙◌, subst}
+use Rattle.std.proofs.Common.{◌≡◌, ℤ, pos, ◌≤ℤ◌, ◌<ℤ◌, ◌+ℤ◌, ◌-ℤ◌, Bool, true, false, not, ◌&&◌, ◌||◌, ◌⊎◌, inl, inr, arith, refl, sym, ◌∙◌}
 use Rattle.std.specs.Int.Signed.{le_z}
 use Rattle.std.specs.Int.{int_max, int_min}
 use Rattle.std.specs.Ordering.{int_eq}
@@ -7,19 +7,14 @@ use Rattle.std.proofs.lemmas.Int.{ints, clamps, by_lt_z}
 use Rattle.pw_kinds.specs.declared.interval.Interval.{Interval}
 use Rattle.pw_kinds.specs.Ranges.{interval_lowest, interval_highest, is_in_interval_range}
 use Rattle.pw_kinds.specs.Ranges.{IsSpan}
-use Rattle.pw_kinds.specs.Places.{IsSize, is_place}
 use Rattle.pw_kinds.specs.Interval as interval
-use Rattle.pw_kinds.specs.Members as members
-use Rattle.pw_kinds.specs.Exact as exact
 use Rattle.pw_kinds.proofs.Order.{true_le, le_true, le_false, both_true, true_both, is_false, not_both, between_true, true_between}
 use Rattle.pw_kinds.proofs.Intervals.{allows_true, true_allows, allows_in_range, empty_none, closest_closest}
-use Rattle.pw_kinds.proofs.MemberSets as sets
-use Rattle.pw_kinds.proofs.Exacts as exacts
 use Rattle.pw_info.specs.declared.kind.Kind.{Kind}
 use Rattle.pw_info.specs.declared.kind.Kind.TheVariants as kinds
 use Rattle.pw_info.specs.declared.info.Info.{Info}
-use Rattle.pw_info.specs.Information.{is_value, allows, closest, Implies, IsContradiction}
-use Rattle.pw_info.proofs.Informations.{allows-contradiction}
+use Rattle.pw_info.specs.Information.{allows, closest, Implies, IsContradiction}
+use Rattle.pw_info.proofs.Informations.{allows-contradiction, closest_mono}
 use Rattle.pw_procs.specs.Values.{NumberSet, IsSetOf, LiesWithin, IsHull, some, image_of_one, image_of_two, hull_of, truths_of, truth, is_true, bool}
 use Rattle.pw_procs.proofs.Hulls.{image_one, image_two}
 use Rattle.pw_procs.proofs.Possible.{some_mono, none_some, contradiction_none}
@@ -132,22 +127,6 @@ module _ (numbers : ℤ → Type 0) (set : NumberSet) (are : IsSetOf numbers set
   }
 
 -- ---- more that passes
-
--- the closest members grow with the test
-members_mono : (size : ℕ) → IsSize size → (p q : ℤ → Bool) → ((v : ℤ) → is_place size v ≡ true → p v ≡ true → q v ≡ true)
-    → (v : ℤ) → members.allows (members.closest size p) v ≡ true → members.allows (members.closest size q) v ≡ true
-members_mono size h p q more (pos k) e =
-    let l : k < size = subst (λ s. k < s) (sets.size_of-closest size p h) (sets.allows_below (members.closest size p) k e) in
-    sets.allows-closest size q h k l ∙ more (pos k) (sets.place_true size k l) (sym (sets.allows-closest size p h k l) ∙ e)
-members_mono size h p q more (negsuc k) e = absurd (not_both _ e refl)
-
--- the closest of a kind grows with the test
-pub closest_mono : (k : Kind) (p q : ℤ → Bool) → ((v : ℤ) → is_value k v ≡ true → p v ≡ true → q v ≡ true) → Implies (closest k p) (closest k q)
-closest_mono kinds.Interval p q more =
-    (closest_closest p).smallest (interval.closest q) (λ v r e. (closest_closest q).holds v r (more v r e))
-closest_mono (kinds.Members set) p q more = members_mono set.size set.sized p q more
-closest_mono kinds.Exact p q more =
-    (exacts.closest_closest p).smallest (exact.closest q) (λ v r e. (exacts.closest_closest q).holds v r (more v r e))
 
 -- if nothing passes the closest is the contradiction
 pub closest_none : (k : Kind) (p : ℤ → Bool) → ((v : ℤ) → p v ≡ false) → IsContradiction (closest k p)

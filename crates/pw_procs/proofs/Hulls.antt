@@ -1,5 +1,5 @@
 -- Hulls: the interval from the least to the greatest of a set of numbers, cut to the range.
-use Rattle.std.proofs.Common.{◌≡◌, ℤ, ◌≤ℤ◌, ◌+ℤ◌, ◌-ℤ◌, true, false, ◌&&◌, arith, refl, sym, ◌∙◌, ap}
+use Rattle.std.proofs.Common.{◌≡◌, ℤ, ◌≤ℤ◌, ◌+ℤ◌, ◌-ℤ◌, true, false, ◌&&◌, arith, refl, sym, ◌∙◌, ap, subst}
 use Rattle.std.specs.Int.Signed.{le_z}
 use Rattle.std.specs.Int.{int_max, int_min}
 use Rattle.std.proofs.lemmas.Int.{ints, clamps}
@@ -76,31 +76,33 @@ pub hull_of_none_second : (operation : ℤ → ℤ → ℤ) (x y r : Interval) �
 hull_of_none_second operation x y r none = no_hull _ _ r (image_two operation (info.Interval x) (info.Interval y))
     (λ z member. let (a, b, here, there, same) = member in not_both _ there (none b))
 
+-- an interval between two numbers that an operation gives is the hull of all that it gives, if all
+-- that it gives of numbers between the ends of its inputs lies between the two
+pub hull_between : (operation : ℤ → ℤ → ℤ) (x y r : Interval) (a b c d lo hi : ℤ) → IsLeastOf x a → IsGreatestOf x b → IsLeastOf y c → IsGreatestOf y d
+    → IsImageOfTwo operation (info.Interval x) (info.Interval y) lo → IsImageOfTwo operation (info.Interval x) (info.Interval y) hi
+    → ((v w : ℤ) → a ≤ℤ v → v ≤ℤ b → c ≤ℤ w → w ≤ℤ d → (lo ≤ℤ operation v w) × (operation v w ≤ℤ hi))
+    → ((v : ℤ) → interval.allows r v ≡ (is_in_interval_range v && le_z lo v && le_z v hi))
+    → info.Interval r ≡ hull_of (image_of_two operation (info.Interval x) (info.Interval y))
+hull_between operation x y r a b c d lo hi least_x greatest_x least_y greatest_y low high between = is_hull_of _ _ lo hi r
+    (image_two operation (info.Interval x) (info.Interval y)) low high (λ z member.
+    let (v, w, here, there, same) = member in
+    subst (λ z. (lo ≤ℤ z) × (z ≤ℤ hi)) (sym same) (between v w (least_x.1 v here) (greatest_x.1 v here) (least_y.1 w there) (greatest_y.1 w there)))
+
 -- the interval between the sums of the ends is the hull of the sums
 pub sum_is : (x y r : Interval) (a b c d lo hi : ℤ) → IsLeastOf x a → IsGreatestOf x b → IsLeastOf y c → IsGreatestOf y d
     → lo ≡ a +ℤ c → hi ≡ b +ℤ d → ((v : ℤ) → interval.allows r v ≡ (is_in_interval_range v && le_z lo v && le_z v hi))
     → info.Interval r ≡ sum_of (info.Interval x) (info.Interval y)
-sum_is x y r a b c d lo hi (a_in, from_a) (b_in, to_b) (c_in, from_c) (d_in, to_d) low high = is_hull_of _ _ lo hi r
-    (image_two (λ v w. v +ℤ w) (info.Interval x) (info.Interval y)) (a, c, a_in, c_in, low) (b, d, b_in, d_in, high) (λ z member.
-    let (v, w, here, there, same) = member in
-    let from_v : a ≤ℤ v = from_a v here in
-    let to_v : v ≤ℤ b = to_b v here in
-    let from_w : c ≤ℤ w = from_c w there in
-    let to_w : w ≤ℤ d = to_d w there in
-    (omega (arith, ints), omega (arith, ints)))
+sum_is x y r a b c d lo hi least_x greatest_x least_y greatest_y low high =
+    hull_between (λ v w. v +ℤ w) x y r a b c d lo hi least_x greatest_x least_y greatest_y (a, c, least_x.0, least_y.0, low) (b, d, greatest_x.0, greatest_y.0, high)
+    (λ v w from_v to_v from_w to_w. (omega (arith, ints), omega (arith, ints)))
 
 -- the interval between the crossed differences of the ends is the hull of the differences
 pub difference_is : (x y r : Interval) (a b c d lo hi : ℤ) → IsLeastOf x a → IsGreatestOf x b → IsLeastOf y c → IsGreatestOf y d
     → lo ≡ a -ℤ d → hi ≡ b -ℤ c → ((v : ℤ) → interval.allows r v ≡ (is_in_interval_range v && le_z lo v && le_z v hi))
     → info.Interval r ≡ difference_of (info.Interval x) (info.Interval y)
-difference_is x y r a b c d lo hi (a_in, from_a) (b_in, to_b) (c_in, from_c) (d_in, to_d) low high = is_hull_of _ _ lo hi r
-    (image_two (λ v w. v -ℤ w) (info.Interval x) (info.Interval y)) (a, d, a_in, d_in, low) (b, c, b_in, c_in, high) (λ z member.
-    let (v, w, here, there, same) = member in
-    let from_v : a ≤ℤ v = from_a v here in
-    let to_v : v ≤ℤ b = to_b v here in
-    let from_w : c ≤ℤ w = from_c w there in
-    let to_w : w ≤ℤ d = to_d w there in
-    (omega (arith, ints), omega (arith, ints)))
+difference_is x y r a b c d lo hi least_x greatest_x least_y greatest_y low high =
+    hull_between (λ v w. v -ℤ w) x y r a b c d lo hi least_x greatest_x least_y greatest_y (a, d, least_x.0, greatest_y.0, low) (b, c, greatest_x.0, least_y.0, high)
+    (λ v w from_v to_v from_w to_w. (omega (arith, ints), omega (arith, ints)))
 
 -- a number lies between the ends cut to the range exactly if it is in range and lies between the
 -- ends

@@ -31,6 +31,7 @@ use Rattle.pw_procs.specs.Meaning.{negation_of, switched, point_of, fixed_of}
 use Rattle.pw_procs.proofs.Possible.{some_true, true_some, none_some}
 use Rattle.pw_procs.proofs.Hulls.{image_one, image_two}
 use Rattle.pw_procs.proofs.HullLaws.{negation, closest_between}
+use Rattle.pw_procs.proofs.RuleValues.{and_true}
 use Rattle.pw_procs.proofs.TruthSets.{truths_are}
 use Rattle.pw_procs.proofs.MeaningLaws.{passed, quotient_none}
 use Rattle.pw_procs.proofs.KindLaws.{kind-quotient}
@@ -257,11 +258,6 @@ switched_closed p x may_be_false =
     ap (λ b. passed b (allows p (truth false)) x) possible ∙ ap (λ b. passed true b x) may_be_false
 
 -- ---- rules
-
--- a test with one that always passes
-and_true : (b : Bool) → (b && true) ≡ b
-and_true true = refl
-and_true false = refl
 
 -- the value of one rule of one input, by whether it applies
 one_rule : (rule : Rule) (guard x : Info) (test : Bool) → rule.guards.items ≡ guard ∷ [] → includes guard x ≡ test → is_possible x ≡ true

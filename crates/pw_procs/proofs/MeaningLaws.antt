@@ -4,14 +4,15 @@ use Rattle.std.specs.List.{AllZip, list_all}
 use Rattle.std.specs.Int.Signed.{le_z, lt_z}
 use Rattle.std.proofs.lemmas.Int.{ints}
 use Rattle.std.proofs.lemmas.List.Folds.{list_all_at}
+use Rattle.std.proofs.lemmas.Bool.{not-true}
 use Rattle.pw_kinds.specs.Ranges.{is_in_interval_range}
 use Rattle.pw_kinds.proofs.Order.{true_le, both_true, true_both, is_false, not_both}
 use Rattle.pw_kinds.proofs.Intervals.{closest_closest}
 use Rattle.pw_info.specs.declared.kind.Kind.{Kind}
 use Rattle.pw_info.specs.declared.kind.Kind.TheVariants as kinds
 use Rattle.pw_info.specs.declared.info.Info.{Info}
-use Rattle.pw_info.specs.Information.{is_value, allows, kind_of, closest, nothing, contradiction, Implies, IsContradiction}
-use Rattle.pw_info.proofs.Informations.{allows_value, allows-nothing, allows-contradiction, kind-closest}
+use Rattle.pw_info.specs.Information.{allows, kind_of, closest, nothing, contradiction, Implies, IsContradiction}
+use Rattle.pw_info.proofs.Informations.{implies_nothing, allows-nothing, allows-contradiction, kind-closest, closest_mono}
 use Rattle.pw_procs.specs.declared.rule.Rule.{Rule}
 use Rattle.pw_procs.specs.declared.signature.Slot.{Slot}
 use Rattle.pw_procs.specs.declared.meaning.Meaning.{Meaning}
@@ -24,7 +25,7 @@ use Rattle.pw_procs.specs.Meaning.{AreSlotsOf, value_of_meaning, switched}
 use Rattle.pw_procs.proofs.Possible.{true_some, some_mono, contradiction_none}
 use Rattle.pw_procs.proofs.FittingInputs.{one_fits, two_fit}
 use Rattle.pw_procs.proofs.KindLaws.{fit_same}
-use Rattle.pw_procs.proofs.HullLaws.{at_most, equality, negation, conjunction, disjunction, closest_mono, hull_mono, truths_mono, one_mono, two_mono, pair_mono, closest_none, hull_none, truths_none, one_none, two_none, pair_none}
+use Rattle.pw_procs.proofs.HullLaws.{at_most, equality, negation, conjunction, disjunction, hull_mono, truths_mono, one_mono, two_mono, pair_mono, closest_none, hull_none, truths_none, one_none, two_none, pair_none}
 
 -- ---- inputs by place
 
@@ -45,10 +46,7 @@ input_kind (y ∷ ys) (x ∷ xs) h (suc k) = let rest : map kind_of ys ≡ map k
 
 -- ---- more informed inputs
 
--- an information of a kind implies nothing of the kind, and is implied by its contradiction
-implies_nothing : (a : Info) (k : Kind) → kind_of a ≡ k → Implies a (nothing k)
-implies_nothing a k same v e = allows-nothing k v ∙ subst (λ (l : Kind). is_value l v ≡ true) same (allows_value a v e)
-
+-- an information of a kind is implied by its contradiction
 contradiction_implies : (k : Kind) (a : Info) → Implies (contradiction k) a
 contradiction_implies k a v e = absurd (not_both _ e (allows-contradiction k v))
 
@@ -97,14 +95,10 @@ quotient_mono s y t x first_implied second_implied = open_mono (is_possible s &&
     (pair_mono s y t x (is_quotient_at_most q) first_implied second_implied both.0)
     (pair_mono s y t x (is_quotient_at_least q) first_implied second_implied both.1)))
 
-not_true : (b : Bool) → not b ≡ true → b ≡ false
-not_true true e = sym e
-not_true false e = refl
-
 -- a guard that includes an input includes a more informed one, and so do guards one by one
 includes_mono : (guard y x : Info) → Implies y x → includes guard x ≡ true → includes guard y ≡ true
 includes_mono guard y x implied e = ap not (is_false _ (λ h.
-    not_both _ (some_mono y x (λ v. not (allows guard v)) (λ v. not (allows guard v)) implied (λ v k. k) h) (not_true _ e)))
+    not_both _ (some_mono y x (λ v. not (allows guard v)) (λ v. not (allows guard v)) implied (λ v k. k) h) (not-true _ e)))
 
 all_include_mono : (guards ys xs : List Info) → AllZip Implies ys xs → all_include guards xs ≡ true → all_include guards ys ≡ true
 all_include_mono [] ys xs h e = refl

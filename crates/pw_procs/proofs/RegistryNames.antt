@@ -1,9 +1,9 @@
 -- The names of a list, one after another. The list is one of any items, each under a name.
-use Rattle.std.proofs.Common.{◌≡◌, Bool, true, false, not, ◌&&◌, ◌||◌, ℕ, zero, suc, ◌+◌, ◌<◌, ◌≤◌, List, [], ◌∷◌, ◌++◌, Some, None, length, take, get_or, map, arith, refl, sym, ◌∙◌, ap, subst, inl, inr}
+use Rattle.std.proofs.Common.{◌≡◌, Bool, true, not, ◌&&◌, ◌||◌, ℕ, zero, suc, ◌+◌, ◌<◌, ◌≤◌, List, [], ◌∷◌, ◌++◌, Some, None, length, take, get_or, map, arith, refl, sym, ◌∙◌, ap, subst, inl, inr}
 use Rattle.std.specs.Prelude.{◌⊎◌, nat_lt, slice_get, Contains, option_map}
 use Rattle.std.specs.List.{position_from, list_any}
 use Rattle.std.specs.Str.{bytes_eq}
-use Rattle.std.proofs.lemmas.Bool.{cases_Bool}
+use Rattle.std.proofs.lemmas.Bool.{cases_Bool, not-true, or_right}
 use Rattle.std.proofs.lemmas.Bool.Decides.{nat_tests}
 use Rattle.std.proofs.lemmas.List.{map_more, take-map, length-map, get_or-map, append-nil, append_assoc}
 use Rattle.std.proofs.lemmas.List.Elements.{Contains-push_cases}
@@ -12,7 +12,7 @@ use Rattle.std.proofs.lemmas.Slice.Eq.{bytes_eq-Decides}
 use Rattle.pw_kinds.proofs.Order.{true_both, not_both}
 use Rattle.pw_info.specs.Name.{is_name}
 use Rattle.pw_procs.specs.Registering.{place_of_name}
-use Rattle.pw_procs.specs.Registering.{taken_names, IsFaultAfter, AreFreeBelow, AreRegistered, IsRegistryFault}
+use Rattle.pw_procs.specs.Registering.{taken_names, IsFaultAfter, IsFirstNameFault, AreFreeBelow, AreRegistered, IsRegistryFault}
 use Rattle.pw_procs.specs.declared.registry.RegistryFault.{RegistryFault}
 use Rattle.pw_procs.specs.declared.registry.RegistryFault.TheVariants.{DuplicateName, BadName, TooMany, Memory}
 
@@ -104,24 +104,21 @@ free_more f xs i x within here free before k name fault below at wrong =
     ]
 
 -- the first fault is that of the list
+first_named : {K : Type 0} (f : K → List ℕ) (xs : List K) (i : ℕ) (x : K) (fault : RegistryFault) → length xs ≤ 64 → i < length xs → x ≡ get_or xs i x →
+    IsFaultAfter (map f (take i xs)) (f x) fault → AreFreeBelow (map f xs) i → IsFirstNameFault (map f xs) fault
+first_named f xs i x fault few within here wrong before = record {
+  most = omega (arith, length-map xs f);
+  place = i;
+  name = f x;
+  stands = name_at f xs i x within here;
+  wrong = subst (λ l. IsFaultAfter l (f x) fault) (sym (take-map f i xs)) wrong;
+  first = before;
+}
+
 pub first_is : {K : Type 0} (f : K → List ℕ) (xs : List K) (i : ℕ) (x : K) (fault : RegistryFault) → length xs ≤ 64 → i < length xs → x ≡ get_or xs i x →
     IsFaultAfter (map f (take i xs)) (f x) fault → AreFreeBelow (map f xs) i → IsRegistryFault (map f xs) fault
-first_is f xs i x BadName few within here wrong before = record {
-  most = omega (arith, length-map xs f);
-  place = i;
-  name = f x;
-  stands = name_at f xs i x within here;
-  wrong = subst (λ l. IsFaultAfter l (f x) BadName) (sym (take-map f i xs)) wrong;
-  first = before;
-}
-first_is f xs i x DuplicateName few within here wrong before = record {
-  most = omega (arith, length-map xs f);
-  place = i;
-  name = f x;
-  stands = name_at f xs i x within here;
-  wrong = subst (λ l. IsFaultAfter l (f x) DuplicateName) (sym (take-map f i xs)) wrong;
-  first = before;
-}
+first_is f xs i x BadName few within here wrong before = first_named f xs i x BadName few within here wrong before
+first_is f xs i x DuplicateName few within here wrong before = first_named f xs i x DuplicateName few within here wrong before
 first_is f xs i x TooMany few within here wrong before = absurd wrong
 first_is f xs i x Memory few within here wrong before = absurd wrong
 
@@ -141,14 +138,6 @@ place_below [] k name at = absurd (cc)
 place_below (first ∷ names) zero name at = omega arith
 place_below (first ∷ names) (suc k) name at = let below : k < length names = place_below names k name at in omega arith
 
-not_true : (b : Bool) → not b ≡ true → b ≡ false
-not_true true e = sym e
-not_true false e = refl
-
-or_second : (a b : Bool) → b ≡ true → (a || b) ≡ true
-or_second true b e = refl
-or_second false b e = e
-
 -- whether names may be in a registry after others, apart from their number
 abbrev pub are_free : List (List ℕ) → List (List ℕ) → Bool
 are_free before [] = true
@@ -159,14 +148,14 @@ are_free before (name ∷ names) =
 any_there : (names : List (List ℕ)) (name : List ℕ) → Contains names name → list_any (bytes_eq name) names ≡ true
 any_there [] name (k, within, e) = absurd (omega arith)
 any_there (first ∷ names) name (zero, within, e) = ap (λ b. b || list_any (bytes_eq name) names) ((bytes_eq-Decides name first).1 (sym e))
-any_there (first ∷ names) name (suc k, within, e) = or_second (bytes_eq name first) _ (any_there names name (k, omega arith, e))
+any_there (first ∷ names) name (suc k, within, e) = or_right (bytes_eq name first) _ (any_there names name (k, omega arith, e))
 
 -- a name that passes is not a bad one, and none of those before it
 no_fault : (before : List (List ℕ)) (name : List ℕ) (fault : RegistryFault) → is_name name ≡ true → not (list_any (bytes_eq name) taken_names) ≡ true
     → not (list_any (bytes_eq name) before) ≡ true → IsFaultAfter before name fault → ⊥
 no_fault before name BadName named free new (inl bad) = not_both _ named bad
-no_fault before name BadName named free new (inr taken) = not_both _ (any_there taken_names name taken) (not_true _ free)
-no_fault before name DuplicateName named free new (good, there) = not_both _ (any_there before name there) (not_true _ new)
+no_fault before name BadName named free new (inr taken) = not_both _ (any_there taken_names name taken) (not-true _ free)
+no_fault before name DuplicateName named free new (good, there) = not_both _ (any_there before name there) (not-true _ new)
 no_fault before name TooMany named free new wrong = wrong
 no_fault before name Memory named free new wrong = wrong
 

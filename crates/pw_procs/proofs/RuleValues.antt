@@ -13,14 +13,8 @@ use Rattle.pw_info.proofs.Informations as informations
 use Rattle.pw_procs.specs.declared.rule.Rule.{Rule}
 use Rattle.pw_procs.specs.Values.{some, is_possible}
 use Rattle.pw_procs.specs.Rules.{includes, all_include, rules_allow, value_of_rules}
-use Rattle.pw_procs.proofs.Possible.{true_some, none_some, contradiction_none, impossible_contradiction}
-
--- what is not contradictory is possible
-is_possible_true : (a : Info) → (IsContradiction a → ⊥) → is_possible a ≡ true
-is_possible_true a some = elim (cases_Bool (is_possible a)) [
-  | inl possible ↦ possible
-  | inr none ↦ absurd (some (impossible_contradiction a none))
-]
+use Rattle.pw_procs.proofs.Possible.{true_some, none_some, contradiction_none}
+use Rattle.pw_procs.proofs.TruthSets.{possible as is_possible_true}
 
 -- ---- guards
 
@@ -103,13 +97,8 @@ input_passes inputs place input here q so_far possible =
 
 -- ---- rules
 
--- three tests pass together however they are joined
-and_assoc : (a b c : Bool) → ((a && b) && c) ≡ (a && (b && c))
-and_assoc true b c = refl
-and_assoc false b c = refl
-
 -- a test beside one that always passes
-and_true : (a : Bool) → (a && true) ≡ a
+pub and_true : (a : Bool) → (a && true) ≡ a
 and_true true = refl
 and_true false = refl
 
@@ -127,7 +116,7 @@ rule_applies rules inputs v place rule value next here q so_far applies both =
     so_far
     ∙ ap (λ b. allows value v && b) (from_rule rules inputs v place rule here q
     ∙ ap (λ b. (not b || allows rule.result v) && rules_allow (drop (place + 1) rules) inputs v) applies)
-    ∙ sym (and_assoc (allows value v) (allows rule.result v) (rules_allow (drop (place + 1) rules) inputs v))
+    ∙ sym (informations.and_assoc (allows value v) (allows rule.result v) (rules_allow (drop (place + 1) rules) inputs v))
     ∙ ap (λ b. b && rules_allow (drop (place + 1) rules) inputs v) (sym both)
 
 -- a rule that does not apply says nothing

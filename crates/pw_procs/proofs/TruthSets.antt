@@ -3,7 +3,7 @@ use Rattle.std.proofs.Common.{◌≡◌, ℕ, zero, suc, ℤ, pos, negsuc, ◌<�
 use Rattle.std.specs.Ordering.{int_eq}
 use Rattle.std.specs.Int.Signed.{le_z, lt_z}
 use Rattle.std.proofs.lemmas.Int.{ints}
-use Rattle.std.proofs.lemmas.Bool.{cases_Bool, eqb-true, eq-eqb}
+use Rattle.std.proofs.lemmas.Bool.{cases_Bool, eqb-true, eq-eqb, not-true, or_cases, or_left, or_right}
 use Rattle.pw_kinds.specs.Ranges.{exact_lowest, exact_highest}
 use Rattle.pw_kinds.specs.declared.interval.Interval.{Interval}
 use Rattle.pw_kinds.specs.Interval as interval
@@ -23,11 +23,7 @@ use Rattle.pw_procs.proofs.OnlyValues.{IsOnly}
 
 -- ---- tests and their opposites
 
--- a test fails if its opposite passes, and its opposite passes if it fails
-from_not : (b : Bool) → not b ≡ true → b ≡ false
-from_not true e = sym e
-from_not false e = refl
-
+-- the opposite of a test passes if it fails
 to_not : (b : Bool) → b ≡ false → not b ≡ true
 to_not b e = ap not e
 
@@ -44,15 +40,10 @@ not_either_test : (a b : Bool) → not (a || b) ≡ (not a && not b)
 not_either_test true b = refl
 not_either_test false b = refl
 
--- one of two tests passes exactly if `or` does
+-- `or` passes if one of two tests does
 either_true : (a b : Bool) → (a ≡ true) ⊎ (b ≡ true) → (a || b) ≡ true
-either_true true b h = refl
-either_true false b (inl e) = absurd (cc)
-either_true false b (inr e) = e
-
-true_either : (a b : Bool) → (a || b) ≡ true → (a ≡ true) ⊎ (b ≡ true)
-true_either true b e = inl refl
-true_either false b e = inr e
+either_true a b (inl e) = or_left a b e
+either_true a b (inr e) = or_right a b e
 
 -- what `or` and `and` say about two tests if the first is known
 pub either_first : (a b : Bool) → a ≡ true → (a || b) ≡ true
@@ -162,7 +153,7 @@ possible x known = elim (cases_Bool (is_possible x)) [
 lt_true : (a b : ℤ) → lt_z a b ≡ true → a <ℤ b
 lt_true a b e = grind (arith, ints)
 
-true_lt : (a b : ℤ) → a <ℤ b → lt_z a b ≡ true
+pub true_lt : (a b : ℤ) → a <ℤ b → lt_z a b ≡ true
 true_lt a b h = grind (arith, ints)
 
 -- a number of one interval is above one of the other exactly if the greatest is above the least
@@ -171,7 +162,7 @@ pub some_above : (x y : Interval) (greatest least hi lo : ℤ) → interval.IsGr
 some_above x y greatest least hi lo (high, most) (low, fewest) same_hi same_lo = image_false le_z (info.Interval x) (info.Interval y) ∙ same_test _ _
     (λ e.
     let (a, b, at_a, at_b, passed) = some_pair_true (info.Interval x) (info.Interval y) (λ a b. not (le_z a b)) e in
-    let apart : b <ℤ a = le_false a b (from_not _ passed) in
+    let apart : b <ℤ a = le_false a b (not-true _ passed) in
     let below : a ≤ℤ greatest = most a at_a in
     let from : least ≤ℤ b = fewest b at_b in
     true_lt lo hi (omega (arith, ints)))
@@ -248,7 +239,7 @@ some_equal x y both r values tells = same_test _ _
     let at_both : allows both a ≡ true = values a ∙ both_true _ _ at_a (subst (λ (n : ℤ). allows y n ≡ true) (sym (eq_true a b equal)) at_b) in
     to_not r (is_false r (λ t. not_both _ at_both (tells.0 t a))))
     (λ e.
-    let (v, at_both, passed) = some_true both (λ v. true) (possible both (λ none. not_both r (tells.1 none) (from_not r e))) in
+    let (v, at_both, passed) = some_true both (λ v. true) (possible both (λ none. not_both r (tells.1 none) (not-true r e))) in
     let parts : (allows x v ≡ true) × (allows y v ≡ true) = true_both _ _ (sym (values v) ∙ at_both) in
     true_some_pair x y int_eq v v parts.0 parts.1 (self_eq v))
 
@@ -299,11 +290,11 @@ some_either : (x y : Info) (p q : ℤ → Bool) → is_possible x ≡ true → i
 some_either x y p q possible_x possible_y = same_test _ _
     (λ e.
     let (a, b, at_a, at_b, passed) = some_pair_true x y (λ a b. p a || q b) e in
-    either_true _ _ (elim (true_either (p a) (q b) passed) [
+    either_true _ _ (elim (or_cases (p a) (q b) passed) [
       | inl passed_a ↦ inl (true_some x p a at_a passed_a)
       | inr passed_b ↦ inr (true_some y q b at_b passed_b)
     ]))
-    (λ e. elim (true_either (some x p) (some y q) e) [
+    (λ e. elim (or_cases (some x p) (some y q) e) [
       | inl found ↦ (
           let (a, at_a, passed) = some_true x p found in
           let (b, at_b, any) = some_true y (λ v. true) possible_y in

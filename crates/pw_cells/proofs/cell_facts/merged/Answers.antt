@@ -2,61 +2,45 @@ use Rattle.std.proofs.Common.{drop, reverse, take, ◌≡◌, ◌∙◌}
 use Rattle.std.proofs.lemmas.List.Elements.{All-take}
 use Rattle.pw_kinds.proofs.Order.{not_both}
 use Rattle.pw_info.specs.Information.{kind_of}
-use Rattle.pw_facts.specs.declared.fact.Fact.{Fact}
 use Rattle.pw_facts.specs.Facts.{MergesTo, nothing_known, visible_facts}
 use Rattle.pw_cells.proofs.Bounds.{merges_older, merged_stands, merged_all}
 use Rattle.pw_cells.proofs.cell_facts.merged.Goals as goal
+use Rattle.pw_cells.proofs.cell_facts.merged.Goals.{After-merge_all_in}
+
+-- the newer facts are merged first
+newer : (c : After-merge_all_in) →
+    MergesTo (nothing_known c.args.kind) (visible_facts c.args.worldview.now (reverse (drop c.args.bound.now.count c.args.facts.now))) c.merge_all_in.new.merge
+newer c = rw (c.nothing.ensures.exact, c.empty.ensures.nothing, c.split_at.ensures.back) at c.merge_all_in.ensures.merges
+
+-- the older ones add nothing to what says more than they do
+older_less : (c : goal.Then-not-implies) →
+    MergesTo c.merge_all_in.new.merge (visible_facts c.args.worldview.now (reverse (take c.args.bound.now.count c.args.facts.now))) c.merge_all_in.new.merge
+older_less c =
+    merges_older c.args.kind c.args.worldview.now c.args.facts.now c.args.bound.now c.merge_all_in.new.merge (c.merge_all_in.ensures.kind ∙ c.nothing.ensures.kind)
+    (All-take (λ f. kind_of f.info ≡ c.args.kind) c.args.bound.now.count c.args.facts.now c.requires.kinds)
+    c.requires.bounds (c.implies.ensures.0 c.if-implies.true) (λ less. not_both _ (c.implies-then-implies.ensures.1 less) c.if-not-implies.true)
+
+-- else they are merged into it
+older : (c : goal.After-merge_all_in-2) →
+    MergesTo c.merge_all_in.new.merge (visible_facts c.args.worldview.now (reverse (take c.args.bound.now.count c.args.facts.now))) c.merge_all_in-2.new.merge
+older c = rw c.split_at.ensures.front at c.merge_all_in-2.ensures.merges
 
 pub returns-then-not-implies-clause-stands : goal.returns-then-not-implies-clause-stands
 returns-then-not-implies-clause-stands c =
-    let k = c.args.kind in
-    let w = c.args.worldview.now in
-    let facts = c.args.facts.now in
-    let bound = c.args.bound.now in
-    let merge : Fact = c.merge_all_in.new.merge in
-    let first : MergesTo (nothing_known k) (visible_facts w (reverse (drop bound.count facts))) merge =
-    rw (c.nothing.ensures.exact, c.empty.ensures.nothing, c.split_at.ensures.back) at c.merge_all_in.ensures.merges in
-    let rest =
-    merges_older k w facts bound merge (c.merge_all_in.ensures.kind ∙ c.nothing.ensures.kind) (All-take (λ f. kind_of f.info ≡ k) bound.count facts c.requires.kinds)
-    c.requires.bounds (c.implies.ensures.0 c.if-implies.true) (λ less. not_both _ (c.implies-then-implies.ensures.1 less) c.if-not-implies.true) in
-    merged_stands k w bound.count facts merge merge c.requires.kinds first rest
+    merged_stands c.args.kind c.args.worldview.now c.args.bound.now.count c.args.facts.now _ _ c.requires.kinds
+    (newer (goal.at.returns-then-not-implies-clause-stands c).After-merge_all_in) (older_less c)
 
 pub returns-then-not-implies-clause-merge : goal.returns-then-not-implies-clause-merge
 returns-then-not-implies-clause-merge c =
-    let k = c.args.kind in
-    let w = c.args.worldview.now in
-    let facts = c.args.facts.now in
-    let bound = c.args.bound.now in
-    let merge : Fact = c.merge_all_in.new.merge in
-    let first : MergesTo (nothing_known k) (visible_facts w (reverse (drop bound.count facts))) merge =
-    rw (c.nothing.ensures.exact, c.empty.ensures.nothing, c.split_at.ensures.back) at c.merge_all_in.ensures.merges in
-    let rest =
-    merges_older k w facts bound merge (c.merge_all_in.ensures.kind ∙ c.nothing.ensures.kind) (All-take (λ f. kind_of f.info ≡ k) bound.count facts c.requires.kinds)
-    c.requires.bounds (c.implies.ensures.0 c.if-implies.true) (λ less. not_both _ (c.implies-then-implies.ensures.1 less) c.if-not-implies.true) in
-    merged_all k w bound.count facts merge merge c.requires.kinds first rest
+    merged_all c.args.kind c.args.worldview.now c.args.bound.now.count c.args.facts.now _ _ c.requires.kinds
+    (newer (goal.at.returns-then-not-implies-clause-merge c).After-merge_all_in) (older_less c)
 
 pub returns-clause-stands : goal.returns-clause-stands
 returns-clause-stands c =
-    let k = c.args.kind in
-    let w = c.args.worldview.now in
-    let facts = c.args.facts.now in
-    let n = c.args.bound.now.count in
-    let middle : Fact = c.merge_all_in.new.merge in
-    let merge : Fact = c.merge_all_in-2.new.merge in
-    let first : MergesTo (nothing_known k) (visible_facts w (reverse (drop n facts))) middle =
-    rw (c.nothing.ensures.exact, c.empty.ensures.nothing, c.split_at.ensures.back) at c.merge_all_in.ensures.merges in
-    let rest : MergesTo middle (visible_facts w (reverse (take n facts))) merge = rw c.split_at.ensures.front at c.merge_all_in-2.ensures.merges in
-    merged_stands k w n facts middle merge c.requires.kinds first rest
+    merged_stands c.args.kind c.args.worldview.now c.args.bound.now.count c.args.facts.now _ _ c.requires.kinds
+    (newer (goal.at.returns-clause-stands c).After-merge_all_in) (older c)
 
 pub returns-clause-merge : goal.returns-clause-merge
 returns-clause-merge c =
-    let k = c.args.kind in
-    let w = c.args.worldview.now in
-    let facts = c.args.facts.now in
-    let n = c.args.bound.now.count in
-    let middle : Fact = c.merge_all_in.new.merge in
-    let merge : Fact = c.merge_all_in-2.new.merge in
-    let first : MergesTo (nothing_known k) (visible_facts w (reverse (drop n facts))) middle =
-    rw (c.nothing.ensures.exact, c.empty.ensures.nothing, c.split_at.ensures.back) at c.merge_all_in.ensures.merges in
-    let rest : MergesTo middle (visible_facts w (reverse (take n facts))) merge = rw c.split_at.ensures.front at c.merge_all_in-2.ensures.merges in
-    merged_all k w n facts middle merge c.requires.kinds first rest
+    merged_all c.args.kind c.args.worldview.now c.args.bound.now.count c.args.facts.now _ _ c.requires.kinds
+    (newer (goal.at.returns-clause-merge c).After-merge_all_in) (older c)

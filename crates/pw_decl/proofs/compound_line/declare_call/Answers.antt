@@ -2,8 +2,7 @@ use Rattle.std.proofs.Common.{◌≡◌, true, length, inl, refl, sym, ap, ◌�
 use Rattle.std.specs.List.{list_all}
 use Rattle.std.proofs.lemmas.Bool.{false≢true}
 use Rattle.pw_procs.specs.Registry.{cells_of}
-use Rattle.pw_decl.specs.Compound.{cell_kinds, size_of_callable, size_of_steps, sizes_of}
-use Rattle.pw_decl.specs.Declaration.{places_of}
+use Rattle.pw_decl.specs.Compound.{cell_kinds}
 use Rattle.pw_decl.specs.Faults.{is_cell_of}
 use Rattle.pw_decl.specs.inside.Fields.{declared}
 use Rattle.pw_decl.specs.inside.Held.{size_of}
@@ -36,8 +35,7 @@ returns-then-not-accepts_at-clause-err g c =
     let d = declared c.args.declaration.now in
     let opened = open_of c.args.opened.now in
     let all : list_all (is_cell_of opened) c.args.arguments ≡ true = sym (rw c.again.ensures at c.if-not-are_cells.ensures) in
-    let same = accepts_same d.procedures d.compounds c.in-Some.callable c.deref.result.now (cell_kinds opened.compound) (cells_of c.in-Some-place_arguments.arguments) (places_of opened c.args.arguments)
-    (c.deref.ensures.value ∙ c.requires.kept.kinds) c.in-Some-place_arguments.ensures.some in
+    let same = accepts_same d.procedures d.compounds c.in-Some.callable _ _ _ _ (c.deref.ensures.value ∙ c.requires.kept.kinds) c.in-Some-place_arguments.ensures.some in
     call_wrong d opened c.args.callable.now c.args.arguments c.in-Some.callable (sym c.in-Some.ensures.named) all
     (λ accepts. false≢true (c.if-not-accepts_at.ensures.1 (same.1 accepts)))
 
@@ -46,10 +44,8 @@ returns-then-outgrows-clause-err g c =
     let d = declared c.args.declaration.now in
     let opened = open_of c.args.opened.now in
     let all : list_all (is_cell_of opened) c.args.arguments ≡ true = sym (rw c.again.ensures at c.if-not-are_cells.ensures) in
-    let same = accepts_same d.procedures d.compounds c.in-Some.callable c.deref.result.now (cell_kinds opened.compound) (cells_of c.in-Some-place_arguments.arguments) (places_of opened c.args.arguments)
-    (c.deref.ensures.value ∙ c.requires.kept.kinds) c.in-Some-place_arguments.ensures.some in
-    let large = large_same (size_of c.args.opened.now.compound.size) (size_of_steps (sizes_of d.compounds) opened.compound.steps) (size_of c.size-size.result) (size_of_callable (sizes_of d.compounds) c.in-Some.callable)
-    c.requires.kept.size c.size-size.ensures.size in
+    let same = accepts_same d.procedures d.compounds c.in-Some.callable _ _ _ _ (c.deref.ensures.value ∙ c.requires.kept.kinds) c.in-Some-place_arguments.ensures.some in
+    let large = large_same _ _ _ _ c.requires.kept.size c.size-size.ensures.size in
     call_limit d opened c.args.callable.now c.args.arguments c.in-Some.callable (sym c.in-Some.ensures.named) all (same.0 (c.if-not-accepts_at.ensures.0 refl))
     (large.0 (c.if-outgrows.ensures.0 refl))
 
@@ -60,8 +56,7 @@ returns-in-Ok-clause-kept g c =
     let places = cells_of c.in-Some-place_arguments.arguments in
     let kinds = c.deref.ensures.value ∙ c.requires.kept.kinds in
     let same = accepts_same d.procedures d.compounds c.in-Some.callable c.deref.result.now (cell_kinds opened.compound) places places kinds refl in
-    let large = large_same (size_of c.args.opened.now.compound.size) (size_of_steps (sizes_of d.compounds) opened.compound.steps) (size_of c.size-size.result) (size_of_callable (sizes_of d.compounds) c.in-Some.callable)
-    c.requires.kept.size c.size-size.ensures.size in
+    let large = large_same _ _ _ _ c.requires.kept.size c.size-size.ensures.size in
     grown_open_call d c.args.opened.now c.add_call.new.opened c.in-Some.callable places (size_of c.size-size.result) c.requires.kept c.size-size.ensures.size c.in-Ok.ensures.ok
     (places_there c.args.opened.now.names c.args.arguments places (cell_kinds opened.compound) c.in-Some-place_arguments.ensures.some c.requires.kept.well.names)
     (same.0 (c.if-not-accepts_at.ensures.0 refl))
@@ -72,10 +67,8 @@ returns-in-Ok-clause-none g c =
     let d = declared c.args.declaration.now in
     let opened = open_of c.args.opened.now in
     let all : list_all (is_cell_of opened) c.args.arguments ≡ true = sym (rw c.again.ensures at c.if-not-are_cells.ensures) in
-    let same = accepts_same d.procedures d.compounds c.in-Some.callable c.deref.result.now (cell_kinds opened.compound) (cells_of c.in-Some-place_arguments.arguments) (places_of opened c.args.arguments)
-    (c.deref.ensures.value ∙ c.requires.kept.kinds) c.in-Some-place_arguments.ensures.some in
-    let large = large_same (size_of c.args.opened.now.compound.size) (size_of_steps (sizes_of d.compounds) opened.compound.steps) (size_of c.size-size.result) (size_of_callable (sizes_of d.compounds) c.in-Some.callable)
-    c.requires.kept.size c.size-size.ensures.size in
+    let same = accepts_same d.procedures d.compounds c.in-Some.callable _ _ _ _ (c.deref.ensures.value ∙ c.requires.kept.kinds) c.in-Some-place_arguments.ensures.some in
+    let large = large_same _ _ _ _ c.requires.kept.size c.size-size.ensures.size in
     faultless_call d opened c.args.callable.now c.args.arguments c.in-Some.callable (sym c.in-Some.ensures.named) all (same.0 (c.if-not-accepts_at.ensures.0 refl))
     (λ much. false≢true (c.if-outgrows.ensures.1 (large.1 much)))
 
@@ -84,10 +77,8 @@ returns-in-Err-clause-err g c =
     let d = declared c.args.declaration.now in
     let opened = open_of c.args.opened.now in
     let all : list_all (is_cell_of opened) c.args.arguments ≡ true = sym (rw c.again.ensures at c.if-not-are_cells.ensures) in
-    let same = accepts_same d.procedures d.compounds c.in-Some.callable c.deref.result.now (cell_kinds opened.compound) (cells_of c.in-Some-place_arguments.arguments) (places_of opened c.args.arguments)
-    (c.deref.ensures.value ∙ c.requires.kept.kinds) c.in-Some-place_arguments.ensures.some in
-    let large = large_same (size_of c.args.opened.now.compound.size) (size_of_steps (sizes_of d.compounds) opened.compound.steps) (size_of c.size-size.result) (size_of_callable (sizes_of d.compounds) c.in-Some.callable)
-    c.requires.kept.size c.size-size.ensures.size in
+    let same = accepts_same d.procedures d.compounds c.in-Some.callable _ _ _ _ (c.deref.ensures.value ∙ c.requires.kept.kinds) c.in-Some-place_arguments.ensures.some in
+    let large = large_same _ _ _ _ c.requires.kept.size c.size-size.ensures.size in
     inl (
       faultless_call d opened c.args.callable.now c.args.arguments c.in-Some.callable (sym c.in-Some.ensures.named) all (same.0 (c.if-not-accepts_at.ensures.0 refl))
           (λ much. false≢true (c.if-outgrows.ensures.1 (large.1 much))),

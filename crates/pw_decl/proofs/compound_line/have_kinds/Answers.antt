@@ -2,7 +2,8 @@ use Rattle.std.proofs.Common.{refl, []}
 use Rattle.std.proofs.lemmas.Bool.{false≢true}
 use Rattle.pw_decl.specs.Declaration.{parameter_kinds}
 use Rattle.pw_decl.specs.inside.Fields.{declared}
-use Rattle.pw_decl.proofs.ParameterLemmas.{have_kinds-cons, have_kinds-not, at_some, at_none}
+use Rattle.pw_decl.proofs.ParameterLemmas.{have_kinds-cons, have_kinds-not, at_some}
+use Rattle.pw_decl.proofs.SetLemmas.{at_none}
 use Rattle.pw_decl.proofs.compound_line.have_kinds.Goals as goal
 
 pub returns-in_default-next : goal.returns-in_default-next

@@ -1,31 +1,36 @@
 use Rattle.std.proofs.Common.{◌≡◌, List, not, sym, ◌∙◌, ap, subst, arith}
 use Rattle.std.specs.Prelude.{◌↔◌, IsTrue}
 use Rattle.std.proofs.lemmas.Bool.{not-false}
-use Rattle.pw_info.specs.Information.{kind_of, meet}
+use Rattle.pw_info.specs.Information.{kind_of}
 use Rattle.pw_facts.specs.declared.fact.Fact.{Fact}
-use Rattle.pw_facts.specs.Facts.{shows}
 use Rattle.pw_cells.specs.Cells.{assimilated, all_assimilated}
 use Rattle.pw_cells.specs.inside.OneCell.{Bounds}
-use Rattle.pw_cells.specs.Cells.{Cell, shown_by, IsSubsumedBy}
-use Rattle.pw_cells.specs.Changes.{Assimilates}
+use Rattle.pw_cells.specs.Cells.{Cell, IsSubsumedBy}
 use Rattle.pw_cells.specs.inside.OneCell.{AreOfKind}
 use Rattle.pw_cells.proofs.Late.{any_subsumes, assimilated_known}
-use Rattle.pw_cells.proofs.Tells.{whole_caught_up, whole_kept, kept_more}
+use Rattle.pw_cells.proofs.Tells.{KeepsMore, keeps_more, whole_caught_up, whole_kept}
+use Rattle.pw_cells.proofs.cell_facts.CellFacts.keep.Given as given
 use Rattle.pw_cells.proofs.cell_facts.CellFacts.keep.Goals as goal
+use Rattle.pw_cells.proofs.cell_facts.CellFacts.keep.Goals.{After-assimilate_late}
 
-pub is_subsumed-known-requires-clause-kinds : goal.is_subsumed-known-requires-clause-kinds
-is_subsumed-known-requires-clause-kinds g c =
+-- once the late facts are assimilated, the fact is of the kind of those kept, and the bound is one
+-- of theirs
+caught_up : (g : given.Over) (c : After-assimilate_late g) → AreOfKind (kind_of c.args.fact.now.info) c.assimilate_late.new.kept.items
+    × Bounds (kind_of c.args.fact.now.info) c.assimilate_late.new.kept.items c.assimilate_late.new.bound
+caught_up g c =
     let self = c.self.inside in
     let is : kind_of c.args.fact.now.info ≡ self.kind = c.requires ∙ sym (ap (λ (cell : Cell). cell.kind) c.self.view_is) in
     let whole = whole_caught_up self.kind self.told.items self.supports self.kept.items self.late.items c.self.invariant.0 in
-    subst (λ (k : _). AreOfKind k c.as_slice.result.now) (sym is)
-    (subst (AreOfKind self.kind) (sym {A = List Fact} (c.as_slice.ensures.value ∙ c.assimilate_late.ensures.kept)) whole.kept_kinds)
+    subst (λ (k : _). AreOfKind k c.assimilate_late.new.kept.items × Bounds k c.assimilate_late.new.kept.items c.assimilate_late.new.bound) (sym is)
+    (subst (AreOfKind self.kind) (sym {A = List Fact} c.assimilate_late.ensures.kept) whole.kept_kinds, c.assimilate_late.ensures.bounds)
+
+pub is_subsumed-known-requires-clause-kinds : goal.is_subsumed-known-requires-clause-kinds
+is_subsumed-known-requires-clause-kinds g c =
+    rw c.as_slice.ensures.value (caught_up g (goal.at.is_subsumed-known-requires-clause-kinds g c).After-assimilate_late).0
 
 pub is_subsumed-known-requires-clause-bounds : goal.is_subsumed-known-requires-clause-bounds
 is_subsumed-known-requires-clause-bounds g c =
-    let is : kind_of c.args.fact.now.info ≡ c.self.inside.kind = c.requires ∙ sym (ap (λ (cell : Cell). cell.kind) c.self.view_is) in
-    subst (λ (k : _). Bounds k c.as_slice.result.now c.assimilate_late.new.bound) (sym is)
-    (subst (λ (l : List Fact). Bounds c.self.inside.kind l c.assimilate_late.new.bound) (sym {A = List Fact} c.as_slice.ensures.value) c.assimilate_late.ensures.bounds)
+    rw c.as_slice.ensures.value (caught_up g (goal.at.is_subsumed-known-requires-clause-bounds g c).After-assimilate_late).1
 
 pub invariant_of-self : goal.invariant_of-self
 invariant_of-self g c =
@@ -38,31 +43,28 @@ invariant_of-self g c =
 
 pub assimilate-requires-clause-kinds : goal.assimilate-requires-clause-kinds
 assimilate-requires-clause-kinds g c =
-    let self = c.self.inside in
-    let is : kind_of c.args.fact.now.info ≡ self.kind = c.requires ∙ sym (ap (λ (cell : Cell). cell.kind) c.self.view_is) in
-    let whole = whole_caught_up self.kind self.told.items self.supports self.kept.items self.late.items c.self.invariant.0 in
-    subst (λ (k : _). AreOfKind k c.reserve_unless.new.facts.items) (sym is)
-    (subst (AreOfKind self.kind) (sym {A = List Fact} (c.reserve_unless.ensures.items ∙ c.assimilate_late.ensures.kept)) whole.kept_kinds)
+    rw c.reserve_unless.ensures.items (caught_up g (goal.at.assimilate-requires-clause-kinds g c).After-assimilate_late).0
 
 pub assimilate-requires-clause-bounds : goal.assimilate-requires-clause-bounds
 assimilate-requires-clause-bounds g c =
-    let is : kind_of c.args.fact.now.info ≡ c.self.inside.kind = c.requires ∙ sym (ap (λ (cell : Cell). cell.kind) c.self.view_is) in
-    subst (λ (k : _). Bounds k c.reserve_unless.new.facts.items c.assimilate_late.new.bound) (sym is)
-    (subst (λ (l : List Fact). Bounds c.self.inside.kind l c.assimilate_late.new.bound) (sym {A = List Fact} c.reserve_unless.ensures.items) c.assimilate_late.ensures.bounds)
+    rw c.reserve_unless.ensures.items (caught_up g (goal.at.assimilate-requires-clause-bounds g c).After-assimilate_late).1
 
 pub assimilate-requires-clause-known : goal.assimilate-requires-clause-known
 assimilate-requires-clause-known g c =
     subst (λ (l : List Fact). IsTrue c.is_subsumed-known.result ↔ IsSubsumedBy l c.args.fact.now) (c.as_slice.ensures.value ∙ sym c.reserve_unless.ensures.items) c.is_subsumed-known.ensures
 
+-- the fact is of the kind of the facts inside
+of_kind : (g : given.Over) (c : goal.After-assimilate g) → kind_of c.args.fact.now.info ≡ c.self.inside.kind
+of_kind g c = c.requires ∙ sym (ap (λ (cell : Cell). cell.kind) c.self.view_is)
+
 pub invariant_of-self-2 : goal.invariant_of-self-2
 invariant_of-self-2 g c =
     let self = c.self.inside in
-    let is : kind_of c.args.fact.now.info ≡ self.kind = c.requires ∙ sym (ap (λ (cell : Cell). cell.kind) c.self.view_is) in
     let whole = whole_caught_up self.kind self.told.items self.supports self.kept.items self.late.items c.self.invariant.0 in (
       rw (c.assimilate.ensures.assimilated, c.reserve_unless.ensures.items, c.assimilate_late.ensures.kept, c.assimilate_late.ensures.late)
-          (whole_kept self.kind c.args.fact.now self.told.items self.supports (all_assimilated self.kept.items self.late.items) is whole),
+          (whole_kept self.kind c.args.fact.now self.told.items self.supports (all_assimilated self.kept.items self.late.items) (of_kind g c) whole),
       omega (arith, c.assimilate_late.ensures.none, c.assimilate.new.kept.ok),
-      subst (λ (k : _). Bounds k c.assimilate.new.kept.items c.assimilate.new.bound) is c.assimilate.ensures.bounds,
+      subst (λ (k : _). Bounds k c.assimilate.new.kept.items c.assimilate.new.bound) (of_kind g c) c.assimilate.ensures.bounds,
     )
 
 pub returns-clause-answer : goal.returns-clause-answer
@@ -72,41 +74,32 @@ returns-clause-answer g c =
       λ known. ap not (c.is_subsumed-known.ensures.1 (subst (λ (l : List Fact). IsSubsumedBy l c.args.fact.now) (sym kept) known)),
     )
 
+-- what is kept afterwards
+kept_is : (g : given.Over) (c : goal.After-assimilate g) → all_assimilated c.assimilate.new.kept.items c.assimilate_late.new.late.items
+    ≡ assimilated (all_assimilated c.self.inside.kept.items c.self.inside.late.items) c.args.fact.now
+kept_is g c =
+    (λ i. all_assimilated (c.assimilate.ensures.assimilated i) (c.assimilate_late.ensures.late i))
+    ∙ ap (λ (l : List Fact). assimilated l c.args.fact.now) (c.reserve_unless.ensures.items ∙ c.assimilate_late.ensures.kept)
+
+kept_then : (g : given.Over) (c : goal.After-assimilate g) →
+    KeepsMore c.args.fact.now c.args.self.now c.self.inside.kind (all_assimilated c.assimilate.new.kept.items c.assimilate_late.new.late.items)
+kept_then g c =
+    let self = c.self.inside in
+    keeps_more c.args.self.now self.kind c.args.fact.now self.told.items self.supports self.kept.items self.late.items _ c.self.view_is (of_kind g c) c.self.invariant.0 (kept_is g c)
+
 pub returns-clause-known : goal.returns-clause-known
 returns-clause-known g c = λ old.
     let self = c.self.inside in
     let f = c.args.fact.now in
     let view = all_assimilated self.kept.items self.late.items in
-    let before : c.reserve_unless.new.facts.items ≡ view = c.reserve_unless.ensures.items ∙ c.assimilate_late.ensures.kept in
-    let after : all_assimilated c.assimilate.new.kept.items c.assimilate_late.new.late.items ≡ assimilated view f =
-    (λ i. all_assimilated (c.assimilate.ensures.assimilated i) (c.assimilate_late.ensures.late i)) ∙ ap (λ l. assimilated l f) before in
-    let is : kind_of f.info ≡ self.kind = c.requires ∙ sym (ap (λ (cell : Cell). cell.kind) c.self.view_is) in
     let whole = whole_caught_up self.kind self.told.items self.supports self.kept.items self.late.items c.self.invariant.0 in
     let held : IsSubsumedBy view f = subst (λ (l : List Fact). IsSubsumedBy l f) (c.as_slice.ensures.value ∙ c.assimilate_late.ensures.kept) (c.is_subsumed-known.ensures.0 (not-false c.is_subsumed-known.result old)) in
-    ap (λ (l : List Fact). record { kind = self.kind; told = self.told.items; kept = l }) (after ∙ assimilated_known f view (any_subsumes self.kind f view is whole.kept_kinds held))
+    ap (λ (l : List Fact). record { kind = self.kind; told = self.told.items; kept = l })
+    (kept_is g c ∙ assimilated_known f view (any_subsumes self.kind f view (of_kind g c) whole.kept_kinds held))
     ∙ c.self.view_is
 
 pub returns-clause-kept : goal.returns-clause-kept
-returns-clause-kept g c =
-    let self = c.self.inside in
-    let f = c.args.fact.now in
-    let view = all_assimilated self.kept.items self.late.items in
-    let before : c.reserve_unless.new.facts.items ≡ view = c.reserve_unless.ensures.items ∙ c.assimilate_late.ensures.kept in
-    let after : all_assimilated c.assimilate.new.kept.items c.assimilate_late.new.late.items ≡ assimilated view f =
-    (λ i. all_assimilated (c.assimilate.ensures.assimilated i) (c.assimilate_late.ensures.late i)) ∙ ap (λ l. assimilated l f) before in
-    let is : kind_of f.info ≡ self.kind = c.requires ∙ sym (ap (λ (cell : Cell). cell.kind) c.self.view_is) in
-    let more = kept_more self.kind f self.told.items self.supports self.kept.items self.late.items is c.self.invariant.0 in
-    λ w. ap (shown_by self.kind w) after ∙ more.shown w ∙ ap (λ (cell : Cell). meet (shown_by cell.kind w cell.kept) (shows w f)) c.self.view_is
+returns-clause-kept g c = (kept_then g c).gains
 
 pub returns-clause-assimilates : goal.returns-clause-assimilates
-returns-clause-assimilates g c =
-    let self = c.self.inside in
-    let f = c.args.fact.now in
-    let view = all_assimilated self.kept.items self.late.items in
-    let before : c.reserve_unless.new.facts.items ≡ view = c.reserve_unless.ensures.items ∙ c.assimilate_late.ensures.kept in
-    let after : all_assimilated c.assimilate.new.kept.items c.assimilate_late.new.late.items ≡ assimilated view f =
-    (λ i. all_assimilated (c.assimilate.ensures.assimilated i) (c.assimilate_late.ensures.late i)) ∙ ap (λ l. assimilated l f) before in
-    let is : kind_of f.info ≡ self.kind = c.requires ∙ sym (ap (λ (cell : Cell). cell.kind) c.self.view_is) in
-    let more = kept_more self.kind f self.told.items self.supports self.kept.items self.late.items is c.self.invariant.0 in
-    subst (λ (l : List Fact). Assimilates f l (all_assimilated c.assimilate.new.kept.items c.assimilate_late.new.late.items)) (ap (λ (cell : Cell). cell.kept) c.self.view_is)
-    (subst (Assimilates f view) (sym {A = List Fact} after) more.assimilates)
+returns-clause-assimilates g c = (kept_then g c).assimilates

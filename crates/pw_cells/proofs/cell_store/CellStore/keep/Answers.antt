@@ -1,11 +1,10 @@
-use Rattle.std.proofs.Common.{◌≡◌, ◌<◌, false, length, set, length-set, sym, subst, arith}
+use Rattle.std.proofs.Common.{◌≡◌, false, length-set, subst, arith}
 use Rattle.std.specs.Prelude.{◌↔◌, IfOk, OnOk}
 use Rattle.pw_info.specs.declared.kind.Kind.TheVariants as kinds
-use Rattle.pw_cells.specs.Cells.{Cell, Store, new_cell, shown_by, told_of, kept_of, IsSubsumedBy}
+use Rattle.pw_cells.specs.Cells.{Cell, new_cell, shown_by, told_of, kept_of, IsSubsumedBy}
 use Rattle.pw_cells.specs.Changes.{GainsFact, Assimilates}
-use Rattle.pw_cells.specs.inside.OneCell.{AreRight}
-use Rattle.pw_cells.proofs.RightAnswers.{cell_told_the_same, slots_still}
-use Rattle.pw_cells.proofs.Stores.{cell_read, cell_changed, same_kinds, same_store, OnErr_then, IfOk_then}
+use Rattle.pw_cells.proofs.RightAnswers.{slots_told_the_same}
+use Rattle.pw_cells.proofs.Stores.{there, cell_read, cell_changed, same_kinds, same_store, OnErr_then, IfOk_then}
 use Rattle.pw_cells.proofs.cell_store.CellStore.keep.Goals as goal
 
 pub returns-clause-kept : goal.returns-clause-kept
@@ -43,9 +42,8 @@ returns-clause-told g c = λ w.
 
 pub invariant_of-self : goal.invariant_of-self
 invariant_of-self g c =
-    let within : c.args.cell < length c.self.inside.cells.items = subst (λ (s : Store). c.args.cell < length s.cells) (sym {A = Store} c.self.view_is) c.requires.there in (
+    let within = there _ c.args.self.now c.args.cell c.self.view_is c.requires.there in (
       omega (arith, c.self.invariant.0, length-set c.self.inside.cells.items c.args.cell c.keep.new.self),
-      slots_still (AreRight c.self.inside.cells.items) (AreRight (set c.self.inside.cells.items c.args.cell c.keep.new.self)) c.self.inside.recalled.slots
-          (λ answers. cell_told_the_same c.self.inside.cells.items c.args.cell c.index_mut.result.now c.keep.new.self answers c.index_mut.ensures.value within
-          (λ w i. shown_by (c.keep.ensures.kind i) w (c.keep.ensures.told i))) c.self.invariant.1,
+      slots_told_the_same c.self.inside.cells.items c.args.cell c.index_mut.result.now c.keep.new.self c.self.inside.recalled.slots c.index_mut.ensures.value within
+          (λ w i. shown_by (c.keep.ensures.kind i) w (c.keep.ensures.told i)) c.self.invariant.1,
     )

@@ -1,69 +1,48 @@
-use Rattle.std.proofs.Common.{◌≡◌, ◌<◌, length, set, length-set, sym, subst, ap, arith}
+use Rattle.std.proofs.Common.{◌≡◌, length-set, subst, ap, arith}
 use Rattle.pw_info.specs.Information.{kind_of, Implies}
 use Rattle.pw_facts.specs.Facts.{IsMergeOfAll, visible_facts}
 use Rattle.pw_facts.specs.Facts.{IsLeastAbove, IsMostBelow}
-use Rattle.pw_cells.specs.Cells.{Cell, Store, told_of, kept_of, ArePremisesOf}
-use Rattle.pw_cells.specs.inside.OneCell.{AreRight}
-use Rattle.pw_cells.proofs.RightAnswers.{cell_told_the_same, slots_still}
-use Rattle.pw_cells.proofs.Stores.{cell_read, same_store}
+use Rattle.pw_cells.specs.Cells.{Cell, cell_at, told_of, kept_of, ArePremisesOf}
+use Rattle.pw_cells.proofs.RightAnswers.{slots_told_the_same}
+use Rattle.pw_cells.proofs.Stores.{there, cell_read, same_store}
+use Rattle.pw_cells.proofs.cell_store.CellStore.kept.Given as given
 use Rattle.pw_cells.proofs.cell_store.CellStore.kept.Goals as goal
 
 pub invariant_of-self : goal.invariant_of-self
 invariant_of-self g c =
-    let within : c.args.cell < length c.self.inside.cells.items = subst (λ (s : Store). c.args.cell < length s.cells) (sym {A = Store} c.self.view_is) c.requires in (
+    let within = there _ c.args.self.now c.args.cell c.self.view_is c.requires in (
       omega (arith, c.self.invariant.0, length-set c.self.inside.cells.items c.args.cell c.kept.new.self),
-      slots_still (AreRight c.self.inside.cells.items) (AreRight (set c.self.inside.cells.items c.args.cell c.kept.new.self)) c.self.inside.recalled.slots
-          (λ answers. cell_told_the_same c.self.inside.cells.items c.args.cell c.index_mut.result.now c.kept.new.self answers c.index_mut.ensures.value within
-          (λ w. ap (λ (cell : Cell). told_of cell w) c.kept.ensures.same)) c.self.invariant.1,
+      slots_told_the_same c.self.inside.cells.items c.args.cell c.index_mut.result.now c.kept.new.self c.self.inside.recalled.slots c.index_mut.ensures.value within
+          (λ w. ap (λ (cell : Cell). told_of cell w) c.kept.ensures.same) c.self.invariant.1,
     )
 
 pub returns-clause-unchanged : goal.returns-clause-unchanged
 returns-clause-unchanged g c = same_store _ c.args.self.now c.args.cell c.index_mut.result.now c.kept.new.self c.index_mut.ensures.value c.self.view_is c.kept.ensures.same
 
+-- the cell that is read
+read : (g : given.Over) (c : goal.After-self-1 g) → c.index_mut.result.now ≡ cell_at c.args.self.now c.args.cell
+read g c = cell_read _ c.args.self.now c.args.cell c.index_mut.result.now c.index_mut.ensures.value c.self.view_is c.requires
+
 pub returns-clause-info : goal.returns-clause-info
-returns-clause-info g c =
-    subst (λ (cell : Cell). c.kept.result.info ≡ kept_of cell c.args.worldview.now)
-    (cell_read _ c.args.self.now c.args.cell c.index_mut.result.now c.index_mut.ensures.value c.self.view_is c.requires)
-    c.kept.ensures.stands.info
+returns-clause-info g c = subst (λ (cell : Cell). c.kept.result.info ≡ kept_of cell c.args.worldview.now) (read g c) c.kept.ensures.stands.info
 
 pub returns-clause-kind : goal.returns-clause-kind
-returns-clause-kind g c =
-    subst (λ (cell : Cell). kind_of c.kept.result.info ≡ cell.kind)
-    (cell_read _ c.args.self.now c.args.cell c.index_mut.result.now c.index_mut.ensures.value c.self.view_is c.requires)
-    c.kept.ensures.kind
+returns-clause-kind g c = subst (λ (cell : Cell). kind_of c.kept.result.info ≡ cell.kind) (read g c) c.kept.ensures.kind
 
 pub returns-clause-same : goal.returns-clause-same
-returns-clause-same g c =
-    subst (λ (cell : Cell). kept_of cell c.kept.result.support ≡ c.kept.result.info)
-    (cell_read _ c.args.self.now c.args.cell c.index_mut.result.now c.index_mut.ensures.value c.self.view_is c.requires)
-    c.kept.ensures.stands.same
+returns-clause-same g c = subst (λ (cell : Cell). kept_of cell c.kept.result.support ≡ c.kept.result.info) (read g c) c.kept.ensures.stands.same
 
 pub returns-clause-told : goal.returns-clause-told
-returns-clause-told g c =
-    subst (λ (cell : Cell). Implies c.kept.result.info (told_of cell c.args.worldview.now))
-    (cell_read _ c.args.self.now c.args.cell c.index_mut.result.now c.index_mut.ensures.value c.self.view_is c.requires)
-    c.kept.ensures.told
+returns-clause-told g c = subst (λ (cell : Cell). Implies c.kept.result.info (told_of cell c.args.worldview.now)) (read g c) c.kept.ensures.told
 
 pub returns-clause-larger : goal.returns-clause-larger
-returns-clause-larger g c =
-    subst (λ (cell : Cell). IsLeastAbove c.kept.result.support (kept_of cell) c.kept.result.info)
-    (cell_read _ c.args.self.now c.args.cell c.index_mut.result.now c.index_mut.ensures.value c.self.view_is c.requires)
-    c.kept.ensures.larger
+returns-clause-larger g c = subst (λ (cell : Cell). IsLeastAbove c.kept.result.support (kept_of cell) c.kept.result.info) (read g c) c.kept.ensures.larger
 
 pub returns-clause-smaller : goal.returns-clause-smaller
-returns-clause-smaller g c =
-    subst (λ (cell : Cell). IsMostBelow c.args.worldview.now (kept_of cell) c.kept.result.info)
-    (cell_read _ c.args.self.now c.args.cell c.index_mut.result.now c.index_mut.ensures.value c.self.view_is c.requires)
-    c.kept.ensures.smaller
+returns-clause-smaller g c = subst (λ (cell : Cell). IsMostBelow c.args.worldview.now (kept_of cell) c.kept.result.info) (read g c) c.kept.ensures.smaller
 
 pub returns-clause-rests : goal.returns-clause-rests
-returns-clause-rests g c =
-    subst (λ (cell : Cell). ArePremisesOf cell.kept c.kept.result.support)
-    (cell_read _ c.args.self.now c.args.cell c.index_mut.result.now c.index_mut.ensures.value c.self.view_is c.requires)
-    c.kept.ensures.stands.rests
+returns-clause-rests g c = subst (λ (cell : Cell). ArePremisesOf cell.kept c.kept.result.support) (read g c) c.kept.ensures.stands.rests
 
 pub returns-clause-merge : goal.returns-clause-merge
-returns-clause-merge g c =
-    subst (λ (cell : Cell). IsMergeOfAll (visible_facts c.args.worldview.now cell.kept) c.kept.result)
-    (cell_read _ c.args.self.now c.args.cell c.index_mut.result.now c.index_mut.ensures.value c.self.view_is c.requires)
-    c.kept.ensures.merge
+returns-clause-merge g c = subst (λ (cell : Cell). IsMergeOfAll (visible_facts c.args.worldview.now cell.kept) c.kept.result) (read g c) c.kept.ensures.merge

@@ -1,9 +1,10 @@
-use Rattle.std.proofs.Common.{◌<◌, length, sym, ◌∙◌, ap, subst}
+use Rattle.std.proofs.Common.{◌∙◌, ap}
 use Rattle.std.proofs.lemmas.List.{get_or_default}
 use Rattle.pw_info.specs.declared.kind.Kind.TheVariants as kinds
 use Rattle.pw_info.specs.Information.{kind_of}
 use Rattle.pw_cells.specs.Cells.{Cell, Store, new_cell, told_of, told_in}
 use Rattle.pw_cells.proofs.RightAnswers.{kind_told}
+use Rattle.pw_cells.proofs.Stores.{there}
 use Rattle.pw_cells.proofs.cell_store.CellStore.recall_much.Goals as goal
 
 pub returns-in-Some-clause-kind : goal.returns-in-Some-clause-kind
@@ -13,7 +14,7 @@ returns-in-Some-clause-kind g c =
 
 pub invariant_of-self : goal.invariant_of-self
 invariant_of-self g c =
-    let within : c.args.cell < length c.self.inside.cells.items = subst (λ (s : Store). c.args.cell < length s.cells) (sym {A = Store} c.self.view_is) c.requires in (
+    let within = there _ c.args.self.now c.args.cell c.self.view_is c.requires in (
       c.self.invariant.0,
       c.remember.ensures c.self.inside.cells.items c.self.invariant.1 (
         within,

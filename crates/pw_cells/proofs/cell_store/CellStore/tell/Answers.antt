@@ -1,13 +1,13 @@
-use Rattle.std.proofs.Common.{◌≡◌, ◌<◌, List, length, get_or, set, map, length-set, sym, ◌∙◌, ap, subst, arith}
+use Rattle.std.proofs.Common.{◌≡◌, List, get_or, set, map, length-set, sym, ◌∙◌, ap, subst, arith}
 use Rattle.std.specs.Prelude.{All, Option, IfSome}
 use Rattle.pw_info.specs.Information.{kind_of}
 use Rattle.pw_cells.specs.declared.recalled.Recalled.{Recalled}
 use Rattle.pw_cells.specs.inside.OneCell.{AreRight, after_tell}
-use Rattle.pw_cells.proofs.RightAnswers.{kind_of_answer, answers_after, cell_told_the_same, slots_still, slots_then}
+use Rattle.pw_cells.proofs.RightAnswers.{kind_of_answer, answers_after, slots_still, slots_then, slots_told_the_same}
 use Rattle.pw_info.specs.declared.kind.Kind.TheVariants as kinds
-use Rattle.pw_cells.specs.Cells.{Cell, Store, new_cell, told_of, kept_of}
+use Rattle.pw_cells.specs.Cells.{Cell, new_cell, told_of, kept_of}
 use Rattle.pw_cells.specs.Changes.{GainsFact, Assimilates}
-use Rattle.pw_cells.proofs.Stores.{cell_changed, cell_read, same_kinds, same_store, OnErr_always}
+use Rattle.pw_cells.proofs.Stores.{there, cell_changed, cell_read, same_kinds, same_store, OnErr_always}
 use Rattle.pw_cells.proofs.cell_store.CellStore.tell.Goals as goal
 
 pub returns-clause-told : goal.returns-clause-told
@@ -30,11 +30,10 @@ returns-clause-kinds g c = same_kinds _ c.args.self.now c.args.cell c.index_mut.
 
 pub invariant_of-self : goal.invariant_of-self
 invariant_of-self g c =
-    let within : c.args.cell < length c.self.inside.cells.items = subst (λ (s : Store). c.args.cell < length s.cells) (sym {A = Store} c.self.view_is) c.requires.there in (
+    let within = there _ c.args.self.now c.args.cell c.self.view_is c.requires.there in (
       omega (arith, c.self.invariant.0, length-set c.self.inside.cells.items c.args.cell c.tell.new.self),
-      slots_still (AreRight c.self.inside.cells.items) (AreRight (set c.self.inside.cells.items c.args.cell c.tell.new.self)) c.self.inside.recalled.slots
-          (λ answers. cell_told_the_same c.self.inside.cells.items c.args.cell c.index_mut.result.now c.tell.new.self answers c.index_mut.ensures.value within
-          (λ w. ap (λ (cell : Cell). told_of cell w) c.in_err-tell.ensures.err)) c.self.invariant.1,
+      slots_told_the_same c.self.inside.cells.items c.args.cell c.index_mut.result.now c.tell.new.self c.self.inside.recalled.slots c.index_mut.ensures.value within
+          (λ w. ap (λ (cell : Cell). told_of cell w) c.in_err-tell.ensures.err) c.self.invariant.1,
     )
 
 pub returns-in_err-tell-clause-err : goal.returns-in_err-tell-clause-err
@@ -44,7 +43,7 @@ returns-in_err-tell-clause-err g c =
 
 pub take_in-requires : goal.take_in-requires
 take_in-requires g c =
-    let within : c.args.cell < length c.self.inside.cells.items = subst (λ (s : Store). c.args.cell < length s.cells) (sym {A = Store} c.self.view_is) c.requires.there in
+    let within = there _ c.args.self.now c.args.cell c.self.view_is c.requires.there in
     let kind : c.index_mut.result.now.kind ≡ kind_of c.args.fact.info =
     ap (λ (cell : Cell). cell.kind) (cell_read _ c.args.self.now c.args.cell c.index_mut.result.now c.index_mut.ensures.value c.self.view_is c.requires.there) ∙ sym c.requires.kind in
     slots_still (AreRight c.self.inside.cells.items) (All (λ a. a.cell ≡ c.args.cell → kind_of a.info ≡ kind_of c.args.fact.info)) c.self.inside.recalled.slots
@@ -53,7 +52,7 @@ take_in-requires g c =
 
 pub invariant_of-self-2 : goal.invariant_of-self-2
 invariant_of-self-2 g c =
-    let within : c.args.cell < length c.self.inside.cells.items = subst (λ (s : Store). c.args.cell < length s.cells) (sym {A = Store} c.self.view_is) c.requires.there in
+    let within = there _ c.args.self.now c.args.cell c.self.view_is c.requires.there in
     let kind : kind_of c.args.fact.info ≡ c.index_mut.result.now.kind =
     c.requires.kind ∙ sym (ap (λ (cell : Cell). cell.kind) (cell_read _ c.args.self.now c.args.cell c.index_mut.result.now c.index_mut.ensures.value c.self.view_is c.requires.there)) in (
       omega (arith, c.self.invariant.0, length-set c.self.inside.cells.items c.args.cell c.tell.new.self),
