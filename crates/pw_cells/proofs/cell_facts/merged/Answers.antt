@@ -27,20 +27,16 @@ older c = rw c.split_at.ensures.front at c.merge_all_in-2.ensures.merges
 
 pub returns-then-not-implies-clause-stands : goal.returns-then-not-implies-clause-stands
 returns-then-not-implies-clause-stands c =
-    merged_stands c.args.kind c.args.worldview.now c.args.bound.now.count c.args.facts.now _ _ c.requires.kinds
-    (newer (goal.at.returns-then-not-implies-clause-stands c).After-merge_all_in) (older_less c)
+    merged_stands _ _ _ _ _ _ c.requires.kinds (newer (goal.at.returns-then-not-implies-clause-stands c).After-merge_all_in) (older_less c)
 
 pub returns-then-not-implies-clause-merge : goal.returns-then-not-implies-clause-merge
 returns-then-not-implies-clause-merge c =
-    merged_all c.args.kind c.args.worldview.now c.args.bound.now.count c.args.facts.now _ _ c.requires.kinds
-    (newer (goal.at.returns-then-not-implies-clause-merge c).After-merge_all_in) (older_less c)
+    merged_all _ _ _ _ _ _ c.requires.kinds (newer (goal.at.returns-then-not-implies-clause-merge c).After-merge_all_in) (older_less c)
 
 pub returns-clause-stands : goal.returns-clause-stands
 returns-clause-stands c =
-    merged_stands c.args.kind c.args.worldview.now c.args.bound.now.count c.args.facts.now _ _ c.requires.kinds
-    (newer (goal.at.returns-clause-stands c).After-merge_all_in) (older c)
+    merged_stands _ _ _ _ _ _ c.requires.kinds (newer (goal.at.returns-clause-stands c).After-merge_all_in) (older c)
 
 pub returns-clause-merge : goal.returns-clause-merge
 returns-clause-merge c =
-    merged_all c.args.kind c.args.worldview.now c.args.bound.now.count c.args.facts.now _ _ c.requires.kinds
-    (newer (goal.at.returns-clause-merge c).After-merge_all_in) (older c)
+    merged_all _ _ _ _ _ _ c.requires.kinds (newer (goal.at.returns-clause-merge c).After-merge_all_in) (older c)

@@ -18,11 +18,9 @@ use Rattle.pw_cells.proofs.cell_facts.CellFacts.keep.Goals.{After-assimilate_lat
 caught_up : (g : given.Over) (c : After-assimilate_late g) → AreOfKind (kind_of c.args.fact.now.info) c.assimilate_late.new.kept.items
     × Bounds (kind_of c.args.fact.now.info) c.assimilate_late.new.kept.items c.assimilate_late.new.bound
 caught_up g c =
-    let self = c.self.inside in
-    let is : kind_of c.args.fact.now.info ≡ self.kind = c.requires ∙ sym (ap (λ (cell : Cell). cell.kind) c.self.view_is) in
-    let whole = whole_caught_up self.kind self.told.items self.supports self.kept.items self.late.items c.self.invariant.0 in
+    let is : kind_of c.args.fact.now.info ≡ c.self.inside.kind = c.requires ∙ sym (ap (λ (cell : Cell). cell.kind) c.self.view_is) in
     subst (λ (k : _). AreOfKind k c.assimilate_late.new.kept.items × Bounds k c.assimilate_late.new.kept.items c.assimilate_late.new.bound) (sym is)
-    (subst (AreOfKind self.kind) (sym {A = List Fact} c.assimilate_late.ensures.kept) whole.kept_kinds, c.assimilate_late.ensures.bounds)
+    (subst (AreOfKind c.self.inside.kind) (sym {A = List Fact} c.assimilate_late.ensures.kept) (whole_caught_up _ _ _ _ _ c.self.invariant.0).kept_kinds, c.assimilate_late.ensures.bounds)
 
 pub is_subsumed-known-requires-clause-kinds : goal.is_subsumed-known-requires-clause-kinds
 is_subsumed-known-requires-clause-kinds g c =
@@ -33,13 +31,11 @@ is_subsumed-known-requires-clause-bounds g c =
     rw c.as_slice.ensures.value (caught_up g (goal.at.is_subsumed-known-requires-clause-bounds g c).After-assimilate_late).1
 
 pub invariant_of-self : goal.invariant_of-self
-invariant_of-self g c =
-    let self = c.self.inside in (
-      rw (c.reserve_unless.ensures.items, c.assimilate_late.ensures.kept, c.assimilate_late.ensures.late)
-          (whole_caught_up self.kind self.told.items self.supports self.kept.items self.late.items c.self.invariant.0),
-      omega (arith, c.assimilate_late.ensures.none, c.reserve_unless.new.facts.ok),
-      subst (λ (l : List Fact). Bounds self.kind l c.assimilate_late.new.bound) (sym {A = List Fact} c.reserve_unless.ensures.items) c.assimilate_late.ensures.bounds,
-    )
+invariant_of-self g c = (
+  rw (c.reserve_unless.ensures.items, c.assimilate_late.ensures.kept, c.assimilate_late.ensures.late) (whole_caught_up _ _ _ _ _ c.self.invariant.0),
+  omega (arith, c.assimilate_late.ensures.none, c.reserve_unless.new.facts.ok),
+  subst (λ (l : List Fact). Bounds c.self.inside.kind l c.assimilate_late.new.bound) (sym {A = List Fact} c.reserve_unless.ensures.items) c.assimilate_late.ensures.bounds,
+)
 
 pub assimilate-requires-clause-kinds : goal.assimilate-requires-clause-kinds
 assimilate-requires-clause-kinds g c =
@@ -58,14 +54,11 @@ of_kind : (g : given.Over) (c : goal.After-assimilate g) → kind_of c.args.fact
 of_kind g c = c.requires ∙ sym (ap (λ (cell : Cell). cell.kind) c.self.view_is)
 
 pub invariant_of-self-2 : goal.invariant_of-self-2
-invariant_of-self-2 g c =
-    let self = c.self.inside in
-    let whole = whole_caught_up self.kind self.told.items self.supports self.kept.items self.late.items c.self.invariant.0 in (
-      rw (c.assimilate.ensures.assimilated, c.reserve_unless.ensures.items, c.assimilate_late.ensures.kept, c.assimilate_late.ensures.late)
-          (whole_kept self.kind c.args.fact.now self.told.items self.supports (all_assimilated self.kept.items self.late.items) (of_kind g c) whole),
-      omega (arith, c.assimilate_late.ensures.none, c.assimilate.new.kept.ok),
-      subst (λ (k : _). Bounds k c.assimilate.new.kept.items c.assimilate.new.bound) (of_kind g c) c.assimilate.ensures.bounds,
-    )
+invariant_of-self-2 g c = (
+  rw (c.assimilate.ensures.assimilated, c.reserve_unless.ensures.items, c.assimilate_late.ensures.kept, c.assimilate_late.ensures.late) (whole_kept _ _ _ _ _ (of_kind g c) (whole_caught_up _ _ _ _ _ c.self.invariant.0)),
+  omega (arith, c.assimilate_late.ensures.none, c.assimilate.new.kept.ok),
+  subst (λ (k : _). Bounds k c.assimilate.new.kept.items c.assimilate.new.bound) (of_kind g c) c.assimilate.ensures.bounds,
+)
 
 pub returns-clause-answer : goal.returns-clause-answer
 returns-clause-answer g c =
@@ -83,16 +76,14 @@ kept_is g c =
 
 kept_then : (g : given.Over) (c : goal.After-assimilate g) →
     KeepsMore c.args.fact.now c.args.self.now c.self.inside.kind (all_assimilated c.assimilate.new.kept.items c.assimilate_late.new.late.items)
-kept_then g c =
-    let self = c.self.inside in
-    keeps_more c.args.self.now self.kind c.args.fact.now self.told.items self.supports self.kept.items self.late.items _ c.self.view_is (of_kind g c) c.self.invariant.0 (kept_is g c)
+kept_then g c = keeps_more _ _ _ _ _ _ _ _ c.self.view_is (of_kind g c) c.self.invariant.0 (kept_is g c)
 
 pub returns-clause-known : goal.returns-clause-known
 returns-clause-known g c = λ old.
     let self = c.self.inside in
     let f = c.args.fact.now in
     let view = all_assimilated self.kept.items self.late.items in
-    let whole = whole_caught_up self.kind self.told.items self.supports self.kept.items self.late.items c.self.invariant.0 in
+    let whole = whole_caught_up _ _ _ _ _ c.self.invariant.0 in
     let held : IsSubsumedBy view f = subst (λ (l : List Fact). IsSubsumedBy l f) (c.as_slice.ensures.value ∙ c.assimilate_late.ensures.kept) (c.is_subsumed-known.ensures.0 (not-false c.is_subsumed-known.result old)) in
     ap (λ (l : List Fact). record { kind = self.kind; told = self.told.items; kept = l })
     (kept_is g c ∙ assimilated_known f view (any_subsumes self.kind f view (of_kind g c) whole.kept_kinds held))

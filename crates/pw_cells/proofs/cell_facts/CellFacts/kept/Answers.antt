@@ -23,19 +23,15 @@ returns-clause-smaller g c = λ w sub. rw (c.merged.ensures.stands.info, c.as_sl
 
 pub merged-requires-clause-kinds : goal.merged-requires-clause-kinds
 merged-requires-clause-kinds g c =
-    let self = c.self.inside in
-    let whole = whole_caught_up self.kind self.told.items self.supports self.kept.items self.late.items c.self.invariant.0 in
-    subst (AreOfKind self.kind) (sym {A = List Fact} (c.as_slice.ensures.value ∙ c.assimilate_late.ensures.kept)) whole.kept_kinds
+    subst (AreOfKind c.self.inside.kind) (sym {A = List Fact} (c.as_slice.ensures.value ∙ c.assimilate_late.ensures.kept)) (whole_caught_up _ _ _ _ _ c.self.invariant.0).kept_kinds
 
 pub merged-requires-clause-bounds : goal.merged-requires-clause-bounds
 merged-requires-clause-bounds g c =
     subst (λ (l : List Fact). Bounds c.self.inside.kind l c.assimilate_late.new.bound) (sym {A = List Fact} c.as_slice.ensures.value) c.assimilate_late.ensures.bounds
 
 pub invariant_of-self : goal.invariant_of-self
-invariant_of-self g c =
-    let self = c.self.inside in (
-      rw (c.assimilate_late.ensures.kept, c.assimilate_late.ensures.late)
-          (whole_caught_up self.kind self.told.items self.supports self.kept.items self.late.items c.self.invariant.0),
-      omega (arith, c.assimilate_late.ensures.none, c.assimilate_late.new.kept.ok),
-      c.assimilate_late.ensures.bounds,
-    )
+invariant_of-self g c = (
+  rw (c.assimilate_late.ensures.kept, c.assimilate_late.ensures.late) (whole_caught_up _ _ _ _ _ c.self.invariant.0),
+  omega (arith, c.assimilate_late.ensures.none, c.assimilate_late.new.kept.ok),
+  c.assimilate_late.ensures.bounds,
+)

@@ -36,8 +36,7 @@ invariant_of-self-2 g c =
     ∙ ap (with_support c.place_of-place.result f.support) (c.self.invariant.0.known ∙ ap (map (λ (x : Fact). x.support)) (sym c.reserve_unless.ensures.items))
     ∙ sym c.add_told.ensures.supports in
     let shown : ShowsMore f self.told.items told' = subst (λ (l : List Fact). ShowsMore f l told') c.reserve_unless.ensures.items c.add_told.ensures.shown in
-    let whole = whole_told self.kind f self.told.items self.supports self.kept.items self.late.items told' c.add_unless.new.self known (of_kind g c) c.self.invariant.0 (by_late g c)
-    c.add_told.ensures.kinds supports shown in (
+    let whole = whole_told _ _ _ _ _ _ _ _ _ (of_kind g c) c.self.invariant.0 (by_late g c) c.add_told.ensures.kinds supports shown in (
       rw (c.reserve_late.ensures.kept, c.add_late.ensures.items, c.reserve_late.ensures.late) whole,
       elim (cases_Bool known) [
         | inl e ↦ let same = c.add_late.ensures.known e in omega (arith, same, c.reserve_late.ensures.room)
@@ -50,11 +49,9 @@ invariant_of-self-2 g c =
 kept_then : (g : given.Over) (c : goal.After-add_late g) →
     KeepsMore c.args.fact.now c.args.self.now c.self.inside.kind (all_assimilated c.reserve_late.new.kept.items c.add_late.new.late.items)
 kept_then g c =
-    let self = c.self.inside in
-    let f = c.args.fact.now in
-    keeps_more c.args.self.now self.kind f self.told.items self.supports self.kept.items self.late.items _ c.self.view_is (of_kind g c) c.self.invariant.0
+    keeps_more _ _ _ _ _ _ _ _ c.self.view_is (of_kind g c) c.self.invariant.0
     (rw (c.reserve_late.ensures.kept, c.add_late.ensures.items, c.reserve_late.ensures.late)
-    (late_more self.kind f self.told.items self.supports self.kept.items self.late.items c.is_lately_subsumed-known.result (of_kind g c) c.self.invariant.0 (by_late g c)))
+    (late_more _ _ _ _ _ _ _ (of_kind g c) c.self.invariant.0 (by_late g c)))
 
 pub returns-clause-kept : goal.returns-clause-kept
 returns-clause-kept g c = (kept_then g c).gains

@@ -10,18 +10,18 @@ use Rattle.pw_cells.proofs.cell_store.CellStore.kept.Goals as goal
 
 pub invariant_of-self : goal.invariant_of-self
 invariant_of-self g c =
-    let within = there _ c.args.self.now c.args.cell c.self.view_is c.requires in (
+    let within = there _ _ _ c.self.view_is c.requires in (
       omega (arith, c.self.invariant.0, length-set c.self.inside.cells.items c.args.cell c.kept.new.self),
-      slots_told_the_same c.self.inside.cells.items c.args.cell c.index_mut.result.now c.kept.new.self c.self.inside.recalled.slots c.index_mut.ensures.value within
+      slots_told_the_same _ _ _ _ _ c.index_mut.ensures.value within
           (λ w. ap (λ (cell : Cell). told_of cell w) c.kept.ensures.same) c.self.invariant.1,
     )
 
 pub returns-clause-unchanged : goal.returns-clause-unchanged
-returns-clause-unchanged g c = same_store _ c.args.self.now c.args.cell c.index_mut.result.now c.kept.new.self c.index_mut.ensures.value c.self.view_is c.kept.ensures.same
+returns-clause-unchanged g c = same_store _ _ _ _ _ c.index_mut.ensures.value c.self.view_is c.kept.ensures.same
 
 -- the cell that is read
 read : (g : given.Over) (c : goal.After-self-1 g) → c.index_mut.result.now ≡ cell_at c.args.self.now c.args.cell
-read g c = cell_read _ c.args.self.now c.args.cell c.index_mut.result.now c.index_mut.ensures.value c.self.view_is c.requires
+read g c = cell_read _ _ _ _ c.index_mut.ensures.value c.self.view_is c.requires
 
 pub returns-clause-info : goal.returns-clause-info
 returns-clause-info g c = subst (λ (cell : Cell). c.kept.result.info ≡ kept_of cell c.args.worldview.now) (read g c) c.kept.ensures.stands.info
