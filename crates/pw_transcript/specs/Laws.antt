@@ -27,11 +27,13 @@ OneSentence =
     (words : List (List ℕ)) (sentence : Sentence) →
     IsSentence words sentence ↔ (sentence_form words ≡ Some sentence)
 
--- what is taken from a reader until nothing is left is all that remained of it, where that is known
-abbrev pub WholeTextIsTaken : Type 0
-WholeTextIsTaken =
-    (old new : Reading R) (bytes : List ℕ) → ReaderTakes R.remaining old bytes new →
-    NothingRemains R.remaining new → IsAllOf R.remaining old bytes
+module _ {R : Type 0} (remaining : R → Option (List ℕ)) where
+  -- what is taken from a reader until nothing is left is all that remained of it, where that is
+  -- known
+  abbrev pub WholeTextIsTaken : Type 0
+  WholeTextIsTaken =
+      (old new : Reading R) (bytes : List ℕ) → ReaderTakes remaining old bytes new →
+      NothingRemains remaining new → IsAllOf remaining old bytes
 
 -- where no line was refused for memory, the replies of a run are, line by line, those from scratch
 abbrev pub RepliesAreFromScratch : Type 0

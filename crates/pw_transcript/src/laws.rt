@@ -19,7 +19,7 @@ pub fn one_sentence()
 
 /// What is taken from a reader until nothing is left is all that remained of it, if that is known.
 pub fn whole_text_is_taken<R: Read>()
-    ensures { WholeTextIsTaken }
+    ensures { WholeTextIsTaken R.remaining }
 {}
 
 /// If no line is refused memory, the replies of a run are, line by line, those from scratch.
