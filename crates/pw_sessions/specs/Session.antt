@@ -1,5 +1,5 @@
 -- The results of a user's last question, and when they are still the current results.
-use Rattle.std.specs.Prelude.{◌≡◌, ◌⊎◌, ℕ, ◌<◌, ◌≤◌, Bool, true, false, ◌&&◌, not, List, All}
+use Rattle.std.specs.Prelude.{refl, ◌≡◌, ◌⊎◌, ℕ, ◌<◌, ◌≤◌, Bool, true, false, ◌&&◌, not, List, All}
 use Rattle.std.specs.Prelude.{length, Option, None, Some, IfSome, slice_index_or}
 use Rattle.std.specs.FinSet.{is_subset}
 use Rattle.pw_info.specs.declared.kind.Kind.{Kind}
@@ -13,6 +13,7 @@ use Rattle.pw_settle.specs.Calls.{visible_at}
 use Rattle.pw_settle.specs.Growth.{IsFitting, said_of}
 use Rattle.pw_settle.specs.Settled.{Settled, info_at}
 use Rattle.pw_settle.specs.Values.{value_in}
+use Rattle.std.specs.Coded.{Coded, code_by, coded×, coded_bool}
 
 -- the values that it settled, and whether they are known to be current
 pub record Session : Type 0 where
@@ -78,3 +79,9 @@ pub record EachBecomes (From : Session → Session → Type 0) (old new : List (
     : Type 0 where
   pub many : length new ≡ length old
   pub each : (user : ℕ) → Becomes From (slice_index_or old user None) (slice_index_or new user None)
+
+-- it is stored as its values and the flag
+abbrev pub session_code : Coded Settled → Coded Session
+session_code settled =
+    code_by _ (coded× settled coded_bool) (λ s. (s.values, s.is_current)) (λ p.
+    record { values = p.0; is_current = p.1 }) (λ _. refl)

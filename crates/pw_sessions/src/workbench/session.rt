@@ -21,7 +21,7 @@ impl<A: Allocator> Model for Session<A> {
     ghost use Rattle.pw_info.specs.contracts.info.Info as informations;
     ghost use Rattle.pw_settle.specs.inside.Known.{settled_code};
     ghost use Rattle.pw_sessions.specs.Session.{Session};
-    ghost use Rattle.pw_sessions.specs.inside.Fields.{session_code};
+    ghost use Rattle.pw_sessions.specs.Session.{session_code};
 
     ghost Value = { Session };
 
