@@ -62,6 +62,12 @@ abbrev pub KeepsIfSound : Network → Store → Store → Premises → Type 0
 KeepsIfSound network old new w =
     IsSound network old → (cell : ℕ) → kept_in new cell w ≡ value_in network old w cell
 
--- the values were found when all these instances were there
-abbrev pub HasInstancesOf : Network → Settled → Type 0
-HasInstancesOf network settled = settled.instances ≡ length network.attached
+-- what a settling in a worldview answers: the values there, if the store was sound, one for each
+-- cell. They were found with all instances that there are, and a later settling may go on from them
+pub record HasSettled (network : Network) (old new : Store) (w : Premises) (values : Settled)
+    : Type 0 where
+  pub settled : IsSettledIfSound network old w values
+  pub cells : length values.infos ≡ cells_in network
+  pub fits : IsFitting network new values
+  pub worldview : values.worldview ≡ w
+  pub instances : values.instances ≡ length network.attached

@@ -14,8 +14,9 @@ ghost use Rattle.pw_settle.specs.Settled.{info_at};
 ghost use Rattle.pw_settle.specs.Values.{kinds_in};
 ghost use Rattle.pw_settle.specs.inside.Known.{ReadsUpstream};
 ghost use Rattle.pw_settle.specs.inside.Due.{CallsEachAtLeast, CallsEachAtMost, CallsWhatIsDue};
-ghost use Rattle.pw_settle.specs.Growth.{HasInstancesOf, IsSettledIfSound, KeepsIfSound};
+ghost use Rattle.pw_settle.specs.Growth.{KeepsIfSound};
 ghost use Rattle.pw_settle.specs.Calls.{AreVisible};
+ghost use Rattle.pw_settle.specs.Growth.{HasSettled};
 
 use crate::agenda::Agenda;
 use crate::known::{Known, read_kept};
@@ -154,13 +155,9 @@ pub fn resettle<A: Allocator + Copy>(
 ) -> Result<Settled<A>, AllocError>
     requires kinds { kinds_of store.old ≡ kinds_in (wiring network.now) }
     requires fits { IsFitting (wiring network.now) store.old before }
-    ensures settled { IfOk result (IsSettledIfSound (wiring network.now) store.old worldview.now) }
+    ensures settles { IfOk result (HasSettled (wiring network.now) store.old store.new worldview.now) }
     ensures kept { OnOk result (KeepsIfSound (wiring network.now) store.old store.new
         worldview.now) }
-    ensures cells { IfOk result (λ settled. length settled.infos ≡ cells_in (wiring network.now)) }
-    ensures fits { IfOk result (λ settled. IsFitting (wiring network.now) store.new settled) }
-    ensures worldview { IfOk result (λ settled. settled.worldview ≡ worldview.now) }
-    ensures instances { IfOk result (HasInstancesOf (wiring network.now)) }
     ensures grows { KeepsMore (wiring network.now) store.old store.new }
     ensures upstream { StaysUpstream (wiring network.now) store.old store.new }
     ensures due { IfOk result (CallsWhatIsDue (wiring network.now) store.old store.new

@@ -4,13 +4,11 @@ ghost use Rattle.std.specs.List.{count_by};
 ghost use Rattle.pw_cells.specs.Cells.{kept_in, kinds_of};
 ghost use Rattle.pw_network.specs.Wiring.{wiring};
 ghost use Rattle.pw_network.specs.inside.Held.{attachment};
-ghost use Rattle.pw_network.specs.Network.{cells_in};
 ghost use Rattle.pw_network.specs.Readers.{readers_of};
 ghost use Rattle.pw_settle.specs.inside.Progress.{is_set, tally};
 ghost use Rattle.pw_settle.specs.Calls.{gains, is_instance_visible, most_calls, visible_at};
 ghost use Rattle.pw_settle.specs.Calls.{visible_count};
 ghost use Rattle.pw_settle.specs.inside.Due.{QueuesReaders};
-ghost use Rattle.pw_settle.specs.Growth.{IsFitting};
 ghost use Rattle.pw_settle.specs.Growth.{KeepsMore, StaysUpstream};
 ghost use Rattle.pw_settle.specs.inside.Known.{AreKept, SaysTold};
 ghost use Rattle.pw_settle.specs.inside.Progress.{AreOthersSatisfied};
@@ -18,8 +16,9 @@ ghost use Rattle.pw_settle.specs.Values.{kinds_in};
 ghost use Rattle.pw_settle.specs.inside.Progress.{AreMet, AreQueuedVisible, CallsNoMore};
 ghost use Rattle.pw_settle.specs.inside.Progress.{LeavesNoMore};
 ghost use Rattle.pw_settle.specs.inside.Known.{SettlesUpstream, StayUpstream};
-ghost use Rattle.pw_settle.specs.Growth.{HasInstancesOf, IsSettledIfSound, KeepsIfSound};
+ghost use Rattle.pw_settle.specs.Growth.{KeepsIfSound};
 ghost use Rattle.pw_settle.specs.Calls.{AreVisible, CallsAtMost};
+ghost use Rattle.pw_settle.specs.Growth.{HasSettled};
 
 use crate::agenda::Agenda;
 use crate::known::{Known, read_kept, take_in};
@@ -182,13 +181,9 @@ pub(crate) fn settle_from<A: Allocator + Copy>(
     requires flags { length agenda ≡ length (wiring network.now).attached }
     requires seen { AreQueuedVisible (wiring network.now) worldview.now agenda }
     requires satisfied { AreMet (wiring network.now) store.old worldview.now agenda }
-    ensures settled { IfOk result (IsSettledIfSound (wiring network.now) store.old worldview.now) }
+    ensures settles { IfOk result (HasSettled (wiring network.now) store.old store.new worldview.now) }
     ensures kept { OnOk result (KeepsIfSound (wiring network.now) store.old store.new
         worldview.now) }
-    ensures cells { IfOk result (λ settled. length settled.infos ≡ cells_in (wiring network.now)) }
-    ensures fits { IfOk result (λ settled. IsFitting (wiring network.now) store.new settled) }
-    ensures worldview { IfOk result (λ settled. settled.worldview ≡ worldview.now) }
-    ensures instances { IfOk result (HasInstancesOf (wiring network.now)) }
     ensures grows { KeepsMore (wiring network.now) store.old store.new }
     ensures upstream { SettlesUpstream (wiring network.now) store.old known.supports.items
         store.new }
@@ -224,13 +219,9 @@ pub fn settle<A: Allocator + Copy>(
     worldview: &PremiseSet,
 ) -> Result<Settled<A>, AllocError>
     requires { kinds_of store.old ≡ kinds_in (wiring network.now) }
-    ensures settled { IfOk result (IsSettledIfSound (wiring network.now) store.old worldview.now) }
+    ensures settles { IfOk result (HasSettled (wiring network.now) store.old store.new worldview.now) }
     ensures kept { OnOk result (KeepsIfSound (wiring network.now) store.old store.new
         worldview.now) }
-    ensures cells { IfOk result (λ settled. length settled.infos ≡ cells_in (wiring network.now)) }
-    ensures fits { IfOk result (λ settled. IsFitting (wiring network.now) store.new settled) }
-    ensures worldview { IfOk result (λ settled. settled.worldview ≡ worldview.now) }
-    ensures instances { IfOk result (HasInstancesOf (wiring network.now)) }
     ensures grows { KeepsMore (wiring network.now) store.old store.new }
     ensures upstream { StaysUpstream (wiring network.now) store.old store.new }
     ensures least { IfOk result (λ settled. visible_count (wiring network.now) worldview.now ≤

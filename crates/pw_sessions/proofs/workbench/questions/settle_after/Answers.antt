@@ -1,15 +1,20 @@
 use Rattle.std.proofs.Common.{Some, sym, ap, ◌∙◌}
 use Rattle.pw_network.specs.Wiring.{wiring}
 use Rattle.pw_sessions.specs.Session.{Session}
-use Rattle.pw_sessions.proofs.AfterSettling.{current_after, due_again, due_anew, none_again, none_anew, once_again, once_anew}
+use Rattle.pw_sessions.proofs.AfterSettling.{current_after, values_after, due_again, due_anew, none_again, none_anew, once_again, once_anew}
 use Rattle.pw_sessions.proofs.workbench.questions.settle_after.Goals as goal
 
 -- ---- from earlier values
 
+pub returns-in-Some-clause-settled : goal.returns-in-Some-clause-settled
+returns-in-Some-clause-settled g c =
+    values_after (wiring c.args.network.now) c.args.network.now.well c.args.store.now c.resettle.new.store c.args.worldview.now c.requires.kinds c.requires.sound
+    c.resettle.result c.resettle.ensures.settles
+
 pub returns-in-Some-clause-current : goal.returns-in-Some-clause-current
 returns-in-Some-clause-current g c =
     current_after (wiring c.args.network.now) c.args.network.now.well c.args.store.now c.resettle.new.store c.args.worldview.now c.requires.kinds c.requires.sound
-    c.resettle.result c.resettle.ensures.grows c.resettle.ensures.settled c.resettle.ensures.kept c.resettle.ensures.fits c.resettle.ensures.instances
+    c.resettle.result c.resettle.ensures.grows c.resettle.ensures.settles c.resettle.ensures.kept
 
 pub returns-in-Some-clause-none : goal.returns-in-Some-clause-none
 returns-in-Some-clause-none g c =
@@ -31,10 +36,15 @@ returns-in-Some-clause-due g c =
 
 -- ---- anew
 
+pub returns-in-None-clause-settled : goal.returns-in-None-clause-settled
+returns-in-None-clause-settled g c =
+    values_after (wiring c.args.network.now) c.args.network.now.well c.args.store.now c.settle.new.store c.args.worldview.now c.requires.kinds c.requires.sound
+    c.settle.result c.settle.ensures.settles
+
 pub returns-in-None-clause-current : goal.returns-in-None-clause-current
 returns-in-None-clause-current g c =
     current_after (wiring c.args.network.now) c.args.network.now.well c.args.store.now c.settle.new.store c.args.worldview.now c.requires.kinds c.requires.sound
-    c.settle.result c.settle.ensures.grows c.settle.ensures.settled c.settle.ensures.kept c.settle.ensures.fits c.settle.ensures.instances
+    c.settle.result c.settle.ensures.grows c.settle.ensures.settles c.settle.ensures.kept
 
 pub returns-in-None-clause-none : goal.returns-in-None-clause-none
 returns-in-None-clause-none g c =
