@@ -15,7 +15,7 @@ use Rattle.pw_settle.specs.Growth.{IsFitting}
 use Rattle.pw_settle.specs.Growth.{KeepsMore}
 use Rattle.pw_settle.specs.Settled.{IsSettled, Settled}
 use Rattle.pw_settle.specs.Sound.{IsSound}
-use Rattle.pw_settle.specs.Growth.{HasSettled}
+use Rattle.pw_settle.specs.Growth.{HasValues}
 use Rattle.pw_settle.specs.Values.{kinds_in, value_in}
 use Rattle.pw_settle.proofs.GrowingGains.{gains_more}
 use Rattle.pw_sessions.specs.Freshness.{AreCalls, CallsDue, CallsDueFor}
@@ -32,13 +32,13 @@ module _ (network : Network) (well : IsWellNetwork network) (old new : Store) (w
 
   -- its values are current
   pub current_after : {E : Type 0} (r : Result Settled E) → KeepsMore network old new →
-      IfOk r (HasSettled network old new w) → OnOk r Kept → IfOk r (λ settled. IsCurrent network new settled)
+      IfOk r (HasValues network old new w) → OnOk r Kept → IfOk r (λ settled. IsCurrent network new settled)
   current_after (Ok settled) grows has kept =
       current_settled network well old new w settled same grows (has.settled sound) has.fits has.instances (kept sound)
   current_after (Err e) grows has kept = has
 
   -- its values are those in the worldview
-  pub values_after : {E : Type 0} (r : Result Settled E) → IfOk r (HasSettled network old new w) →
+  pub values_after : {E : Type 0} (r : Result Settled E) → IfOk r (HasValues network old new w) →
       IfOk r (λ settled. IsSettled network old w settled)
   values_after (Ok settled) has = has.settled sound
   values_after (Err e) has = has

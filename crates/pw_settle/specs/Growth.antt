@@ -64,7 +64,7 @@ KeepsIfSound network old new w =
 
 -- what a settling in a worldview answers: the values there, if the store was sound, one for each
 -- cell. They were found with all instances that there are, and a later settling may go on from them
-pub record HasSettled (network : Network) (old new : Store) (w : Premises) (values : Settled)
+pub record HasValues (network : Network) (old new : Store) (w : Premises) (values : Settled)
     : Type 0 where
   pub settled : IsSettledIfSound network old w values
   pub cells : length values.infos ≡ cells_in network

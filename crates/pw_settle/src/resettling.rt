@@ -16,7 +16,7 @@ ghost use Rattle.pw_settle.specs.inside.Known.{ReadsUpstream};
 ghost use Rattle.pw_settle.specs.inside.Due.{CallsEachAtLeast, CallsEachAtMost, CallsWhatIsDue};
 ghost use Rattle.pw_settle.specs.Growth.{KeepsIfSound};
 ghost use Rattle.pw_settle.specs.Calls.{AreVisible};
-ghost use Rattle.pw_settle.specs.Growth.{HasSettled};
+ghost use Rattle.pw_settle.specs.Growth.{HasValues};
 
 use crate::agenda::Agenda;
 use crate::known::{Known, read_kept};
@@ -155,7 +155,7 @@ pub fn resettle<A: Allocator + Copy>(
 ) -> Result<Settled<A>, AllocError>
     requires kinds { kinds_of store.old ≡ kinds_in (wiring network.now) }
     requires fits { IsFitting (wiring network.now) store.old before }
-    ensures settles { IfOk result (HasSettled (wiring network.now) store.old store.new worldview.now) }
+    ensures found { IfOk result (HasValues (wiring network.now) store.old store.new worldview.now) }
     ensures kept { OnOk result (KeepsIfSound (wiring network.now) store.old store.new
         worldview.now) }
     ensures grows { KeepsMore (wiring network.now) store.old store.new }

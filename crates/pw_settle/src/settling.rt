@@ -18,7 +18,7 @@ ghost use Rattle.pw_settle.specs.inside.Progress.{LeavesNoMore};
 ghost use Rattle.pw_settle.specs.inside.Known.{SettlesUpstream, StayUpstream};
 ghost use Rattle.pw_settle.specs.Growth.{KeepsIfSound};
 ghost use Rattle.pw_settle.specs.Calls.{AreVisible, CallsAtMost};
-ghost use Rattle.pw_settle.specs.Growth.{HasSettled};
+ghost use Rattle.pw_settle.specs.Growth.{HasValues};
 
 use crate::agenda::Agenda;
 use crate::known::{Known, read_kept, take_in};
@@ -181,7 +181,7 @@ pub(crate) fn settle_from<A: Allocator + Copy>(
     requires flags { length agenda ≡ length (wiring network.now).attached }
     requires seen { AreQueuedVisible (wiring network.now) worldview.now agenda }
     requires satisfied { AreMet (wiring network.now) store.old worldview.now agenda }
-    ensures settles { IfOk result (HasSettled (wiring network.now) store.old store.new worldview.now) }
+    ensures found { IfOk result (HasValues (wiring network.now) store.old store.new worldview.now) }
     ensures kept { OnOk result (KeepsIfSound (wiring network.now) store.old store.new
         worldview.now) }
     ensures grows { KeepsMore (wiring network.now) store.old store.new }
@@ -219,7 +219,7 @@ pub fn settle<A: Allocator + Copy>(
     worldview: &PremiseSet,
 ) -> Result<Settled<A>, AllocError>
     requires { kinds_of store.old ≡ kinds_in (wiring network.now) }
-    ensures settles { IfOk result (HasSettled (wiring network.now) store.old store.new worldview.now) }
+    ensures found { IfOk result (HasValues (wiring network.now) store.old store.new worldview.now) }
     ensures kept { OnOk result (KeepsIfSound (wiring network.now) store.old store.new
         worldview.now) }
     ensures grows { KeepsMore (wiring network.now) store.old store.new }

@@ -7,7 +7,7 @@ use Rattle.pw_settle.specs.inside.Progress.{tally}
 use Rattle.pw_settle.specs.Calls.{gains}
 use Rattle.pw_settle.specs.inside.Progress.{AreSatisfied}
 use Rattle.pw_settle.specs.Settled.{Settled}
-use Rattle.pw_settle.specs.Growth.{HasSettled}
+use Rattle.pw_settle.specs.Growth.{HasValues}
 use Rattle.pw_settle.specs.Sound.{IsSound, RestsUpstream}
 use Rattle.pw_settle.specs.Values.{value_in}
 use Rattle.pw_settle.proofs.FittingValues.{satisfied_but_due}
@@ -47,11 +47,11 @@ returns-clause-due g c =
 pub returns-in_err-known-clause-upstream : goal.returns-in_err-known-clause-upstream
 returns-in_err-known-clause-upstream g c given rests = subst (RestsUpstream (wiring c.args.network.now) given) (sym {A = Store} c.due_instances.ensures.unchanged) rests
 
-pub returns-clause-settles : goal.returns-clause-settles
-returns-clause-settles g c =
+pub returns-clause-found : goal.returns-clause-found
+returns-clause-found g c =
     subst (λ (s : Store). IfOk c.settle_from.result
-    (HasSettled (wiring c.args.network.now) s c.settle_from.new.store c.args.worldview.now))
-    c.due_instances.ensures.unchanged c.settle_from.ensures.settles
+    (HasValues (wiring c.args.network.now) s c.settle_from.new.store c.args.worldview.now))
+    c.due_instances.ensures.unchanged c.settle_from.ensures.found
 
 pub returns-clause-kept : goal.returns-clause-kept
 returns-clause-kept g c =

@@ -27,8 +27,8 @@ returns-clause-most g c =
     calls_by_gains (wiring c.args.network.now) c.args.store.now c.work.new.store c.args.worldview.now c.in_ok-calls.calls (tally c.args.agenda)
     same c.in_ok-calls.ensures.most
 
-pub returns-clause-settles : goal.returns-clause-settles
-returns-clause-settles g c =
+pub returns-clause-found : goal.returns-clause-found
+returns-clause-found g c =
     let network = wiring c.args.network.now in
     let well = c.args.network.now.well in
     let new = c.work.new.store in

@@ -14,7 +14,7 @@ returns-in_err-settled-clause-nogoods g c =
 pub reason-requires-clause-settled : goal.reason-requires-clause-settled
 reason-requires-clause-settled g c =
     settled_still (wiring c.args.network.now) c.args.store.now c.settle.new.store c.args.worldview.now c.in_ok-settled.settled
-    c.settle.ensures.grows (c.in_ok-settled.ensures.settles.settled c.requires.ready.sound)
+    c.settle.ensures.grows (c.in_ok-settled.ensures.found.settled c.requires.ready.sound)
 
 pub returns-clause-nogoods : goal.returns-clause-nogoods
 returns-clause-nogoods g c =

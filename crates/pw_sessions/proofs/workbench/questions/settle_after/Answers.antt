@@ -9,12 +9,12 @@ use Rattle.pw_sessions.proofs.workbench.questions.settle_after.Goals as goal
 pub returns-in-Some-clause-settled : goal.returns-in-Some-clause-settled
 returns-in-Some-clause-settled g c =
     values_after (wiring c.args.network.now) c.args.network.now.well c.args.store.now c.resettle.new.store c.args.worldview.now c.requires.kinds c.requires.sound
-    c.resettle.result c.resettle.ensures.settles
+    c.resettle.result c.resettle.ensures.found
 
 pub returns-in-Some-clause-current : goal.returns-in-Some-clause-current
 returns-in-Some-clause-current g c =
     current_after (wiring c.args.network.now) c.args.network.now.well c.args.store.now c.resettle.new.store c.args.worldview.now c.requires.kinds c.requires.sound
-    c.resettle.result c.resettle.ensures.grows c.resettle.ensures.settles c.resettle.ensures.kept
+    c.resettle.result c.resettle.ensures.grows c.resettle.ensures.found c.resettle.ensures.kept
 
 pub returns-in-Some-clause-none : goal.returns-in-Some-clause-none
 returns-in-Some-clause-none g c =
@@ -39,12 +39,12 @@ returns-in-Some-clause-due g c =
 pub returns-in-None-clause-settled : goal.returns-in-None-clause-settled
 returns-in-None-clause-settled g c =
     values_after (wiring c.args.network.now) c.args.network.now.well c.args.store.now c.settle.new.store c.args.worldview.now c.requires.kinds c.requires.sound
-    c.settle.result c.settle.ensures.settles
+    c.settle.result c.settle.ensures.found
 
 pub returns-in-None-clause-current : goal.returns-in-None-clause-current
 returns-in-None-clause-current g c =
     current_after (wiring c.args.network.now) c.args.network.now.well c.args.store.now c.settle.new.store c.args.worldview.now c.requires.kinds c.requires.sound
-    c.settle.result c.settle.ensures.grows c.settle.ensures.settles c.settle.ensures.kept
+    c.settle.result c.settle.ensures.grows c.settle.ensures.found c.settle.ensures.kept
 
 pub returns-in-None-clause-none : goal.returns-in-None-clause-none
 returns-in-None-clause-none g c =
