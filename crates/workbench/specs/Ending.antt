@@ -11,7 +11,6 @@ use Rattle.workbench.specs.declared.ending.Stop.{Stop}
 use Rattle.workbench.specs.declared.fault.Fault.TheVariants as faults
 use Rattle.clap.specs.declared.error.kind.ErrorKind.TheVariants as kind
 use Rattle.workbench.specs.declared.ending.Stop.TheVariants as stop
-use Rattle.workbench.specs.declared.fault.Fault.TheVariants as fault
 
 -- over the procedures the text spells a declaration
 abbrev pub IsDeclaration : List Procedure → List ℕ → Type 0
@@ -30,5 +29,5 @@ IsMistake error = (kind_of error ≢ kind.DisplayHelp) × (kind_of error ≢ kin
 
 -- out of memory is a fault, and not a bad command line; any other error stays what it is
 pub record IsStopAt (error : Error) (why : Stop) : Type 0 where
-  pub memory : kind_of error ≡ kind.OutOfMemory → why ≡ stop.Fault fault.Memory
+  pub memory : kind_of error ≡ kind.OutOfMemory → why ≡ stop.Fault faults.Memory
   pub other : kind_of error ≢ kind.OutOfMemory → why ≡ stop.CommandLine error
