@@ -17,7 +17,8 @@ pub struct SetKind {
 pub enum Kind {
     /// A whole number from -1,000,000 to 1,000,000, known by an interval.
     Interval,
-    /// A member of a set.
+    /// A member of a set, known by the members that are still possible.
+    /// Two kinds are the same if their sets have the same number and the same size.
     Members(SetKind),
     /// A whole number from -1,000,000,000 to 1,000,000,000, known exactly or not at all.
     Exact,

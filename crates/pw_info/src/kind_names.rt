@@ -5,7 +5,8 @@ ghost use Rattle.pw_info.specs.SetNames.{AreNames};
 
 /// The names of the members of set kinds, each at its place, from 0 on. Each is a name: 1 to 32
 /// bytes of `a` to `z`, `0` to `9` and `_`, starting with a letter, and no reserved word. The names
-/// of one set are distinct.
+/// of one set are distinct. A declaration is where the program looks names up; a host that reads or
+/// writes information without one implements this trait for names of its own.
 pub trait KindNames {
     /// The names of the members of a set kind, by its number, in declared order; none if there is
     /// no set of that number.

@@ -1,4 +1,10 @@
 -- The procedures of a registry, and the cells that a procedure is put between.
+--
+-- A procedure's number is its place in the registry, from 0 on. Numbers never change, since
+-- procedures are only added. A registry lists its procedures in a list of entries; an entry is a
+-- stored procedure, that is a name, a signature, a meaning and a body. Contracts see all but the
+-- body. Arguments have room for nine cells, of which the first `count` are given; what stands past
+-- them means nothing.
 use Rattle.std.specs.Prelude.{ℕ, List, take, map}
 use Rattle.pw_procs.specs.declared.arguments.Arguments.{Arguments}
 use Rattle.pw_procs.specs.declared.registry.Registry.{Registry}

@@ -1,4 +1,11 @@
 -- When a store can be settled over a network, and when a settling can go on.
+--
+-- The tests build a network and a store step by step, and settle between the steps. Each step asks
+-- that the store is ready and leaves it ready, and each says whether the values of an earlier
+-- settling still fit after it. So a test can tell, attach and settle in any order, and call
+-- `settle` and `resettle` wherever their contracts allow it, without a proof of its own for each
+-- order of steps. A settling of cells that a network does not have, or of facts that do not follow,
+-- is not tested: no contract allows it.
 use Rattle.std.specs.Prelude.{◌≡◌}
 use Rattle.pw_cells.specs.Cells.{Store, kinds_of}
 use Rattle.pw_network.specs.Network.{Network}

@@ -3,7 +3,6 @@
 #![tactic(auto)]
 
 ghost use Rattle.std.specs.Prelude.{◌≡◌, ℕ, ◌<◌, ◌≤◌, ◌^◌, ◌↔◌, IsTrue};
-ghost use Rattle.pw_testing.specs.Refused.{IsRefused};
 
 use std::alloc::{AllocError, Allocator};
 use std::cell::Cell;
@@ -29,7 +28,8 @@ impl<B: Allocator> Refusing<B> {
     /// Refuses the growth whose number is `at`, and no other. At 0 it refuses none.
     pub fn nth(inner: B, at: u64) -> Refusing<B>
         ensures inner { result.inner ≡ inner }
-        ensures refused { (n : ℕ) → 0 < n → (IsRefused result.growths n ↔ (n ≡ at)) }
+        ensures refused { (n : ℕ) → 0 < n →
+            (((result.growths.first ≤ n) × (n ≤ result.growths.last)) ↔ (n ≡ at)) }
     {
         let growths = Growths::refused(at, at);
         Refusing { inner, growths }
@@ -38,8 +38,8 @@ impl<B: Allocator> Refusing<B> {
     /// Refuses the growth whose number is `at` and every later one. At 0 it refuses none.
     pub fn all_from(inner: B, at: u64) -> Refusing<B>
         ensures inner { result.inner ≡ inner }
-        ensures refused { (n : ℕ) → 0 < n → n < 2 ^ 64 → (IsRefused result.growths n ↔ ((0 < at) ×
-            (at ≤ n))) }
+        ensures refused { (n : ℕ) → 0 < n → n < 2 ^ 64 →
+            (((result.growths.first ≤ n) × (n ≤ result.growths.last)) ↔ ((0 < at) × (at ≤ n))) }
     {
         let last = if at == 0 { 0 } else { u64::MAX };
         let growths = Growths::refused(at, last);
@@ -110,7 +110,7 @@ impl Growths {
 
     /// Whether the growth of this number is refused.
     fn refuses(&self, number: u64) -> bool
-        ensures { IsTrue result ↔ IsRefused self.now number }
+        ensures { IsTrue result ↔ ((self.now.first ≤ number) × (number ≤ self.now.last)) }
     {
         self.first <= number && number <= self.last
     }

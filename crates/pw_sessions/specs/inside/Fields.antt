@@ -1,4 +1,12 @@
 -- What a workbench in the code is.
+--
+-- Contracts speak of the state of a workbench before and after a call, and never of its fields, so
+-- that they do not depend on how a field holds what it holds: beliefs and sessions are lists here,
+-- one entry a user, in the order of the users' numbers. The network is seen as its wiring: what is
+-- declared, and what was attached at which line. The store and the noted sets are seen as they are,
+-- since their types have views of their own. What a workbench allocates for itself is no part of
+-- its state, and neither is the allocator. `calls` counts what the last command called for a
+-- settling.
 use Rattle.pw_network.specs.Wiring.{wiring}
 use Rattle.pw_sessions.specs.declared.workbench.Workbench.{Workbench as WorkbenchType}
 use Rattle.pw_sessions.specs.Workbench.{Workbench}

@@ -1,6 +1,6 @@
 //! Words, and the texts written for what they spell.
 
-ghost use Rattle.pw_test_parts.specs.ExampleNames.{colours};
+ghost use Rattle.std.specs.Prelude.{[], ◌∷◌, codes};
 
 use super::Trickle;
 use pw_info::{Info, Kind, KindNames, SetKind, Writing, read_info, write_info};
@@ -11,7 +11,7 @@ use pw_kinds::{Exact, Interval, Members};
 pub struct Palette;
 
 impl KindNames for Palette {
-    ghost members = { λ _ _. colours };
+    ghost members = { λ _ _. codes "red" ∷ codes "green" ∷ codes "blue" ∷ [] };
 
     fn member(&self, _set: u8, place: u8) -> &str {
         match place {
