@@ -1,5 +1,5 @@
 -- The effect of the steps of a line on fresh users.
-use Rattle.std.proofs.Common.{◌≡◌, ℕ, true, List, ◌++◌, All, map, refl, sym, ap, ◌∙◌, subst, inl, inr}
+use Rattle.std.proofs.Common.{◌≡◌, ◌<◌, ℕ, true, List, ◌++◌, All, length, map, arith, refl, sym, ap, ◌∙◌, subst, inl, inr}
 use Rattle.std.specs.Prelude.{◌⊎◌}
 use Rattle.pw_info.specs.declared.kind.Kind.{Kind}
 use Rattle.pw_info.specs.Information.{kind_of}
@@ -22,7 +22,7 @@ use Rattle.pw_sessions.specs.Freshness.{IsFresh, MayEndFreshness, Settles}
 use Rattle.pw_sessions.specs.Reply.{LineReading, Says}
 use Rattle.pw_sessions.specs.Command.{IsDeclared}
 use Rattle.pw_sessions.specs.Reply as reply
-use Rattle.pw_sessions.specs.inside.Steps.{CanCarryOut, IsAttached, StoreFits, is_written}
+use Rattle.pw_sessions.specs.inside.Steps.{CanAnswer, CanCarryOut, IsAttached, StoreFits, is_written}
 use Rattle.pw_sessions.specs.Workbench.{IsLeftBy, IsSetUpFor, Workbench, beliefs_in}
 use Rattle.pw_sessions.proofs.AskedCells.{well_left}
 use Rattle.pw_sessions.proofs.EntriesRise.{rise_before}
@@ -39,6 +39,15 @@ store_fits bench can = record {
   sound = can.set_up.sound;
   nogoods = can.set_up.nogoods;
   sessions = can.set_up.fit;
+}
+
+-- a declared user can ask
+pub can_answer : (bench : Workbench) {line : ℕ} {command : Command} → CanCarryOut bench line command → (user : ℕ) → user < length bench.network.declared.users →
+    CanAnswer bench user
+can_answer bench can user there = record {
+  fits = store_fits bench can;
+  user = omega (arith, there, can.set_up.users);
+  session = omega (arith, there, can.set_up.sessions);
 }
 
 -- a told fact is of the kind of its cell

@@ -54,6 +54,13 @@ pub record StoreFits (workbench : Workbench) : Type 0 where
   pub nogoods : AreNogoods workbench.network workbench.store workbench.nogoods
   pub sessions : SessionsFit workbench.network workbench.store workbench.sessions
 
+-- a question of this user can be answered: the store and the sessions fit, and the user has beliefs
+-- and a last session, or none yet
+pub record CanAnswer (workbench : Workbench) (user : ℕ) : Type 0 where
+  pub fits : StoreFits workbench
+  pub user : user < length workbench.beliefs
+  pub session : user < length workbench.sessions
+
 -- an instance that is visible in the worldview writes the cell
 abbrev pub is_written : List Attached → ℕ → Premises → Bool
 is_written attached cell worldview =

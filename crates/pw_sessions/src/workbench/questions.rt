@@ -14,7 +14,7 @@ ghost use Rattle.pw_sessions.specs.Freshness.{CallsDue, CallsDueFor, CallsFew, I
 ghost use Rattle.pw_sessions.specs.Reply.{reply_by};
 ghost use Rattle.pw_sessions.specs.Session.{IsCurrent};
 ghost use Rattle.pw_sessions.specs.inside.Steps.{AnswersConflicts, AnswersWhy};
-ghost use Rattle.pw_sessions.specs.inside.Steps.{OnlyKeepsMore, StoreFits, is_written};
+ghost use Rattle.pw_sessions.specs.inside.Steps.{CanAnswer, OnlyKeepsMore, is_written};
 ghost use Rattle.pw_sessions.specs.inside.Steps.{AnswersAskIfLeft, SeesWriter, remembering};
 ghost use Rattle.pw_sessions.specs.Freshness.{CallsNoneAgain, CallsOnceIfKept, IsSettledFor};
 ghost use Rattle.pw_sessions.specs.Freshness.{value_for};
@@ -71,9 +71,7 @@ impl<'d, 'r, A: Allocator + Copy> Workbench<'d, 'r, A> {
     // Settles under the beliefs of the user, who must exist, starting from the user's last session,
     // which is given up. Fails only when out of memory.
     fn settle_for(&mut self, user: u8) -> Result<Settled<A>, AllocError>
-        requires fits { StoreFits (state self.old) }
-        requires user { user < length (state self.old).beliefs }
-        requires session { user < length (state self.old).sessions }
+        requires can { CanAnswer (state self.old) user }
         requires calls { (state self.old).calls ≡ 0 }
         ensures settled { IfOk result (IsSettledFor (state self.old) user) }
         ensures current { IfOk result (IsCurrent (state self.new).network (state self.new).store) }
@@ -106,9 +104,7 @@ impl<'d, 'r, A: Allocator + Copy> Workbench<'d, 'r, A> {
     // The value of the declared cell under the beliefs of the user, who must exist, if the user's
     // last session is known to have it.
     fn known_to(&self, user: u8, cell: u32) -> Option<Info>
-        requires fits { StoreFits (state self.now) }
-        requires user { user < length (state self.now).beliefs }
-        requires session { user < length (state self.now).sessions }
+        requires can { CanAnswer (state self.now) user }
         requires cell { cell < length (state self.now).network.declared.cells }
         ensures value { IfSome result (λ info. info ≡ value_for (state self.now) user cell) }
         ensures fresh { IfSome result (λ info. IsFresh (state self.now) user) }
@@ -122,9 +118,7 @@ impl<'d, 'r, A: Allocator + Copy> Workbench<'d, 'r, A> {
 
     // What is known about the declared cell under the beliefs of the user, who must exist.
     pub(super) fn ask(&mut self, user: u8, cell: u32) -> Reply<A>
-        requires fits { StoreFits (state self.old) }
-        requires user { user < length (state self.old).beliefs }
-        requires session { user < length (state self.old).sessions }
+        requires can { CanAnswer (state self.old) user }
         requires cell { cell < length (state self.old).network.declared.cells }
         requires calls { (state self.old).calls ≡ 0 }
         ensures answer { AnswersAskIfLeft (state self.old) user cell (reply_by result) }
@@ -151,9 +145,7 @@ impl<'d, 'r, A: Allocator + Copy> Workbench<'d, 'r, A> {
     // What is known about the declared cell under the beliefs of the user, who must exist, and why.
     #[inline(never)]
     pub(super) fn why(&mut self, user: u8, cell: u32) -> Reply<A>
-        requires fits { StoreFits (state self.old) }
-        requires user { user < length (state self.old).beliefs }
-        requires session { user < length (state self.old).sessions }
+        requires can { CanAnswer (state self.old) user }
         requires cell { cell < length (state self.old).network.declared.cells }
         requires calls { (state self.old).calls ≡ 0 }
         ensures answer { AnswersWhy (state self.old) user cell (reply_by result) }
@@ -184,9 +176,7 @@ impl<'d, 'r, A: Allocator + Copy> Workbench<'d, 'r, A> {
     // What is contradictory under the beliefs of the user, who must exist.
     #[inline(never)]
     pub(super) fn conflicts(&mut self, user: u8) -> Reply<A>
-        requires fits { StoreFits (state self.old) }
-        requires user { user < length (state self.old).beliefs }
-        requires session { user < length (state self.old).sessions }
+        requires can { CanAnswer (state self.old) user }
         requires calls { (state self.old).calls ≡ 0 }
         ensures answer { AnswersConflicts (state self.old) user (reply_by result) }
         ensures asked { IsAsked (state self.old) user Unit (state self.new)

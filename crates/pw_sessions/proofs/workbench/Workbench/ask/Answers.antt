@@ -16,7 +16,7 @@ use Rattle.pw_sessions.proofs.workbench.Workbench.ask.Goals as goal
 
 pub recall-requires : goal.recall-requires
 recall-requires g c =
-    let same = cells_kept (wiring c.args.self.now.network) c.args.self.now.store c.args.self.now.network.well c.requires.fits.kinds in
+    let same = cells_kept (wiring c.args.self.now.network) c.args.self.now.store c.args.self.now.network.well c.requires.can.fits.kinds in
     omega (arith, c.requires.cell)
 
 -- ---- what is known
@@ -67,7 +67,7 @@ returns-clause-asked g c =
     let Settling : Type 0 = is_written old.network.attached c.args.cell (beliefs_in old c.args.user) ≡ true in
     subst (λ (new : Workbench). IsAsked old c.args.user Settling new (reply.Value c.value-info.result.info)) (sym c.remember.ensures)
     (asked_remembered old (state c.settle_for.new.self) c.args.user c.in-Ok.settled Settling (reply.Value c.value-info.result.info) (sym written ∙ c.if-not-is_written_by.false)
-    (omega (arith, c.requires.session, c.settle_for.ensures.grows.users)) c.settle_for.ensures.grows.beliefs c.in-Ok.ensures.settled.worldview_is
+    (omega (arith, c.requires.can.session, c.settle_for.ensures.grows.users)) c.settle_for.ensures.grows.beliefs c.in-Ok.ensures.settled.worldview_is
     c.in-Ok.ensures.current c.settle_for.ensures.calls c.in-Ok.ensures.due)
 
 pub returns-clause-grows : goal.returns-clause-grows

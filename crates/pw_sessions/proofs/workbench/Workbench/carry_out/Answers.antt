@@ -16,7 +16,7 @@ use Rattle.pw_sessions.specs.Command.{IsDeclared}
 use Rattle.pw_sessions.specs.Workbench.{Workbench, IsCarriedOut, beliefs_in}
 use Rattle.pw_sessions.proofs.AskedCells.{well_left}
 use Rattle.pw_sessions.proofs.CarriedCommands.{carried_ask, carried_attach, carried_beliefs, carried_believe, carried_conflicts, carried_doubt, carried_keeping, carried_tell, carried_why, refused_attach, refused_tell}
-use Rattle.pw_sessions.proofs.FreshLines.{asks_written, attached_seen, kind_of_told, store_fits, written_asks}
+use Rattle.pw_sessions.proofs.FreshLines.{asks_written, attached_seen, can_answer, kind_of_told, store_fits, written_asks}
 use Rattle.pw_sessions.proofs.UnchangedReplies.{no_change_as_before, no_change_itself, no_change_keeping, notes_none}
 use Rattle.pw_sessions.proofs.FreshUsers.{counts_none, fresh_believed, fresh_refused, fresh_told, keeps_fresh, question_counts, question_keeps}
 use Rattle.pw_settle.proofs.StoreCells.{cells_kept}
@@ -134,6 +134,11 @@ returns-in-Doubt-clause-carried g c = λ d before left at named.
     (subst (λ (new : Workbench). IsCarriedOut d before (commands.Doubt c.in-Doubt.user c.in-Doubt.premises) new reply.Done) (sym set')
     (carried_doubt d well before bench left c.in-Doubt.user c.in-Doubt.premises named'.0))
 
+pub ask-requires-clause-can : goal.ask-requires-clause-can
+ask-requires-clause-can g c =
+    let named = subst (λ (x : Command). IsDeclared (wiring c.args.self.now.network).declared (Says x)) c.in-Ask.is c.requires.can.declared in
+    can_answer (state c.args.self.now) c.requires.can c.in-Ask.user named.0
+
 pub returns-in-Ask-clause-carried : goal.returns-in-Ask-clause-carried
 returns-in-Ask-clause-carried g c = λ d before left at named.
     let bench : Workbench = state c.args.self.now in
@@ -151,6 +156,11 @@ returns-in-Beliefs-clause-carried g c = λ d before left at named.
     subst (λ (x : Command). IsCarriedOut d before x bench (reply.Believes c.beliefs_of-in-Beliefs.result)) (sym c.in-Beliefs.is)
     (carried_beliefs d well before bench left c.in-Beliefs.user c.beliefs_of-in-Beliefs.result named'.0 c.beliefs_of-in-Beliefs.ensures)
 
+pub why-requires-clause-can : goal.why-requires-clause-can
+why-requires-clause-can g c =
+    let named = subst (λ (x : Command). IsDeclared (wiring c.args.self.now.network).declared (Says x)) c.in-Why.is c.requires.can.declared in
+    can_answer (state c.args.self.now) c.requires.can c.in-Why.user named.0
+
 pub returns-in-Why-clause-carried : goal.returns-in-Why-clause-carried
 returns-in-Why-clause-carried g c = λ d before left at named.
     let bench : Workbench = state c.args.self.now in
@@ -159,6 +169,11 @@ returns-in-Why-clause-carried g c = λ d before left at named.
     subst (λ (x : Command). IsCarriedOut d before x (state c.why.new.self) (reply_by c.why.result)) (sym c.in-Why.is)
     (carried_keeping d well before bench left c.in-Why.user (state c.why.new.self) (commands.Why c.in-Why.user c.in-Why.cell) (reply_by c.why.result) c.why.ensures.grows
     (carried_why d well before bench left c.in-Why.user c.in-Why.cell (reply_by c.why.result) named' c.why.ensures.answer))
+
+pub conflicts-requires-clause-can : goal.conflicts-requires-clause-can
+conflicts-requires-clause-can g c =
+    let named = subst (λ (x : Command). IsDeclared (wiring c.args.self.now.network).declared (Says x)) c.in-Conflicts.is c.requires.can.declared in
+    can_answer (state c.args.self.now) c.requires.can c.in-Conflicts.user named.0
 
 pub returns-in-Conflicts-clause-carried : goal.returns-in-Conflicts-clause-carried
 returns-in-Conflicts-clause-carried g c = λ d before left at named.

@@ -43,7 +43,7 @@ returns-clause-asked g c =
     (sym c.remember.ensures)
     (asked_remembered (state c.args.self.now) (state c.settle_for.new.self) c.args.user c.in-Ok.settled Unit
     (reply.Listed c.in-Ok-list_conflicts.conflicts) tt
-    (omega (arith, c.requires.session, c.settle_for.ensures.grows.users)) c.settle_for.ensures.grows.beliefs c.in-Ok.ensures.settled.worldview_is
+    (omega (arith, c.requires.can.session, c.settle_for.ensures.grows.users)) c.settle_for.ensures.grows.beliefs c.in-Ok.ensures.settled.worldview_is
     c.in-Ok.ensures.current c.settle_for.ensures.calls c.in-Ok.ensures.due)
 
 pub returns-clause-grows : goal.returns-clause-grows

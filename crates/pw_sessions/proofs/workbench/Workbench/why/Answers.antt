@@ -26,12 +26,12 @@ use Rattle.pw_sessions.proofs.workbench.Workbench.why.Goals as goal
 pub reason-requires-clause-sound : goal.reason-requires-clause-sound
 reason-requires-clause-sound g c =
     subst (λ (n : Network). IsSound n c.settle_for.new.self.store) (sym c.settle_for.ensures.grows.network)
-    (c.settle_for.ensures.grows.grows.sound c.requires.fits.sound)
+    (c.settle_for.ensures.grows.grows.sound c.requires.can.fits.sound)
 
 pub reason-requires-clause-nogoods : goal.reason-requires-clause-nogoods
 reason-requires-clause-nogoods g c =
     subst (λ (n : Network). AreNogoods n c.settle_for.new.self.store c.settle_for.new.self.nogoods) (sym c.settle_for.ensures.grows.network)
-    (c.settle_for.ensures.grows.nogoods c.requires.fits.nogoods)
+    (c.settle_for.ensures.grows.nogoods c.requires.can.fits.nogoods)
 
 pub reason-requires-clause-settled : goal.reason-requires-clause-settled
 reason-requires-clause-settled g c =
@@ -79,11 +79,11 @@ pub returns-clause-asked : goal.returns-clause-asked
 returns-clause-asked g c =
     let found : Workbench = state c.settle_for.new.self in
     let after : Workbench = record found { store = c.reason.new.store; nogoods = c.reason.new.nogoods } in
-    let fits : StoreFits found = fits_after (state c.args.self.now) c.args.user found c.settle_for.ensures.grows c.requires.fits in
+    let fits : StoreFits found = fits_after (state c.args.self.now) c.args.user found c.settle_for.ensures.grows c.requires.can.fits in
     subst (λ (new : Workbench). IsAsked (state c.args.self.now) c.args.user Unit new (reply.Because c.value-info.result.info c.in-Ok-reason.reason))
     (sym c.remember.ensures)
     (asked_remembered (state c.args.self.now) after c.args.user c.in-Ok.settled Unit (reply.Because c.value-info.result.info c.in-Ok-reason.reason) tt
-    (omega (arith, c.requires.session, c.settle_for.ensures.grows.users)) c.settle_for.ensures.grows.beliefs c.in-Ok.ensures.settled.worldview_is
+    (omega (arith, c.requires.can.session, c.settle_for.ensures.grows.users)) c.settle_for.ensures.grows.beliefs c.in-Ok.ensures.settled.worldview_is
     (current_keeping found.network found.store c.reason.new.store c.in-Ok.settled fits.kinds fits.sound c.reason.ensures.grows c.in-Ok.ensures.current)
     c.settle_for.ensures.calls
     (due_for_still (state c.args.self.now) found after c.args.user c.settle_for.ensures.grows.network c.reason.ensures.grows refl c.in-Ok.ensures.due))
@@ -93,7 +93,7 @@ returns-clause-grows g c =
     let old : Workbench = state c.args.self.now in
     let found : Workbench = state c.settle_for.new.self in
     let after : Workbench = record found { store = c.reason.new.store; nogoods = c.reason.new.nogoods } in
-    let fits : StoreFits found = fits_after old c.args.user found c.settle_for.ensures.grows c.requires.fits in
+    let fits : StoreFits found = fits_after old c.args.user found c.settle_for.ensures.grows c.requires.can.fits in
     only_keeps_then old c.args.user found (state c.remember.new.self) c.settle_for.ensures.grows
     (only_keeps_then found c.args.user after (state c.remember.new.self)
     (only_notes found c.args.user c.reason.new.store c.reason.new.nogoods c.reason.ensures.grows c.reason.ensures.upstream (λ are. c.reason.ensures.nogoods))
