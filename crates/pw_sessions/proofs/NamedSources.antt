@@ -15,7 +15,7 @@ use Rattle.pw_decl.specs.Expansion.{FitsCells, expansion_of, inner_kinds_of}
 use Rattle.pw_decl.proofs.ExpansionFits.{expansion_fits, expansion_speaks}
 use Rattle.pw_network.specs.Wiring.{DeclaredCell, InnerCellOf}
 use Rattle.pw_settle.specs.Sources as sources
-use Rattle.pw_settle.specs.Sources.{Cells, Fits, Names, Propagator, Source, cell_of, is_propagator, source_renamed}
+use Rattle.pw_settle.specs.Sources.{Fits, Names, cell_of, is_propagator}
 use Rattle.pw_settle.specs.Values.{propagator_of, propagators_of}
 use Rattle.pw_settle.specs.Fixpoint.{AreOver}
 use Rattle.pw_settle.proofs.Membership.{contains_map}

@@ -15,7 +15,7 @@ use Rattle.pw_decl.proofs.FlatKept.{range_below}
 use Rattle.pw_network.specs.Wiring.{Name, DeclaredCell, name_in}
 use Rattle.pw_network.specs.Network.{Network, cells_in}
 use Rattle.pw_settle.specs.Sources as sources
-use Rattle.pw_settle.specs.Sources.{Cells, Names, Propagator, Source, is_propagator, source_renamed}
+use Rattle.pw_settle.specs.Sources.{Names, Propagator, Source, source_renamed}
 use Rattle.pw_settle.specs.Fixpoint.{AreNamesOf, AreOver, fixpoint, told_in_one, told_alone}
 use Rattle.pw_settle.specs.Values as values
 use Rattle.pw_settle.specs.Values.{kinds_in, numbered, numbers_of_cells, propagators_of, sources_in, told_sources, visible_instances}

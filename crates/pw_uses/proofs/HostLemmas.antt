@@ -14,13 +14,13 @@ use Rattle.pw_sessions.specs.declared.reply.Refusal.TheVariants as refusal
 use Rattle.pw_sessions.specs.Answer.{cell_value, visible_in}
 use Rattle.pw_sessions.specs.Beliefs.{all_premises}
 use Rattle.pw_sessions.specs.Carrying.{CanBeCarriedOut, CarriesOut, IsAnswered}
-use Rattle.pw_sessions.specs.Entries.{Entry, Told, Attached}
+use Rattle.pw_sessions.specs.Entries.{Told, Attached}
 use Rattle.pw_sessions.specs.Reply.{LineReading, Says}
 use Rattle.pw_sessions.specs.Command.{IsDeclared}
 use Rattle.pw_sessions.specs.Workbench.{Workbench, IsCarriedOut, IsLeftBy}
 use Rattle.pw_sessions.proofs.BlankLines.{answered}
 use Rattle.pw_uses.specs.declared.host.Matter.{Matter}
-use Rattle.pw_uses.specs.Host.{IsOfDeclared, entries_in, value_for}
+use Rattle.pw_uses.specs.Host.{IsOfDeclared, value_for}
 
 module _ (d : Declared) (before : List LineReading) (old : Workbench) (command : Command) (left : IsLeftBy d before old)
     (named : IsDeclared d (Says command)) where

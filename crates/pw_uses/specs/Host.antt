@@ -1,5 +1,5 @@
 -- What a host asks of the workbench, and the replies that it gets.
-use Rattle.std.specs.Prelude.{◌≡◌, ℕ, ◌<◌, List, [], ◌∷◌, length}
+use Rattle.std.specs.Prelude.{◌≡◌, ◌<◌, List, [], ◌∷◌, length}
 use Rattle.std.specs.FinSet.{difference, empty}
 use Rattle.pw_premises.specs.Premises.{Premises}
 use Rattle.pw_procs.specs.Registry.{cells_of}

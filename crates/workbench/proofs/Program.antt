@@ -9,7 +9,7 @@ use Rattle.pw_procs.specs.Procedure.{Procedure, procedure_of, procedures_of, nam
 use Rattle.pw_procs.specs.Registering.{AreRegistered}
 use Rattle.pw_procs.proofs.AddedProcedures.{procedures-added, names-meanings}
 use Rattle.pw_procs.proofs.RegistryNames.{registered_by_test, are_free}
-use Rattle.workbench.specs.Procedures.{named_table, IsSign, AreOfProgram}
+use Rattle.workbench.specs.Procedures.{named_table, AreOfProgram}
 
 -- first a procedure, and then others with these meanings under their names
 abbrev pub HasTable : Procedure → List (List ℕ × Meaning) → List Procedure → Type 0

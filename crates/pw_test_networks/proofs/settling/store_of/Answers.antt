@@ -2,10 +2,8 @@ use Rattle.std.proofs.Common.{◌≡◌, List, [], ◌++◌, length, map, ap, �
 use Rattle.std.proofs.lemmas.List.{length-map}
 use Rattle.pw_cells.specs.Cells.{Cell, Store, new_cell}
 use Rattle.pw_network.specs.Wiring.{wiring}
-use Rattle.pw_settle.specs.Values.{kinds_in}
 use Rattle.pw_settle.proofs.SoundStores.{sound_new}
 use Rattle.pw_settle.proofs.StoreCells.{cells_kept, kinds_added}
-use Rattle.pw_test_networks.specs.Settling.{IsReady}
 use Rattle.pw_test_networks.proofs.settling.store_of.Goals.{then-is_err+in_ok-reserve, else-is_err}
 use Rattle.pw_test_networks.proofs.settling.store_of.Goals as goal
 

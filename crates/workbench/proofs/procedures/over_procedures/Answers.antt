@@ -1,4 +1,4 @@
-use Rattle.std.proofs.Common.{◌≡◌, [], ◌∷◌, ◌++◌, refl, ◌∙◌, ap}
+use Rattle.std.proofs.Common.{[], ◌∷◌, ◌++◌, refl, ◌∙◌, ap}
 use Rattle.pw_procs.specs.Meaning.{is_given_by_rules}
 use Rattle.pw_procs.specs.Procedure.{procedure_of, procedures_of}
 use Rattle.pw_procs.proofs.AddedProcedures.{procedures-added}

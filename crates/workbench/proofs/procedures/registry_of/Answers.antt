@@ -1,7 +1,4 @@
-use Rattle.std.proofs.Common.{sym, subst}
-use Rattle.pw_procs.specs.Procedure.{names_of}
 use Rattle.pw_procs.proofs.RegistryNames.{only_memory}
-use Rattle.workbench.specs.Procedures.{AreOfProgram}
 use Rattle.workbench.proofs.Program.{registered}
 use Rattle.workbench.proofs.procedures.registry_of.Goals as goal
 

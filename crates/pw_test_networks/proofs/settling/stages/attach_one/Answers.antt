@@ -1,4 +1,4 @@
-use Rattle.std.proofs.Common.{◌≡◌, ◌++◌, List, map, ap, ◌∙◌, arith}
+use Rattle.std.proofs.Common.{◌++◌, List, map, ap, ◌∙◌, arith}
 use Rattle.pw_info.specs.declared.kind.Kind.{Kind}
 use Rattle.pw_procs.specs.Registry.{cells_of}
 use Rattle.pw_cells.specs.Cells.{new_cell}
