@@ -1,5 +1,5 @@
 use Rattle.std.proofs.Common.{[], refl}
-use Rattle.pw_test_runs.proofs.random.playing.play_over.Goals as goal
+use Rattle.pw_test_random.proofs.random.playing.play_over.Goals as goal
 
 pub loop-place-init : goal.loop-place-init
 loop-place-init g c = ([], refl, c.in_ok-workbench.ensures.left)

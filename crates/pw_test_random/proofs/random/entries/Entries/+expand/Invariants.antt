@@ -1,5 +1,5 @@
 use Rattle.std.proofs.Common.{◌<◌}
-use Rattle.pw_test_runs.proofs.random.entries.Entries.+expand.Given as goal
+use Rattle.pw_test_random.proofs.random.entries.Entries.+expand.Given as goal
 
 abbrev pub decreases-expand : goal.decreases-expand
 decreases-expand g l = l.depth

@@ -1,5 +1,5 @@
 use Rattle.std.proofs.Common.{[], refl}
-use Rattle.pw_test_runs.proofs.counting.calls_of_each.Goals as goal
+use Rattle.pw_test_random.proofs.counting.calls_of_each.Goals as goal
 
 pub loop-line-init : goal.loop-line-init
 loop-line-init g c = ([], refl, c.in_ok-workbench.ensures.left)
