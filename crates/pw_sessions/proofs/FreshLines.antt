@@ -46,7 +46,7 @@ pub can_answer : (bench : Workbench) {line : ℕ} {command : Command} → CanCar
     CanAnswer bench user
 can_answer bench can user there = record {
   fits = store_fits bench can;
-  user = omega (arith, there, can.set_up.users);
+  exists = omega (arith, there, can.set_up.users);
   session = omega (arith, there, can.set_up.sessions);
 }
 

@@ -58,7 +58,7 @@ pub record StoreFits (workbench : Workbench) : Type 0 where
 -- and a last session, or none yet
 pub record CanAnswer (workbench : Workbench) (user : ℕ) : Type 0 where
   pub fits : StoreFits workbench
-  pub user : user < length workbench.beliefs
+  pub exists : user < length workbench.beliefs
   pub session : user < length workbench.sessions
 
 -- an instance that is visible in the worldview writes the cell
