@@ -4,6 +4,8 @@ from texts import KINDS, Members, Refused, has_wrong_byte, is_name, is_silent, l
 SYNTAX, DUPLICATE, UNKNOWN, ARGUMENTS, LIMIT, END = (
     "syntax", "duplicate name", "unknown name", "wrong arguments", "limit", "missing end",
 )
+# The most premises, and the most members of a set, by the version in the header.
+VERSIONS = {"1": (64, 64), "2": (512, 128)}
 # The kinds of the inputs of each procedure, then the kind of its output. All `*` of one procedure mean the same kind.
 PROCEDURES = {
     "adder": "interval interval interval", "subtractor": "interval interval interval",
@@ -65,8 +67,8 @@ class Declared:
         require(not has_wrong_byte(line), SYNTAX)
         first, *rest = words_of(line)
         if not self.begun:
-            require([first, *rest] == ["workbench", "1"], SYNTAX)
-            self.begun = True
+            require(first == "workbench" and len(rest) == 1 and rest[0] in VERSIONS, SYNTAX)
+            self.begun, (self.most_premises, self.most_members) = True, VERSIONS[rest[0]]
         elif self.name is not None:
             forms = {"local": self.read_local, "end": self.read_end}
             forms.get(first, lambda words: self.read_call(first, words))(rest)
@@ -88,7 +90,7 @@ class Declared:
         require(words[0] not in self.premises, DUPLICATE)
         owner = words[2] if len(words) == 3 else None
         require(owner is None or owner in self.users, UNKNOWN)
-        require(len(self.premises) < 64, LIMIT)
+        require(len(self.premises) < self.most_premises, LIMIT)
         self.premises[words[0]] = owner
 
     def read_set(self, words):
@@ -96,7 +98,7 @@ class Declared:
         name, *members = words
         require(name not in self.kinds and len(set(members)) == len(members), DUPLICATE)
         require(len(members) >= 2, ARGUMENTS)
-        require(len(members) <= 64 and len(self.kinds) < len(KINDS) + 32, LIMIT)
+        require(len(members) <= self.most_members and len(self.kinds) < len(KINDS) + 32, LIMIT)
         self.kinds[name] = Members(members)
 
     def read_cell(self, words):

@@ -128,12 +128,16 @@ class Network:
     def __init__(self, nothing, most):
         self.declared, self.nothing, self.most = list(nothing), nothing, most
         self.tells, self.attached, self.last = [], {}, (None, None)
+        # The premises that something rests on. What follows depends on no others.
+        self.named = set()
 
     def tell(self, cell, info, support):
+        self.named |= support
         self.tells.append((cell, info, support))
 
     def attach(self, number, instances, inner, support):
         """Attaches procedures by the line of this number; `inner` is what is known at first of their inner cells."""
+        self.named |= support
         self.nothing.update(inner)
         self.attached[number] = (instances, {output for _, _, output in instances}, [*inner], support)
 
@@ -155,7 +159,7 @@ class Network:
 
     def values(self, beliefs):
         """The values of all cells under these beliefs, from scratch; None where following them takes too many calls."""
-        key = frozenset(beliefs), len(self.tells), len(self.attached)
+        key = frozenset(beliefs & self.named), len(self.tells), len(self.attached)
         if self.most and self.last[0] != key:
             values = dict(self.nothing)
             for cell, info, support in self.tells:
@@ -178,7 +182,7 @@ class Network:
         if value is None:
             return None
         for premise in reversed(premises):
-            without = self.value(cell, needed - {premise})
+            without = self.value(cell, needed - {premise}) if premise in self.named else value
             if without is None:
                 return None
             if without == value:

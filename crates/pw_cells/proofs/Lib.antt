@@ -5,7 +5,7 @@ pub mod Rests
 pub mod Assimilations
 pub mod Stores
 pub mod Wholes
-pub mod ToldSupports
+pub mod ToldFacts
 pub mod Late
 pub mod Tells
 pub mod RightAnswers

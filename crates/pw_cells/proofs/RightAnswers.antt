@@ -7,7 +7,8 @@ use Rattle.std.proofs.lemmas.Bool.{cases_Bool, cases_eq, eqb-true, eq-eqb}
 use Rattle.std.proofs.lemmas.List.{take_more, take_more_set, drop-set-lt, map-append, set-get_or, get_or_append_left, get_or_default, get_or-set_same, get_or-set_other, length-set}
 use Rattle.std.proofs.lemmas.List.Elements.{All-weaker, All-map}
 use Rattle.pw_info.specs.declared.kind.Kind.TheVariants as kinds
-use Rattle.pw_info.specs.Information.{kind_of, meet}
+use Rattle.pw_info.specs.Information.{kind_of, meet, Implies}
+use Rattle.pw_info.proofs.Informations.{meet_implied}
 use Rattle.pw_premises.specs.Premises.{Premises}
 use Rattle.pw_facts.specs.declared.fact.Fact.{Fact}
 use Rattle.pw_facts.specs.Facts.{shows}
@@ -62,6 +63,12 @@ pub taken_in : (c : ℕ) (f : Fact) (a : Recalled) → nat_eq a.cell c ≡ true 
 taken_in c f a here seen =
     sym (ap (λ b. cond (b && is_subset f.support a.worldview) (record { cell = a.cell; worldview = a.worldview; info = meet a.info f.info }) a) here
     ∙ ap (λ b. cond b (record { cell = a.cell; worldview = a.worldview; info = meet a.info f.info }) a) seen)
+
+-- an answer that says as much already
+pub left_implied : (c : ℕ) (f : Fact) (a : Recalled) → nat_eq a.cell c ≡ true → is_subset f.support a.worldview ≡ true → kind_of a.info ≡ kind_of f.info → Implies a.info f.info
+    → a ≡ after_tell c f a
+left_implied c f a here seen alike implied =
+    sym {A = Recalled} (λ j. record { cell = a.cell; worldview = a.worldview; info = meet_implied a.info f.info alike implied j }) ∙ taken_in c f a here seen
 
 pub left_unseen : (c : ℕ) (f : Fact) (a : Recalled) → nat_eq a.cell c ≡ true → is_subset f.support a.worldview ≡ false → a ≡ after_tell c f a
 left_unseen c f a here unseen =

@@ -4,7 +4,8 @@ ghost use Rattle.pw_info.specs.Information.{kind_of};
 ghost use Rattle.pw_cells.specs.inside.OneCell.{Bounds};
 ghost use Rattle.pw_cells.specs.inside.OneCell.{AreOfKind};
 
-use pw_facts::Fact;
+use crate::held::Held;
+use crate::support::Support;
 use pw_info::{Info, Kind};
 
 // This many of the last facts are always gone over. A few are enough: the facts that came last
@@ -40,13 +41,13 @@ impl Bound {
     }
 
     // From now on all facts but the last few are older ones.
-    pub(crate) fn raise(&mut self, facts: &[Fact])
+    pub(crate) fn raise<S: Support>(&mut self, facts: &[Held<S>])
         requires kinds { AreOfKind (kind_of self.old.info) facts.now }
         requires bounds { Bounds (kind_of self.old.info) facts.now self.old }
         ensures { Bounds (kind_of self.old.info) facts.now self.new }
     {
         while facts.len() - self.count > LATEST {
-            self.info = self.info.meet(&facts[self.count].info);
+            self.info = self.info.meet(facts[self.count].info());
             self.count += 1;
         }
     }

@@ -1,70 +1,46 @@
 //! The facts of one cell.
 
-ghost use Rattle.std.specs.Prelude.{◌≡◌, ◌+◌, ◌<◌, ◌≤◌, ◌↔◌, ◌++◌, ◌∷◌, [], true, false};
-ghost use Rattle.std.specs.Prelude.{if◌then◌else◌, None};
-ghost use Rattle.std.specs.Prelude.{map, reverse, vec_len, vec_capacity, IsTrue, IfOk, OnOk, OnErr};
+ghost use Rattle.std.specs.Prelude.{◌≡◌, false, IfOk, OnOk, OnErr};
 ghost use Rattle.pw_info.specs.Information.{kind_of, Implies};
-ghost use Rattle.pw_facts.specs.Facts.{IsMerge, IsMergeOfAll, MergesTo, visible_facts};
-ghost use Rattle.pw_facts.specs.Facts.{IsLeastAbove, IsMostBelow};
-ghost use Rattle.pw_cells.specs.inside.OneCell.{Bounds};
-ghost use Rattle.pw_cells.specs.Cells.{new_cell, shown_by, told_of, kept_of, IsSubsumedBy};
+ghost use Rattle.pw_facts.specs.Facts.{IsLeastAbove, IsMergeOfAll, IsMostBelow, visible_facts};
+ghost use Rattle.pw_cells.specs.Cells.{new_cell, told_of, kept_of};
 ghost use Rattle.pw_cells.specs.Changes.{GainsFact, Assimilates, TellsNews};
-ghost use Rattle.pw_cells.specs.Cells.{assimilated, all_assimilated, unsubsumed};
-ghost use Rattle.pw_cells.specs.inside.OneCell.{AreApart, AreOfKind, place_of_support};
-ghost use Rattle.pw_cells.specs.inside.OneCell.{with_support, ShowsMore, StandsFor};
+ghost use Rattle.pw_cells.specs.inside.OneCell.{StandsFor};
 
-use crate::bound::Bound;
-use crate::supports::Supports;
-use pw_facts::{Fact, merge_facts, subsumes};
+use crate::fact_lists::FactLists;
+use crate::held::Held;
+use pw_facts::Fact;
 use pw_info::{Info, Kind};
-use pw_premises::PremiseSet;
+use pw_premises::{NarrowSet, PremiseSet};
 use std::alloc::{AllocError, Allocator};
 use std::marker::Model;
 
-// This many facts are gone over quickly. A tell also looks at this many of the late facts, so that
-// a fact told again and again is not held as often.
-const FEW: usize = 8;
-
-// A cell's kind, the facts told about it, and the facts kept of it. Facts told under one support
-// are held as one fact, their meet, so asking for them costs no more for a cell that was told
-// often. Told facts are assimilated late, when the kept facts are first asked for. So a cell that
-// gets only tells and asks needs no walk over its facts.
+// The facts of a cell. As long as no premise from 64 on came to it, each support takes one word.
 #[derive(Drop)]
 pub(crate) struct CellFacts<A: Allocator> {
-    kind: Kind,
-    told: Vec<Fact, A>,
-    // The supports of the told facts, in their order.
-    supports: Supports<A>,
-    // The kept facts, except for the late ones. It has room for these.
-    kept: Vec<Fact, A>,
-    // A bound on what the older kept facts say.
-    bound: Bound,
-    // The facts told since, which are not assimilated yet.
-    late: Vec<Fact, A>,
+    lists: Lists<A>,
+}
+
+// The lists of a cell's facts, in one width or the other.
+#[derive(Drop)]
+enum Lists<A: Allocator> {
+    Narrow(FactLists<NarrowSet, A>),
+    Wide(FactLists<PremiseSet, A>),
 }
 
 impl<A: Allocator> Model for CellFacts<A> {
-    ghost use Rattle.std.specs.Prelude.{◌+◌, ◌≤◌, vec_len, vec_capacity};
     ghost use Rattle.pw_info.specs.contracts.kind.Kind as kinds;
     ghost use Rattle.pw_facts.specs.contracts.fact.Fact as facts;
-    ghost use Rattle.pw_cells.specs.Cells.{all_assimilated};
-    ghost use Rattle.pw_cells.specs.inside.OneCell.{Bounds};
     ghost use Rattle.pw_cells.specs.Cells.{Cell};
     ghost use Rattle.pw_cells.specs.inside.OneCell.{cell_code};
-    ghost use Rattle.pw_cells.specs.inside.OneCell.{IsCellWhole};
 
     ghost Value = { Cell };
 
     ghost coded = { cell_code kinds.the_row.coded facts.the_row.coded };
 
-    ghost view = { λ a. record {
-      kind = a.kind;
-      told = a.told.items;
-      kept = all_assimilated a.kept.items a.late.items;
-    } };
+    ghost use Rattle.pw_cells.specs.inside.Widths.{cell_in};
 
-    ghost invariant = { λ a. IsCellWhole a.kind a.told.items a.supports a.kept.items a.late.items
-        × (vec_len a.kept + vec_len a.late ≤ vec_capacity a.kept) × Bounds a.kind a.kept.items a.bound };
+    ghost view = { λ a. cell_in a.lists };
 }
 
 impl<A: Allocator + Copy> CellFacts<A> {
@@ -73,19 +49,17 @@ impl<A: Allocator + Copy> CellFacts<A> {
         ensures { result ≡ new_cell kind }
     {
         CellFacts {
-            kind,
-            told: Vec::new(alloc),
-            supports: Supports::new(alloc),
-            kept: Vec::new(alloc),
-            bound: Bound::none(kind),
-            late: Vec::new(alloc),
+            lists: Lists::Narrow(FactLists::new(alloc, kind)),
         }
     }
 
     pub(crate) fn kind(&self) -> Kind
         ensures { result ≡ self.now.kind }
     {
-        self.kind
+        match &self.lists {
+            Lists::Narrow(lists) => lists.kind(),
+            Lists::Wide(lists) => lists.kind(),
+        }
     }
 
     // Records that a fact was told, and keeps it. If memory is refused, nothing changes.
@@ -97,15 +71,34 @@ impl<A: Allocator + Copy> CellFacts<A> {
         ensures kind { self.new.kind ≡ self.old.kind }
         ensures err { OnErr result (self.new ≡ self.old) }
     {
-        let place = self.supports.place_of(&fact.support);
-        let known = is_lately_subsumed(self.late.as_slice(), fact);
-        // All growths come first, so that a refused growth changes nothing.
-        reserve_unless(&mut self.told, place.is_some())?;
-        reserve_late(&mut self.kept, &mut self.late, known)?;
-        self.supports.add_unless(place, &fact.support)?;
-        add_told(&mut self.told, place, fact);
-        add_late(&mut self.late, known, fact);
-        Ok(())
+        if let Lists::Narrow(lists) = &mut self.lists {
+            if let Some(support) = NarrowSet::of(&fact.support) {
+                return lists.tell(&Held::on(fact.info, support));
+            }
+        }
+        self.tell_wide(fact)
+    }
+
+    // The same, in wide lists. Never inlined, like `keep_wide`, so that cells with narrow lists make
+    // no room for wide ones.
+    #[inline(never)]
+    fn tell_wide(&mut self, fact: &Fact) -> Result<(), AllocError>
+        requires { kind_of fact.now.info ≡ self.old.kind }
+        ensures told { OnOk result (GainsFact fact.now (told_of self.old) (told_of self.new)) }
+        ensures kept { OnOk result (GainsFact fact.now (kept_of self.old) (kept_of self.new)) }
+        ensures assimilates { OnOk result (Assimilates fact.now self.old.kept self.new.kept) }
+        ensures kind { self.new.kind ≡ self.old.kind }
+        ensures err { OnErr result (self.new ≡ self.old) }
+    {
+        match &mut self.lists {
+            Lists::Narrow(lists) => {
+                let mut wide = lists.widened()?;
+                wide.tell(&Held::on(fact.info, fact.support))?;
+                self.lists = Lists::Wide(wide);
+                Ok(())
+            }
+            Lists::Wide(lists) => lists.tell(&Held::on(fact.info, fact.support)),
+        }
     }
 
     // Keeps a fact, and answers whether it was news. If memory is refused, nothing changes.
@@ -119,17 +112,44 @@ impl<A: Allocator + Copy> CellFacts<A> {
         ensures kind { self.new.kind ≡ self.old.kind }
         ensures err { OnErr result (self.new ≡ self.old) }
     {
-        assimilate_late(self.kind, &mut self.kept, &mut self.bound, &mut self.late);
-        let known = is_subsumed(self.kept.as_slice(), &self.bound, fact);
-        reserve_unless(&mut self.kept, known)?;
-        assimilate(&mut self.kept, &mut self.bound, known, fact);
-        Ok(!known)
+        if let Lists::Narrow(lists) = &mut self.lists {
+            if let Some(support) = NarrowSet::of(&fact.support) {
+                return lists.keep(&Held::on(fact.info, support));
+            }
+        }
+        self.keep_wide(fact)
+    }
+
+    // The same, in wide lists.
+    #[inline(never)]
+    fn keep_wide(&mut self, fact: &Fact) -> Result<bool, AllocError>
+        requires { kind_of fact.now.info ≡ self.old.kind }
+        ensures answer { IfOk result (λ news. TellsNews self.old.kept fact.now news) }
+        ensures known { IfOk result (λ news. news ≡ false → self.new ≡ self.old) }
+        ensures kept { OnOk result (GainsFact fact.now (kept_of self.old) (kept_of self.new)) }
+        ensures assimilates { OnOk result (Assimilates fact.now self.old.kept self.new.kept) }
+        ensures told { self.new.told ≡ self.old.told }
+        ensures kind { self.new.kind ≡ self.old.kind }
+        ensures err { OnErr result (self.new ≡ self.old) }
+    {
+        match &mut self.lists {
+            Lists::Narrow(lists) => {
+                let mut wide = lists.widened()?;
+                let news = wide.keep(&Held::on(fact.info, fact.support))?;
+                self.lists = Lists::Wide(wide);
+                Ok(news)
+            }
+            Lists::Wide(lists) => lists.keep(&Held::on(fact.info, fact.support)),
+        }
     }
 
     // Whether there are few told facts to go over.
     #[inline(always)]
     pub(crate) fn is_told_little(&self) -> bool {
-        self.told.len() <= FEW
+        match &self.lists {
+            Lists::Narrow(lists) => lists.is_told_little(),
+            Lists::Wide(lists) => lists.is_told_little(),
+        }
     }
 
     // The merge of the told facts, in a worldview.
@@ -138,11 +158,13 @@ impl<A: Allocator + Copy> CellFacts<A> {
         ensures kind { kind_of result ≡ self.now.kind }
         ensures larger { IsLeastAbove worldview.now (told_of self.now) result }
     {
-        shown(self.kind, self.told.as_slice(), worldview)
+        match &self.lists {
+            Lists::Narrow(lists) => lists.told(worldview),
+            Lists::Wide(lists) => lists.told(worldview),
+        }
     }
 
-    // The merge of the kept facts, in a worldview, with premises that it rests on. The late facts
-    // are assimilated first.
+    // The merge of the kept facts, in a worldview, with premises that it rests on.
     pub(crate) fn kept(&mut self, worldview: &PremiseSet) -> Fact
         ensures same { self.new ≡ self.old }
         ensures merge { IsMergeOfAll (visible_facts worldview.now self.old.kept) result }
@@ -152,252 +174,9 @@ impl<A: Allocator + Copy> CellFacts<A> {
         ensures larger { IsLeastAbove result.support (kept_of self.old) result.info }
         ensures smaller { IsMostBelow worldview.now (kept_of self.old) result.info }
     {
-        assimilate_late(self.kind, &mut self.kept, &mut self.bound, &mut self.late);
-        merged(self.kind, self.kept.as_slice(), &self.bound, worldview)
-    }
-}
-
-// Whether one of the last few facts subsumes this one. Inlined, like `assimilate`.
-#[inline(always)]
-fn is_lately_subsumed(facts: &[Fact], fact: &Fact) -> bool
-    requires { AreOfKind (kind_of fact.now.info) facts.now }
-    ensures { IsTrue result → IsSubsumedBy facts.now fact.now }
-{
-    let len = facts.len();
-    for back in 1..=len.min(FEW) {
-        if subsumes(&facts[len - back], fact) {
-            return true;
+        match &mut self.lists {
+            Lists::Narrow(lists) => lists.kept(worldview).fact(),
+            Lists::Wide(lists) => lists.kept(worldview).fact(),
         }
-    }
-    false
-}
-
-// Whether one of the facts subsumes this one.
-fn is_subsumed_by(facts: &[Fact], fact: &Fact) -> bool
-    requires { AreOfKind (kind_of fact.now.info) facts.now }
-    ensures { IsTrue result ↔ IsSubsumedBy facts.now fact.now }
-{
-    for held in facts {
-        if subsumes(held, fact) {
-            return true;
-        }
-    }
-    false
-}
-
-// Whether a kept fact subsumes this one. The older facts are gone over only if one of them may say
-// as much.
-#[inline(always)]
-fn is_subsumed(kept: &[Fact], bound: &Bound, fact: &Fact) -> bool
-    requires kinds { AreOfKind (kind_of fact.now.info) kept.now }
-    requires bounds { Bounds (kind_of fact.now.info) kept.now bound.now }
-    ensures { IsTrue result ↔ IsSubsumedBy kept.now fact.now }
-{
-    let (older, newer) = kept.split_at(bound.count);
-    if is_subsumed_by(newer, fact) {
-        return true;
-    }
-    bound.info.implies(&fact.info) && is_subsumed_by(older, fact)
-}
-
-// Makes room for one more fact, unless the fact is known.
-fn reserve_unless<A: Allocator>(facts: &mut Vec<Fact, A>, known: bool) -> Result<(), AllocError>
-    ensures items { facts.new.items ≡ facts.old.items }
-    ensures room { OnOk result (known ≡ false → vec_len facts.new < vec_capacity facts.new) }
-{
-    if known {
-        return Ok(());
-    }
-    facts.reserve(1)
-}
-
-// Makes room for one more late fact, and for all late facts among the kept ones, unless the fact is
-// known.
-fn reserve_late<A: Allocator>(
-    kept: &mut Vec<Fact, A>,
-    late: &mut Vec<Fact, A>,
-    known: bool,
-) -> Result<(), AllocError>
-    requires { vec_len kept.old + vec_len late.old ≤ vec_capacity kept.old }
-    ensures kept { kept.new.items ≡ kept.old.items }
-    ensures late { late.new.items ≡ late.old.items }
-    ensures room { vec_len kept.new + vec_len late.new ≤ vec_capacity kept.new }
-    ensures more { OnOk result (known ≡ false → vec_len kept.new + vec_len late.new < vec_capacity
-        kept.new) }
-    ensures late_room { OnOk result (known ≡ false → vec_len late.new < vec_capacity late.new) }
-{
-    if known {
-        return Ok(());
-    }
-    kept.reserve(late.len() + 1)?;
-    late.reserve(1)
-}
-
-// Adds a fact to the told ones: merges it into the fact with the same support, if `place` has one,
-// and otherwise appends it where there is room.
-fn add_told<A: Allocator>(told: &mut Vec<Fact, A>, place: Option<usize>, fact: &Fact)
-    requires kinds { AreOfKind (kind_of fact.now.info) told.old.items }
-    requires place { place ≡ place_of_support fact.now.support (map (λ f. f.support) told.old.items) }
-    requires room { place ≡ None → vec_len told.old < vec_capacity told.old }
-    ensures kinds { AreOfKind (kind_of fact.now.info) told.new.items }
-    ensures supports { map (λ f. f.support) told.new.items
-        ≡ with_support place fact.now.support (map (λ f. f.support) told.old.items) }
-    ensures shown { ShowsMore fact.now told.old.items told.new.items }
-{
-    match place {
-        Some(place) => told[place].info = told[place].info.meet(&fact.info),
-        None => append(told, fact),
-    }
-}
-
-// Adds a fact to the late ones, where there is room, unless the fact is known.
-fn add_late<A: Allocator>(late: &mut Vec<Fact, A>, known: bool, fact: &Fact)
-    requires { known ≡ false → vec_len late.old < vec_capacity late.old }
-    ensures items { late.new.items ≡ (if known then late.old.items else late.old.items ++ fact.now ∷
-        []) }
-    ensures known { known ≡ true → vec_len late.new ≡ vec_len late.old }
-    ensures len { vec_len late.new ≤ vec_len late.old + 1 }
-{
-    if known {
-        return;
-    }
-    append(late, fact);
-}
-
-// Assimilates the late facts; then none is late. The kept facts have room for them.
-fn assimilate_late<A: Allocator>(
-    kind: Kind,
-    kept: &mut Vec<Fact, A>,
-    bound: &mut Bound,
-    late: &mut Vec<Fact, A>,
-)
-    requires kinds { AreOfKind kind kept.old.items }
-    requires late_kinds { AreOfKind kind late.old.items }
-    requires apart { AreApart kept.old.items }
-    requires bounds { Bounds kind kept.old.items bound.old }
-    requires room { vec_len kept.old + vec_len late.old ≤ vec_capacity kept.old }
-    ensures kept { kept.new.items ≡ all_assimilated kept.old.items late.old.items }
-    ensures bounds { Bounds kind kept.new.items bound.new }
-    ensures late { late.new.items ≡ [] }
-    ensures none { vec_len late.new ≡ 0 }
-{
-    for fact in late.as_slice() {
-        let known = is_subsumed(kept.as_slice(), bound, fact);
-        assimilate(kept, bound, known, fact);
-    }
-    late.clear();
-}
-
-// Keeps a fact, where there is room, and drops the facts that it subsumes. If the fact is known, a
-// kept fact subsumes it, and nothing is done.
-#[inline(always)]
-fn assimilate<A: Allocator>(kept: &mut Vec<Fact, A>, bound: &mut Bound, known: bool, fact: &Fact)
-    requires kinds { AreOfKind (kind_of fact.now.info) kept.old.items }
-    requires bounds { Bounds (kind_of fact.now.info) kept.old.items bound.old }
-    requires known { IsTrue known ↔ IsSubsumedBy kept.old.items fact.now }
-    requires room { known ≡ false → vec_len kept.old < vec_capacity kept.old }
-    ensures assimilated { kept.new.items ≡ assimilated kept.old.items fact.now }
-    ensures bounds { Bounds (kind_of fact.now.info) kept.new.items bound.new }
-    ensures len { vec_len kept.new ≤ vec_len kept.old + 1 }
-    ensures capacity { vec_capacity kept.old ≤ vec_capacity kept.new }
-{
-    if !known {
-        let before = kept.len();
-        drop_subsumed(kept, fact);
-        bound.lower(before - kept.len());
-        append(kept, fact);
-        bound.raise(kept.as_slice());
-    }
-}
-
-// Drops the facts that this one subsumes. (`retain` takes no test that may be asked of facts of one
-// kind alone.) Few facts are dropped at a time, so the later ones move down together and not one by
-// one.
-fn drop_subsumed<A: Allocator>(kept: &mut Vec<Fact, A>, fact: &Fact)
-    requires { AreOfKind (kind_of fact.now.info) kept.old.items }
-    ensures rest { kept.new.items ≡ unsubsumed fact.now kept.old.items }
-    ensures len { vec_len kept.new ≤ vec_len kept.old }
-    ensures capacity { vec_capacity kept.new ≡ vec_capacity kept.old }
-{
-    let mut place = 0;
-    while place < kept.len() {
-        if subsumes(fact, &kept[place]) {
-            kept.remove(place);
-        } else {
-            place += 1;
-        }
-    }
-}
-
-// Appends a fact where there is room.
-fn append<A: Allocator>(facts: &mut Vec<Fact, A>, fact: &Fact)
-    requires { vec_len facts.old < vec_capacity facts.old }
-    ensures items { facts.new.items ≡ facts.old.items ++ fact.now ∷ [] }
-    ensures capacity { vec_capacity facts.old ≤ vec_capacity facts.new }
-{
-    let _ = facts.push(*fact);
-}
-
-// What the facts together show in a worldview.
-fn shown(kind: Kind, facts: &[Fact], worldview: &PremiseSet) -> Info
-    requires { AreOfKind kind facts.now }
-    ensures { result ≡ shown_by kind worldview.now facts.now }
-{
-    let mut info = Info::nothing(kind);
-    for fact in facts {
-        if fact.support.is_subset(worldview) {
-            info = info.meet(&fact.info);
-        }
-    }
-    info
-}
-
-// The merge of the facts that rest only on premises of the worldview.
-fn merged(kind: Kind, facts: &[Fact], bound: &Bound, worldview: &PremiseSet) -> Fact
-    requires kinds { AreOfKind kind facts.now }
-    requires bounds { Bounds kind facts.now bound.now }
-    ensures stands { StandsFor kind worldview.now facts.now result }
-    ensures merge { IsMergeOfAll (visible_facts worldview.now facts.now) result }
-{
-    let (older, newer) = facts.split_at(bound.count);
-    let mut merge = Fact {
-        info: Info::nothing(kind),
-        support: PremiseSet::empty(),
-    };
-    merge_all_in(&mut merge, newer, worldview);
-    // Mostly the merge says more than each of the older facts. Then none of them changes it.
-    if merge.info.implies(&bound.info) && !bound.info.implies(&merge.info) {
-        return merge;
-    }
-    merge_all_in(&mut merge, older, worldview);
-    merge
-}
-
-// Merges the facts that rest only on premises of the worldview into what is merged so far. The last
-// facts come first: they mostly say the most, and then one look at each of the others is enough.
-fn merge_all_in(merge: &mut Fact, facts: &[Fact], worldview: &PremiseSet)
-    requires { AreOfKind (kind_of merge.old.info) facts.now }
-    ensures merges { MergesTo merge.old (visible_facts worldview.now (reverse facts.now)) merge.new }
-    ensures kind { kind_of merge.new.info ≡ kind_of merge.old.info }
-{
-    for back in 0..facts.len() {
-        let held = &facts[facts.len() - 1 - back];
-        if held.support.is_subset(worldview) {
-            merge_in(merge, held);
-        }
-    }
-}
-
-// Merges one more fact into what is merged so far, as `merge_facts` does. Mostly the merge says as
-// much already. Then it is unchanged, and nothing is copied.
-#[inline(always)]
-fn merge_in(merge: &mut Fact, held: &Fact)
-    requires { kind_of merge.old.info ≡ kind_of held.now.info }
-    ensures { IsMerge merge.old held.now merge.new }
-{
-    if !merge.info.implies(&held.info) {
-        *merge = merge_facts(merge, held);
-    } else if held.support.is_subset(&merge.support) && held.info.implies(&merge.info) {
-        *merge = *held;
     }
 }

@@ -4,8 +4,11 @@
 mod bound;
 mod cell_facts;
 mod cell_store;
+mod fact_lists;
+mod held;
 pub mod laws;
 mod recalled;
-mod supports;
+mod support;
+mod told_facts;
 
 pub use cell_store::CellStore;

@@ -6,9 +6,11 @@ ghost use Rattle.pw_info.specs.Information.{kind_of};
 ghost use Rattle.pw_cells.specs.Cells.{Cell, told_at};
 ghost use Rattle.pw_cells.specs.inside.OneCell.{AreRight, IsRight, after_tell};
 
+use crate::held::Held;
+use crate::support::Support;
 use pw_facts::Fact;
 use pw_info::Info;
-use pw_premises::PremiseSet;
+use pw_premises::{NarrowSet, PremiseSet};
 
 // This many answers are cached.
 const ANSWERS: usize = 16;
@@ -70,21 +72,28 @@ impl Answers {
         ensures { self.new.slots ≡ option_map (map (after_tell cell fact.now)) self.old.slots }
     {
         if let Some(slots) = &mut self.slots {
-            take_into_each(slots, cell, fact);
+            match NarrowSet::of(&fact.support) {
+                Some(support) => take_into_each(slots, cell, &Held::on(fact.info, support)),
+                None => take_into_each(slots, cell, &Held::on(fact.info, fact.support)),
+            }
         }
     }
 }
 
 // Merges the fact into each of the answers on the cell.
-fn take_into_each(answers: &mut [Recalled], cell: u32, fact: &Fact)
+fn take_into_each<S: Support>(answers: &mut [Recalled], cell: u32, fact: &Held<S>)
     requires { All (λ answer. answer.cell ≡ cell → kind_of answer.info ≡ kind_of fact.now.info)
         answers.old }
     ensures { answers.new ≡ map (after_tell cell fact.now) answers.old }
 {
     for place in 0..answers.len() {
         let answer = answers[place];
-        if answer.cell == cell && fact.support.is_subset(&answer.worldview) {
-            answers[place].info = answer.info.meet(&fact.info);
+        // Mostly the answer says as much already, and is unchanged.
+        if answer.cell == cell
+            && fact.is_visible(&answer.worldview)
+            && !answer.info.implies(fact.info())
+        {
+            answers[place].info = answer.info.meet(fact.info());
         }
     }
 }

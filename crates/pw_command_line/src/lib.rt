@@ -14,7 +14,8 @@ const ABOUT: &str =
     "Answers what users tell and ask of shared cells, each under the premises they believe";
 
 const MORE: &str = "Files:
-  DECL        a declaration: first `workbench 1`, then a line for each user, premise, set and cell,
+  DECL        a declaration: first `workbench 1` (at most 64 premises, 64 members in a set) or
+              `workbench 2` (512 and 128), then a line for each user, premise, set and cell,
               as `user ann`, `premise a`, `premise b of ann` (ann's alone to tell under),
               `set part cable card`, `cell x interval`, `cell k exact`, `cell f part`;
               and compounds, each of several lines, as `compound twice x interval t interval`,

@@ -50,7 +50,7 @@ led_to : (so_far after made : SoFar) → AddsTo so_far made → after ≡ made �
 led_to so_far after made adds is = subst (AddsTo so_far) (sym is) adds
 
 sentence_adds : (so_far : SoFar) (s : DeclarationSentence) (after : SoFar) → Makes so_far s after → AddsTo so_far after
-sentence_adds (BeforeHeader d) Header after is = led_to (BeforeHeader d) after _ (adds_none d) is
+sentence_adds (BeforeHeader d) (Header version) after is = led_to (BeforeHeader d) after _ (nothing_added d _ refl refl refl) is
 sentence_adds (Outside d) (User name) after is = led_to (Outside d) after _ (nothing_added d _ refl refl refl) is
 sentence_adds (Outside d) (Premise name) after is = led_to (Outside d) after _ (nothing_added d _ refl refl refl) is
 sentence_adds (Outside d) (PremiseOf name user) after (owner, at, is) = led_to (Outside d) after _ (nothing_added d _ refl refl refl) is

@@ -1,17 +1,17 @@
 -- From the form of a line to what the line declares, or to its first fault.
-use Rattle.std.proofs.Common.{◌≡◌, ℕ, ◌<◌, ◌≤◌, true, false, List, length, Some, None, Result, Ok, Err, IfOk, IfErr, inl, inr, sym, refl, subst, ◌∙◌, arith}
-use Rattle.std.specs.Prelude.{OnOk}
+use Rattle.std.proofs.Common.{◌≡◌, ℕ, ◌<◌, ◌≤◌, true, false, List, length, Some, None, Result, Ok, Err, IfOk, IfErr, inl, inr, sym, refl, ap, subst, ◌∙◌, arith}
 use Rattle.std.specs.List.{list_all}
 use Rattle.std.proofs.lemmas.Bool.{false≢true}
 use Rattle.pw_decl.specs.declared.decl_fault.DeclFaultKind.{DeclFaultKind}
 use Rattle.pw_decl.specs.declared.decl_fault.DeclFaultKind.TheVariants.{Syntax}
 use Rattle.pw_info.specs.Lines.{IsFirstIn}
 use Rattle.pw_info.specs.Words.{words_of, is_idle, is_allowed}
-use Rattle.pw_decl.specs.Declaration.{Declared, SoFar, BeforeHeader, Outside, DeclarationSentence, Header, Set, Begin, Call, IsOuterSentence, IsInnerSentence, Makes}
-use Rattle.pw_decl.specs.inside.Forms.{sentence_at, outer_sentence_of, inner_sentence_of, is_header}
+use Rattle.pw_decl.specs.declared.version.Version.{Version}
+use Rattle.pw_decl.specs.Declaration.{Declared, SoFar, BeforeHeader, Outside, DeclarationSentence, Header, Set, Begin, Call, IsOuterSentence, IsInnerSentence, with_version}
+use Rattle.pw_decl.specs.inside.Forms.{sentence_at, outer_sentence_of, inner_sentence_of}
 use Rattle.pw_decl.specs.Faults.{SaysInPlace, Declares, LineFault, BadSyntax, Duplicate, Unknown, Wrong, TooMany, FaultApplies, IsFirstFaultOf, HasNoFault, HasDuplicate, HasUnknown, HasWrongArguments, IsOneTooMany}
 use Rattle.pw_decl.specs.Limits.{most_line_bytes}
-use Rattle.pw_decl.specs.inside.SentenceFaults.{FaultAppliesTo, HasGoodParts, sentence_faults, IsFaultless, IsToldOf, IsToldOfLine}
+use Rattle.pw_decl.specs.inside.SentenceFaults.{FaultAppliesTo, HasGoodParts, sentence_faults, IsFaultless, DeclaresSentence, IsToldOf, IsToldOfLine}
 use Rattle.pw_info.proofs.NameLemmas.{all_pass}
 use Rattle.pw_decl.proofs.LineFaults.{found, found_outer, found_inner, given, parameters_pass, one_sentence}
 
@@ -78,8 +78,8 @@ module _ (so_far : SoFar) (line : List ℕ) (s : DeclarationSentence) (short : l
   none_later (duplicate, (unknown, (wrong, (many, end)))) =
       (not_long, (not_bad, (no_duplicate duplicate, (no_unknown unknown, (not_wrong wrong, (not_many many, tt))))))
 
-  pub declared : (after : SoFar) → IsFaultless so_far s → Makes so_far s after → Declares so_far line after
-  declared after none makes = (none_later none, inr (s, said, makes))
+  pub declared : (after : SoFar) → DeclaresSentence so_far s after → Declares so_far line after
+  declared after declares = (none_later declares.faultless, inr (s, said, declares.makes))
 
   first_later : (fault : LineFault) → IsFirstIn (FaultAppliesTo so_far s) sentence_faults fault → IsFirstFaultOf so_far line fault
   first_later fault (inl (is, h)) = inr (not_long, inr (not_bad, inl (is, (s, said, h))))
@@ -95,28 +95,22 @@ module _ (so_far : SoFar) (line : List ℕ) (s : DeclarationSentence) (short : l
 
 -- ---- the place of the line
 
--- before the header
-pub no_header : (so_far : SoFar) (d : Declared) (line : List ℕ) → so_far ≡ BeforeHeader d → length line ≤ most_line_bytes → is_idle line ≡ false →
-    is_header (words_of line) ≡ false → IsToldOfLine so_far line Syntax
-no_header so_far d line is short spoken other =
-    subst (λ (x : SoFar). IsToldOfLine x line Syntax) (sym is) (told_unformed (BeforeHeader d) line short spoken (rw other refl))
-
-pub header_declares : (so_far : SoFar) (d : Declared) (line : List ℕ) → so_far ≡ BeforeHeader d → length line ≤ most_line_bytes → is_idle line ≡ false →
-    list_all is_allowed line ≡ true → is_header (words_of line) ≡ true → Declares so_far line (Outside d)
-header_declares so_far d line is short spoken allowed header =
-    subst (λ (x : SoFar). Declares x line (Outside d)) (sym is)
-    (declared (BeforeHeader d) line Header short spoken allowed (rw header refl) (Outside d) (λ h. h, (λ h. h, (λ h. h, (λ h. h, tt)))) refl)
-
--- elsewhere
 pub no_sentence : (so_far at : SoFar) (line : List ℕ) → so_far ≡ at → length line ≤ most_line_bytes → is_idle line ≡ false →
     None ≡ sentence_at at (words_of line) → IsToldOfLine so_far line Syntax
 no_sentence so_far at line is short spoken none =
     subst (λ (x : SoFar). IsToldOfLine x line Syntax) (sym is) (told_unformed at line short spoken (sym none))
 
 sentence_declares : (so_far at after : SoFar) (line : List ℕ) (s : DeclarationSentence) → so_far ≡ at → length line ≤ most_line_bytes → is_idle line ≡ false →
-    list_all is_allowed line ≡ true → Some s ≡ sentence_at at (words_of line) → IsFaultless at s → Makes at s after → Declares so_far line after
-sentence_declares so_far at after line s is short spoken allowed formed none makes =
-    subst (λ (x : SoFar). Declares x line after) (sym is) (declared at line s short spoken allowed (sym formed) after none makes)
+    list_all is_allowed line ≡ true → Some s ≡ sentence_at at (words_of line) → DeclaresSentence at s after → Declares so_far line after
+sentence_declares so_far at after line s is short spoken allowed formed declares =
+    subst (λ (x : SoFar). Declares x line after) (sym is) (declared at line s short spoken allowed (sym formed) after declares)
+
+-- the header has no fault
+pub header_declares : (so_far : SoFar) (d : Declared) (line : List ℕ) (version : Version) (after : Declared) → so_far ≡ BeforeHeader d → length line ≤ most_line_bytes → is_idle line ≡ false →
+    list_all is_allowed line ≡ true → Some (Header version) ≡ sentence_at (BeforeHeader d) (words_of line) → after ≡ with_version d version → Declares so_far line (Outside after)
+header_declares so_far d line version after is short spoken allowed formed made =
+    sentence_declares so_far (BeforeHeader d) (Outside after) line (Header version) is short spoken allowed formed
+    (record { faultless = (λ h. h, (λ h. h, (λ h. h, (λ h. h, tt)))); makes = ap Outside made })
 
 sentence_faulty : (so_far at : SoFar) (line : List ℕ) (s : DeclarationSentence) (why : DeclFaultKind) → so_far ≡ at → length line ≤ most_line_bytes → is_idle line ≡ false →
     list_all is_allowed line ≡ true → Some s ≡ sentence_at at (words_of line) → IsToldOf at s why → IsToldOfLine so_far line why
@@ -126,9 +120,9 @@ sentence_faulty so_far at line s why is short spoken allowed formed told =
 -- the answer for a sentence holds for its line: the place of the next line, or the fault
 module _ {P : Type 0} (so_far at : SoFar) (line : List ℕ) (s : DeclarationSentence) (is : so_far ≡ at) (short : length line ≤ most_line_bytes) (spoken : is_idle line ≡ false) where
   pub answer_declares : (next : P → SoFar) (r : Result P DeclFaultKind) → list_all is_allowed line ≡ true → Some s ≡ sentence_at at (words_of line) →
-      OnOk r (IsFaultless at s) → IfOk r (λ p. Makes at s (next p)) → IfOk r (λ p. Declares so_far line (next p))
-  answer_declares next (Ok p) allowed formed none makes = sentence_declares so_far at (next p) line s is short spoken allowed formed none makes
-  answer_declares next (Err why) allowed formed none makes = tt
+      IfOk r (λ p. DeclaresSentence at s (next p)) → IfOk r (λ p. Declares so_far line (next p))
+  answer_declares next (Ok p) allowed formed declares = sentence_declares so_far at (next p) line s is short spoken allowed formed declares
+  answer_declares next (Err why) allowed formed declares = tt
 
   pub answer_faulty : (r : Result P DeclFaultKind) → list_all is_allowed line ≡ true → Some s ≡ sentence_at at (words_of line) →
       IfErr r (IsToldOf at s) → IfErr r (IsToldOfLine so_far line)

@@ -10,8 +10,9 @@ use Rattle.std.proofs.lemmas.Slice.Eq.{bytes_eq-Decides}
 use Rattle.pw_kinds.specs.Places.{IsSize}
 use Rattle.pw_info.specs.declared.kind.Kind.{Kind}
 use Rattle.pw_info.specs.SetNames.{AreNames, IsNamed}
-use Rattle.pw_decl.specs.Declaration.{Declared, nothing_declared, built_in_sets, members_of, with_user, with_premise, with_cell, with_set, with_compound}
+use Rattle.pw_decl.specs.Declaration.{Declared, nothing_declared, built_in_sets, members_of, with_version, with_user, with_premise, with_cell, with_set, with_compound}
 use Rattle.pw_decl.specs.Compound.{Compound, AreSteps, size_of_steps, sizes_of}
+use Rattle.pw_decl.specs.declared.version.Version.{Version}
 use Rattle.pw_decl.specs.Limits.{most_users, most_premises, most_cells, most_sets, most_compounds, most_parameters}
 use Rattle.pw_decl.specs.Prelude.{prelude_compounds}
 use Rattle.pw_procs.specs.Procedure.{Procedure}
@@ -46,12 +47,12 @@ well_at_first procedures =
       few = All-nil (λ (compound : Compound). length compound.parameters ≤ most_parameters);
     }
 
--- and with other users, premises and cells, of which it still holds
-well_beside : (d : Declared) (users premises : List (List ℕ)) (owners : List (Option ℕ)) (cells : List (List ℕ)) (kinds : List Kind) → IsWellDeclared d
+-- and in any version, with other users, premises and cells, of which it still holds
+well_beside : (d : Declared) (version : Version) (users premises : List (List ℕ)) (owners : List (Option ℕ)) (cells : List (List ℕ)) (kinds : List Kind) → IsWellDeclared d
     → length users ≤ most_users → length premises ≤ most_premises → length owners ≡ length premises → length cells ≤ most_cells → length kinds ≡ length cells
     → All (λ owner. IfSome owner (λ user. user < length users)) owners → All (IsNamed (members_of d)) kinds
-    → IsWellDeclared (record d { users = users; premises = premises; owners = owners; cells = cells; kinds = kinds })
-well_beside d users premises owners cells kinds well few_users few_premises same_owners few_cells same_kinds owned known =
+    → IsWellDeclared (record d { version = version; users = users; premises = premises; owners = owners; cells = cells; kinds = kinds })
+well_beside d version users premises owners cells kinds well few_users few_premises same_owners few_cells same_kinds owned known =
     record {
       users = few_users;
       premises = few_premises;
@@ -71,11 +72,16 @@ well_beside d users premises owners cells kinds well few_users few_premises same
       few = well.few;
     }
 
--- as with one more user
+-- as in another version
+pub well_with_version : (d : Declared) (version : Version) → IsWellDeclared d → IsWellDeclared (with_version d version)
+well_with_version d version well =
+    well_beside d version d.users d.premises d.owners d.cells d.kinds well well.users well.premises well.owners well.cells well.kinds well.owned well.known
+
+-- with one more user
 pub well_with_user : (d : Declared) (name : List ℕ) → IsWellDeclared d → length d.users < most_users → IsWellDeclared (with_user d name)
 well_with_user d name well room =
     let longer : length (d.users ++ name ∷ []) ≡ length d.users + 1 = length-append d.users (name ∷ []) in
-    well_beside d (d.users ++ name ∷ []) d.premises d.owners d.cells d.kinds well (omega arith) well.premises well.owners well.cells well.kinds
+    well_beside d d.version (d.users ++ name ∷ []) d.premises d.owners d.cells d.kinds well (omega arith) well.premises well.owners well.cells well.kinds
     (All-weaker (λ owner. IfSome owner (λ user. user < length d.users)) (λ owner. IfSome owner (λ user. user < length (d.users ++ name ∷ []))) (still_user (length d.users) (length (d.users ++ name ∷ [])) (omega arith)) d.owners well.owned)
     well.known
 
@@ -86,7 +92,7 @@ well_with_premise d name owner well room own =
     let longer : length (d.premises ++ name ∷ []) ≡ length d.premises + 1 = length-append d.premises (name ∷ []) in
     let more : length (d.owners ++ owner ∷ []) ≡ length d.owners + 1 = length-append d.owners (owner ∷ []) in
     let alike : length d.owners ≡ length d.premises = well.owners in
-    well_beside d d.users (d.premises ++ name ∷ []) (d.owners ++ owner ∷ []) d.cells d.kinds well well.users (omega arith) (omega arith) well.cells well.kinds
+    well_beside d d.version d.users (d.premises ++ name ∷ []) (d.owners ++ owner ∷ []) d.cells d.kinds well well.users (omega arith) (omega arith) well.cells well.kinds
     (All-push (λ o. IfSome o (λ user. user < length d.users)) d.owners owner well.owned own) well.known
 
 -- with one more cell, of a kind that exists
@@ -96,7 +102,7 @@ well_with_cell d name kind well room known =
     let longer : length (d.cells ++ name ∷ []) ≡ length d.cells + 1 = length-append d.cells (name ∷ []) in
     let more : length (d.kinds ++ kind ∷ []) ≡ length d.kinds + 1 = length-append d.kinds (kind ∷ []) in
     let alike : length d.kinds ≡ length d.cells = well.kinds in
-    well_beside d d.users d.premises d.owners (d.cells ++ name ∷ []) (d.kinds ++ kind ∷ []) well well.users well.premises well.owners (omega arith) (omega arith)
+    well_beside d d.version d.users d.premises d.owners (d.cells ++ name ∷ []) (d.kinds ++ kind ∷ []) well well.users well.premises well.owners (omega arith) (omega arith)
     well.owned (All-push (IsNamed (members_of d)) d.kinds kind well.known known)
 
 -- and with one more set, of members that have names

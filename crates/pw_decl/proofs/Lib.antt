@@ -19,3 +19,4 @@ pub mod Places
 pub mod PreludeLaw
 pub mod PreludeLemmas
 pub mod SetLemmas
+pub mod VersionLemmas

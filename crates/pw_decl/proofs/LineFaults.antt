@@ -18,26 +18,21 @@ use Rattle.pw_info.proofs.NameLemmas.{all_passed, all_pass}
 use Rattle.pw_procs.specs.Procedure.{Procedure}
 use Rattle.pw_decl.specs.declared.decl_fault.DeclFaultKind.{DeclFaultKind}
 use Rattle.pw_decl.specs.declared.step.Callable.{Callable}
+use Rattle.pw_decl.specs.declared.version.Version.TheVariants as versions
 use Rattle.pw_decl.specs.Declaration.{Declared, nothing_declared, SoFar, BeforeHeader, Outside, Inside, DeclarationSentence, Header, User, Premise, PremiseOf, Set, Cell, Begin, Local, Call, End, IsSentenceAt, IsOuterSentence, IsInnerSentence, AreParameters, parameter_names, parameter_kinds, members_of, NamesKind, NameKinds, begun, with_premise, with_cell, with_local, with_call, places_of, Makes}
 use Rattle.pw_decl.specs.Prelude.{prelude_text}
-use Rattle.pw_decl.specs.inside.Forms.{sentence_at, outer_sentence_of, inner_sentence_of, is_header, are_parameters, user_form, premise_form, set_form, cell_form, compound_form, local_form, end_form, call_form}
+use Rattle.pw_decl.specs.inside.Forms.{sentence_at, outer_sentence_of, inner_sentence_of, header_form, are_parameters, user_form, premise_form, set_form, cell_form, compound_form, local_form, end_form, call_form}
 use Rattle.pw_decl.specs.Faults.{SaysInPlace, Declares, Leads, PreludeDeclares, SpellsDeclaration, IsUnfinished, IsFaultNext, IsFaultAmong, IsFaultOnLine, IsFirstFault, line_faults, FaultApplies, IsFirstFaultOf, kind_of_fault}
 
 -- ---- the header
 
-header_passed : (words : List (List ℕ)) → is_header words ≡ true → words ≡ codes "workbench" ∷ codes "1" ∷ []
-header_passed [] e = absurd (false≢true e)
-header_passed (verb ∷ []) e = absurd (false≢true e)
-header_passed (verb ∷ version ∷ []) e =
-    elim (cases_Bool (bytes_eq verb (codes "workbench"))) [
-      | inl first ↦
-          let second : bytes_eq version (codes "1") ≡ true = rw first at e in
-          let v : verb ≡ codes "workbench" = (bytes_eq-Decides verb (codes "workbench")).0 first in
-          let w : version ≡ codes "1" = (bytes_eq-Decides version (codes "1")).0 second in
-          ap (λ (x : List ℕ). x ∷ version ∷ []) v ∙ ap (λ (x : List ℕ). codes "workbench" ∷ x ∷ []) w
-      | inr other ↦ absurd (false≢true (rw other at e))
-    ]
-header_passed (verb ∷ version ∷ word ∷ words) e = absurd (false≢true e)
+found_header : (d : Declared) (words : List (List ℕ)) (s : DeclarationSentence) → header_form words ≡ Some s → IsSentenceAt (BeforeHeader d) words s
+found_header d words s e = search rules
+
+given_header : (d : Declared) (words : List (List ℕ)) (s : DeclarationSentence) → IsSentenceAt (BeforeHeader d) words s → header_form words ≡ Some s
+given_header d words (Header versions.One) is = ap header_form is
+given_header d words (Header versions.Two) is = ap header_form is
+given_header d words s is = absurd is
 
 -- ---- parameters
 
@@ -199,17 +194,13 @@ given_inner words s e = absurd e
 
 -- the function gives a sentence that the words form
 pub found : (so_far : SoFar) (words : List (List ℕ)) (s : DeclarationSentence) → sentence_at so_far words ≡ Some s → IsSentenceAt so_far words s
-found (BeforeHeader d) words s e =
-    elim (cases_Bool (is_header words)) [
-      | inl is ↦ (sym (same_Some Header s (rw is at e)), header_passed words is)
-      | inr not ↦ absurd (let f : None ≡ Some s = rw not at e in cc)
-    ]
+found (BeforeHeader d) words s e = found_header d words s e
 found (Outside d) words s e = found_outer words s e
 found (Inside d opened) words s e = found_inner words s e
 
 -- the function gives each sentence that the words form
 pub given : (so_far : SoFar) (words : List (List ℕ)) (s : DeclarationSentence) → IsSentenceAt so_far words s → sentence_at so_far words ≡ Some s
-given (BeforeHeader d) words s (header, is) = ap (sentence_at (BeforeHeader d)) is ∙ ap Some (sym header)
+given (BeforeHeader d) words s e = given_header d words s e
 given (Outside d) words s e = given_outer words s e
 given (Inside d opened) words s e = given_inner words s e
 
@@ -247,7 +238,7 @@ same_kinds d (word ∷ words) (j ∷ js) [] p q = absurd q
 
 -- a sentence makes one thing at most
 pub one_made : (so_far : SoFar) (s : DeclarationSentence) (a b : SoFar) → Makes so_far s a → Makes so_far s b → a ≡ b
-one_made (BeforeHeader d) Header a b p q = p ∙ sym q
+one_made (BeforeHeader d) (Header version) a b p q = p ∙ sym q
 one_made (Outside d) (User name) a b p q = p ∙ sym q
 one_made (Outside d) (Premise name) a b p q = p ∙ sym q
 one_made (Outside d) (PremiseOf name user) a b p q =

@@ -4,7 +4,6 @@ use Rattle.std.specs.Prelude.{All}
 use Rattle.std.specs.List.{list_all}
 use Rattle.std.proofs.lemmas.Bool.{cases_Bool, false≢true}
 use Rattle.std.proofs.Math.Nat.{lt_of_not-le}
-use Rattle.pw_kinds.specs.Places.{most_members}
 use Rattle.pw_kinds.specs.Places.{IsSize, fewest_members}
 use Rattle.pw_info.specs.declared.kind.Kind.{Kind}
 use Rattle.pw_info.specs.declared.kind.Kind.TheVariants as kinds
@@ -18,20 +17,22 @@ use Rattle.pw_decl.specs.declared.decl_fault.DeclFaultKind.{DeclFaultKind}
 use Rattle.pw_decl.specs.declared.decl_fault.DeclFaultKind.TheVariants.{Syntax, Limit, MissingEnd}
 use Rattle.pw_decl.specs.declared.step.Callable.{Callable}
 use Rattle.pw_decl.specs.Compound.{AcceptsKinds, kinds_at, cell_kinds, Size, size_of_local, size_of_callable, sizes_of}
-use Rattle.pw_decl.specs.Declaration.{Declared, nothing_declared, OpenCompound, SoFar, BeforeHeader, Outside, Inside, kind_names, members_of, NamesKind, NameKinds, parameter_names, parameter_kinds, callable_named, places_of, DeclarationSentence, Header, User, Premise, PremiseOf, Set, Cell, Begin, Local, Call, End, IsSentenceAt, begun, with_user, with_premise, with_cell, with_set, with_local, with_call, with_compound, Makes}
+use Rattle.pw_decl.specs.Declaration.{Declared, nothing_declared, OpenCompound, SoFar, BeforeHeader, Outside, Inside, kind_names, members_of, NamesKind, NameKinds, parameter_names, parameter_kinds, callable_named, places_of, DeclarationSentence, Header, User, Premise, PremiseOf, Set, Cell, Begin, Local, Call, End, IsSentenceAt, begun, with_version, with_user, with_premise, with_cell, with_set, with_local, with_call, with_compound, Makes}
 use Rattle.pw_decl.specs.Faults.{SaysInPlace, HasDuplicate, HasUnknown, is_cell_of, HasWrongArguments, OutgrowsWith, IsOneTooMany, LineFault, TooLong, BadSyntax, Duplicate, Unknown, Wrong, TooMany, line_faults, kind_of_fault, FaultApplies, HasNoFault, IsFirstFaultOf, HasAFault, Declares, LeadsOn, Leads, PreludeDeclares, SpellsDeclaration, SpellsOne, IsFaultAmong, HasAFirstFault}
 use Rattle.pw_decl.specs.Limits.{most_users, most_premises, most_cells, most_sets, most_compounds, most_parameters, most_instances, most_inner_cells, most_line_bytes, most_text_bytes}
 use Rattle.pw_decl.specs.Prelude.{prelude_compounds, prelude_text}
+use Rattle.pw_decl.specs.Versions.{most_premises_under, most_members_under}
 use Rattle.pw_decl.specs.WellDeclared.{IsWellDeclared, IsWellSoFar}
 use Rattle.pw_decl.specs.inside.Forms.{sentence_at}
 use Rattle.pw_decl.proofs.CompoundLaws.{well_begun, well_with_local, well_with_call, places_there}
 use Rattle.pw_decl.proofs.CompoundLemmas.{length-named, length-parameters}
 use Rattle.pw_decl.proofs.Decided.{Decided, first_or_none, decided_not, decided_or, decided_less, decided_at_most, decided_some, decided_none, decided_distinct, decided_false, decided_nil, decided_there, decided_accepts_kinds}
-use Rattle.pw_decl.proofs.DeclaredLemmas.{well_at_first, well_with_user, well_with_premise, well_with_cell, well_with_set, well_with_compound}
+use Rattle.pw_decl.proofs.DeclaredLemmas.{well_at_first, well_with_version, well_with_user, well_with_premise, well_with_cell, well_with_set, well_with_compound}
 use Rattle.pw_decl.proofs.LineFaults.{found, given, one_sentence, one_declared}
 use Rattle.pw_decl.proofs.ParameterLemmas.{none_there}
 use Rattle.pw_decl.proofs.Places.{place_of_name-lt}
 use Rattle.pw_decl.proofs.SetLemmas.{unnamed}
+use Rattle.pw_decl.proofs.VersionLemmas.{premises_within, members_within}
 
 -- ---- the kind that a word names
 
@@ -130,9 +131,9 @@ decided_outgrows d opened size = decided_or (decided_less most_instances _) (dec
 
 decided_many : (so_far : SoFar) (s : DeclarationSentence) → Decided (IsOneTooMany so_far s)
 decided_many (Outside d) (User name) = decided_at_most most_users (length d.users)
-decided_many (Outside d) (Premise name) = decided_at_most most_premises (length d.premises)
-decided_many (Outside d) (PremiseOf name user) = decided_at_most most_premises (length d.premises)
-decided_many (Outside d) (Set name members) = decided_or (decided_at_most most_sets (length d.sets)) (decided_less most_members (length members))
+decided_many (Outside d) (Premise name) = decided_at_most (most_premises_under d.version) (length d.premises)
+decided_many (Outside d) (PremiseOf name user) = decided_at_most (most_premises_under d.version) (length d.premises)
+decided_many (Outside d) (Set name members) = decided_or (decided_at_most most_sets (length d.sets)) (decided_less (most_members_under d.version) (length members))
 decided_many (Outside d) (Cell name kind) = decided_at_most most_cells (length d.cells)
 decided_many (Outside d) (Begin name parameters) =
     decided_or (decided_at_most (prelude_compounds + most_compounds) (length d.compounds)) (decided_less most_parameters (length (parameter_names parameters)))
@@ -202,9 +203,9 @@ decided_fault so_far line well TooMany = decided_of_said so_far line (IsOneTooMa
 abbrev MakesWell : SoFar → DeclarationSentence → Type 0
 MakesWell so_far s = (after : SoFar) × Makes so_far s after × IsWellSoFar after
 
--- the header
-header_made : (d : Declared) (s : DeclarationSentence) → IsWellDeclared d → s ≡ Header → MakesWell (BeforeHeader d) s
-header_made d s well is = subst (MakesWell (BeforeHeader d)) (sym is) (Outside d, refl, well)
+-- a premise that is not one too many
+room_for : (d : Declared) → (most_premises_under d.version ≤ length d.premises → ⊥) → length d.premises < most_premises
+room_for d few = omega (arith, premises_within d.version, lt_of_not-le few)
 
 -- a premise of a user that exists
 premise_made : (d : Declared) (name user : List ℕ) → IsWellDeclared d → length d.premises < most_premises → (o : Option ℕ) → place_of_name d.users user ≡ o → (o ≡ None → ⊥) →
@@ -248,16 +249,18 @@ call_made d opened word arguments well right few (Some callable) at there =
 -- a sentence at its place, with nothing wrong with it, makes something
 made : (so_far : SoFar) (words : List (List ℕ)) (s : DeclarationSentence) → IsWellSoFar so_far → IsSentenceAt so_far words s →
     (HasDuplicate so_far s → ⊥) → (HasUnknown so_far s → ⊥) → (HasWrongArguments so_far s → ⊥) → (IsOneTooMany so_far s → ⊥) → MakesWell so_far s
-made (BeforeHeader d) words s well is new known right few = header_made d s well is.0
+made (BeforeHeader d) words (Header version) well is new known right few = (Outside (with_version d version), refl, well_with_version d version well)
+made (BeforeHeader d) words s well is new known right few = absurd is
 made (Outside d) words (User name) well is new known right few = (Outside (with_user d name), refl, well_with_user d name well (lt_of_not-le few))
 made (Outside d) words (Premise name) well is new known right few =
-    (Outside (with_premise d name None), refl, well_with_premise d name None well (lt_of_not-le few) tt)
+    (Outside (with_premise d name None), refl, well_with_premise d name None well (room_for d few) tt)
 made (Outside d) words (PremiseOf name user) well is new known right few =
-    premise_made d name user well (lt_of_not-le few) (place_of_name d.users user) refl known
+    premise_made d name user well (room_for d few) (place_of_name d.users user) refl known
 made (Outside d) words (Set name members) well is new known right few =
     let room : length d.sets < most_sets = lt_of_not-le (λ many. few (inl many)) in
     let least : (length members < fewest_members → ⊥) = right in
-    let most : (most_members < length members → ⊥) = λ many. few (inr many) in
+    let most : (most_members_under d.version < length members → ⊥) = λ many. few (inr many) in
+    let within = members_within d.version in
     elim (decided_distinct members) [
       | inl differ ↦ (Outside (with_set d name members), refl, well_with_set d name members well room (omega arith, omega arith) (record { each = is.2; differ = differ }))
       | inr equal ↦ absurd (new (inr equal))

@@ -11,14 +11,18 @@ use Rattle.pw_procs.specs.Registering.{place_of_name}
 use Rattle.pw_procs.specs.Procedure.{Procedure}
 use Rattle.pw_decl.specs.declared.step.Callable.{Callable}
 use Rattle.pw_decl.specs.declared.step.Callable.TheVariants as callables
+use Rattle.pw_decl.specs.declared.version.Version.{Version}
+use Rattle.pw_decl.specs.declared.version.Version.TheVariants as versions
 use Rattle.pw_decl.specs.Compound.{Compound, NewCell, CallOn, AcceptsKinds, IsThere, with_step}
+use Rattle.pw_decl.specs.Versions.{version_word}
 
--- the declared things, over the procedures of a registry: the names of the users, premises, cells,
--- set kinds and compounds in the order of their lines, for each premise the number of the user that
--- it belongs to, if any, for each cell its kind, for each set kind the names of its members, and
--- each compound
+-- the declared things, over the procedures of a registry: the version, which is the first one until
+-- the header names it, the names of the users, premises, cells, set kinds and compounds in the order
+-- of their lines, for each premise the number of the user that it belongs to, if any, for each cell
+-- its kind, for each set kind the names of its members, and each compound
 pub record Declared : Type 0 where
   pub procedures : List Procedure
+  pub version : Version
   pub users : List (List ℕ)
   pub premises : List (List ℕ)
   pub owners : List (Option ℕ)
@@ -33,6 +37,7 @@ pub record Declared : Type 0 where
 abbrev pub nothing_declared : List Procedure → Declared
 nothing_declared procedures = record {
   procedures = procedures;
+  version = versions.One;
   users = [];
   premises = [];
   owners = [];
@@ -108,7 +113,7 @@ Takes d callable kinds = AcceptsKinds d.procedures d.compounds callable kinds
 -- what a line of a declaration says, by its words: nothing is looked up yet. A compound begins with
 -- alternating names and kinds of its parameters; the last three forms are lines of a compound
 pub data DeclarationSentence : Type 0 where
-  Header : DeclarationSentence
+  Header : (version : Version) → DeclarationSentence
   User : (name : List ℕ) → DeclarationSentence
   Premise : (name : List ℕ) → DeclarationSentence
   PremiseOf : (name user : List ℕ) → DeclarationSentence
@@ -176,10 +181,15 @@ pub data SoFar : Type 0 where
 
 -- at this place, the words form the sentence. The header comes once, before every other line
 abbrev pub IsSentenceAt : SoFar → List (List ℕ) → DeclarationSentence → Type 0
-IsSentenceAt (BeforeHeader d) words sentence = (sentence ≡ Header)
-    × (words ≡ codes "workbench" ∷ codes "1" ∷ [])
+IsSentenceAt (BeforeHeader d) words (Header version) = words
+    ≡ codes "workbench" ∷ version_word version ∷ []
+IsSentenceAt (BeforeHeader d) words sentence = ⊥
 IsSentenceAt (Outside d) words sentence = IsOuterSentence words sentence
 IsSentenceAt (Inside d opened) words sentence = IsInnerSentence words sentence
+
+-- in this version
+abbrev pub with_version : Declared → Version → Declared
+with_version d version = record d { version = version }
 
 -- with one more user
 abbrev pub with_user : Declared → List ℕ → Declared
@@ -245,7 +255,7 @@ places_of opened words = filter_map (place_of_name opened.names) words
 
 -- after what was declared so far, the sentence makes this
 abbrev pub Makes : SoFar → DeclarationSentence → SoFar → Type 0
-Makes (BeforeHeader d) Header after = after ≡ Outside d
+Makes (BeforeHeader d) (Header version) after = after ≡ Outside (with_version d version)
 Makes (Outside d) (User name) after = after ≡ Outside (with_user d name)
 Makes (Outside d) (Premise name) after = after ≡ Outside (with_premise d name None)
 Makes (Outside d) (PremiseOf name user) after =

@@ -4,7 +4,6 @@ use Rattle.std.specs.Prelude.{Some, None, is_some, IsSome, ◌⊎◌, Result, Ma
 use Rattle.std.specs.List.{list_all, IsDistinct}
 use Rattle.std.specs.Str.{bytes_eq}
 use Rattle.pw_info.specs.declared.kind.Kind.{Kind}
-use Rattle.pw_kinds.specs.Places.{most_members}
 use Rattle.pw_kinds.specs.Places.{fewest_members}
 use Rattle.pw_procs.specs.Registering.{place_of_name}
 use Rattle.pw_decl.specs.declared.decl_fault.DeclFault.{DeclFault}
@@ -27,8 +26,9 @@ use Rattle.pw_decl.specs.Declaration.{Outside, Inside, DeclarationSentence, User
 use Rattle.pw_decl.specs.Declaration.{PremiseOf, Set, Cell, Begin, Local, Call, IsSentenceAt}
 use Rattle.pw_decl.specs.Declaration.{parameter_names, parameter_kinds, kind_names, NamesKind}
 use Rattle.pw_decl.specs.Declaration.{NameKinds, callable_named, Takes, places_of, Makes}
-use Rattle.pw_decl.specs.Limits.{most_users, most_premises, most_cells, most_sets, most_compounds}
-use Rattle.pw_decl.specs.Limits.{most_parameters, most_line_bytes, most_text_bytes}
+use Rattle.pw_decl.specs.Limits.{most_users, most_cells, most_sets, most_compounds, most_parameters}
+use Rattle.pw_decl.specs.Limits.{most_line_bytes, most_text_bytes}
+use Rattle.pw_decl.specs.Versions.{most_premises_under, most_members_under}
 
 -- at its place, the line says the sentence
 pub record SaysInPlace (so_far : SoFar) (line : List ℕ) (sentence : DeclarationSentence)
@@ -80,15 +80,15 @@ abbrev pub OutgrowsWith : Declared → OpenCompound → Size → Type 0
 OutgrowsWith d opened size = IsTooLarge (sum_of_sizes
     (size_of_steps (sizes_of d.compounds) opened.compound.steps) size)
 
--- there are already as many users, premises, sets, cells or compounds as allowed, the set has too
--- many members or the compound too many parameters, or the compound expands to too many instances
--- or inner cells
+-- there are already as many users, premises, sets, cells or compounds as the version allows, the set
+-- has too many members or the compound too many parameters, or the compound expands to too many
+-- instances or inner cells
 abbrev pub IsOneTooMany : SoFar → DeclarationSentence → Type 0
 IsOneTooMany (Outside d) (User name) = most_users ≤ length d.users
-IsOneTooMany (Outside d) (Premise name) = most_premises ≤ length d.premises
-IsOneTooMany (Outside d) (PremiseOf name user) = most_premises ≤ length d.premises
+IsOneTooMany (Outside d) (Premise name) = most_premises_under d.version ≤ length d.premises
+IsOneTooMany (Outside d) (PremiseOf name user) = most_premises_under d.version ≤ length d.premises
 IsOneTooMany (Outside d) (Set name members) = (most_sets ≤ length d.sets)
-    ⊎ (most_members < length members)
+    ⊎ (most_members_under d.version < length members)
 IsOneTooMany (Outside d) (Cell name kind) = most_cells ≤ length d.cells
 IsOneTooMany (Outside d) (Begin name parameters) =
     (prelude_compounds + most_compounds ≤ length d.compounds)

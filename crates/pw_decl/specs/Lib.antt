@@ -5,6 +5,7 @@ pub mod Expansion
 pub mod Faults
 pub mod Limits
 pub mod Prelude
+pub mod Versions
 pub mod WellDeclared
 pub mod Laws
 pub mod inside

@@ -40,8 +40,9 @@ most_line_bytes = 4096
 abbrev pub most_text_bytes : ℕ
 most_text_bytes = 1048576
 
--- ---- limits that later versions of declarations raise, as they do `most_members`
+-- ---- limits of the latest version, as `most_members` is one: for those of each version see
+-- Rattle.pw_decl.specs.Versions
 
 -- premises
 abbrev pub most_premises : ℕ
-most_premises = 64
+most_premises = 512

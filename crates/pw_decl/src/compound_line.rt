@@ -10,7 +10,7 @@ ghost use Rattle.pw_procs.specs.Registering.{place_of_name};
 ghost use Rattle.pw_procs.specs.inside.Shapes.{most_arguments};
 ghost use Rattle.pw_decl.specs.Compound.{sum_of_sizes, no_size, size_of_local, IsTooLarge};
 ghost use Rattle.pw_decl.specs.Declaration.{Begin, Local, Call};
-ghost use Rattle.pw_decl.specs.Declaration.{Makes, NameKinds, with_call, with_compound, with_local};
+ghost use Rattle.pw_decl.specs.Declaration.{NameKinds, with_call, with_compound, with_local};
 ghost use Rattle.pw_decl.specs.Declaration.{parameter_kinds, parameter_names};
 ghost use Rattle.pw_decl.specs.Limits.{most_inner_cells, most_parameters};
 ghost use Rattle.pw_decl.specs.inside.Fields.{declared};
@@ -19,7 +19,7 @@ ghost use Rattle.pw_decl.specs.inside.Held.{size_of};
 ghost use Rattle.pw_decl.specs.inside.Opened.{IsBegun, IsGrown, IsOpen, open_of};
 ghost use Rattle.pw_decl.specs.inside.Forms.{are_parameters};
 ghost use Rattle.pw_decl.specs.WellDeclared.{IsSmall};
-ghost use Rattle.pw_decl.specs.inside.SentenceFaults.{IsFaultless, IsToldOf};
+ghost use Rattle.pw_decl.specs.inside.SentenceFaults.{DeclaresSentence, IsToldOf};
 
 use crate::compound::{Compound, OpenCompound, Size};
 use crate::decl_fault::DeclFaultKind;
@@ -148,11 +148,9 @@ pub(crate) fn begin_compound<A: Allocator + Copy>(
     parameters: Words<'_>,
 ) -> Result<OpenCompound<A>, DeclFaultKind>
     requires named { are_parameters parameters ≡ true }
-    ensures ok { IfOk result (λ opened. Makes (outside declaration.now)
+    ensures ok { IfOk result (λ opened. DeclaresSentence (outside declaration.now)
         (Begin name.now parameters.entry) (inside declaration.now opened)) }
     ensures kept { IfOk result (λ opened. IsOpen (declared declaration.now) opened) }
-    ensures none { OnOk result (IsFaultless (outside declaration.now)
-        (Begin name.now parameters.entry)) }
     ensures err { IfErr result (IsToldOf (outside declaration.now)
         (Begin name.now parameters.entry)) }
 {
@@ -213,10 +211,8 @@ pub(crate) fn declare_local<A: Allocator + Copy>(
 ) -> Result<(), DeclFaultKind>
     requires kept { IsOpen (declared declaration.now) opened.old }
     ensures kept { IsOpen (declared declaration.now) opened.new }
-    ensures ok { OnOk result (Makes (inside declaration.now opened.old) (Local name.now kind.now)
-        (inside declaration.now opened.new)) }
-    ensures none { OnOk result (IsFaultless (inside declaration.now opened.old)
-        (Local name.now kind.now)) }
+    ensures ok { OnOk result (DeclaresSentence (inside declaration.now opened.old)
+        (Local name.now kind.now) (inside declaration.now opened.new)) }
     ensures err { IfErr result (IsToldOf (inside declaration.now opened.old)
         (Local name.now kind.now)) }
 {
@@ -302,10 +298,8 @@ pub(crate) fn declare_call<A: Allocator + Copy>(
     requires kept { IsOpen (declared declaration.now) opened.old }
     requires some { arguments ≢ [] }
     ensures kept { IsOpen (declared declaration.now) opened.new }
-    ensures ok { OnOk result (Makes (inside declaration.now opened.old)
+    ensures ok { OnOk result (DeclaresSentence (inside declaration.now opened.old)
         (Call callable.now arguments.entry) (inside declaration.now opened.new)) }
-    ensures none { OnOk result (IsFaultless (inside declaration.now opened.old)
-        (Call callable.now arguments.entry)) }
     ensures err { IfErr result (IsToldOf (inside declaration.now opened.old)
         (Call callable.now arguments.entry)) }
 {

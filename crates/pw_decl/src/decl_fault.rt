@@ -20,8 +20,8 @@ pub enum DeclFaultKind {
     #[error("wrong arguments")]
     WrongArguments,
     /// The text or the line is too long, there is one user, premise, set, cell or compound too
-    /// many, a set has more than 64 members, a compound more than 8 parameters, or it expands to
-    /// more than 256 instances or 256 inner cells.
+    /// many, a set has more members than its version allows, a compound more than 8 parameters, or
+    /// it expands to more than 256 instances or 256 inner cells.
     #[error("limit")]
     Limit,
     /// A compound is not ended.

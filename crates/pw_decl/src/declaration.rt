@@ -28,6 +28,7 @@ use crate::built_in::{BUILT_IN_SETS, PRELUDE_COMPOUNDS, built_in_member, built_i
 use crate::compound::Compound;
 use crate::flat_call::{FlatCall, Flattened, MOST_CELLS};
 use crate::step::{Callable, Step};
+use crate::version::Version;
 use pw_info::{Kind, KindNames};
 use pw_procs::{Arguments, NameTable, Registry, are_equal_kinds};
 use std::alloc::{Allocator, Global};
@@ -37,13 +38,15 @@ mod additions;
 /// Users, premises and cells, each numbered from 0 in the order of their lines. Each premise has
 /// the user that it belongs to, if any, and each cell has its kind. Set kinds have the names of
 /// their members, and are numbered from 2 in the order of their lines, after `bool` and `sign`.
-/// There are at most 64 users, 64 premises, 1,024 cells and 32 declared set kinds, each of 2 to 64
+/// There are at most 64 users, 1,024 cells and 32 declared set kinds; in the first version at most
+/// 64 premises and sets of 2 to 64 members, in the second at most 512 premises and sets of 2 to 128
 /// members; and at most 64 compounds, numbered from 3 in the order of their lines, after `sum`,
 /// `product` and `conditional`. A declaration is read over a registry, and compounds call the
 /// registry's procedures.
 #[derive(Drop)]
 pub struct Declaration<'r, A: Allocator = Global> {
     registry: &'r Registry,
+    version: Version,
     users: NameTable<A>,
     premises: NameTable<A>,
     owners: Vec<Option<u8>, A>,
@@ -57,7 +60,7 @@ pub struct Declaration<'r, A: Allocator = Global> {
     compounds: Vec<Compound<A>, A>,
     // The flattened form of each compound.
     flattened: Vec<Flattened<A>, A>,
-    ghost well: { IsWellDeclared (declared_from registry.now users premises owners.items cells kinds.items
+    ghost well: { IsWellDeclared (declared_from registry.now version users premises owners.items cells kinds.items
         set_names sets.items compound_names compounds.items) } by { Prim.hlevel (props, named_prop) },
     ghost sized: { sizes_held compounds.items ≡ sizes_of (compounds_of compounds.items) },
     ghost calls: { calls_held flattened.items ≡ calls_of (compounds_of compounds.items) },
@@ -67,12 +70,13 @@ pub struct Declaration<'r, A: Allocator = Global> {
 impl<'r, A: Allocator + Copy> Declaration<'r, A> {
     ghost use Rattle.pw_decl.specs.inside.Fields.{declared, StepsAre};
 
-    /// An empty declaration. Takes no memory.
+    /// An empty declaration, in the first version. Takes no memory.
     pub(crate) fn new(alloc: A, registry: &'r Registry) -> Declaration<'r, A>
         ensures { declared result ≡ nothing_declared (procedures_in registry.entry.now) }
     {
         Declaration {
             registry,
+            version: Version::One,
             users: NameTable::new(alloc),
             premises: NameTable::new(alloc),
             owners: Vec::new(alloc),
@@ -110,12 +114,12 @@ impl<'r, A: Allocator + Copy> Declaration<'r, A> {
         self.users.len() as u8
     }
 
-    /// The number of premises, at most 64.
-    pub fn premises(&self) -> u8
+    /// The number of premises: at most 64 in the first version, at most 512 in the second.
+    pub fn premises(&self) -> u16
         ensures count { result ≡ length (declared self.now).premises }
         ensures most { result ≤ most_premises }
     {
-        self.premises.len() as u8
+        self.premises.len() as u16
     }
 
     /// The number of cells, at most 1,024.
@@ -238,13 +242,13 @@ impl<'r, A: Allocator + Copy> Declaration<'r, A> {
     }
 
     /// The number of the premise of this name, if there is one.
-    pub fn premise(&self, name: &[u8]) -> Option<u8>
+    pub fn premise(&self, name: &[u8]) -> Option<u16>
         ensures number { result ≡ place_of_name (declared self.now).premises name.now }
         ensures within { IfSome result (λ number. number < length (declared self.now).premises) }
         ensures limit { IfSome result (λ number. number < most_premises) }
     {
         let number = self.premises.find(name)?;
-        Some(number as u8)
+        Some(number as u16)
     }
 
     /// The number of the cell of this name, if there is one.
@@ -267,7 +271,7 @@ impl<'r, A: Allocator + Copy> Declaration<'r, A> {
     }
 
     /// The name of the premise of this number.
-    pub fn premise_name(&self, premise: u8) -> &str
+    pub fn premise_name(&self, premise: u16) -> &str
         requires { premise < length (declared self.now).premises }
         ensures name { slice_get (declared self.now).premises premise ≡ Some result.now }
         ensures own { place_of_name (declared self.now).premises result.now ≡ Some premise }
@@ -285,7 +289,7 @@ impl<'r, A: Allocator + Copy> Declaration<'r, A> {
     }
 
     /// The number of the user that the premise of this number belongs to, if any.
-    pub fn owner(&self, premise: u8) -> Option<u8>
+    pub fn owner(&self, premise: u16) -> Option<u8>
         requires { premise < length (declared self.now).premises }
         ensures owner { result ≡ owner_of (declared self.now) premise }
         ensures user { IfSome result (λ user. user < length (declared self.now).users) }
@@ -337,7 +341,7 @@ impl<A: Allocator + Copy> KindNames for Declaration<'_, A> {
     }
 }
 
-// The place of the name in a list of at most 64 names.
+// The place of the name in a list of at most 128 names.
 fn place_in<A: Allocator + Copy>(names: &NameTable<A>, name: &[u8]) -> Option<u8>
     requires { length names.now ≤ most_members }
     ensures found { IfSome result (λ place. slice_get names.now place ≡ Some name.now) }

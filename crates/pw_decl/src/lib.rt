@@ -14,6 +14,7 @@ mod sentence;
 mod set_line;
 mod step;
 mod text;
+mod version;
 
 pub use decl_fault::{DeclFault, DeclFaultKind};
 pub use declaration::Declaration;

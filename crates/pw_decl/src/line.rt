@@ -1,6 +1,6 @@
 //! Reading one line of a declaration: what it declares, or its first fault.
 ghost use Rattle.std.specs.Prelude.{◌≡◌, ◌≤◌, true, false, length, IfOk, IfErr, OnOk, OnErr};
-ghost use Rattle.pw_decl.specs.Declaration.{User, Premise, PremiseOf, Cell, Makes};
+ghost use Rattle.pw_decl.specs.Declaration.{User, Premise, PremiseOf, Cell};
 ghost use Rattle.std.specs.List.{list_all};
 ghost use Rattle.pw_info.specs.Words.{is_idle, is_allowed};
 ghost use Rattle.pw_decl.specs.Faults.{Declares};
@@ -9,14 +9,14 @@ ghost use Rattle.pw_decl.specs.inside.Fields.{declared};
 ghost use Rattle.pw_decl.specs.inside.Opened.{IsOpen, IsWellPlaced};
 ghost use Rattle.pw_decl.specs.inside.Fields.{outside, inside, placed};
 ghost use Rattle.pw_decl.specs.inside.Forms.{inner_in, outer_in};
-ghost use Rattle.pw_decl.specs.inside.SentenceFaults.{HasGoodParts, IsFaultless, IsToldOf};
+ghost use Rattle.pw_decl.specs.inside.SentenceFaults.{DeclaresSentence, HasGoodParts, IsToldOf};
 ghost use Rattle.pw_decl.specs.inside.SentenceFaults.{IsToldOfLine};
 
 use crate::compound::{OpenCompound, Place};
 use crate::compound_line::{begin_compound, declare_call, declare_local, end_compound};
 use crate::decl_fault::DeclFaultKind;
 use crate::declaration::Declaration;
-use crate::sentence::{InnerSentence, OuterSentence, is_header, read_inner, read_outer};
+use crate::sentence::{InnerSentence, OuterSentence, read_header, read_inner, read_outer};
 use crate::set_line::declare_set;
 use pw_info::{allows_all, idles};
 use std::alloc::Allocator;
@@ -25,8 +25,6 @@ const MOST_LINE_BYTES: usize = 4096;
 
 const MOST_USERS: u8 = 64;
 
-const MOST_PREMISES: u8 = 64;
-
 const MOST_CELLS: u32 = 1024;
 
 // Declares a user of this name.
@@ -34,9 +32,8 @@ fn declare_user<A: Allocator + Copy>(
     declaration: &mut Declaration<'_, A>,
     name: &str,
 ) -> Result<(), DeclFaultKind>
-    ensures ok { OnOk result (Makes (outside declaration.old) (User name.now)
+    ensures ok { OnOk result (DeclaresSentence (outside declaration.old) (User name.now)
         (outside declaration.new)) }
-    ensures none { OnOk result (IsFaultless (outside declaration.old) (User name.now)) }
     ensures err { IfErr result (IsToldOf (outside declaration.old) (User name.now)) }
     ensures unchanged { OnErr result ((declared declaration.new) ≡
         (declared declaration.old)) }
@@ -58,9 +55,8 @@ fn declare_premise<A: Allocator + Copy>(
     declaration: &mut Declaration<'_, A>,
     name: &str,
 ) -> Result<(), DeclFaultKind>
-    ensures ok { OnOk result (Makes (outside declaration.old) (Premise name.now)
+    ensures ok { OnOk result (DeclaresSentence (outside declaration.old) (Premise name.now)
         (outside declaration.new)) }
-    ensures none { OnOk result (IsFaultless (outside declaration.old) (Premise name.now)) }
     ensures err { IfErr result (IsToldOf (outside declaration.old) (Premise name.now)) }
     ensures unchanged { OnErr result ((declared declaration.new) ≡
         (declared declaration.old)) }
@@ -68,7 +64,7 @@ fn declare_premise<A: Allocator + Copy>(
     if declaration.premise(name.as_bytes()).is_some() {
         return Err(DeclFaultKind::DuplicateName);
     }
-    if declaration.premises() >= MOST_PREMISES {
+    if declaration.premises() >= declaration.version().most_premises() {
         return Err(DeclFaultKind::Limit);
     }
     match declaration.add_premise(name, None) {
@@ -83,10 +79,8 @@ fn declare_premise_of<A: Allocator + Copy>(
     name: &str,
     user: &[u8],
 ) -> Result<(), DeclFaultKind>
-    ensures ok { OnOk result (Makes (outside declaration.old) (PremiseOf name.now user.now)
-        (outside declaration.new)) }
-    ensures none { OnOk result (IsFaultless (outside declaration.old)
-        (PremiseOf name.now user.now)) }
+    ensures ok { OnOk result (DeclaresSentence (outside declaration.old)
+        (PremiseOf name.now user.now) (outside declaration.new)) }
     ensures err { IfErr result (IsToldOf (outside declaration.old) (PremiseOf name.now user.now)) }
     ensures unchanged { OnErr result ((declared declaration.new) ≡
         (declared declaration.old)) }
@@ -97,7 +91,7 @@ fn declare_premise_of<A: Allocator + Copy>(
     let Some(owner) = declaration.user(user) else {
         return Err(DeclFaultKind::UnknownName);
     };
-    if declaration.premises() >= MOST_PREMISES {
+    if declaration.premises() >= declaration.version().most_premises() {
         return Err(DeclFaultKind::Limit);
     }
     match declaration.add_premise(name, Some(owner)) {
@@ -112,9 +106,8 @@ fn declare_cell<A: Allocator + Copy>(
     name: &str,
     kind: &[u8],
 ) -> Result<(), DeclFaultKind>
-    ensures ok { OnOk result (Makes (outside declaration.old) (Cell name.now kind.now)
+    ensures ok { OnOk result (DeclaresSentence (outside declaration.old) (Cell name.now kind.now)
         (outside declaration.new)) }
-    ensures none { OnOk result (IsFaultless (outside declaration.old) (Cell name.now kind.now)) }
     ensures err { IfErr result (IsToldOf (outside declaration.old) (Cell name.now kind.now)) }
     ensures unchanged { OnErr result ((declared declaration.new) ≡
         (declared declaration.old)) }
@@ -141,10 +134,9 @@ fn declare_outside<A: Allocator + Copy>(
     sentence: OuterSentence<'_>,
 ) -> Result<Place<A>, DeclFaultKind>
     requires parts { HasGoodParts (outer_in sentence) }
-    ensures ok { IfOk result (λ place. Makes (outside declaration.old) (outer_in sentence.entry)
-        (placed (declared declaration.new) place)) }
+    ensures ok { IfOk result (λ place. DeclaresSentence (outside declaration.old)
+        (outer_in sentence.entry) (placed (declared declaration.new) place)) }
     ensures well { IfOk result (λ place. IsWellPlaced (declared declaration.new) place) }
-    ensures none { OnOk result (IsFaultless (outside declaration.old) (outer_in sentence.entry)) }
     ensures err { IfErr result (IsToldOf (outside declaration.old) (outer_in sentence.entry)) }
 {
     match sentence {
@@ -169,11 +161,9 @@ fn declare_inside<A: Allocator + Copy>(
 ) -> Result<Place<A>, DeclFaultKind>
     requires kept { IsOpen (declared declaration.old) opened }
     requires parts { HasGoodParts (inner_in sentence) }
-    ensures ok { IfOk result (λ place. Makes (inside declaration.old opened)
+    ensures ok { IfOk result (λ place. DeclaresSentence (inside declaration.old opened)
         (inner_in sentence.entry) (placed (declared declaration.new) place)) }
     ensures well { IfOk result (λ place. IsWellPlaced (declared declaration.new) place) }
-    ensures none { OnOk result (IsFaultless (inside declaration.old opened)
-        (inner_in sentence.entry)) }
     ensures err { IfErr result (IsToldOf (inside declaration.old opened)
         (inner_in sentence.entry)) }
 {
@@ -211,9 +201,10 @@ fn declare_line<A: Allocator + Copy>(
 {
     match place {
         Place::BeforeHeader => {
-            if !is_header(line) {
+            let Some(version) = read_header(line) else {
                 return Err(DeclFaultKind::Syntax);
-            }
+            };
+            declaration.set_version(version);
             Ok(Place::Outside)
         }
         Place::Outside => {

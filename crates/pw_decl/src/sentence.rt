@@ -1,8 +1,10 @@
 //! What the lines of a declaration say, by their words. No names are looked up.
 ghost use Rattle.std.specs.Prelude.{◌≡◌, true, option_map};
 ghost use Rattle.pw_info.specs.Words.{words_of};
+ghost use Rattle.pw_decl.specs.Declaration.{Header};
 ghost use Rattle.pw_decl.specs.inside.Forms as forms;
 
+use crate::version::Version;
 use pw_info::{Words, are_names, read_name};
 
 /// What a line outside a compound says, by its words.
@@ -55,15 +57,34 @@ pub(crate) enum InnerSentence<'a> {
     End,
 }
 
-/// Whether the line is the header, `workbench 1`.
-pub(crate) fn is_header(line: &[u8]) -> bool
-    ensures { result ≡ forms.is_header (words_of line.now) }
+// What follows `workbench`.
+fn read_version(mut rest: Words<'_>) -> Option<Version>
+    ensures { option_map Header result ≡ forms.version_form rest.entry }
+{
+    let version = rest.next()?;
+    if !rest.is_empty() {
+        return None;
+    }
+    if version == b"1".as_slice() {
+        Some(Version::One)
+    } else if version == b"2".as_slice() {
+        Some(Version::Two)
+    } else {
+        None
+    }
+}
+
+/// The version that the line names, if it is a header.
+pub(crate) fn read_header(line: &[u8]) -> Option<Version>
+    ensures { option_map Header result ≡ forms.header_form (words_of line.now) }
 {
     let mut words = Words::new(line);
-    let (Some(verb), Some(version)) = (words.next(), words.next()) else {
-        return false;
-    };
-    words.is_empty() && verb == b"workbench".as_slice() && version == b"1".as_slice()
+    let verb = words.next()?;
+    if verb == b"workbench".as_slice() {
+        read_version(words)
+    } else {
+        None
+    }
 }
 
 // What follows `user`.

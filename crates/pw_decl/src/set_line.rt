@@ -5,13 +5,14 @@ ghost use Rattle.std.specs.List.{list_all, list_any, IsDistinct};
 ghost use Rattle.std.specs.Str.{bytes_eq};
 ghost use Rattle.pw_info.specs.Name.{is_name};
 ghost use Rattle.pw_kinds.specs.Places.{most_members};
-ghost use Rattle.pw_decl.specs.Declaration.{Set, Makes};
+ghost use Rattle.pw_decl.specs.Declaration.{Set};
 ghost use Rattle.pw_decl.specs.inside.Fields.{declared};
 ghost use Rattle.pw_decl.specs.inside.Fields.{outside};
-ghost use Rattle.pw_decl.specs.inside.SentenceFaults.{IsFaultless, IsToldOf};
+ghost use Rattle.pw_decl.specs.inside.SentenceFaults.{DeclaresSentence, IsToldOf};
 
 use crate::decl_fault::DeclFaultKind;
 use crate::declaration::Declaration;
+use crate::version::MOST_MEMBERS;
 use pw_info::{Words, read_name};
 use pw_procs::NameTable;
 use std::alloc::{AllocError, Allocator};
@@ -19,8 +20,6 @@ use std::alloc::{AllocError, Allocator};
 const MOST_SETS: u8 = 32;
 
 const FEWEST_MEMBERS: usize = 2;
-
-const MOST_MEMBERS: usize = 64;
 
 // Whether the word is among the words.
 fn is_among(word: &[u8], mut words: Words<'_>) -> bool
@@ -47,7 +46,7 @@ fn are_distinct(mut words: Words<'_>) -> bool
     true
 }
 
-// The number of words, counted only up to one member too many.
+// The number of words, counted only up to one member too many in the latest version.
 fn count(mut words: Words<'_>) -> usize
     ensures { result ≡ min (length words.entry) (most_members + 1) }
 {
@@ -85,10 +84,8 @@ pub(crate) fn declare_set<A: Allocator + Copy>(
     members: Words<'_>,
 ) -> Result<(), DeclFaultKind>
     requires names { list_all is_name members ≡ true }
-    ensures ok { OnOk result (Makes (outside declaration.old) (Set name.now members.entry)
+    ensures ok { OnOk result (DeclaresSentence (outside declaration.old) (Set name.now members.entry)
         (outside declaration.new)) }
-    ensures none { OnOk result (IsFaultless (outside declaration.old)
-        (Set name.now members.entry)) }
     ensures err { IfErr result (IsToldOf (outside declaration.old) (Set name.now members.entry)) }
     ensures unchanged { OnErr result ((declared declaration.new) ≡
         (declared declaration.old)) }
@@ -100,7 +97,7 @@ pub(crate) fn declare_set<A: Allocator + Copy>(
     if size < FEWEST_MEMBERS {
         return Err(DeclFaultKind::WrongArguments);
     }
-    if declaration.sets() >= MOST_SETS || size > MOST_MEMBERS {
+    if declaration.sets() >= MOST_SETS || size > declaration.version().most_members() {
         return Err(DeclFaultKind::Limit);
     }
     let Ok(table) = name_members(alloc, members) else {

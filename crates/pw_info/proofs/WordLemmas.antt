@@ -174,12 +174,20 @@ before_blanks (byte ∷ line) gap blanks = elim (cases_Bool (is_blank byte)) [
   ]
 ]
 
+-- A line that ends in blanks has the words of what comes before them.
+without_blanks : (line front gap : List ℕ) (n : ℕ) → AreBlanks gap → bytes_eq (drop n line) gap ≡ true → front ≡ take n line → words_of front ≡ words_of line
+without_blanks line front gap n blanks same is =
+    let last : drop n line ≡ gap = (bytes_eq-Decides (drop n line) gap).0 same in
+    ap words_of is ∙ sym (before_blanks (take n line) gap blanks)
+    ∙ ap (λ (l : List ℕ). words_of (take n line ++ l)) (sym last) ∙ ap words_of (take-append-drop n line)
+
 -- A line that ends in eight spaces has the words of what comes before them.
 pub without_spaces : (line front : List ℕ) (n : ℕ) → bytes_eq (drop n line) (codes "        ") ≡ true → front ≡ take n line → words_of front ≡ words_of line
-without_spaces line front n spaces is =
-    let last : drop n line ≡ codes "        " = (bytes_eq-Decides (drop n line) (codes "        ")).0 spaces in
-    ap words_of is ∙ sym (before_blanks (take n line) (codes "        ") (refl, (refl, (refl, (refl, (refl, (refl, (refl, (refl, tt)))))))))
-    ∙ ap (λ (l : List ℕ). words_of (take n line ++ l)) (sym last) ∙ ap words_of (take-append-drop n line)
+without_spaces line front n = without_blanks line front (codes "        ") n (refl, (refl, (refl, (refl, (refl, (refl, (refl, (refl, tt))))))))
+
+-- The same for four spaces.
+pub without_few_spaces : (line front : List ℕ) (n : ℕ) → bytes_eq (drop n line) (codes "    ") ≡ true → front ≡ take n line → words_of front ≡ words_of line
+without_few_spaces line front n = without_blanks line front (codes "    ") n (refl, (refl, (refl, (refl, tt))))
 
 -- ---- no word
 

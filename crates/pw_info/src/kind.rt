@@ -7,7 +7,7 @@ ghost use Rattle.pw_kinds.specs.Places.{IsSize};
 pub struct SetKind {
     /// Which set it is: `bool` is number 0, `sign` is number 1.
     pub number: u8,
-    /// The number of members of the set, 2 to 64.
+    /// The number of members of the set, 2 to 128.
     pub size: u8,
     ghost sized: { IsSize size },
 }

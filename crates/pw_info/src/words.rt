@@ -1,6 +1,7 @@
 //! The words of a line, and the lines that say nothing.
 
 ghost use Rattle.std.specs.Prelude.{◌≡◌, ℕ, ◌∷◌, ◌↔◌, ◌≤◌, [], List, length, drop, MatchOption};
+ghost use Rattle.std.specs.Prelude.{IsTrue, true};
 ghost use Rattle.std.specs.List.{prefix_len, list_all};
 ghost use Rattle.pw_info.specs.Words as spec;
 
@@ -35,12 +36,26 @@ pub fn idles(line: &[u8]) -> bool
     true
 }
 
+// Whether each byte of the line is a space or a visible ASCII character. It does not stop at
+// another byte: a loop that may stop early tests one byte at a time.
+fn prints_all(line: &[u8]) -> bool
+    ensures { IsTrue result → list_all spec.is_allowed line.now ≡ true }
+{
+    let mut all = true;
+    for byte in line {
+        all &= (*byte >= b' ') & (*byte <= 0x7E);
+    }
+    all
+}
+
 /// Whether each byte of the line is a blank or a visible ASCII character.
 pub fn allows_all(line: &[u8]) -> bool
     ensures { result ≡ list_all spec.is_allowed line.now }
 {
-    // It does not stop at a byte that is not allowed: a loop that may stop early tests one byte at
-    // a time.
+    // Most lines have spaces as their only blanks, and then two comparisons a byte are enough.
+    if prints_all(line) {
+        return true;
+    }
     let mut all = true;
     for byte in line {
         all &= is_allowed(*byte);
@@ -48,10 +63,12 @@ pub fn allows_all(line: &[u8]) -> bool
     all
 }
 
-// Spaces at the end of a line are skipped this many at once.
+// Spaces at the end of a line are skipped this many at once, and then once half as many.
 const SPACES: &[u8] = b"        ";
 
-// The line without the spaces at its end, except for fewer than are skipped at once.
+const FEW_SPACES: &[u8] = b"    ";
+
+// The line without the spaces at its end, except for fewer than are skipped at last.
 fn without_last_spaces(line: &[u8]) -> &[u8]
     ensures { spec.words_of result.now ≡ spec.words_of line.now }
 {
@@ -59,7 +76,10 @@ fn without_last_spaces(line: &[u8]) -> &[u8]
     while let Some(shorter) = front.strip_suffix(SPACES) {
         front = shorter;
     }
-    front
+    match front.strip_suffix(FEW_SPACES) {
+        Some(shorter) => shorter,
+        None => front,
+    }
 }
 
 // The number of blanks at the front of the bytes.

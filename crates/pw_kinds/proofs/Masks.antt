@@ -1,7 +1,7 @@
 -- Masks, bit by bit.
-use Rattle.std.proofs.Common.{◌≡◌, ◌≢◌, ℕ, zero, suc, ℤ, pos, ◌+◌, ◌-◌, ◌*◌, ◌/◌, ◌%◌, ◌^◌, ◌<◌, ◌≤◌, ◌==◌, ◌&&◌, ◌||◌, inl, inr, ◌⊎◌, Bool, true, false, min, arith, refl, sym, ◌∙◌, ap, bit_and, bit_or, IsBitSet, w64}
+use Rattle.std.proofs.Common.{◌≡◌, ◌≢◌, ℕ, zero, suc, ℤ, pos, ◌+◌, ◌-◌, ◌*◌, ◌/◌, ◌%◌, ◌^◌, ◌<◌, ◌≤◌, ◌==◌, ◌&&◌, ◌||◌, inl, inr, ◌⊎◌, Bool, true, false, min, arith, refl, sym, ◌∙◌, ap, bit_and, bit_or, IsBitSet}
 use Rattle.std.specs.Prelude.{if◌then◌else◌}
-use Rattle.std.specs.Int.{bit_at}
+use Rattle.std.specs.Int.{bit_at, w128}
 use Rattle.std.proofs.lemmas.Bool.{cases_lt, cases_eq, eqb-true, eq-eqb, or_cases}
 use Rattle.std.proofs.lemmas.Nat.{pow_pos, shr_split, mod_below}
 use Rattle.std.proofs.lemmas.Nat.Bits.{and_pow, bit_at-lt, bit_at-zero, bit_at_lowest, bit_at_and, bit_at_above, bit_at_cat_low, bit_at_cat_high, bit_at_ones, bit_at_set_same, bit_at_set_other, same_from_bits, same_from_bits_below}
@@ -115,18 +115,18 @@ or_false true b e = refl
 or_false false b e = e
 
 -- a mask with one more bit
-pub with_bit : (m k i : ℕ) → k < 64 → (bit_at (bit_or m (1 * 2 ^ k % 18446744073709551616)) i == 1) ≡ ((bit_at m i == 1) || (k == i))
+pub with_bit : (m k i : ℕ) → k < 128 → (bit_at (bit_or m (1 * 2 ^ k % 340282366920938463463374607431768211456)) i == 1) ≡ ((bit_at m i == 1) || (k == i))
 with_bit m k i h = elim (cases_eq k i) [
   | inl same ↦
-      eq-eqb _ _ (ap (bit_at (bit_or m (1 * 2 ^ k % 18446744073709551616))) (sym same) ∙ bit_at_set_same w64 m k h)
+      eq-eqb _ _ (ap (bit_at (bit_or m (1 * 2 ^ k % 340282366920938463463374607431768211456))) (sym same) ∙ bit_at_set_same w128 m k h)
       ∙ sym (or_true (bit_at m i == 1) (k == i) (eq-eqb k i same))
   | inr apart ↦
-      ap (λ x. x == 1) (bit_at_set_other w64 m k h i (λ e. apart (sym e)))
+      ap (λ x. x == 1) (bit_at_set_other w128 m k h i (λ e. apart (sym e)))
       ∙ sym (or_false (bit_at m i == 1) (k == i) (is_false _ (λ e. apart (eqb-true k i e))))
 ]
 
 -- a mask below 2 to the n stays so with one more bit below n
-pub with_bit_below : (m n k : ℕ) → m < 2 ^ n → k < n → k < 64 → bit_or m (1 * 2 ^ k % 18446744073709551616) < 2 ^ n
+pub with_bit_below : (m n k : ℕ) → m < 2 ^ n → k < n → k < 128 → bit_or m (1 * 2 ^ k % 340282366920938463463374607431768211456) < 2 ^ n
 with_bit_below m n k below h l = high_bit _ n (λ i set. at i (or_cases (bit_at m i == 1) (k == i) (sym (with_bit m k i l) ∙ set_one _ i set))) where
   at : (i : ℕ) → ((bit_at m i == 1) ≡ true) ⊎ ((k == i) ≡ true) → i < n
   at i (inl e) = bit_below m n i below e

@@ -4,15 +4,22 @@ use Rattle.std.specs.Prelude.{◌≡◌, ℕ, ℤ, pos, ◌<◌, Bool, true, fal
 use Rattle.std.specs.List.{list_any}
 use Rattle.std.specs.Ordering.{int_eq}
 use Rattle.pw_kinds.specs.declared.members.Members.{Members}
-use Rattle.pw_kinds.specs.Places.{is_size, mask_allows, mask_of, checked_mask, empty_mask}
+use Rattle.pw_kinds.specs.Masks.{bits_of_words, first_word, second_word, third_word, fourth_word}
+use Rattle.pw_kinds.specs.Masks.{bits_again, words_fit, mask_fits}
+use Rattle.pw_kinds.specs.Places.{IsMask, is_size, mask_allows, mask_of, checked_mask, empty_mask}
+use Rattle.std.proofs.Common.{subst, sym}
 
 -- the number of members of the set
 abbrev pub size_of : Members → ℕ
 size_of m = m.size
 
+-- the mask of the possible members
+abbrev pub mask_in : Members → ℕ
+mask_in m = bits_of_words m.first m.second m.third m.fourth
+
 -- whether a whole number is the place of a member that is still possible
 abbrev pub allows : Members → ℤ → Bool
-allows m v = mask_allows m.mask v
+allows m v = mask_allows (mask_in m) v
 
 -- no member is possible
 abbrev pub IsEmpty : Members → Type 0
@@ -30,16 +37,23 @@ SameValues m n = (v : ℤ) → allows m v ≡ allows n v
 abbrev pub IsWithin : Members → Members → Type 0
 IsWithin m n = (v : ℤ) → allows m v ≡ true → allows n v ≡ true
 
+-- the members of a set of this size with this mask
+abbrev pub with_mask : (size mask : ℕ) → IsMask size mask → Members
+with_mask size mask h = record {
+  size = size;
+  first = first_word mask;
+  second = second_word mask;
+  third = third_word mask;
+  fourth = fourth_word mask;
+  words = words_fit mask (mask_fits size mask h);
+  places = subst (IsMask size) (sym (bits_again mask)) h;
+}
+
 -- the members whose place passes if the test of the size passes, and otherwise no member of a set
 -- of two
 unfoldable pub checked : (size : ℕ) (p : ℤ → Bool) (b : Bool) → is_size size ≡ b → Members
-checked size p true e = record {
-  size = size;
-  mask = mask_of p size;
-  places =
-      checked_mask p size e;
-}
-checked size p false e = record { size = 2; mask = 0; places = empty_mask }
+checked size p true e = with_mask size (mask_of p size) (checked_mask p size e)
+checked size p false e = with_mask 2 0 empty_mask
 
 -- the members of a set of this size whose place passes; for a size that no set has, no member of a
 -- set of two

@@ -9,7 +9,7 @@ use Rattle.std.proofs.Math.Nat.{pow-suc}
 
 -- the greatest number of members of a set
 abbrev pub most_members : ℕ
-most_members = 64
+most_members = 128
 
 -- the least number of members of a set
 abbrev pub fewest_members : ℕ

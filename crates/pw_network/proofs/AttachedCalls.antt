@@ -1,7 +1,7 @@
 -- What an attachment of a compound appends is its expansion.
 use Rattle.std.proofs.Common.{◌≡◌, ℕ, zero, suc, ◌+◌, ◌<◌, ◌≤◌, List, [], ◌∷◌, ◌++◌, Some, length, map, Bool, true, IsTrue, ◌↔◌, sym, ap, subst, ◌∙◌, arith, append-nil}
 use Rattle.std.specs.Prelude.{All}
-use Rattle.std.proofs.lemmas.List.{length-map, map_push}
+use Rattle.std.proofs.lemmas.List.{length-map, map-append, map_push}
 use Rattle.std.proofs.lemmas.List.Elements.{All-tail, All-weaker}
 use Rattle.pw_info.specs.declared.kind.Kind.{Kind}
 use Rattle.pw_premises.specs.Premises.{Premises}
@@ -74,22 +74,23 @@ calls_here network line number calls cells support well are may few first many i
     calls are.below
 
 -- what the code has after it appended is the network with the compound attached
-pub compound_attached : (declared : Declared) (inner inner_room inner_after : List InnerType) (instances instances_room instances_after : List InstanceType)
+pub compound_attached : (declared : Declared) (inner inner_room inner_after : List InnerType) (instances instances_room attached instances_after : List InstanceType)
     (last line number : ℕ) (calls : List FlatCall) (kinds : List Kind) (cells : List ℕ) (support : Premises) →
     IsWellNetwork (wiring_from declared inner instances last) → AreCallsOf declared.compounds number calls →
     MayAttach (wiring_from declared inner instances last) line (callables.Compound number) cells →
     kinds ≡ inner_kinds_of declared.compounds (callables.Compound number) → length kinds ≤ most_inner_cells →
     (first : ℕ) → first ≡ cells_in (wiring_from declared inner instances last) →
     inner_room ≡ inner → map inner_of inner_after ≡ map inner_of inner_room ++ inner_cells_from line 0 kinds →
-    instances_room ≡ instances → map attachment instances_after ≡ map attachment instances_room
-    ++ map (attached_at line support) (map (renamed (at_place cells (λ j. first + j))) (instances_of calls)) →
+    instances_room ≡ instances → instances_after ≡ instances_room ++ attached →
+    map attachment attached ≡ map (attached_at line support) (map (renamed (at_place cells (λ j. first + j))) (instances_of calls)) →
     wiring_from declared inner_after instances_after line ≡ with_attached (wiring_from declared inner instances last) line (callables.Compound number) cells support
-compound_attached declared inner inner_room inner_after instances instances_room instances_after last line number calls kinds cells support
-    well are may are_kinds few first is same_inner more_inner same_instances more_instances =
+compound_attached declared inner inner_room inner_after instances instances_room attached instances_after last line number calls kinds cells support
+    well are may are_kinds few first is same_inner more_inner same_instances appended made =
     let network = wiring_from declared inner instances last in
     let few : length (inner_kinds_of declared.compounds (callables.Compound number)) ≤ most_inner_cells = let l = ap length are_kinds in omega arith in
     let inners = more_inner ∙ ap (λ l. map inner_of l ++ inner_cells_from line 0 kinds) same_inner ∙ ap (λ l. map inner_of inner ++ inner_cells_from line 0 l) are_kinds in
-    let attaches = more_instances
+    let attaches = ap (map attachment) appended ∙ map-append attachment instances_room attached
+    ∙ ap (λ l. map attachment instances_room ++ l) made
     ∙ ap (λ l. map attachment l ++ map (attached_at line support) (map (renamed (at_place cells (λ j. first + j))) (instances_of calls))) same_instances
     ∙ ap (λ l. map attachment instances ++ map (attached_at line support) l) (calls_placed network line number calls cells support well are may few first is) in
     λ i. record { declared = declared; inner = inners i; attached = attaches i; last_line = line }

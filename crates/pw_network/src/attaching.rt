@@ -1,6 +1,6 @@
-//! Growing the lists of a network, where there is room.
+//! Making the instances of an attachment, and growing the lists of a network where there is room.
 ghost use Rattle.std.specs.Prelude.{◌≡◌, ◌+◌, ◌*◌, ◌<◌, ◌≤◌, ◌++◌, ◌∷◌, [], All, length, map};
-ghost use Rattle.std.specs.Prelude.{vec_len, vec_capacity};
+ghost use Rattle.std.specs.Prelude.{ℕ, IfOk, vec_len, vec_capacity};
 ghost use Rattle.pw_procs.specs.Registry.{cells_of};
 ghost use Rattle.pw_decl.specs.Expansion.{at_place};
 ghost use Rattle.pw_network.specs.inside.Held.{attachment, inner_of};
@@ -15,7 +15,7 @@ use crate::reader_lists::ReaderLists;
 use pw_decl::{FlatCall, place_cells};
 use pw_info::Kind;
 use pw_premises::PremiseSet;
-use std::alloc::{Allocator, Global};
+use std::alloc::{AllocError, Allocator, Global};
 
 // Appends an instance, and its number to the lists of the cells that it reads.
 pub(crate) fn append_instance<A: Allocator + Copy>(
@@ -42,36 +42,58 @@ pub(crate) fn append_instance<A: Allocator + Copy>(
     let _ = instances.push(instance);
 }
 
-// Appends the instances of calls: a place means one of these cells, or, past their end, an inner
-// cell. The first inner cell has the number `first`.
-pub(crate) fn append_instances<A: Allocator + Copy>(
-    alloc: Global,
-    instances: &mut Vec<Instance, A>,
-    lists: &mut ReaderLists<A>,
+// The instances of calls: a place means one of these cells, or, past their end, an inner cell. The
+// first inner cell has the number `first`. Fails only when out of memory.
+pub(crate) fn instances_of<A: Allocator>(
+    alloc: A,
+    global: Global,
     calls: &[FlatCall],
     cells: &[u32],
     first: u32,
     line: u32,
-    support: PremiseSet,
-)
-    requires room { vec_len instances.old + length calls.now ≤ vec_capacity instances.old }
+    support: &PremiseSet,
+) -> Result<Vec<Instance, A>, AllocError>
     requires numbers { All (λ call. All (λ place. first + place ≤ 4294967295)
         (cells_of call.places)) calls.now }
-    requires list_room { vec_len lists.old.links + 8 * length calls.now
+    ensures items { IfOk result (λ made. map attachment made.items
+        ≡ attached_on line support.now cells.now first calls.now) }
+    ensures len { IfOk result (λ made. vec_len made ≡ length calls.now) }
+    ensures few { IfOk result (λ made. All (λ instance. length instance.inputs.items ≤ 8)
+        made.items) }
+    ensures here { IfOk result (λ made. (many : ℕ)
+        → All (λ call. All (λ place. at_place cells.now (λ j. first + j) place < many)
+        (cells_of call.places)) calls.now
+        → All (λ instance. All (λ cell. cell < many) instance.inputs.items) made.items) }
+{
+    let mut made = Vec::with_capacity(alloc, calls.len())?;
+    for call in calls {
+        let placed = place_cells(call.places, cells, first);
+        let instance = Instance::new(global, call.procedure, placed, support, line)?;
+        let _ = made.push(instance);
+    }
+    Ok(made)
+}
+
+// Appends instances, and their numbers to the lists of the cells that they read.
+pub(crate) fn append_instances<A: Allocator + Copy>(
+    instances: &mut Vec<Instance, A>,
+    lists: &mut ReaderLists<A>,
+    attached: Vec<Instance, A>,
+)
+    requires room { vec_len instances.old + vec_len attached ≤ vec_capacity instances.old }
+    requires list_room { vec_len lists.old.links + 8 * vec_len attached
         ≤ vec_capacity lists.old.links }
-    requires here { All (λ call. All (λ place. at_place cells.now (λ j. first + j) place
-        < vec_len lists.old.ends) (cells_of call.places)) calls.now }
+    requires few { All (λ instance. length instance.inputs.items ≤ 8) attached.items }
+    requires here { All (λ instance. All (λ cell. cell < vec_len lists.old.ends)
+        instance.inputs.items) attached.items }
     requires readers { AreReaders (map link_reading lists.old.links.items)
         (map attachment instances.old.items) }
-    ensures items { map attachment instances.new.items ≡ map attachment instances.old.items ++
-        attached_on line support cells.now first calls.now }
+    ensures items { instances.new.items ≡ instances.old.items ++ attached.items }
     ensures readers { AreReaders (map link_reading lists.new.links.items)
         (map attachment instances.new.items) }
     ensures cells { vec_len lists.new.ends ≡ vec_len lists.old.ends }
 {
-    for call in calls {
-        let placed = place_cells(call.places, cells, first);
-        let instance = Instance::new(alloc, call.procedure, placed, support, line);
+    for instance in attached {
         append_instance(instances, lists, instance);
     }
 }

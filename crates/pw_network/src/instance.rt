@@ -1,14 +1,14 @@
 //! Procedures between cells, as attachments make them.
-ghost use Rattle.std.specs.Prelude.{◌≡◌, ◌-◌, ◌≤◌, ◌∷◌, [], length, take};
+ghost use Rattle.std.specs.Prelude.{◌≡◌, ◌-◌, ◌≤◌, ◌∷◌, [], length, take, IfOk};
 ghost use Rattle.pw_procs.specs.Registry.{cells_of};
 ghost use Rattle.pw_decl.specs.Expansion.{instance_on};
 ghost use Rattle.pw_network.specs.inside.Held.{attachment};
 ghost use Rattle.pw_network.specs.Readers.{reads as reads_cell};
 
-use pw_premises::PremiseSet;
+use pw_premises::{CompactSet, PremiseSet};
 use pw_procs::Arguments;
 use smallvec::SmallVec;
-use std::alloc::Global;
+use std::alloc::{AllocError, Global};
 
 // A procedure reads at most eight cells.
 pub(crate) const MOST_INPUTS: usize = 8;
@@ -18,45 +18,46 @@ pub(crate) const MOST_INPUTS: usize = 8;
 pub struct Instance {
     /// The number of the procedure in the registry.
     pub procedure: u8,
-    /// The cells that it reads.
-    pub inputs: SmallVec<u32, 8>,
     /// The cell that it writes.
     pub output: u32,
-    /// The premises under which it was attached.
-    pub support: PremiseSet,
     /// The line at which it was attached.
     pub line: u32,
+    /// The cells that it reads.
+    pub inputs: SmallVec<u32, 8>,
+    /// The premises under which it was attached.
+    pub support: CompactSet,
 }
 
 impl Instance {
     // The procedure of this number between these cells: it writes the last cell and reads the
-    // others.
+    // others. Fails only when out of memory.
     pub(crate) fn new(
         alloc: Global,
         procedure: u8,
         cells: Arguments,
-        support: PremiseSet,
+        support: &PremiseSet,
         line: u32,
-    ) -> Instance
-        ensures instance { instance_on procedure (cells_of cells)
-            ≡ (attachment result).instance ∷ [] }
-        ensures inputs { result.inputs.items ≡ take (length (cells_of cells) - 1) (cells_of cells) }
-        ensures few { length result.inputs.items ≤ 8 }
-        ensures line { result.line ≡ line }
-        ensures support { result.support ≡ support }
+    ) -> Result<Instance, AllocError>
+        ensures instance { IfOk result (λ made. instance_on procedure (cells_of cells)
+            ≡ (attachment made).instance ∷ []) }
+        ensures inputs { IfOk result (λ made. made.inputs.items
+            ≡ take (length (cells_of cells) - 1) (cells_of cells)) }
+        ensures few { IfOk result (λ made. length made.inputs.items ≤ 8) }
+        ensures line { IfOk result (λ made. made.line ≡ line) }
+        ensures support { IfOk result (λ made. made.support ≡ support.now) }
     {
         let cells = cells.cells();
         let last = cells.len() - 1;
         let Ok(inputs) = SmallVec::from_slice(alloc, &cells[..last]) else {
             unreachable!("a procedure reads eight cells at most");
         };
-        Instance {
+        Ok(Instance {
             procedure,
-            inputs,
             output: cells[last],
-            support,
             line,
-        }
+            inputs,
+            support: CompactSet::of(alloc, support)?,
+        })
     }
 
     /// Whether it reads the cell.

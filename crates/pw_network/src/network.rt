@@ -23,7 +23,7 @@ ghost use Rattle.pw_network.specs.Network.{IsWellNetwork};
 ghost use Rattle.pw_network.specs.Readers.{link_reading};
 ghost use Rattle.pw_network.specs.Readers.{AreReaders};
 
-use crate::attaching::{append_inner, append_instance, append_instances};
+use crate::attaching::{append_inner, append_instance, append_instances, instances_of};
 use crate::instance::{Instance, MOST_INPUTS};
 use crate::reader_lists::ReaderLists;
 use crate::readers::Readers;
@@ -214,10 +214,10 @@ impl<'d, 'r, A: Allocator + Copy> Network<'d, 'r, A> {
             (cells_of cells) support) }
         ensures err { OnErr result (wiring self.new ≡ wiring self.old) }
     {
+        let global = self.declaration.registry().allocator();
+        let instance = Instance::new(global, procedure, cells, &support, line)?;
         self.instances.reserve(1)?;
         self.lists.reserve(0, MOST_INPUTS)?;
-        let alloc = self.declaration.registry().allocator();
-        let instance = Instance::new(alloc, procedure, cells, support, line);
         append_instance(&mut self.instances, &mut self.lists, instance);
         self.last_line = line;
         Ok(())
@@ -247,21 +247,14 @@ impl<'d, 'r, A: Allocator + Copy> Network<'d, 'r, A> {
         ensures err { OnErr result (wiring self.new ≡ wiring self.old) }
     {
         let first = self.cells();
+        let alloc = *self.instances.allocator();
+        let global = self.declaration.registry().allocator();
+        let attached = instances_of(alloc, global, calls, cells.cells(), first, line, &support)?;
         self.inner.reserve(kinds.len())?;
         self.instances.reserve(calls.len())?;
         self.lists.reserve(kinds.len(), calls.len() * MOST_INPUTS)?;
-        let alloc = self.declaration.registry().allocator();
         self.lists.add_cells(kinds.len());
-        append_instances(
-            alloc,
-            &mut self.instances,
-            &mut self.lists,
-            calls,
-            cells.cells(),
-            first,
-            line,
-            support,
-        );
+        append_instances(&mut self.instances, &mut self.lists, attached);
         append_inner(&mut self.inner, kinds, line);
         self.last_line = line;
         Ok(())

@@ -1,3 +1,4 @@
 pub mod PremiseWords
 pub mod NumberLists
 pub mod NumberWords
+pub mod NarrowWords

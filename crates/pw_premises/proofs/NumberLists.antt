@@ -5,7 +5,7 @@ use Rattle.std.specs.List.Sorted.{IsStrictlyIncreasing}
 use Rattle.std.specs.Ordering.{nat_cmp}
 use Rattle.std.specs.Cmp.{nat_cmp_total, unsigned_tied, nat_eq_equiv}
 use Rattle.std.specs.FinSet.{FinSet, empty, contains, remove, contains-empty, contains-remove}
-use Rattle.std.proofs.Common.{refl, sym, ap, ◌∙◌, arith}
+use Rattle.std.proofs.Common.{refl, sym, ap, ◌∙◌, arith, length-append}
 use Rattle.std.proofs.lemmas.Bool.Decides.{nat_tests}
 use Rattle.std.proofs.lemmas.List.{append-nil}
 use Rattle.std.proofs.lemmas.Bool.{eqb-true}
@@ -13,7 +13,9 @@ use Rattle.std.proofs.lemmas.List.Elements.{filter-append}
 use Rattle.std.proofs.lemmas.List.FromFn.{length-range_with_len, get_or-range_with_len}
 use Rattle.std.proofs.lemmas.List.Kept.{IsStrictlyIncreasing-filter}
 use Rattle.std.proofs.lemmas.Map.Views.{any-filter_same, Contains-from_any, list_any-from_Contains}
-use Rattle.pw_premises.specs.Premises.{numbers_of}
+use Rattle.pw_premises.specs.Premises.{numbers_of, IsLeast, IsGreatest}
+use Rattle.pw_premises.specs.inside.Words.{has_bit_in, set_of_words}
+use Rattle.pw_premises.specs.PremiseSets.{contains-set_where}
 
 -- a range in two parts
 range_parts : (a m k b c : ℕ) → a + m ≡ b → m + k ≡ c → range_with_len a c ≡ range_with_len a m ++ range_with_len b k
@@ -74,21 +76,25 @@ contains-without : (s : FinSet nat_cmp) (n q : ℕ) → contains (remove s n) q 
 contains-without s n q = contains-remove nat_cmp_total s n q ∙ ap (λ b. not b && contains s q) (unsigned_tied q n)
 
 -- the least number of a set comes first, and then the others
-pub first_of_numbers : (s : FinSet nat_cmp) (n : ℕ) → n < 64 → contains s n ≡ true → ((q : ℕ) → q < n → contains s q ≡ false) → numbers_of s ≡ n ∷ numbers_of (remove s n)
+pub first_of_numbers : (s : FinSet nat_cmp) (n : ℕ) → IsLeast s n → numbers_of s ≡ n ∷ numbers_of (remove s n)
 unfolding numbers_of
-first_of_numbers s n h one none = first_below (contains s) (contains (remove s n)) 64 n h one (contains-without s n n ∙ not_itself (contains s n) n) none
+first_of_numbers s n h = first_below (contains s) (contains (remove s n)) 512 n h.below h.holds (contains-without s n n ∙ not_itself (contains s n) n) h.least
     (λ q other. contains-without s n q ∙ not_same (contains s q) q n other)
 
 -- the greatest comes last, after the others
-pub last_of_numbers : (s : FinSet nat_cmp) (n : ℕ) → n < 64 → contains s n ≡ true → ((q : ℕ) → n < q → contains s q ≡ false) → numbers_of s ≡ numbers_of (remove s n) ++ n ∷ []
+pub last_of_numbers : (s : FinSet nat_cmp) (n : ℕ) → IsGreatest s n → numbers_of s ≡ numbers_of (remove s n) ++ n ∷ []
 unfolding numbers_of
-last_of_numbers s n h one none = last_below (contains s) (contains (remove s n)) 64 n h one (contains-without s n n ∙ not_itself (contains s n) n) none
+last_of_numbers s n h = last_below (contains s) (contains (remove s n)) 512 n h.below h.holds (contains-without s n n ∙ not_itself (contains s n) n) h.greatest
     (λ q other. contains-without s n q ∙ not_same (contains s q) q n other)
 
+-- without the greatest there are fewer
+pub fewer_without_last : (s : FinSet nat_cmp) (n : ℕ) → IsGreatest s n → length (numbers_of (remove s n)) < length (numbers_of s)
+fewer_without_last s n h = rw (last_of_numbers s n h) (simp length-append (omega arith))
+
 -- the empty set has no number
-pub numbers_of-empty : numbers_of empty ≡ []
+pub numbers_of_empty : numbers_of empty ≡ []
 unfolding numbers_of
-numbers_of-empty = filter_none (contains {R = nat_cmp} empty) 0 64 (λ q _ _. contains-empty nat_cmp q)
+numbers_of_empty = filter_none (contains {R = nat_cmp} empty) 0 512 (λ q _ _. contains-empty nat_cmp q)
 
 range_rises : (w : ℕ) → IsStrictlyIncreasing (range_with_len 0 w)
 range_rises w k h =
@@ -98,7 +104,7 @@ range_rises w k h =
 -- the numbers of a set rise
 pub numbers_of-rising : (s : FinSet nat_cmp) → IsStrictlyIncreasing (numbers_of s)
 unfolding numbers_of
-numbers_of-rising s = IsStrictlyIncreasing-filter (contains s) (range_with_len 0 64) (range_rises 64)
+numbers_of-rising s = IsStrictlyIncreasing-filter (contains s) (range_with_len 0 512) (range_rises 512)
 
 any_of_range : (a n q : ℕ) → list_any (nat_eq q) (range_with_len a n) ≡ (not (nat_lt q a) && nat_lt q (a + n))
 any_of_range a zero q = grind (arith, nat_tests)
@@ -115,12 +121,12 @@ both_true b q w e = (grind (arith, nat_tests), grind (arith, nat_tests))
 true_both : (b : Bool) (q w : ℕ) → q < w → b ≡ true → (b && nat_lt q w) ≡ true
 true_both b q w h e = grind (arith, nat_tests)
 
--- they are the numbers below 64 that it contains
-pub numbers_of-members : (s : FinSet nat_cmp) (q : ℕ) → Contains (numbers_of s) q ↔ ((q < 64) × (contains s q ≡ true))
+-- they are the numbers below 512 that it contains
+pub numbers_of-members : (s : FinSet nat_cmp) (q : ℕ) → Contains (numbers_of s) q ↔ ((q < 512) × (contains s q ≡ true))
 unfolding numbers_of
 numbers_of-members s q = (
-  λ one. both_true (contains s q) q 64 (sym (any_of_filter (contains s) 64 q) ∙ list_any-from_Contains nat_eq_equiv q _ one),
-  λ both. Contains-from_any eqb-true q _ (any_of_filter (contains s) 64 q ∙ true_both (contains s q) q 64 both.0 both.1),
+  λ one. both_true (contains s q) q 512 (sym (any_of_filter (contains s) 512 q) ∙ list_any-from_Contains nat_eq_equiv q _ one),
+  λ both. Contains-from_any eqb-true q _ (any_of_filter (contains s) 512 q ∙ true_both (contains s q) q 512 both.0 both.1),
 )
 
 length-filter_range : (p : ℕ → Bool) (a w : ℕ) → length (filter p (range_with_len a w)) ≤ w
@@ -130,7 +136,20 @@ length-filter_range p a (suc w) = one_more (p a) a (filter p (range_with_len (a 
   one_more true x xs n h = omega arith
   one_more false x xs n h = omega arith
 
--- there are at most 64
-pub at_most_64_numbers : (s : FinSet nat_cmp) → length (numbers_of s) ≤ 64
+-- there are at most 512
+pub at_most_512_numbers : (s : FinSet nat_cmp) → length (numbers_of s) ≤ 512
 unfolding numbers_of
-at_most_64_numbers s = length-filter_range (contains s) 0 64
+at_most_512_numbers s = length-filter_range (contains s) 0 512
+
+-- no number from 512 on is in the set of words
+below_512 : (words : List ℕ) (q : ℕ) → contains (set_of_words words) q ≡ true → q < 512
+below_512 words q e = in_range (has_bit_in words q) (sym (contains-set_where 512 (has_bit_in words) q) ∙ e) where
+  in_range : (b : Bool) → (nat_lt q 512 && b) ≡ true → q < 512
+  in_range b e = grind (arith, nat_tests)
+
+-- the numbers of the set of words are its members
+pub numbers_are_members : (words : List ℕ) (q : ℕ) → Contains (numbers_of (set_of_words words)) q ↔ (contains (set_of_words words) q ≡ true)
+numbers_are_members words q = (
+  λ one. ((numbers_of-members (set_of_words words) q).0 one).1,
+  λ e. (numbers_of-members (set_of_words words) q).1 (below_512 words q e, e),
+)

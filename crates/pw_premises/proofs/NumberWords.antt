@@ -1,17 +1,17 @@
--- What `next` and `next_back` take from the word of a set, and what they leave in it.
-use Rattle.std.specs.Prelude.{◌↔◌, Contains, ◌≡◌, ℕ, ◌+◌, ◌-◌, ◌*◌, ◌%◌, ◌<◌, ◌≤◌, ◌^◌, Bool, true, false, ◌&&◌, nat_eq, nat_lt, [], ◌∷◌, ◌++◌, length}
-use Rattle.std.specs.FinSet.{contains}
+-- The least and the greatest number of a set, from the bits of its words.
+use Rattle.std.specs.Prelude.{◌≡◌, ◌≢◌, ℕ, ◌+◌, ◌*◌, ◌/◌, ◌%◌, ◌<◌, ◌≤◌, ◌^◌, Bool, true, false, ◌&&◌, nat_eq, nat_lt, List, slice_index}
+use Rattle.std.specs.FinSet.{contains, empty}
 use Rattle.std.specs.Int.{bit_at, trailing_zeros}
 use Rattle.std.specs.Int.Count.{count_trailing_zeros}
-use Rattle.std.proofs.Common.{refl, sym, ap, ◌∙◌, add-one, arith, bit_and, w64, length-append}
+use Rattle.std.proofs.Common.{refl, sym, ap, ◌∙◌, add-one, arith, w64, inl, inr}
 use Rattle.std.proofs.Math.Nat.{div-eq_of_lt-le, pow-succ'}
+use Rattle.std.proofs.lemmas.Bool.{cases_lt}
 use Rattle.std.proofs.lemmas.Bool.Decides.{nat_tests}
 use Rattle.std.proofs.lemmas.Nat.Bits.{bit_at-trailing_zeros, bit_at_above}
-use Rattle.pw_premises.specs.Premises.{set_where, has_bit}
-use Rattle.pw_premises.specs.PremiseSets.{contains-set_where, contains-set_where_below}
-use Rattle.pw_premises.specs.Premises.{numbers_of}
-use Rattle.pw_premises.proofs.PremiseWords.{none_in_word, without_in_word}
-use Rattle.pw_premises.proofs.NumberLists.{first_of_numbers, last_of_numbers, numbers_of-empty, numbers_of-members}
+use Rattle.pw_premises.specs.Premises.{Premises, IsLeast, IsGreatest}
+use Rattle.pw_premises.specs.inside.Words.{has_bit, has_bit_in, AreWords, set_of_words}
+use Rattle.pw_premises.specs.PremiseSets.{contains-set_where, bit_at_place, set_where-alike, set_where-none}
+use Rattle.pw_premises.proofs.PremiseWords.{has_bit-zero}
 
 set_bit : (a n : ℕ) → bit_at a n ≡ 1 → has_bit a n ≡ true
 unfolding has_bit
@@ -21,24 +21,41 @@ no_bit : (a n : ℕ) → bit_at a n ≡ 0 → has_bit a n ≡ false
 unfolding has_bit
 no_bit a n e = ap (λ b. nat_eq b 1) e
 
-in_word : (a n : ℕ) → n < 64 → bit_at a n ≡ 1 → contains (set_where 64 (has_bit a)) n ≡ true
-in_word a n h e = contains-set_where_below 64 (has_bit a) n h ∙ set_bit a n e
-
 and_no : (b c : Bool) → c ≡ false → (b && c) ≡ false
 and_no true c e = e
 and_no false c e = refl
 
-not_in_word : (a q : ℕ) → bit_at a q ≡ 0 → contains (set_where 64 (has_bit a)) q ≡ false
-not_in_word a q e = contains-set_where 64 (has_bit a) q ∙ and_no (nat_lt q 64) (has_bit a q) (no_bit a q e)
+and_yes : (q : ℕ) (c : Bool) → q < 512 → c ≡ true → (nat_lt q 512 && c) ≡ true
+and_yes q c h e = grind (arith, nat_tests)
 
--- the lowest bit is the least number
-pub least_of_word : (a : ℕ) → 0 < a → a < 18446744073709551616
-    → numbers_of (set_where 64 (has_bit a))
-    ≡ count_trailing_zeros 64 a ∷ numbers_of (set_where 64 (has_bit (bit_and a (18446744073709551615 - 1 * 2 ^ count_trailing_zeros 64 a % 18446744073709551616))))
-least_of_word a pos h =
-    let lowest = bit_at-trailing_zeros w64 a pos h in
-    first_of_numbers (set_where 64 (has_bit a)) (trailing_zeros w64 a) lowest.0 (in_word a _ lowest.0 lowest.1) (λ q below. not_in_word a q (lowest.2 q below))
-    ∙ ap (λ s. trailing_zeros w64 a ∷ numbers_of s) (sym (without_in_word a (trailing_zeros w64 a) lowest.0))
+-- a number is in the set if its bit is set, and otherwise not
+absent : (words : List ℕ) (s : Premises) → set_of_words words ≡ s → (q : ℕ) → has_bit_in words q ≡ false → contains s q ≡ false
+absent words s is q e = ap (λ t. contains t q) (sym is) ∙ contains-set_where 512 (has_bit_in words) q ∙ and_no (nat_lt q 512) (has_bit_in words q) e
+
+pub present : (words : List ℕ) (s : Premises) → set_of_words words ≡ s → (i k : ℕ) → i < 8 → k < 64 → bit_at (slice_index words i) k ≡ 1 → contains s (i * 64 + k) ≡ true
+present words s is i k h l e = ap (λ t. contains t (i * 64 + k)) (sym is) ∙ contains-set_where 512 (has_bit_in words) (i * 64 + k)
+    ∙ and_yes (i * 64 + k) _ (omega arith) (bit_at_place words i k l ∙ set_bit _ k e)
+
+-- a bit of a word that is 0 is not set
+pub no_bit_of_zero : (words : List ℕ) (q : ℕ) → slice_index words (q / 64) ≡ 0 → has_bit_in words q ≡ false
+no_bit_of_zero words q e = ap (λ w. has_bit w (q % 64)) e ∙ has_bit-zero (q % 64)
+
+-- the lowest bit of the first word that is not 0 is the least number
+pub least_in_words : (words : List ℕ) (s : Premises) → set_of_words words ≡ s → AreWords words → (i : ℕ) → i < 8
+    → ((j : ℕ) → j < i → slice_index words j ≡ 0) → slice_index words i ≢ 0
+    → IsLeast s (i * 64 + count_trailing_zeros 64 (slice_index words i))
+least_in_words words s is fits i h before some =
+    let word : ℕ = slice_index words i in
+    let lowest = bit_at-trailing_zeros w64 word (omega arith) (fits.below i h) in
+    let k : ℕ = trailing_zeros w64 word in
+    record {
+      below = omega (arith, lowest.0);
+      holds = present words s is i k h lowest.0 lowest.1;
+      least = λ q less. absent words s is q (elim (cases_lt (q / 64) i) [
+        | inl l ↦ no_bit_of_zero words q (before (q / 64) l)
+        | inr g ↦ let same : q / 64 ≡ i = omega (arith, lowest.0) in ap (λ j. has_bit (slice_index words j) (q % 64)) same ∙ no_bit word (q % 64) (lowest.2 (q % 64) (omega arith))
+      ]);
+    }
 
 highest_bit : (a n : ℕ) → 2 ^ n ≤ a → a < 2 * 2 ^ n → bit_at a n ≡ 1
 highest_bit a n low high = ap (λ k. k % 2) (div-eq_of_lt-le {k = 1} (2 ^ n) (omega arith) (omega arith))
@@ -48,32 +65,29 @@ above_highest a n q high above =
     let doubled : 2 ^ (n + 1) ≡ 2 * 2 ^ n = ap (λ k. 2 ^ k) (add-one n) ∙ pow-succ' 2 n in
     bit_at_above a (n + 1) q (omega arith) (omega arith)
 
--- the highest bit is the greatest number
-pub greatest_of_word : (a n : ℕ) → 2 ^ n ≤ a → a < 2 * 2 ^ n → n < 64
-    → numbers_of (set_where 64 (has_bit a))
-    ≡ numbers_of (set_where 64 (has_bit (bit_and a (18446744073709551615 - 1 * 2 ^ n % 18446744073709551616)))) ++ n ∷ []
-greatest_of_word a n low high h =
-    last_of_numbers (set_where 64 (has_bit a)) n h (in_word a n h (highest_bit a n low high)) (λ q above. not_in_word a q (above_highest a n q high above))
-    ∙ ap (λ s. numbers_of s ++ n ∷ []) (sym (without_in_word a n h))
+past : (words : List ℕ) (s : Premises) → set_of_words words ≡ s → (q : ℕ) → 512 ≤ q → contains s q ≡ false
+past words s is q h = ap (λ t. contains t q) (sym is) ∙ contains-set_where 512 (has_bit_in words) q ∙ none (has_bit_in words q) where
+  none : (c : Bool) → (nat_lt q 512 && c) ≡ false
+  none c = grind (arith, nat_tests)
 
--- without it the word has fewer numbers
-pub fewer_without_greatest : (a n : ℕ) → 2 ^ n ≤ a → a < 2 * 2 ^ n → n < 64
-    → length (numbers_of (set_where 64 (has_bit (bit_and a (18446744073709551615 - 1 * 2 ^ n % 18446744073709551616))))) < length (numbers_of (set_where 64 (has_bit a)))
-fewer_without_greatest a n low high h = rw (greatest_of_word a n low high h) (simp length-append (omega arith))
+-- the highest bit of the last word that is not 0 is the greatest number
+pub greatest_in_words : (words : List ℕ) (s : Premises) → set_of_words words ≡ s → (i n : ℕ) → i < 8
+    → ((j : ℕ) → j < 8 → i < j → slice_index words j ≡ 0) → 2 ^ n ≤ slice_index words i → slice_index words i < 2 * 2 ^ n → n < 64
+    → IsGreatest s (i * 64 + n)
+greatest_in_words words s is i n h after low high narrow =
+    let word : ℕ = slice_index words i in
+    record {
+      below = omega arith;
+      holds = present words s is i n h narrow (highest_bit word n low high);
+      greatest = λ q more. elim (cases_lt q 512) [
+        | inl m ↦ absent words s is q (elim (cases_lt i (q / 64)) [
+          | inl l ↦ no_bit_of_zero words q (after (q / 64) (omega arith) l)
+          | inr g ↦ let same : q / 64 ≡ i = omega arith in ap (λ j. has_bit (slice_index words j) (q % 64)) same ∙ no_bit word (q % 64) (above_highest word n (q % 64) high (omega arith))
+        ])
+        | inr g ↦ past words s is q g
+      ];
+    }
 
--- a word with no bit has no number
-pub none_of_word : numbers_of (set_where 64 (has_bit 0)) ≡ []
-none_of_word = ap numbers_of none_in_word ∙ numbers_of-empty
-
--- no number from 64 on is in a word
-below_64 : (a q : ℕ) → contains (set_where 64 (has_bit a)) q ≡ true → q < 64
-below_64 a q e = in_range (has_bit a q) (sym (contains-set_where 64 (has_bit a) q) ∙ e) where
-  in_range : (b : Bool) → (nat_lt q 64 && b) ≡ true → q < 64
-  in_range b e = grind (arith, nat_tests)
-
--- the numbers of a word are the members of its set
-pub numbers_are_members : (a q : ℕ) → Contains (numbers_of (set_where 64 (has_bit a))) q ↔ (contains (set_where 64 (has_bit a)) q ≡ true)
-numbers_are_members a q = (
-  λ one. ((numbers_of-members (set_where 64 (has_bit a)) q).0 one).1,
-  λ e. (numbers_of-members (set_where 64 (has_bit a)) q).1 (below_64 a q e, e),
-)
+-- words that are 0 hold no number
+pub no_number : (words : List ℕ) (s : Premises) → set_of_words words ≡ s → ((j : ℕ) → j < 8 → slice_index words j ≡ 0) → s ≡ empty
+no_number words s is none = sym is ∙ set_where-alike 512 (has_bit_in words) (λ _. false) (λ q h. no_bit_of_zero words q (none (q / 64) (omega arith))) ∙ set_where-none 512

@@ -1,3 +1,4 @@
 pub mod PremiseSets
 pub mod PremiseSubsets
 pub mod Premises
+pub mod inside

@@ -1,7 +1,7 @@
--- Laws of the set stored in a word: what it contains, and that the word can be computed from the
+-- Laws of the set stored in words: what it contains, and that the words can be computed from the
 -- set.
 use Rattle.std.specs.Prelude.{◌≡◌, ℕ, zero, suc, ◌+◌, ◌*◌, ◌%◌, ◌<◌, ◌≤◌, ◌^◌, Bool, true, false}
-use Rattle.std.specs.Prelude.{not, cond, ◌&&◌, ◌||◌, nat_eq, nat_lt}
+use Rattle.std.specs.Prelude.{not, cond, ◌&&◌, ◌||◌, nat_eq, nat_lt, List, length, slice_index}
 use Rattle.std.specs.List.{range_with_len, list_any}
 use Rattle.std.specs.Ordering.{nat_cmp}
 use Rattle.std.specs.Cmp.{nat_cmp_total, unsigned_tied, both_ways}
@@ -14,9 +14,14 @@ use Rattle.std.proofs.Common.{refl, sym, ap, ◌∙◌, arith}
 use Rattle.std.proofs.Math.Nat.{mod-eq_of_lt}
 use Rattle.std.proofs.lemmas.Bool.{eqb-true}
 use Rattle.std.proofs.lemmas.Bool.Decides.{nat_tests}
-use Rattle.std.proofs.lemmas.Nat.{mod-pow-add}
+use Rattle.std.proofs.lemmas.Grind.{same_number_lists}
+use Rattle.std.proofs.lemmas.List.FromFn.{get_or-map-range_with_len, length-map-range_with_len}
+use Rattle.std.proofs.lemmas.Nat.{div-mul-add, mod-mul-add, mod-pow-add}
 use Rattle.std.proofs.lemmas.Nat.Bits.{bit_at-lt}
-use Rattle.pw_premises.specs.Premises.{set_where, has_bit, number_of}
+use Rattle.pw_premises.specs.Premises.{most_premises}
+use Rattle.pw_premises.specs.inside.Words.{set_where, has_bit, has_bit_in, number_where, AreWords}
+use Rattle.pw_premises.specs.inside.Words.{set_of_words, word_of, words_of}
+use Rattle.pw_premises.specs.inside.Words.{set_of_word, narrow_word_of}
 
 -- a set with one more number, if the test passed
 contains-if_inserted : (b : Bool) (s : FinSet nat_cmp) (w q : ℕ) →
@@ -108,6 +113,17 @@ set_where-one w n h = set_where-is w _ _ (λ q. one_below w n q h
     ∙ sym (contains-insert nat_cmp_total empty n q
     ∙ (λ i. unsigned_tied q n i || contains-empty nat_cmp q i)))
 
+one_more_below : (w n q : ℕ) (b : Bool) → n < w →
+    (nat_lt q w && (nat_eq q n || b)) ≡ (nat_eq q n || (nat_lt q w && b))
+one_more_below w n q b h = grind (arith, nat_tests)
+
+-- if n passes too, the set has n too
+pub set_where-with : (w n : ℕ) (p : ℕ → Bool) → n < w → set_where w (λ k. nat_eq k n || p k)
+    ≡ insert (set_where w p) n
+set_where-with w n p h = set_where-is w _ _ (λ q. one_more_below w n q (p q) h
+    ∙ sym (contains-insert nat_cmp_total (set_where w p) n q
+    ∙ (λ i. unsigned_tied q n i || contains-set_where w p q i)))
+
 one_of_range : (a n q : ℕ) → list_any (λ y. nat_eq y q) (range_with_len a n)
     ≡ (not (nat_lt q a) && nat_lt q (a + n))
 one_of_range a zero q = grind (arith, nat_tests)
@@ -135,37 +151,70 @@ and_both : (w q : ℕ) (a : Bool) → q < w → a ≡ true → (nat_lt q w && a)
 and_both w q a h e = grind (arith, nat_tests)
 
 -- the test that each number below w which passes p also passes r is the subset test
-pub is_subset-set_where : (w : ℕ) (p r : ℕ → Bool) (b : Bool)
+pub is_subset-set_where : (w v : ℕ) (p r : ℕ → Bool) (b : Bool) → w ≤ v
     → (b ≡ true → (q : ℕ) → q < w → p q ≡ true → r q ≡ true)
     → (((q : ℕ) → q < w → p q ≡ true → r q ≡ true) → b ≡ true)
-    → b ≡ is_subset (set_where w p) (set_where w r)
-is_subset-set_where w p r b gives given = both_ways b _
+    → b ≡ is_subset (set_where w p) (set_where v r)
+is_subset-set_where w v p r b wide gives given = both_ways b _
     (λ passes. contains-is_subset nat_cmp_total _ _ (λ q one.
     let here : (q < w) × (p q ≡ true) = and_right w q (p q) (sym (contains-set_where w p q)
     ∙ one) in
-    contains-set_where w r q ∙ and_both w q (r q) here.0 (gives passes q here.0 here.1)))
-    (λ all. given (λ q h one. (and_right w q (r q) (sym (contains-set_where w r q)
+    contains-set_where v r q
+    ∙ and_both v q (r q) (omega (arith, here.0, wide)) (gives passes q here.0 here.1)))
+    (λ all. given (λ q h one. (and_right v q (r q) (sym (contains-set_where v r q)
     ∙ is_subset-contains nat_cmp_total _ _ all q (contains-set_where w p q
     ∙ and_both w q (p q) h one))).1))
 
--- ---- the word of a set
+-- ---- the words of a set
 if_bit : (b x m : ℕ) → b < 2 → cond (nat_eq b 1) (x + m) m ≡ b * x + m
 if_bit b x m h = grind (arith, nat_tests)
 
 same_cond : (a b : Bool) (x m n : ℕ) → a ≡ b → m ≡ n → cond a (x + m) m ≡ cond b (x + n) n
 same_cond a b x m n p q = λ i. cond (p i) (x + q i) (q i)
 
--- the word of a set that has the numbers of the bits of n is n, up to w bits
-number_of-bits : (w n : ℕ) (s : FinSet nat_cmp) → ((k : ℕ) → k < w → contains s k ≡ has_bit n k) →
-    number_of w s ≡ n % 2 ^ w
-unfolding number_of has_bit
-number_of-bits zero n s same = omega arith
-number_of-bits (suc w) n s same = same_cond _ _ _ _ _ (same w (omega arith))
-    (number_of-bits w n s (λ k h. same k (omega arith)))
+-- the number of a test that the bits of n pass is n, up to w bits
+number_where-bits : (w n : ℕ) (p : ℕ → Bool) → ((k : ℕ) → k < w → p k ≡ has_bit n k) →
+    number_where w p ≡ n % 2 ^ w
+unfolding number_where has_bit
+number_where-bits zero n p same = omega arith
+number_where-bits (suc w) n p same = same_cond _ _ _ _ _ (same w (omega arith))
+    (number_where-bits w n p (λ k h. same k (omega arith)))
     ∙ if_bit (bit_at n w) (2 ^ w) (n % 2 ^ w) (bit_at-lt n w) ∙ sym (mod-pow-add n 1 w)
     ∙ ap (λ k. n % 2 ^ k) (omega arith)
 
--- the word can be computed from its set
-pub number_of-set_where : (n : ℕ) → n < 2 ^ 64 → number_of 64 (set_where 64 (has_bit n)) ≡ n
-number_of-set_where n h = number_of-bits 64 n _ (λ k below.
-    contains-set_where_below 64 (has_bit n) k below) ∙ mod-eq_of_lt h
+-- bit k of word i is the bit of one number
+pub bit_at_place : (words : List ℕ) (i k : ℕ) → k < 64 → has_bit_in words (i * 64 + k)
+    ≡ has_bit (slice_index words i) k
+bit_at_place words i k h = λ t. has_bit (slice_index words (div-mul-add i 64 k h t))
+    (mod-mul-add i 64 k h t)
+
+-- the set that words hold contains the numbers whose bit is set
+contains_bit : (words : List ℕ) (i k : ℕ) → i < 8 → k < 64 →
+    contains (set_of_words words) (i * 64 + k) ≡ has_bit (slice_index words i) k
+contains_bit words i k h l = contains-set_where_below most_premises (has_bit_in words) (i * 64 + k)
+    (omega arith) ∙ bit_at_place words i k l
+
+-- a word can be computed from the set
+word_again : (words : List ℕ) → AreWords words → (i : ℕ) → i < 8 → word_of (set_of_words words) i
+    ≡ slice_index words i
+word_again words h i l = number_where-bits 64 (slice_index words i) _ (λ k below.
+    contains_bit words i k l below) ∙ mod-eq_of_lt (h.below i l)
+
+-- and so can all words
+pub words_again : (words : List ℕ) → AreWords words → words_of (set_of_words words) ≡ words
+words_again words h = same_number_lists _ words (eight ∙ sym h.many) (λ i l. word i (omega (
+  arith,
+  l,
+  eight,
+))) where
+  eight : length (words_of (set_of_words words)) ≡ 8
+  eight = length-map-range_with_len (word_of (set_of_words words)) 0 8
+
+  word : (i : ℕ) → i < 8 → slice_index (words_of (set_of_words words)) i ≡ slice_index words i
+  word i l = get_or-map-range_with_len (word_of (set_of_words words)) 0 8 i i 0 l (omega arith)
+      ∙ word_again words h i l
+
+-- and so can the one word of a set of numbers below 64
+pub narrow_word_again : (word : ℕ) → word < 2 ^ 64 → narrow_word_of (set_of_word word) ≡ word
+narrow_word_again word h = number_where-bits 64 word _
+    (contains-set_where_below 64 (has_bit word)) ∙ mod-eq_of_lt h

@@ -19,7 +19,7 @@ use Rattle.pw_procs.specs.Values.{some, is_possible}
 place_in_range : (m : Members) (v : ℤ) → allows (info.Members 0 m) v ≡ true → (exact_lowest ≤ℤ v) × (v ≤ℤ exact_highest)
 place_in_range m (pos k) e =
     let below : k < size_of m = sets.allows_below m k e in
-    let most : size_of m ≤ 64 = (sets.size_is m).1 in
+    let most : size_of m ≤ 128 = (sets.size_is m).1 in
     (omega (arith, ints), omega (arith, ints))
 place_in_range m (negsuc k) e = absurd (cc)
 

@@ -16,7 +16,7 @@ pub fn truth_kind() -> Kind
 
 /// The members of a set, by a mask: those whose bits are set. If a bit at or past the size of the
 /// set is set, it is no mask of this set, and the result is the contradiction.
-pub fn members_of_mask(set: SetKind, mask: u64) -> Info
+pub fn members_of_mask(set: SetKind, mask: u128) -> Info
     ensures kind { kind_of result ≡ Kind.Members set }
     ensures values { IsMaskOf set.size mask → PassesBitsOf mask (allows result) }
     ensures bad { (IsMaskOf set.size mask → ⊥) → IsContradiction result }

@@ -7,6 +7,7 @@ use Rattle.pw_kinds.specs.declared.exact.Exact.{Exact}
 use Rattle.pw_kinds.specs.declared.exact.Exact.TheVariants.{Any, One, Empty}
 use Rattle.pw_kinds.specs.declared.interval.Interval.{Interval}
 use Rattle.pw_kinds.specs.declared.members.Members.{Members}
+use Rattle.pw_kinds.specs.Members.{mask_in}
 use Rattle.pw_kinds.proofs.Exacts.{same_number, eq_true, self_eq}
 use Rattle.pw_kinds.proofs.Intervals.{same_ends}
 use Rattle.pw_kinds.proofs.MemberSets.{same_mask}
@@ -26,8 +27,8 @@ intervals_are i j e =
 
 members_are : (m n : Members) → same_members m n ≡ true → m ≡ n
 members_are m n e =
-    let both = and_parts (nat_eq m.size n.size) (nat_eq m.mask n.mask) e in
-    same_mask m n ((nat_eq_decides m.size n.size).0 both.0) ((nat_eq_decides m.mask n.mask).0 both.1)
+    let both = and_parts (nat_eq m.size n.size) (nat_eq (mask_in m) (mask_in n)) e in
+    same_mask m n ((nat_eq_decides m.size n.size).0 both.0) ((nat_eq_decides (mask_in m) (mask_in n)).0 both.1)
 
 exacts_are : (e f : Exact) → same_exact e f ≡ true → e ≡ f
 exacts_are Any Any passes = refl
@@ -50,7 +51,7 @@ self_interval i = and_from (int_eq i.lo i.lo) (int_eq i.hi i.hi) (self_eq i.lo) 
 
 self_members : (m : Members) → same_members m m ≡ true
 self_members m =
-    and_from (nat_eq m.size m.size) (nat_eq m.mask m.mask) ((nat_eq_decides m.size m.size).1 refl) ((nat_eq_decides m.mask m.mask).1 refl)
+    and_from (nat_eq m.size m.size) (nat_eq (mask_in m) (mask_in m)) ((nat_eq_decides m.size m.size).1 refl) ((nat_eq_decides (mask_in m) (mask_in m)).1 refl)
 
 self_exact : (e : Exact) → same_exact e e ≡ true
 self_exact Any = refl

@@ -102,7 +102,7 @@ fn try_premise<A: Allocator + Copy>(
     settled: &Settled<A>,
     cell: u32,
     left: Left,
-    premise: u8,
+    premise: u16,
 ) -> Result<Left, AllocError>
     requires kinds { kinds_of store.old ≡ kinds_in (wiring network.now) }
     requires sound { IsSound (wiring network.now) store.old }

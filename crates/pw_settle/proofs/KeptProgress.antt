@@ -160,13 +160,12 @@ pub record IsAfterNews (network : Network) (old new : Store) (w : Premises) (new
   pub weight_is : weight network new w + reader_count network w cell ≤ weight network old w
 
 module _ (network : Network) (well : IsWellNetwork network) (old new : Store) (same : kinds_of old ≡ kinds_in network) (w : Premises)
-    (infos new_infos : List Info) (supports new_supports : List Premises) (kept : AreKept old w infos supports)
+    (infos : List Info) (supports : List Premises) (kept : AreKept old w infos supports)
     (number : ℕ) (visible : visible_at network w number ≡ true) (cell : ℕ) (fact : Fact)
     (is : IsNews network infos supports (attached_no network number no_instance) cell fact)
     (below : cell < length infos) (kind : kind_of fact.info ≡ kind_of (info_at infos cell))
     (told : (w : Premises) → told_in new cell w ≡ told_in old cell w) (gains : GainsKept cell fact old new)
-    (assimilates : AssimilatesAt cell fact old new) (others : LeavesOthers cell old new) (kinds_stay : kinds_of new ≡ kinds_of old)
-    (takes : TakesIn cell fact infos new_infos supports new_supports) where
+    (assimilates : AssimilatesAt cell fact old new) (others : LeavesOthers cell old new) (kinds_stay : kinds_of new ≡ kinds_of old) where
   abbrev a : Attached
   a = attached_no network number no_instance
 
@@ -196,7 +195,7 @@ module _ (network : Network) (well : IsWellNetwork network) (old new : Store) (s
   inside = within network well old same w infos supports kept a there seen cell fact is
 
   -- the store keeps more
-  keeps_news : KeepsMore network old new
+  pub keeps_news : KeepsMore network old new
   keeps_news =
       keeps_fact network old new same cell fact of_kind told gains others kinds_stay
       (follows network well old same w infos supports kept a there seen cell fact is)
@@ -212,71 +211,22 @@ module _ (network : Network) (well : IsWellNetwork network) (old new : Store) (s
   in_supports : cell < length supports
   in_supports = omega (arith, below, kept.many, kept.as_many)
 
-  -- the premises at hand for another cell are unchanged
-  support_elsewhere : (c : ℕ) → c ≢ cell → support_at new_supports c ≡ support_at supports c
-  support_elsewhere c other =
-      ap (λ (l : List Premises). support_at l c) takes.supports_are
-      ∙ get_or-set_other supports cell c (support_at new_supports cell) empty other
+  -- the fact's premises lie upstream, if all did
+  its_fact : (given : ℕ → ℕ → Bool) → AreUpstream network given old supports → LiesUpstream network given cell fact.support
+  its_fact given are = lies network well old same w infos supports kept a there seen cell fact is given are.known
 
-  -- what is enough for the merge
-  enough_here : (s : Premises) → is_subset (support_at new_supports cell) s ≡ true → Implies (kept_in new cell s) after
-  enough_here s has =
-      let shown : Implies (kept_in old cell s) (shows s its) =
-      implies_shown (kept_in old cell s) its s (kind-kept old cell s ∙ sym (kind-kept old cell w) ∙ sym (ap kind_of (kept.infos_are cell)))
-      (λ supported. kept.enough cell s supported) in
-      let one_kind : kind_of (shows s its) ≡ kind_of (shows s fact) = kind-shows s its ∙ sym kind ∙ sym (kind-shows s fact) in
-      λ v possible. subst (λ (i : Info). allows i v ≡ true) (takes.together s has)
-      (meet_keeps (kept_in old cell s) (shows s its) (shows s fact) (kind_both network old new same cell fact of_kind told gains others s) one_kind shown v
-      (subst (λ (i : Info). allows i v ≡ true) (gains s) possible))
-
-  -- what is at hand is what is kept
-  kept_news : AreKept new w new_infos new_supports
-  kept_news = record {
-    many = ap length takes.infos_are ∙ length-set infos cell after ∙ kept.many ∙ sym as_many_cells;
-    as_many = ap length takes.supports_are ∙ length-set supports cell (support_at new_supports cell) ∙ kept.as_many ∙ sym as_many_cells;
-    infos_are = by_cell (λ c. info_at new_infos c ≡ kept_in new c w) cell (info_here ∙ sym kept_here)
-        (λ c other. info_elsewhere c other ∙ kept.infos_are c ∙ sym (elsewhere c other w));
-    within = by_cell (λ c. is_subset (support_at new_supports c) w ≡ true) cell
-        (is_subset_trans (support_at new_supports cell) (union (support_at supports cell) fact.support) w takes.rests
-        (union_is_subset (support_at supports cell) fact.support w (kept.within cell) inside))
-        (λ c other. subst (λ (p : Premises). is_subset p w ≡ true) (sym (support_elsewhere c other)) (kept.within c));
-    enough = λ c s. by_cell (λ c. is_subset (support_at new_supports c) s ≡ true → Implies (kept_in new c s) (info_at new_infos c)) cell
-        (λ has. implies_also (kept_in new cell s) after (info_at new_infos cell) (sym info_here) (enough_here s has))
-        (λ c other has. also_implies (info_at new_infos c) (kept_in old c s) (kept_in new c s) (sym (elsewhere c other s))
-        (implies_also (kept_in old c s) (info_at infos c) (info_at new_infos c) (sym (info_elsewhere c other))
-        (kept.enough c s (subst (λ (p : Premises). is_subset p s ≡ true) (support_elsewhere c other) has)))) c;
-  } where
-    as_many_cells : length new.cells ≡ length old.cells
-    as_many_cells = sym (length-map new.cells (λ (x : Cell). x.kind)) ∙ ap length kinds_stay ∙ length-map old.cells (λ (x : Cell). x.kind)
-
-    info_here : info_at new_infos cell ≡ after
-    info_here = ap (λ (l : List Info). info_at l cell) takes.infos_are ∙ get_or-set_same infos cell after (nothing kinds.Interval) below
-
-    info_elsewhere : (c : ℕ) → c ≢ cell → info_at new_infos c ≡ info_at infos c
-    info_elsewhere c other = ap (λ (l : List Info). info_at l c) takes.infos_are ∙ get_or-set_other infos cell c after (nothing kinds.Interval) other
-
-  -- all rests on premises upstream, if it did
-  upstream_news : (given : ℕ → ℕ → Bool) → AreUpstream network given old supports → AreUpstream network given new new_supports
-  upstream_news given are = record {
+  -- so what is kept rests upstream, also if the fact is not taken in
+  pub keeps_upstream : (given : ℕ → ℕ → Bool) → AreUpstream network given old supports → AreUpstream network given new supports
+  keeps_upstream given are = record {
     kept = by_cell (λ c. All (λ f. LiesUpstream network given c f.support) (kept_at new c)) cell
         (each_member (λ (f : Fact). LiesUpstream network given cell f.support) (kept_at new cell)
         (λ f has. elim (assimilates.within f has) [
-          | inl same_fact ↦ subst (λ (g : Fact). LiesUpstream network given cell g.support) (sym same_fact) its_fact
+          | inl same_fact ↦ subst (λ (g : Fact). LiesUpstream network given cell g.support) (sym same_fact) (its_fact given are)
           | inr had ↦ All-contains (λ (g : Fact). LiesUpstream network given cell g.support) (kept_at old cell) f (are.kept cell) had
         ]))
         (λ c other. subst (λ (l : List Fact). All (λ f. LiesUpstream network given c f.support) l) (sym (ap (λ (x : Cell). x.kept) (others c other))) (are.kept c));
-    known = by_cell (λ c. LiesUpstream network given c (support_at new_supports c)) cell
-        (λ cells upstream has p one.
-        elim (or_cases (contains (support_at supports cell) p) (contains fact.support p)
-        (sym (contains-union nat_cmp_total (support_at supports cell) fact.support p)
-        ∙ is_subset-contains nat_cmp_total (support_at new_supports cell) (union (support_at supports cell) fact.support) takes.rests p one)) [
-          | inl was ↦ are.known cell cells upstream has p was
-          | inr came ↦ its_fact cells upstream has p came
-        ])
-        (λ c other. subst (LiesUpstream network given c) (sym (support_elsewhere c other)) (are.known c));
-  } where
-    its_fact : LiesUpstream network given cell fact.support
-    its_fact = lies network well old same w infos supports kept a there seen cell fact is given are.known
+    known = are.known;
+  }
 
   -- what was satisfied still is, but for the readers, which are queued
   satisfied_news : (queued new_queued : List Bool) → AreOthersSatisfied network w (λ c. kept_in old c w) queued number →
@@ -357,5 +307,65 @@ module _ (network : Network) (well : IsWellNetwork network) (old new : Store) (s
           let more : rank_of (kept_in new cell w) + 1 ≤ rank_of (kept_in old cell w) = omega (arith, fallen, now, was) in
           omega (arith, mul-le-mul_right (reader_count network w cell) more)
 
-  pub after_news : IsAfterNews network old new w new_infos supports new_supports number cell
-  after_news = record { grows = keeps_news; kept = kept_news; upstream = upstream_news; satisfied = satisfied_news; weight_is = weight_falls }
+  -- the fact is taken in
+  module _ (new_infos : List Info) (new_supports : List Premises) (takes : TakesIn cell fact infos new_infos supports new_supports) where
+    -- the premises at hand for another cell are unchanged
+    support_elsewhere : (c : ℕ) → c ≢ cell → support_at new_supports c ≡ support_at supports c
+    support_elsewhere c other =
+        ap (λ (l : List Premises). support_at l c) takes.supports_are
+        ∙ get_or-set_other supports cell c (support_at new_supports cell) empty other
+
+    -- what is enough for the merge
+    enough_here : (s : Premises) → is_subset (support_at new_supports cell) s ≡ true → Implies (kept_in new cell s) after
+    enough_here s has =
+        let shown : Implies (kept_in old cell s) (shows s its) =
+        implies_shown (kept_in old cell s) its s (kind-kept old cell s ∙ sym (kind-kept old cell w) ∙ sym (ap kind_of (kept.infos_are cell)))
+        (λ supported. kept.enough cell s supported) in
+        let one_kind : kind_of (shows s its) ≡ kind_of (shows s fact) = kind-shows s its ∙ sym kind ∙ sym (kind-shows s fact) in
+        λ v possible. subst (λ (i : Info). allows i v ≡ true) (takes.together s has)
+        (meet_keeps (kept_in old cell s) (shows s its) (shows s fact) (kind_both network old new same cell fact of_kind told gains others s) one_kind shown v
+        (subst (λ (i : Info). allows i v ≡ true) (gains s) possible))
+
+    -- what is at hand is what is kept
+    kept_news : AreKept new w new_infos new_supports
+    kept_news = record {
+      many = ap length takes.infos_are ∙ length-set infos cell after ∙ kept.many ∙ sym as_many_cells;
+      as_many = ap length takes.supports_are ∙ length-set supports cell (support_at new_supports cell) ∙ kept.as_many ∙ sym as_many_cells;
+      infos_are = by_cell (λ c. info_at new_infos c ≡ kept_in new c w) cell (info_here ∙ sym kept_here)
+          (λ c other. info_elsewhere c other ∙ kept.infos_are c ∙ sym (elsewhere c other w));
+      within = by_cell (λ c. is_subset (support_at new_supports c) w ≡ true) cell
+          (is_subset_trans (support_at new_supports cell) (union (support_at supports cell) fact.support) w takes.rests
+          (union_is_subset (support_at supports cell) fact.support w (kept.within cell) inside))
+          (λ c other. subst (λ (p : Premises). is_subset p w ≡ true) (sym (support_elsewhere c other)) (kept.within c));
+      enough = λ c s. by_cell (λ c. is_subset (support_at new_supports c) s ≡ true → Implies (kept_in new c s) (info_at new_infos c)) cell
+          (λ has. implies_also (kept_in new cell s) after (info_at new_infos cell) (sym info_here) (enough_here s has))
+          (λ c other has. also_implies (info_at new_infos c) (kept_in old c s) (kept_in new c s) (sym (elsewhere c other s))
+          (implies_also (kept_in old c s) (info_at infos c) (info_at new_infos c) (sym (info_elsewhere c other))
+          (kept.enough c s (subst (λ (p : Premises). is_subset p s ≡ true) (support_elsewhere c other) has)))) c;
+    } where
+      as_many_cells : length new.cells ≡ length old.cells
+      as_many_cells = sym (length-map new.cells (λ (x : Cell). x.kind)) ∙ ap length kinds_stay ∙ length-map old.cells (λ (x : Cell). x.kind)
+
+      info_here : info_at new_infos cell ≡ after
+      info_here = ap (λ (l : List Info). info_at l cell) takes.infos_are ∙ get_or-set_same infos cell after (nothing kinds.Interval) below
+
+      info_elsewhere : (c : ℕ) → c ≢ cell → info_at new_infos c ≡ info_at infos c
+      info_elsewhere c other = ap (λ (l : List Info). info_at l c) takes.infos_are ∙ get_or-set_other infos cell c after (nothing kinds.Interval) other
+
+    -- all rests on premises upstream, if it did
+    upstream_news : (given : ℕ → ℕ → Bool) → AreUpstream network given old supports → AreUpstream network given new new_supports
+    upstream_news given are = record {
+      kept = (keeps_upstream given are).kept;
+      known = by_cell (λ c. LiesUpstream network given c (support_at new_supports c)) cell
+          (λ cells upstream has p one.
+          elim (or_cases (contains (support_at supports cell) p) (contains fact.support p)
+          (sym (contains-union nat_cmp_total (support_at supports cell) fact.support p)
+          ∙ is_subset-contains nat_cmp_total (support_at new_supports cell) (union (support_at supports cell) fact.support) takes.rests p one)) [
+            | inl was ↦ are.known cell cells upstream has p was
+            | inr came ↦ its_fact given are cells upstream has p came
+          ])
+          (λ c other. subst (LiesUpstream network given c) (sym (support_elsewhere c other)) (are.known c));
+    }
+
+    pub after_news : IsAfterNews network old new w new_infos supports new_supports number cell
+    after_news = record { grows = keeps_news; kept = kept_news; upstream = upstream_news; satisfied = satisfied_news; weight_is = weight_falls }

@@ -2,3 +2,4 @@
 pub mod Due
 pub mod Known
 pub mod Progress
+pub mod SupportLists

@@ -1,5 +1,5 @@
 //! The kept information about each cell in a worldview, as a settling has it at hand.
-ghost use Rattle.std.specs.Prelude.{◌≡◌, ◌<◌, All, IfOk, length};
+ghost use Rattle.std.specs.Prelude.{◌≡◌, ◌<◌, All, IfOk, OnOk, OnErr, length};
 ghost use Rattle.pw_info.specs.Information.{kind_of};
 ghost use Rattle.pw_network.specs.inside.Held.{attachment};
 ghost use Rattle.pw_network.specs.Network.{Network as Networks};
@@ -7,6 +7,7 @@ ghost use Rattle.pw_settle.specs.inside.Known.{AreKept, SaysTold, TakesIn, joine
 ghost use Rattle.pw_settle.specs.Settled.{info_at};
 ghost use Rattle.pw_settle.specs.inside.Known.{ReadsUpstream};
 
+use crate::support_list::SupportList;
 use pw_cells::CellStore;
 use pw_facts::{Fact, merge_facts};
 use pw_info::Info;
@@ -19,7 +20,7 @@ use std::alloc::{AllocError, Allocator, Global};
 #[derive(Drop)]
 pub(crate) struct Known<A: Allocator = Global> {
     pub(crate) infos: Vec<Info, A>,
-    pub(crate) supports: Vec<PremiseSet, A>,
+    pub(crate) supports: SupportList<A>,
 }
 
 // The kept information about the cells of the store in the worldview. Fails only when out of
@@ -31,47 +32,59 @@ pub(crate) fn read_kept<A: Allocator + Copy>(
 ) -> Result<Known<A>, AllocError>
     ensures unchanged { store.new ≡ store.old }
     ensures kept { IfOk result (λ known.
-        AreKept store.old worldview.now known.infos.items known.supports.items) }
+        AreKept store.old worldview.now known.infos.items known.supports) }
     ensures told { IfOk result (λ known. SaysTold store.old worldview.now) }
     ensures upstream { IfOk result (λ known. (network : Networks) → ReadsUpstream network store.old
-        known.supports.items) }
+        known.supports) }
 {
     let mut infos = Vec::with_capacity(alloc, store.cells() as usize)?;
-    let mut supports = Vec::with_capacity(alloc, store.cells() as usize)?;
+    let mut supports = SupportList::with_capacity(alloc, store.cells() as usize)?;
     for cell in 0..store.cells() {
         let fact = store.kept(cell, worldview);
         let _ = infos.push(fact.info);
-        let _ = supports.push(fact.support);
+        supports.push(fact.support)?;
     }
     Ok(Known { infos, supports })
 }
 
 // The premises of an instance, and those of what is known about its inputs.
-pub(crate) fn joined_support(instance: &Instance, supports: &[PremiseSet]) -> PremiseSet
+pub(crate) fn joined_support<A: Allocator>(
+    instance: &Instance,
+    supports: &SupportList<A>,
+) -> PremiseSet
     requires { All (λ input. input < length supports.now) (attachment instance.now).instance.inputs }
     ensures { result ≡ joined supports.now instance.now.support
         (attachment instance.now).instance.inputs }
 {
-    let mut joined = instance.support;
+    let mut joined = instance.support.widen();
     for input in instance.inputs.as_slice() {
-        joined = joined.join(supports[*input as usize]);
+        joined = joined.join(supports.get(*input as usize));
     }
     joined
 }
 
-// Merges a fact into what is known about a cell.
-pub(crate) fn take_in(infos: &mut [Info], supports: &mut [PremiseSet], cell: u32, fact: &Fact)
+// Merges a fact into what is known about a cell. If memory is refused, nothing changes.
+pub(crate) fn take_in<A: Allocator + Copy>(
+    infos: &mut [Info],
+    supports: &mut SupportList<A>,
+    cell: u32,
+    fact: &Fact,
+) -> Result<(), AllocError>
     requires there { cell < length infos.old }
     requires as_many { length supports.old ≡ length infos.old }
     requires kind { kind_of fact.now.info ≡ kind_of (info_at infos.old cell) }
-    ensures { TakesIn cell fact.now infos.old infos.new supports.old supports.new }
+    ensures taken { OnOk result (TakesIn cell fact.now infos.old infos.new supports.old
+        supports.new) }
+    ensures infos { OnErr result (infos.new ≡ infos.old) }
+    ensures supports { OnErr result (supports.new ≡ supports.old) }
 {
     let place = cell as usize;
     let known = Fact {
         info: infos[place],
-        support: supports[place],
+        support: supports.get(place),
     };
     let merge = merge_facts(&known, fact);
+    supports.replace(place, merge.support)?;
     infos[place] = merge.info;
-    supports[place] = merge.support;
+    Ok(())
 }

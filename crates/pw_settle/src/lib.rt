@@ -8,6 +8,7 @@ mod propagating;
 mod resettling;
 mod settled;
 mod settling;
+mod support_list;
 
 pub use resettling::resettle;
 pub use settled::Settled;

@@ -13,10 +13,10 @@ ghost use Rattle.pw_settle.specs.inside.Progress.{IsNewsOf};
 ghost use Rattle.pw_settle.specs.inside.Known.{Gives};
 
 use crate::known::joined_support;
+use crate::support_list::SupportList;
 use pw_facts::Fact;
 use pw_info::{Info, Kind};
 use pw_network::{Instance, Network};
-use pw_premises::PremiseSet;
 use pw_procs::Registry;
 use std::alloc::Allocator;
 
@@ -93,7 +93,7 @@ fn answer(registry: &Registry, instance: &Instance, known: &[Info], calls: &mut 
 pub(crate) fn news<A: Allocator + Copy>(
     network: &Network<'_, '_, A>,
     infos: &[Info],
-    supports: &[PremiseSet],
+    supports: &SupportList<A>,
     number: usize,
     calls: &mut u128,
 ) -> Option<(u32, Fact)>

@@ -120,10 +120,10 @@ fn due_instances<A: Allocator + Copy>(
     requires visible { AreVisible (wiring network.now) worldview.now visible.now }
     ensures unchanged { store.new ≡ store.old }
     ensures kept { IfOk result (λ (known, agenda).
-        AreKept store.old worldview.now known.infos.items known.supports.items) }
+        AreKept store.old worldview.now known.infos.items known.supports) }
     ensures told { IfOk result (λ (known, agenda). SaysTold store.old worldview.now) }
     ensures upstream { IfOk result (λ (known, agenda). ReadsUpstream (wiring network.now) store.old
-        known.supports.items) }
+        known.supports) }
     ensures due { IfOk result (λ (known, agenda).
         AreDue (wiring network.now) store.old worldview.now before.now agenda) }
 {

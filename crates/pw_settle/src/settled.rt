@@ -30,13 +30,13 @@ impl<A: Allocator> Model for Settled<A> {
 
     ghost view = { λ a. record {
       infos = a.known.infos.items;
-      supports = a.known.supports.items;
+      supports = a.known.supports;
       worldview = a.worldview;
       instances = a.instances;
       calls = a.calls;
     } };
 
-    ghost invariant = { λ a. length a.known.supports.items ≡ length a.known.infos.items };
+    ghost invariant = { λ a. length a.known.supports ≡ length a.known.infos.items };
 }
 
 impl<A: Allocator> Settled<A> {
@@ -48,7 +48,7 @@ impl<A: Allocator> Settled<A> {
     {
         Fact {
             info: self.known.infos[cell as usize],
-            support: self.known.supports[cell as usize],
+            support: self.known.supports.get(cell as usize),
         }
     }
 

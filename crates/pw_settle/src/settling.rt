@@ -93,7 +93,7 @@ fn call<A: Allocator + Copy>(
     calls: &mut u128,
 ) -> Result<(), AllocError>
     requires kinds { kinds_of store.old ≡ kinds_in (wiring network.now) }
-    requires kept { AreKept store.old worldview.now known.old.infos.items known.old.supports.items }
+    requires kept { AreKept store.old worldview.now known.old.infos.items known.old.supports }
     requires visible { AreVisible (wiring network.now) worldview.now visible.now }
     requires flags { length agenda.old ≡ length (wiring network.now).attached }
     requires seen { AreQueuedVisible (wiring network.now) worldview.now agenda.old }
@@ -103,10 +103,10 @@ fn call<A: Allocator + Copy>(
         (λ cell. kept_in store.old cell worldview.now) agenda.old number }
     ensures counted { calls.new ≡ calls.old + 1 }
     ensures grows { KeepsMore (wiring network.now) store.old store.new }
-    ensures upstream { StayUpstream (wiring network.now) store.old known.old.supports.items
-        store.new known.new.supports.items }
+    ensures upstream { StayUpstream (wiring network.now) store.old known.old.supports
+        store.new known.new.supports }
     ensures kept { OnOk result (AreKept store.new worldview.now known.new.infos.items
-        known.new.supports.items) }
+        known.new.supports) }
     ensures flags { length agenda.new ≡ length agenda.old }
     ensures seen { AreQueuedVisible (wiring network.now) worldview.now agenda.new }
     ensures satisfied { OnOk result (AreMet (wiring network.now) store.new worldview.now
@@ -117,7 +117,7 @@ fn call<A: Allocator + Copy>(
 {
     if let Some((cell, fact)) = news(network, &known.infos, &known.supports, number, calls) {
         store.keep(cell, fact)?;
-        take_in(&mut known.infos, &mut known.supports, cell, &fact);
+        take_in(&mut known.infos, &mut known.supports, cell, &fact)?;
         queue_readers(network, visible, agenda, cell);
     }
     Ok(())
@@ -134,16 +134,16 @@ fn work<A: Allocator + Copy>(
     agenda: &mut Agenda<A>,
 ) -> Result<u128, AllocError>
     requires kinds { kinds_of store.old ≡ kinds_in (wiring network.now) }
-    requires kept { AreKept store.old worldview.now known.old.infos.items known.old.supports.items }
+    requires kept { AreKept store.old worldview.now known.old.infos.items known.old.supports }
     requires visible { AreVisible (wiring network.now) worldview.now visible.now }
     requires flags { length agenda.old ≡ length (wiring network.now).attached }
     requires seen { AreQueuedVisible (wiring network.now) worldview.now agenda.old }
     requires satisfied { AreMet (wiring network.now) store.old worldview.now agenda.old }
     ensures grows { KeepsMore (wiring network.now) store.old store.new }
-    ensures upstream { StayUpstream (wiring network.now) store.old known.old.supports.items
-        store.new known.new.supports.items }
+    ensures upstream { StayUpstream (wiring network.now) store.old known.old.supports
+        store.new known.new.supports }
     ensures kept { OnOk result (AreKept store.new worldview.now known.new.infos.items
-        known.new.supports.items) }
+        known.new.supports) }
     ensures satisfied { OnOk result (AreMet (wiring network.now) store.new worldview.now
         agenda.new) }
     ensures done { OnOk result ((n : ℕ) → is_set agenda.new n ≡ false) }
@@ -175,7 +175,7 @@ pub(crate) fn settle_from<A: Allocator + Copy>(
     mut agenda: Agenda<A>,
 ) -> Result<Settled<A>, AllocError>
     requires kinds { kinds_of store.old ≡ kinds_in (wiring network.now) }
-    requires kept { AreKept store.old worldview.now known.infos.items known.supports.items }
+    requires kept { AreKept store.old worldview.now known.infos.items known.supports }
     requires told { SaysTold store.old worldview.now }
     requires visible { AreVisible (wiring network.now) worldview.now visible.now }
     requires flags { length agenda ≡ length (wiring network.now).attached }
@@ -185,7 +185,7 @@ pub(crate) fn settle_from<A: Allocator + Copy>(
     ensures kept { OnOk result (KeepsIfSound (wiring network.now) store.old store.new
         worldview.now) }
     ensures grows { KeepsMore (wiring network.now) store.old store.new }
-    ensures upstream { SettlesUpstream (wiring network.now) store.old known.supports.items
+    ensures upstream { SettlesUpstream (wiring network.now) store.old known.supports
         store.new }
     ensures least { IfOk result (λ settled. tally agenda ≤ settled.calls) }
     ensures most { IfOk result (λ settled. settled.calls

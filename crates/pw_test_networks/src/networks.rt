@@ -165,7 +165,7 @@ fn show_instance<A: Allocator + Copy>(
         .unwrap_or(&"no procedure");
     write!(text, "{}: {name}", instance.line)?;
     show_cells(text, network, instance)?;
-    for premise in instance.support.numbers() {
+    for premise in instance.support.widen().numbers() {
         write!(text, " under {premise}")?;
     }
     text.push('\n')

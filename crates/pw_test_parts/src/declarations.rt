@@ -13,7 +13,7 @@ use std::test::Fail;
 #[derive(Clone, Copy, PartialEq, Eq)]
 pub struct Counts {
     pub users: u8,
-    pub premises: u8,
+    pub premises: u16,
     pub cells: u32,
     pub sets: u8,
     pub compounds: u8,

@@ -65,7 +65,7 @@ fn intervals_meet_and_within(rt: HostRuntime) -> Result<(), Fail> {
     Ok(())
 }
 
-fn members(size: u8, mask: u64) -> Result<Members, Fail> {
+fn members(size: u8, mask: u128) -> Result<Members, Fail> {
     Ok(Members::of(size, mask).ok_or("no such members")?)
 }
 
@@ -74,15 +74,23 @@ fn of_takes_masks_below_the_size(rt: HostRuntime) -> Result<(), Fail> {
     for (size, mask) in [
         (0, 0),
         (1, 1),
-        (65, 0),
+        (129, 0),
         (255, 1),
         (2, 4),
         (3, 9),
         (63, 1 << 63),
+        (127, 1 << 127),
     ] {
         assert_eq!(rt; Members::of(size, mask), None, "{mask} of {size}");
     }
-    for (size, mask) in [(2, 0), (2, 3), (3, 5), (63, 1 << 62), (64, u64::MAX)] {
+    for (size, mask) in [
+        (2, 0),
+        (2, 3),
+        (3, 5),
+        (64, 1 << 63),
+        (127, 1 << 126),
+        (128, u128::MAX),
+    ] {
         let made = members(size, mask)?;
         assert_eq!(rt;
             (made.size(), made.mask()),
@@ -95,8 +103,8 @@ fn of_takes_masks_below_the_size(rt: HostRuntime) -> Result<(), Fail> {
 
 #[test]
 fn full_and_empty(rt: HostRuntime) -> Result<(), Fail> {
-    for (size, mask) in [(2, 3), (3, 7), (63, u64::MAX >> 1), (64, u64::MAX)] {
-        assert!(rt; size >= 2 && size <= 64);
+    for (size, mask) in [(2, 3), (3, 7), (127, u128::MAX >> 1), (128, u128::MAX)] {
+        assert!(rt; size >= 2 && size <= 128);
         let (full, none) = (Members::full(size), Members::empty(size));
         assert_eq!(rt; full, members(size, mask)?, "of {size}");
         assert_eq!(rt; none, members(size, 0)?, "of {size}");
@@ -106,7 +114,7 @@ fn full_and_empty(rt: HostRuntime) -> Result<(), Fail> {
     assert!(rt; !members(3, 3)?.is_full());
     assert!(rt; members(2, 3)?.is_full());
     let text = format!(in rt.alloc(); "{:?}", members(3, 5)?)?;
-    assert_eq!(rt; text.as_str(), "Members { size: 3, mask: 5 }");
+    assert_eq!(rt; text.as_str(), "Members { size: 3, first: 5, second: 0, third: 0, fourth: 0 }");
     Ok(())
 }
 
@@ -118,8 +126,10 @@ fn contains_each_place(rt: HostRuntime) -> Result<(), Fail> {
         (3, 5, 2, true),
         (3, 7, 3, false),
         (64, 1 << 63, 63, true),
-        (64, u64::MAX, 64, false),
-        (64, u64::MAX, 255, false),
+        (128, 1 << 127, 127, true),
+        (128, 1 << 127, 63, false),
+        (128, u128::MAX, 128, false),
+        (128, u128::MAX, 255, false),
     ] {
         assert_eq!(rt;
             members(size, mask)?.contains(place),
@@ -136,6 +146,7 @@ fn with_one_more(rt: HostRuntime) -> Result<(), Fail> {
         (3, 0b001, 2u8, 0b101),
         (3, 0b101, 2, 0b101),
         (64, 1, 63, 1 << 63 | 1),
+        (128, 1, 127, 1 << 127 | 1),
     ] {
         let made = members(size, mask)?;
         assert!(rt; place < made.size());

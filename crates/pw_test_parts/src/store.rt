@@ -59,11 +59,11 @@ fn keep(store: &mut CellStore, fact: Fact) -> Result<bool, AllocError>
 
 // Tells facts of the interval cell, one under each of the first premises alone: the number is at
 // least that of the premise.
-fn tell_under_each(store: &mut CellStore, premises: u8) -> Result<(), AllocError>
+fn tell_under_each(store: &mut CellStore, premises: u16) -> Result<(), AllocError>
     requires { kinds_of store.old ≡ Kind.Interval ∷ Kind.Exact ∷ [] }
     ensures { kinds_of store.new ≡ Kind.Interval ∷ Kind.Exact ∷ [] }
 {
-    for premise in 0..premises.min(64) {
+    for premise in 0..premises.min(512) {
         store.tell(0, fact(i64::from(premise), 100, PremiseSet::one(premise)))?;
     }
     Ok(())
@@ -116,7 +116,7 @@ fn facts_of_one_support_are_told_together(rt: HostRuntime) -> Result<(), Fail> {
 
 #[test]
 fn facts_of_many_supports_are_told_together(rt: HostRuntime) -> Result<(), Fail> {
-    let (three, all) = (PremiseSet::one(3), PremiseSet::first(64));
+    let (three, all) = (PremiseSet::one(3), PremiseSet::first(512));
     let mut store = CellStore::new(rt.alloc());
     store.add_cells(&[Kind::Interval, Kind::Exact])?;
     tell_under_each(&mut store, 20)?;
@@ -127,6 +127,22 @@ fn facts_of_many_supports_are_told_together(rt: HostRuntime) -> Result<(), Fail>
     assert!(rt; kept(&mut store, 0, &three) == fact(50, 60, three));
     assert!(rt; kept(&mut store, 0, &all) == fact(50, 60, three));
     assert!(rt; kept(&mut store, 0, &PremiseSet::first(3)) == fact(2, 100, PremiseSet::one(2)));
+    Ok(())
+}
+
+#[test]
+fn facts_of_wide_supports_are_told_with_the_others(rt: HostRuntime) -> Result<(), Fail> {
+    let (five, far) = (PremiseSet::one(5), PremiseSet::one(100));
+    let mut store = CellStore::new(rt.alloc());
+    store.add_cells(&[Kind::Interval, Kind::Exact])?;
+    tell_under_each(&mut store, 20)?;
+    tell(&mut store, fact(30, 90, far))?;
+    tell(&mut store, fact(40, 80, five))?;
+    assert!(rt; told(&store, 0, &PremiseSet::first(5)) == fact(4, 100, far).info);
+    assert!(rt; told(&store, 0, &five) == fact(40, 80, five).info);
+    assert!(rt; kept(&mut store, 0, &five) == fact(40, 80, five));
+    assert!(rt; kept(&mut store, 0, &far) == fact(30, 90, far));
+    assert!(rt; kept(&mut store, 0, &PremiseSet::first(512)) == fact(40, 80, five));
     Ok(())
 }
 
@@ -151,7 +167,7 @@ fn what_is_told_since_is_recalled(rt: HostRuntime) -> Result<(), Fail> {
 #[test]
 fn what_is_told_since_is_recalled_among_many_facts(rt: HostRuntime) -> Result<(), Fail> {
     let (first, half) = (PremiseSet::one(0), PremiseSet::first(10));
-    let all = PremiseSet::first(64);
+    let all = PremiseSet::first(512);
     let mut store = CellStore::new(rt.alloc());
     store.add_cells(&[Kind::Interval, Kind::Exact])?;
     tell_under_each(&mut store, 20)?;

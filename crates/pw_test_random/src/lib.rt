@@ -1,6 +1,6 @@
-//! For tests alone: commands over one workbench, given as a host gives them. Random calls are
-//! compared with answers by rounds, and calls of procedures are counted. What is shared with other
-//! test crates is in `pw_testing`.
+//! For tests alone: the tests of commands over one workbench, without a run. They count calls of
+//! procedures, and compare replies to random calls with answers by rounds. The helpers that they
+//! share with other test crates are in `pw_testing`.
 #![tactic(auto)]
 
 #[cfg(test)]

@@ -1,5 +1,5 @@
 -- The result of a line that is held, or too long to be held.
-use Rattle.std.proofs.Common.{◌≡◌, ℕ, ◌+◌, ◌<◌, ◌≤◌, nat_le, Bool, true, false, List, [], ◌∷◌, ◌++◌, length, Option, Some, None, refl, sym, ap, ◌∙◌, subst, inl, inr, append-nil, length-append, arith}
+use Rattle.std.proofs.Common.{◌≡◌, ℕ, ◌+◌, ◌<◌, ◌≤◌, nat_le, Bool, true, false, List, [], ◌∷◌, ◌++◌, length, Option, Result, Some, None, Ok, Err, refl, sym, ap, ◌∙◌, subst, inl, inr, append-nil, length-append, arith}
 use Rattle.std.specs.Prelude.{All, filter, is_some}
 use Rattle.std.specs.List.{range_with_len}
 use Rattle.std.proofs.lemmas.Bool.{cases_Bool, leb-false}
@@ -32,10 +32,10 @@ use Rattle.pw_settle.proofs.FixpointLemmas.{kind-fixpoint}
 use Rattle.pw_sessions.proofs.WorkbenchLemmas.{left_same}
 use Rattle.pw_transcript.specs.FromScratch.{ComesTo}
 use Rattle.pw_transcript.specs.Limits.{most_lines}
-use Rattle.pw_transcript.specs.Reading.{Reads}
+use Rattle.pw_transcript.specs.Reading.{Reads, reading_of}
 use Rattle.pw_info.specs.Passing.{PassesPart}
 use Rattle.pw_transcript.specs.ReplyText.{IsReplyNamed, text_of_reply, text_if_any}
-use Rattle.pw_transcript.specs.inside.Answering.{held_line, IsLeft, RepliesToLine, PassesReply, FailsInReply}
+use Rattle.pw_transcript.specs.inside.Answering.{held_line, IsLeft, IsReplied, ReadsHeld, RepliesToLine, PassesReply, FailsInReply}
 use Rattle.pw_transcript.proofs.ReplyLemmas.{IsDeclared-from_Reads}
 
 pub held_none : (line : List ℕ) → None ≡ held_line line → 1024 < length line
@@ -80,7 +80,7 @@ module _ (d : Declared) (well : IsWellDeclared d) where
   left_refused before old r left = left_same d well.kinds before (Refused r) old left (λ n. refl) (λ user beliefs. refl)
 
   module _ (line : List ℕ) (before : List LineReading) (old : Workbench) (left : IsLeftBy d before old) where
-    pub refused_long : None ≡ held_line line → RepliesToLine d before line old (Some (reply.Refused refusal.LineTooLong))
+    refused_long : None ≡ held_line line → RepliesToLine d before line old (Some (reply.Refused refusal.LineTooLong))
     refused_long e = record {
       reading = Refused refusal.LineTooLong;
       comes = inl (inl (refl, held_none line e));
@@ -88,7 +88,7 @@ module _ (d : Declared) (well : IsWellDeclared d) where
       answer_is = refl;
     }
 
-    pub refused : (held : List ℕ) (r : Refusal) → Reads d held (Refused r) → Some held ≡ held_line line → RepliesToLine d before line old (Some (reply.Refused r))
+    refused : (held : List ℕ) (r : Refusal) → Reads d held (Refused r) → Some held ≡ held_line line → RepliesToLine d before line old (Some (reply.Refused r))
     refused held r reads e = record {
       reading = Refused r;
       comes = inl (subst (λ (x : List ℕ). Reads d x (Refused r)) (held_some held line e) reads);
@@ -96,7 +96,7 @@ module _ (d : Declared) (well : IsWellDeclared d) where
       answer_is = refl;
     }
 
-    pub blank : (held : List ℕ) → Reads d held Blank → Some held ≡ held_line line → RepliesToLine d before line old None
+    blank : (held : List ℕ) → Reads d held Blank → Some held ≡ held_line line → RepliesToLine d before line old None
     blank held reads e = record {
       reading = Blank;
       comes = inl (subst (λ (x : List ℕ). Reads d x Blank) (held_some held line e) reads);
@@ -108,7 +108,7 @@ module _ (d : Declared) (well : IsWellDeclared d) where
     came_to command reading reads (inl same) = inl (subst (Reads d line) (sym same) reads)
     came_to command reading reads (inr (refused, takes)) = inr (refused, command, takes, reads)
 
-    pub carried : (number : ℕ) (held : List ℕ) (new : Workbench) (command : Command) (answer : Reply) → length before + 1 ≡ number →
+    carried : (number : ℕ) (held : List ℕ) (new : Workbench) (command : Command) (answer : Reply) → length before + 1 ≡ number →
         Reads d held (Says command) → CarriesOut old number command new answer → Some held ≡ held_line line → RepliesToLine d before line new (Some answer)
     carried number held new command answer next reads done e =
         let here : Reads d line (Says command) = subst (λ (x : List ℕ). Reads d x (Says command)) (held_some held line e) reads in
@@ -164,7 +164,7 @@ module _ (d : Declared) (well : IsWellDeclared d) where
         let is : reply.Refused refusal.Memory ≡ answer = cc in
         subst (IsReplyNamed d) is tt
 
-    pub named_reply : (new : Workbench) (command : Command) (answer : Reply) → Reads d line (Says command) → CarriesOut old number command new answer → IsReplyNamed d answer
+    named_reply : (new : Workbench) (command : Command) (answer : Reply) → Reads d line (Says command) → CarriesOut old number command new answer → IsReplyNamed d answer
     named_reply new command answer reads done =
         let named = IsDeclared-from_Reads d line command reads in
         let out = at_once d left.0 old number command new answer done left.2 left.1 named in
@@ -176,6 +176,65 @@ module _ (d : Declared) (well : IsWellDeclared d) where
     carried_left new command answer reads done =
         let out = at_once d left.0 old number command new answer done left.2 left.1 (IsDeclared-from_Reads d line command reads) in
         (left.0 ++ out.reading ∷ [], one_more left.0 out.reading number left.1, out.left)
+
+-- ---- a line that is held, or too long
+
+module _ (d : Declared) (well : IsWellDeclared d) (number : ℕ) (old : Workbench) (left : IsLeft d number old) (held : Option (List ℕ))
+    (read : Result (Option Command) Refusal) (reads : ReadsHeld d held (reading_of read)) where
+  pub held_blank : (said : Option Command) → read ≡ Ok said → said ≡ None → (before : List LineReading) (line : List ℕ) → IsLeftBy d before old →
+      held ≡ held_line line → RepliesToLine d before line old None
+  held_blank said is none before line left' e =
+      blank_of held (subst (λ (r : Result (Option Command) Refusal). ReadsHeld d held (reading_of r)) (is ∙ ap Ok none) reads) e
+    where
+      blank_of : (held : Option (List ℕ)) → ReadsHeld d held Blank → held ≡ held_line line → RepliesToLine d before line old None
+      blank_of None reads e = absurd (cc)
+      blank_of (Some held) reads e = blank d well line before old left' held reads e
+
+  -- the line says this command
+  says : (said : Option Command) (command : Command) → read ≡ Ok said → said ≡ Some command → ReadsHeld d held (Says command)
+  says said command is some = subst (λ (r : Result (Option Command) Refusal). ReadsHeld d held (reading_of r)) (is ∙ ap Ok some) reads
+
+  pub held_can : (said : Option Command) (command : Command) → read ≡ Ok said → said ≡ Some command → number ≤ most_lines → CanBeCarriedOut old number command
+  held_can said command is some most = can_of held (says said command is some)
+    where
+      can_of : (held : Option (List ℕ)) → ReadsHeld d held (Says command) → CanBeCarriedOut old number command
+      can_of None reads = absurd (cc)
+      can_of (Some held) reads = can_be_carried_out d well held number old left command most reads
+
+  pub held_command : (said : Option Command) (command : Command) → read ≡ Ok said → said ≡ Some command → (new bench : Workbench) (answer given : Reply) →
+      CarriesOut old number command new answer → bench ≡ new → given ≡ answer → IsReplied d number held old bench given
+  held_command said command is some new bench answer given done left-is reply-is =
+      subst (λ (w : Workbench). IsReplied d number held old w given) (sym left-is)
+      (subst (IsReplied d number held old new) (sym reply-is) (replied_of held (says said command is some)))
+    where
+      replied_of : (held : Option (List ℕ)) → ReadsHeld d held (Says command) → IsReplied d number held old new answer
+      replied_of None reads = absurd (cc)
+      replied_of (Some held) reads = record {
+        named = named_reply d well held number old left new command answer reads done;
+        left = carried_left d well held number old left new command answer reads done;
+        reply = λ before line left' next e. carried d well line before old left' number held new command answer next reads done e;
+      }
+
+  pub held_refused : (r : Refusal) → read ≡ Err r → (bench : Workbench) (answer : Reply) → bench ≡ old → answer ≡ reply.Refused r →
+      IsReplied d number held old bench answer
+  held_refused r is bench answer left-is reply-is =
+      subst (λ (w : Workbench). IsReplied d number held old w answer) (sym left-is)
+      (subst (IsReplied d number held old old) (sym reply-is)
+      (replied_of held (subst (λ (x : Result (Option Command) Refusal). ReadsHeld d held (reading_of x)) is reads)))
+    where
+      replied_of : (held : Option (List ℕ)) → ReadsHeld d held (Refused r) → IsReplied d number held old old (reply.Refused r)
+      replied_of None reads =
+          let too_long : r ≡ refusal.LineTooLong = cc in
+          record {
+            named = tt;
+            left = still_left d well number old left;
+            reply = λ before line left' next e. subst (λ (x : Refusal). RepliesToLine d before line old (Some (reply.Refused x))) (sym too_long) (refused_long d well line before old left' e);
+          }
+      replied_of (Some held) reads = record {
+        named = tt;
+        left = still_left d well number old left;
+        reply = λ before line left' next e. refused d well line before old left' held r reads e;
+      }
 
 -- ---- the reply is passed
 

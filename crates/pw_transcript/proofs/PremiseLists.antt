@@ -16,8 +16,9 @@ or_false : (b : Bool) → (b || false) ≡ b
 or_false true = refl
 or_false false = refl
 
-or_swap : (a b c : Bool) → (a || (b || c)) ≡ ((a || (b || false)) || c)
-or_swap true b c = refl
+or_swap : (a b c : Bool) → (a || (b || c)) ≡ ((b || a) || c)
+or_swap true true c = refl
+or_swap true false c = refl
 or_swap false true c = refl
 or_swap false false c = refl
 
@@ -27,25 +28,23 @@ union_empty_left s = by_members _ _ (λ q. contains-union nat_cmp_total empty s 
 pub union_empty_right : (s : Premises) → union s empty ≡ s
 union_empty_right s = by_members _ _ (λ q. contains-union nat_cmp_total s empty q ∙ ap (λ b. contains s q || b) (contains-empty nat_cmp q) ∙ or_false (contains s q))
 
-pub union_insert : (s t : Premises) (n : ℕ) → union s (insert t n) ≡ union (union s (insert empty n)) t
+pub union_insert : (s t : Premises) (n : ℕ) → union s (insert t n) ≡ union (insert s n) t
 union_insert s t n = by_members _ _ (λ q.
     contains-union nat_cmp_total s (insert t n) q
     ∙ ap (λ b. contains s q || b) (contains-insert nat_cmp_total t n q)
     ∙ or_swap (contains s q) (eq_by_cmp nat_cmp q n) (contains t q)
-    ∙ ap (λ b. (contains s q || (eq_by_cmp nat_cmp q n || b)) || contains t q) (sym (contains-empty nat_cmp q))
-    ∙ ap (λ b. (contains s q || b) || contains t q) (sym (contains-insert nat_cmp_total empty n q))
-    ∙ ap (λ b. b || contains t q) (sym (contains-union nat_cmp_total s (insert empty n) q))
-    ∙ sym (contains-union nat_cmp_total (union s (insert empty n)) t q))
+    ∙ ap (λ b. b || contains t q) (sym (contains-insert nat_cmp_total s n q))
+    ∙ sym (contains-union nat_cmp_total (insert s n) t q))
 
 pub premises_of-more : (d : Declared) (word : List ℕ) (words : List (List ℕ)) (n : ℕ) → place_of_name d.premises word ≡ Some n → premises_of d (word ∷ words) ≡ insert (premises_of d words) n
 premises_of-more d word words n e = rw e refl
 
--- the set so far, joined with what a further word names
-pub premises_step : (d : Declared) (word : List ℕ) (words all : List (List ℕ)) (n : ℕ) (s t one : Premises) → place_of_name d.premises word ≡ Some n
-    → premises_of d all ≡ union s (premises_of d (word ∷ words)) → one ≡ insert empty n → t ≡ union s one → premises_of d all ≡ union t (premises_of d words)
-premises_step d word words all n s t one e so_far is_one joined =
+-- the set so far, with what a further word names
+pub premises_step : (d : Declared) (word : List ℕ) (words all : List (List ℕ)) (n : ℕ) (s t : Premises) → place_of_name d.premises word ≡ Some n
+    → premises_of d all ≡ union s (premises_of d (word ∷ words)) → t ≡ insert s n → premises_of d all ≡ union t (premises_of d words)
+premises_step d word words all n s t e so_far more =
     so_far ∙ ap (λ (x : Premises). union s x) (premises_of-more d word words n e) ∙ union_insert s (premises_of d words) n
-    ∙ sym (ap (λ (x : Premises). union x (premises_of d words)) (joined ∙ ap (λ (x : Premises). union s x) is_one))
+    ∙ sym (ap (λ (x : Premises). union x (premises_of d words)) more)
 
 and_assoc : (a b c : Bool) → (a && (b && c)) ≡ ((a && b) && c)
 and_assoc true b c = refl

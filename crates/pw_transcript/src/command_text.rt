@@ -7,7 +7,7 @@ ghost use Rattle.pw_procs.specs.Registering.{place_of_name};
 ghost use Rattle.pw_procs.specs.inside.Shapes.{most_arguments};
 ghost use Rattle.pw_decl.specs.inside.Fields.{declared};
 ghost use Rattle.pw_sessions.specs.Reply.{LineReading};
-ghost use Rattle.pw_transcript.specs.Sentence.{Tell, Attach};
+ghost use Rattle.pw_transcript.specs.Sentence.{Tell, Attach, Believe, Doubt, Ask, Why};
 ghost use Rattle.pw_transcript.specs.inside.Forms.{HasCells, before_under, said_in, sentence_in};
 ghost use Rattle.pw_transcript.specs.inside.Resolving.{IsFree, IsRefusedFor};
 ghost use Rattle.pw_transcript.specs.Reading.{MeansFor};
@@ -28,7 +28,9 @@ pub const MOST_LINE_BYTES: usize = 1024;
 // The greatest number of cells that a callable takes.
 const MOST_CELLS: usize = 9;
 
-// The premises that the words name, or the refusal of a word that names no premise.
+// The premises that the words name, or the refusal of a word that names no premise. Inlined, so
+// that the answer need not be stored.
+#[inline(always)]
 fn premise_set<A: Allocator + Copy>(
     declaration: &Declaration<'_, A>,
     mut words: Words<'_>,
@@ -44,13 +46,13 @@ fn premise_set<A: Allocator + Copy>(
         let Some(premise) = declaration.premise(word) else {
             return Err(Refusal::UnknownPremise);
         };
-        set = set.join(PremiseSet::one(premise));
+        set.insert(premise);
     }
     Ok(set)
 }
 
 // Whether the user may tell or attach under this premise.
-fn may_use<A: Allocator + Copy>(declaration: &Declaration<'_, A>, user: u8, premise: u8) -> bool
+fn may_use<A: Allocator + Copy>(declaration: &Declaration<'_, A>, user: u8, premise: u16) -> bool
     requires { premise < length (declared declaration.now).premises }
     ensures { result ≡ spec.may_use_at (declared declaration.now) user (Some premise) }
 {
@@ -83,7 +85,7 @@ fn support_of<A: Allocator + Copy>(
         let Some(premise) = declaration.premise(word) else {
             return Err(Refusal::UnknownPremise);
         };
-        set = set.join(PremiseSet::one(premise));
+        set.insert(premise);
         may_use_all &= may_use(declaration, user, premise);
     }
     Ok((set, may_use_all))
@@ -223,7 +225,80 @@ fn asked_cell<A: Allocator + Copy>(
     }
 }
 
-// The command that a user's words mean, or its first refusal.
+// The believe of a user.
+fn resolve_believe<A: Allocator + Copy>(
+    declaration: &Declaration<'_, A>,
+    user: u8,
+    premises: Words<'_>,
+) -> Result<Command, Refusal>
+    ensures ok { IfOk result (λ command.
+        MeansFor (declared declaration.now) user (Believe premises.entry) command) }
+    ensures none { OnOk result (IsFree (declared declaration.now) user (Believe premises.entry)) }
+    ensures err { IfErr result (λ refusal.
+        IsRefusedFor (declared declaration.now) user (Believe premises.entry) refusal) }
+{
+    match premise_set(declaration, premises) {
+        Ok(premises) => Ok(Command::Believe { user, premises }),
+        Err(refusal) => Err(refusal),
+    }
+}
+
+// The doubt of a user.
+fn resolve_doubt<A: Allocator + Copy>(
+    declaration: &Declaration<'_, A>,
+    user: u8,
+    premises: Words<'_>,
+) -> Result<Command, Refusal>
+    ensures ok { IfOk result (λ command.
+        MeansFor (declared declaration.now) user (Doubt premises.entry) command) }
+    ensures none { OnOk result (IsFree (declared declaration.now) user (Doubt premises.entry)) }
+    ensures err { IfErr result (λ refusal.
+        IsRefusedFor (declared declaration.now) user (Doubt premises.entry) refusal) }
+{
+    match premise_set(declaration, premises) {
+        Ok(premises) => Ok(Command::Doubt { user, premises }),
+        Err(refusal) => Err(refusal),
+    }
+}
+
+// The question of a user about a cell.
+fn resolve_ask<A: Allocator + Copy>(
+    declaration: &Declaration<'_, A>,
+    user: u8,
+    cell: &[u8],
+) -> Result<Command, Refusal>
+    ensures ok { IfOk result (λ command.
+        MeansFor (declared declaration.now) user (Ask cell.now) command) }
+    ensures none { OnOk result (IsFree (declared declaration.now) user (Ask cell.now)) }
+    ensures err { IfErr result (λ refusal.
+        IsRefusedFor (declared declaration.now) user (Ask cell.now) refusal) }
+{
+    match asked_cell(declaration, cell) {
+        Ok(cell) => Ok(Command::Ask { user, cell }),
+        Err(refusal) => Err(refusal),
+    }
+}
+
+// The question of a user why a cell has its value.
+fn resolve_why<A: Allocator + Copy>(
+    declaration: &Declaration<'_, A>,
+    user: u8,
+    cell: &[u8],
+) -> Result<Command, Refusal>
+    ensures ok { IfOk result (λ command.
+        MeansFor (declared declaration.now) user (Why cell.now) command) }
+    ensures none { OnOk result (IsFree (declared declaration.now) user (Why cell.now)) }
+    ensures err { IfErr result (λ refusal.
+        IsRefusedFor (declared declaration.now) user (Why cell.now) refusal) }
+{
+    match asked_cell(declaration, cell) {
+        Ok(cell) => Ok(Command::Why { user, cell }),
+        Err(refusal) => Err(refusal),
+    }
+}
+
+// The command that a user's words mean, or its first refusal. Each arm that makes room for a set or
+// a command is a function of its own: so a line makes room only for its own command.
 fn resolve_said<A: Allocator + Copy>(
     declaration: &Declaration<'_, A>,
     user: u8,
@@ -247,23 +322,11 @@ fn resolve_said<A: Allocator + Copy>(
             cells,
             premises,
         } => resolve_attach(declaration, user, callable, cells, premises),
-        Said::Believe { premises } => match premise_set(declaration, premises) {
-            Ok(premises) => Ok(Command::Believe { user, premises }),
-            Err(refusal) => Err(refusal),
-        },
-        Said::Doubt { premises } => match premise_set(declaration, premises) {
-            Ok(premises) => Ok(Command::Doubt { user, premises }),
-            Err(refusal) => Err(refusal),
-        },
+        Said::Believe { premises } => resolve_believe(declaration, user, premises),
+        Said::Doubt { premises } => resolve_doubt(declaration, user, premises),
         Said::Beliefs => Ok(Command::Beliefs { user }),
-        Said::Ask { cell } => match asked_cell(declaration, cell) {
-            Ok(cell) => Ok(Command::Ask { user, cell }),
-            Err(refusal) => Err(refusal),
-        },
-        Said::Why { cell } => match asked_cell(declaration, cell) {
-            Ok(cell) => Ok(Command::Why { user, cell }),
-            Err(refusal) => Err(refusal),
-        },
+        Said::Ask { cell } => resolve_ask(declaration, user, cell),
+        Said::Why { cell } => resolve_why(declaration, user, cell),
         Said::Conflicts => Ok(Command::Conflicts { user }),
         Said::Other => Err(Refusal::UnknownCommand),
     }

@@ -19,11 +19,11 @@ use pw_procs::{
 use std::alloc::{AllocError, Global};
 
 // The places of the signs in their set, as bits.
-const NEGATIVE: u64 = 1;
+const NEGATIVE: u128 = 1;
 
-const ZERO: u64 = 2;
+const ZERO: u128 = 2;
 
-const POSITIVE: u64 = 4;
+const POSITIVE: u128 = 4;
 
 // The kind of the set of signs.
 fn sign_set() -> SetKind

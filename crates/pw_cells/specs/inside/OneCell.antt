@@ -1,9 +1,10 @@
 -- The facts of one cell in the code: how they are listed, what bounds the older ones, which answers
 -- are remembered.
 use Rattle.std.specs.Prelude.{◌≡◌, ◌≤◌, List, All, length, take, refl, ◌⊎◌, ℕ, true, if◌then◌else◌}
-use Rattle.std.specs.Prelude.{[], ◌∷◌, ◌++◌, Contains, map, position, Option, is_some, ◌<◌, ◌&&◌}
+use Rattle.std.specs.Prelude.{Contains, map, position, Option, ◌<◌, ◌&&◌}
 use Rattle.std.specs.Prelude.{nat_eq}
 use Rattle.pw_info.specs.declared.kind.Kind.{Kind}
+use Rattle.pw_info.specs.declared.info.Info.{Info}
 use Rattle.pw_info.specs.Information.{kind_of, Implies, meet}
 use Rattle.pw_facts.specs.declared.fact.Fact.{Fact}
 use Rattle.pw_cells.specs.declared.bound.Bound.{Bound}
@@ -46,19 +47,16 @@ AreApart facts = (f g : Fact) → Contains facts f → Contains facts g → Subs
 abbrev pub place_of_support : Premises → List Premises → Option ℕ
 place_of_support support supports = position (has_same_numbers support) supports
 
--- the supports, and this one too: it has the place, or is added if it has none
-abbrev pub with_support : Option ℕ → Premises → List Premises → List Premises
-with_support place support supports = if is_some place then supports else supports ++ support ∷ []
+-- the facts that these supports and informations hold, in either width
+abbrev pub facts_held : {S : Type 0} → (S → Premises) → List (S × Info) → List Fact
+facts_held premises held = map (λ h. record { info = h.1; support = premises h.0 }) held
 
--- the facts of a cell are of its kind, and the told facts have these supports; in every worldview
--- the kept facts, after the late ones are assimilated, say at least what was told; and no kept fact
--- subsumes another
-pub record IsCellWhole (kind : Kind) (told : List Fact) (supports : List Premises)
-    (kept late : List Fact) : Type 0 where
+-- the facts of a cell are of its kind; in every worldview the kept facts, after the late ones are
+-- assimilated, say at least what was told; and no kept fact subsumes another
+pub record IsCellWhole (kind : Kind) (told kept late : List Fact) : Type 0 where
   pub told_kinds : AreOfKind kind told
   pub kept_kinds : AreOfKind kind kept
   pub late_kinds : AreOfKind kind late
-  pub known : supports ≡ map (λ f. f.support) told
   pub says : (w : Premises) → Implies (shown_by kind w (all_assimilated kept late))
       (shown_by kind w told)
   pub apart : AreApart kept

@@ -15,6 +15,7 @@ abbrev pub declared : {A : _} {X : Type 0} {F : X → Type 0} {C : _} → Declar
 declared d =
     record {
       procedures = procedures_in d.registry.now;
+      version = d.version;
       users = d.users;
       premises = d.premises;
       owners = d.owners.items;

@@ -7,15 +7,24 @@ use Rattle.pw_decl.specs.declared.sentence.OuterSentence.{OuterSentence}
 use Rattle.pw_decl.specs.declared.sentence.OuterSentence.TheVariants as outer
 use Rattle.pw_decl.specs.declared.sentence.InnerSentence.{InnerSentence}
 use Rattle.pw_decl.specs.declared.sentence.InnerSentence.TheVariants as inner
+use Rattle.pw_decl.specs.declared.version.Version.TheVariants as versions
 use Rattle.pw_info.specs.Name.{is_name}
 use Rattle.pw_decl.specs.Declaration.{DeclarationSentence, Header, User, Premise, PremiseOf, Set}
 use Rattle.pw_decl.specs.Declaration.{Cell, Begin, Local, Call, End, SoFar, BeforeHeader, Outside}
 use Rattle.pw_decl.specs.Declaration.{Inside}
 
--- the words are the header
-abbrev pub is_header : List (List ℕ) → Bool
-is_header (verb ∷ version ∷ []) = bytes_eq verb (codes "workbench") && bytes_eq version (codes "1")
-is_header words = false
+-- the words after `workbench`
+abbrev pub version_form : List (List ℕ) → Option DeclarationSentence
+version_form (version ∷ []) =
+    if bytes_eq version (codes "1") then Some (Header versions.One)
+    else (if bytes_eq version (codes "2") then Some (Header versions.Two)
+    else None)
+version_form rest = None
+
+-- the sentence that the words form before the header
+abbrev pub header_form : List (List ℕ) → Option DeclarationSentence
+header_form [] = None
+header_form (verb ∷ rest) = if bytes_eq verb (codes "workbench") then version_form rest else None
 
 -- the words after `user`
 abbrev pub user_form : List (List ℕ) → Option DeclarationSentence
@@ -89,7 +98,7 @@ inner_sentence_of (verb ∷ rest) =
 
 -- the sentence that the words form, at this place
 abbrev pub sentence_at : SoFar → List (List ℕ) → Option DeclarationSentence
-sentence_at (BeforeHeader d) words = if is_header words then Some Header else None
+sentence_at (BeforeHeader d) words = header_form words
 sentence_at (Outside d) words = outer_sentence_of words
 sentence_at (Inside d opened) words = inner_sentence_of words
 

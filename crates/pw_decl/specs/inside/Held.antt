@@ -13,6 +13,7 @@ use Rattle.pw_procs.specs.declared.registry.Registry.{Registry}
 use Rattle.pw_decl.specs.declared.step.Step.{Step as StepType}
 use Rattle.pw_decl.specs.declared.compound.Compound.{Compound as CompoundType}
 use Rattle.pw_decl.specs.declared.compound.Size.{Size as SizeType}
+use Rattle.pw_decl.specs.declared.version.Version.{Version}
 use Rattle.pw_decl.specs.Declaration.{Declared}
 use Rattle.std.proofs.Props.{props}
 use Rattle.pw_info.specs.SetNames.{SetNames, IsNamed}
@@ -93,14 +94,16 @@ sizes_held compounds = map (λ c. size_of c.size) compounds
 
 -- what the fields declare
 abbrev pub declared_from : {A : Type 0} {R : _} {X : Type 0} {F : X → Type 0} {C : _} →
-    Registry R X F C →
+    Registry R X F C → Version →
     (users premises : List (List ℕ)) (owners : List (Option ℕ)) (cells : List (List ℕ))
     (kinds : List Kind) →
     (set_names : List (List ℕ)) (sets : List (List (List ℕ))) (compound_names : List (List ℕ)) →
     List (CompoundType A) → Declared
-declared_from registry users premises owners cells kinds set_names sets compound_names compounds =
+declared_from registry version users premises owners cells kinds set_names sets compound_names
+    compounds =
     record {
       procedures = procedures_in registry;
+      version = version;
       users = users;
       premises = premises;
       owners = owners;

@@ -6,7 +6,7 @@ use Rattle.pw_decl.specs.inside.Forms.{are_parameters}
 use Rattle.pw_decl.specs.declared.decl_fault.DeclFaultKind.{DeclFaultKind}
 use Rattle.pw_decl.specs.declared.decl_fault.DeclFaultKind.TheVariants.{Memory}
 use Rattle.pw_info.specs.Lines.{IsFirstIn, HoldsOfNone}
-use Rattle.pw_decl.specs.Declaration.{SoFar, DeclarationSentence, Set, Begin, Call}
+use Rattle.pw_decl.specs.Declaration.{SoFar, DeclarationSentence, Set, Begin, Call, Makes}
 use Rattle.pw_decl.specs.Faults.{LineFault, Duplicate, Unknown, Wrong, TooMany, HasDuplicate}
 use Rattle.pw_decl.specs.Faults.{HasUnknown, HasWrongArguments, IsOneTooMany, kind_of_fault}
 use Rattle.pw_decl.specs.Faults.{IsFirstFaultOf, HasNoFault}
@@ -34,6 +34,12 @@ FaultAppliesTo so_far sentence fault = ⊥
 -- the sentence has no fault
 abbrev pub IsFaultless : SoFar → DeclarationSentence → Type 0
 IsFaultless so_far sentence = HoldsOfNone (FaultAppliesTo so_far sentence) sentence_faults
+
+-- the sentence has no fault, and makes this
+pub record DeclaresSentence (so_far : SoFar) (sentence : DeclarationSentence) (after : SoFar)
+    : Type 0 where
+  pub faultless : IsFaultless so_far sentence
+  pub makes : Makes so_far sentence after
 
 -- this is reported for the sentence: its first fault, or, if it has none, out of memory
 abbrev pub IsToldOf : SoFar → DeclarationSentence → DeclFaultKind → Type 0

@@ -8,8 +8,8 @@ ghost use Rattle.pw_info.specs.SetNames.{AreNames, IsNamed};
 ghost use Rattle.pw_procs.specs.Registering.{place_of_name};
 ghost use Rattle.pw_decl.specs.Compound.{size_of_callable, sizes_of};
 ghost use Rattle.pw_decl.specs.Declaration.{kind_names, members_of, NamesKind, IsCallable};
-ghost use Rattle.pw_decl.specs.Declaration.{with_user, with_premise, with_cell, with_set};
-ghost use Rattle.pw_decl.specs.Declaration.{with_compound};
+ghost use Rattle.pw_decl.specs.Declaration.{with_version, with_user, with_premise, with_cell};
+ghost use Rattle.pw_decl.specs.Declaration.{with_set, with_compound};
 ghost use Rattle.pw_decl.specs.Limits.{most_users, most_premises, most_cells, most_sets};
 ghost use Rattle.pw_decl.specs.Limits.{most_compounds};
 ghost use Rattle.pw_decl.specs.Prelude.{prelude_compounds};
@@ -23,6 +23,7 @@ use crate::built_in::{BUILT_IN_SETS, PRELUDE_COMPOUNDS, built_in_kind};
 use crate::compound::{Compound, OpenCompound, Size};
 use crate::flat_call::Flattened;
 use crate::step::Callable;
+use crate::version::Version;
 use pw_info::{Kind, SetKind};
 use pw_procs::NameTable;
 use std::alloc::{AllocError, Allocator};
@@ -103,6 +104,20 @@ impl<A: Allocator + Copy> Declaration<'_, A> {
         built_in_kind(name).is_some() || self.set_names.find(name).is_some()
     }
 
+    /// The version of the declaration.
+    pub(crate) fn version(&self) -> Version
+        ensures { result ≡ (declared self.now).version }
+    {
+        self.version
+    }
+
+    /// Sets the version of the declaration.
+    pub(crate) fn set_version(&mut self, version: Version)
+        ensures { (declared self.new) ≡ with_version (declared self.old) version }
+    {
+        self.version = version;
+    }
+
     /// Adds a user. Fails only when out of memory; then nothing changes.
     pub(crate) fn add_user(&mut self, name: &str) -> Result<(), AllocError>
         requires fresh { place_of_name (declared self.old).users name.now ≡ None }
@@ -146,7 +161,7 @@ impl<A: Allocator + Copy> Declaration<'_, A> {
         Ok(())
     }
 
-    /// Adds a set kind with these members, 2 to 64. Fails only when out of memory; then nothing
+    /// Adds a set kind with these members, 2 to 128. Fails only when out of memory; then nothing
     /// changes.
     pub(crate) fn add_set(&mut self, name: &str, members: NameTable<A>) -> Result<(), AllocError>
         requires fresh { place_of_name (kind_names (declared self.old)) name.now ≡ None }

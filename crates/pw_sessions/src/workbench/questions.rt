@@ -130,10 +130,27 @@ impl<'d, 'r, A: Allocator + Copy> Workbench<'d, 'r, A> {
         if let Some(info) = self.known_to(user, cell) {
             return Reply::Value(info);
         }
-        let beliefs = self.beliefs_of(user);
-        if !is_written_by(self.network.instances(), cell, &beliefs) {
-            return Reply::Value(self.store.recall(user, cell, &beliefs));
+        let beliefs = &self.beliefs[usize::from(user)];
+        if !is_written_by(self.network.instances(), cell, beliefs) {
+            return Reply::Value(self.store.recall(user, cell, beliefs));
         }
+        self.ask_settled(user, cell)
+    }
+
+    // The same, by settling, where an instance that the user sees writes the cell. Never inlined, so
+    // that other questions make no room for the values of a settling.
+    #[inline(never)]
+    fn ask_settled(&mut self, user: u8, cell: u32) -> Reply<A>
+        requires can { CanAnswer (state self.old) user }
+        requires cell { cell < length (state self.old).network.declared.cells }
+        requires calls { (state self.old).calls ≡ 0 }
+        requires written { SeesWriter (state self.old) user cell }
+        ensures answer { AnswersAskIfLeft (state self.old) user cell (reply_by result) }
+        ensures asked { IsAsked (state self.old) user (SeesWriter (state self.old) user cell)
+            (state self.new) (reply_by result) }
+        ensures noted { KeepsNogoods (state self.old) (state self.new) (reply_by result) }
+        ensures grows { OnlyKeepsMore (state self.old) user (state self.new) }
+    {
         let Ok(settled) = self.settle_for(user) else {
             return Reply::Refused(Refusal::Memory);
         };

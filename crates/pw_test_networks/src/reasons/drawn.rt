@@ -19,7 +19,7 @@ use std::test::Fail;
 const DRAWN: u64 = 40;
 
 // The premises and the declared cells of the world.
-const PREMISES: u8 = 5;
+const PREMISES: u16 = 5;
 
 const CELLS: usize = 10;
 

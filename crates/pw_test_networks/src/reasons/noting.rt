@@ -32,7 +32,7 @@ fn a_refused_note_notes_nothing(rt: HostRuntime) -> Result<(), Fail> {
     let refusing = Refusing::nth(rt.alloc(), 1);
     let mut nogoods = Nogoods::new(&refusing);
     assert!(rt; nogoods.note(&PremiseSet::first(2)).is_err());
-    assert!(rt; !nogoods.covers(&PremiseSet::first(64)));
+    assert!(rt; !nogoods.covers(&PremiseSet::first(512)));
     assert_eq!(rt; nogoods.note(&PremiseSet::first(2))?, true);
     assert!(rt; nogoods.covers(&PremiseSet::first(2)));
     Ok(())

@@ -94,7 +94,7 @@ impl Random {
     /// A random set of the five premises: each is in it with one chance in `chance`.
     pub fn premises(&mut self, chance: u64) -> PremiseSet {
         let mut premises = PremiseSet::empty();
-        for premise in 0..5u8 {
+        for premise in 0..5u16 {
             if self.below(chance) == 0 {
                 premises = premises.join(PremiseSet::one(premise));
             }
@@ -107,7 +107,7 @@ impl Random {
     pub fn worldviews(&mut self) -> (PremiseSet, [PremiseSet; 3]) {
         let number = self.below(5).min(4);
         let next = number.saturating_add(self.below(4)).saturating_add(1) % 5;
-        let (one, other) = (PremiseSet::one(number as u8), PremiseSet::one(next as u8));
+        let (one, other) = (PremiseSet::one(number as u16), PremiseSet::one(next as u16));
         let first = self.premises(2).join(one).difference(other);
         let larger = first.join(other).join(self.premises(2));
         let apart = self.premises(2).difference(one);
@@ -214,14 +214,14 @@ fn draw_info(random: &mut Random) -> (&'static str, Info) {
             let set = SetKind { number: 0, size: 2 };
             (
                 random.name(&TRUTHS),
-                members_of_mask(set, random.below(2).saturating_add(1)),
+                members_of_mask(set, u128::from(random.below(2).saturating_add(1))),
             )
         }
         2 => {
             let set = SetKind { number: 2, size: 3 };
             (
                 random.name(&COLORS),
-                members_of_mask(set, random.below(7).saturating_add(1)),
+                members_of_mask(set, u128::from(random.below(7).saturating_add(1))),
             )
         }
         _ => {

@@ -98,7 +98,7 @@ fn reads_and_writes_intervals(rt: HostRuntime) {
 #[test]
 fn reads_and_writes_members(rt: HostRuntime) {
     let kind = Kind::Members(SetKind { number: 7, size: 3 });
-    let cases: [(&str, u64, &str); 9] = [
+    let cases: [(&str, u128, &str); 9] = [
         ("nothing", 0b111, "nothing"),
         ("contradiction", 0b000, "contradiction"),
         ("{red}", 0b001, "{red}"),

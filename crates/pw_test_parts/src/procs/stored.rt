@@ -110,7 +110,7 @@ fn others(rt: HostRuntime) -> Result<(), Fail> {
 }
 
 // Checks that a procedure gives the members of these masks for these intervals.
-fn tells<R: Abort>(rt: &R, stored: &Stored, set: SetKind, calls: &[((i64, i64), u64)]) {
+fn tells<R: Abort>(rt: &R, stored: &Stored, set: SetKind, calls: &[((i64, i64), u128)]) {
     for (ends, mask) in calls {
         let got = given(stored, &[from_to(*ends)]);
         assert_eq!(rt;

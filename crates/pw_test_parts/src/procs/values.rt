@@ -11,13 +11,13 @@ const NONE: (i64, i64) = (1, 0);
 const WHOLE: (i64, i64) = (-1_000_000, 1_000_000);
 
 // Truths, by their masks.
-const NEITHER: u64 = 0;
+const NEITHER: u128 = 0;
 
-const FALSE: u64 = 1;
+const FALSE: u128 = 1;
 
-const TRUE: u64 = 2;
+const TRUE: u128 = 2;
 
-const BOTH: u64 = 3;
+const BOTH: u128 = 3;
 
 /// The numbers between these ends; the contradiction if there are none, or if an end is out of
 /// range.
@@ -26,7 +26,7 @@ pub fn from_to(ends: (i64, i64)) -> Info {
 }
 
 /// The truths of a mask.
-pub fn truths(mask: u64) -> Info {
+pub fn truths(mask: u128) -> Info {
     Info::of_members(0, Members::of(2, mask).unwrap_or(Members::empty(2)))
 }
 
@@ -65,7 +65,7 @@ fn of_numbers(meaning: Meaning, x: (i64, i64), y: (i64, i64), want: (i64, i64)) 
     }
 }
 
-fn of_order(meaning: Meaning, x: (i64, i64), y: (i64, i64), want: u64) -> Call {
+fn of_order(meaning: Meaning, x: (i64, i64), y: (i64, i64), want: u128) -> Call {
     Call {
         meaning,
         inputs: [from_to(x), from_to(y)],
@@ -73,7 +73,7 @@ fn of_order(meaning: Meaning, x: (i64, i64), y: (i64, i64), want: u64) -> Call {
     }
 }
 
-fn of_truths(meaning: Meaning, p: u64, q: u64, want: u64) -> Call {
+fn of_truths(meaning: Meaning, p: u128, q: u128, want: u128) -> Call {
     Call {
         meaning,
         inputs: [truths(p), truths(q)],
@@ -81,7 +81,7 @@ fn of_truths(meaning: Meaning, p: u64, q: u64, want: u64) -> Call {
     }
 }
 
-fn of_switch(p: u64, x: (i64, i64), want: (i64, i64)) -> Call {
+fn of_switch(p: u128, x: (i64, i64), want: (i64, i64)) -> Call {
     Call {
         meaning: Meaning::Switch,
         inputs: [truths(p), from_to(x)],

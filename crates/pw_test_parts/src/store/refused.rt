@@ -81,17 +81,20 @@ fn keep<A: Allocator + Copy>(store: &mut CellStore<A>, fact: &Fact) -> Result<u3
 }
 
 // Tells and keeps facts of the interval cell of a new store, each call a second time if memory is
-// refused. Answers how often it was refused, and what the store shows in the end.
+// refused. One of them rests on a premise past 63, so the cell needs room for wide supports. Answers
+// how often a call was refused, and what the store shows in the end.
 fn shown_at_last<A: Allocator + Copy>(memory: A) -> Result<(u32, Info, Fact), Fail> {
     let (zero, one) = (PremiseSet::one(0), PremiseSet::one(1));
     let mut store = CellStore::new(memory);
     let added = add(&mut store)?;
     let told = tell(&mut store, &fact(0, 9, zero))?;
     let kept = keep(&mut store, &fact(3, 12, one))?;
+    let wide = tell(&mut store, &fact(2, 11, PremiseSet::one(200)))?;
     let again = tell(&mut store, &fact(4, 10, one))?;
     let refused = added
         .saturating_add(told)
         .saturating_add(kept)
+        .saturating_add(wide)
         .saturating_add(again);
     let (info, known) = shown(&mut store);
     Ok((refused, info, known))

@@ -47,9 +47,9 @@ impl Random {
     }
 
     /// A random set of the first `count` premises: each is in it with one chance in `chance`.
-    pub fn premises(&mut self, count: u8, chance: u64) -> PremiseSet {
+    pub fn premises(&mut self, count: u16, chance: u64) -> PremiseSet {
         let mut premises = PremiseSet::empty();
-        for premise in 0..count.min(64) {
+        for premise in 0..count.min(512) {
             if self.below(chance) == 0 {
                 premises = premises.join(PremiseSet::one(premise));
             }

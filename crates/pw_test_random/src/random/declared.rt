@@ -50,10 +50,10 @@ pub const USERS: [&str; 3] = ["ann", "bob", "cid"];
 pub const PREMISES: [&str; 5] = ["a", "b", "c", "d", "mine"];
 
 /// How many premises there are.
-pub const PREMISE_COUNT: u8 = 5;
+pub const PREMISE_COUNT: u16 = 5;
 
 /// How many premises everybody may tell under: those before the last, which is Bob's.
-pub const GENERAL: u8 = 4;
+pub const GENERAL: u16 = 4;
 
 /// The place of the user who may tell under each premise.
 pub const BOB: usize = 1;

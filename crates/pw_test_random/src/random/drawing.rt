@@ -15,8 +15,8 @@ pub const COMMANDS: usize = 32;
 pub enum Known {
     Between(i64, i64),
     Exactly(i64),
-    Truth(u64),
-    Colors(u64),
+    Truth(u128),
+    Colors(u128),
 }
 
 impl Known {
@@ -91,8 +91,8 @@ fn draw_known(random: &mut Random, sort: Sort) -> Known {
             Known::Between(lo, lo.saturating_add(random.number(0, 8)))
         }
         Sort::Exact => Known::Exactly(random.number(-1, 3)),
-        Sort::Truth => Known::Truth(random.below(2).saturating_add(1)),
-        Sort::Color => Known::Colors(random.below(7).saturating_add(1)),
+        Sort::Truth => Known::Truth(u128::from(random.below(2).saturating_add(1))),
+        Sort::Color => Known::Colors(u128::from(random.below(7).saturating_add(1))),
     }
 }
 
@@ -128,7 +128,7 @@ fn draw_support(random: &mut Random, user: usize) -> PremiseSet {
 
 // One premise, and maybe others.
 fn draw_premises(random: &mut Random) -> PremiseSet {
-    let one = PremiseSet::one(random.below(5).min(4) as u8);
+    let one = PremiseSet::one(random.below(5).min(4) as u16);
     one.join(random.premises(PREMISE_COUNT, 5))
 }
 

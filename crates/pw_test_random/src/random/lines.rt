@@ -40,7 +40,7 @@ fn add_support(line: &mut String, support: &PremiseSet) -> Result<(), AllocError
 }
 
 // Adds the names of members of a set.
-fn add_members(line: &mut String, names: &[&str], mask: u64) -> Result<(), AllocError> {
+fn add_members(line: &mut String, names: &[&str], mask: u128) -> Result<(), AllocError> {
     let mut rest = mask;
     let mut mark = '{';
     line.push(' ')?;

@@ -4,16 +4,23 @@ use Rattle.std.specs.Prelude.{is_some, Bool, if◌then◌else◌}
 use Rattle.pw_info.specs.Passing.{PassesPart}
 use Rattle.pw_sessions.specs.Reply.{Reply}
 use Rattle.pw_decl.specs.Declaration.{Declared}
-use Rattle.pw_sessions.specs.Reply.{LineReading}
+use Rattle.pw_sessions.specs.Reply.{LineReading, Refused}
+use Rattle.pw_sessions.specs.declared.reply.Refusal.TheVariants as refusal
+use Rattle.pw_transcript.specs.Reading.{Reads}
 use Rattle.pw_transcript.specs.Limits.{most_command_bytes}
 use Rattle.pw_sessions.specs.Answer.{reply_to}
 use Rattle.pw_sessions.specs.Workbench.{Workbench, IsLeftBy}
-use Rattle.pw_transcript.specs.ReplyText.{text_if_any}
+use Rattle.pw_transcript.specs.ReplyText.{IsReplyNamed, text_if_any}
 use Rattle.pw_transcript.specs.FromScratch.{ComesTo}
 
 -- the held part of a line: the line, or nothing if it is longer than a line that is read
 abbrev pub held_line : List ℕ → Option (List ℕ)
 held_line line = if nat_le (length line) most_command_bytes then Some line else None
+
+-- a line that is held reads so; one that is not is too long
+abbrev pub ReadsHeld : Declared → Option (List ℕ) → LineReading → Type 0
+ReadsHeld d None reading = reading ≡ Refused refusal.LineTooLong
+ReadsHeld d (Some line) reading = Reads d line reading
 
 -- the lines before the line of this number left it
 abbrev pub IsLeft : Declared → ℕ → Workbench → Type 0
@@ -29,13 +36,15 @@ pub record RepliesToLine (d : Declared) (before : List LineReading) (line : List
   pub left : IsLeftBy d (before ++ reading ∷ []) new
   pub answer_is : reply_to d before reading ≡ answer
 
--- for all lines before the line of this number, and every line held like this: the reply to it
-abbrev pub RepliesToHeld : Declared → ℕ → Option (List ℕ) → Workbench → Workbench → Option Reply →
-    Type 0
-RepliesToHeld d number held old new answer =
-    (before : List LineReading) (line : List ℕ) → IsLeftBy d before old → length before + 1
-    ≡ number → held ≡ held_line line
-    → RepliesToLine d before line new answer
+-- The line of this number is held like this, after all lines that may come before it: this is the
+-- reply to it, it has its names, and the new workbench is what the lines leave with it.
+pub record IsReplied (d : Declared) (number : ℕ) (held : Option (List ℕ)) (old new : Workbench)
+    (answer : Reply) : Type 0 where
+  pub named : IsReplyNamed d answer
+  pub left : IsLeft d (number + 1) new
+  pub reply : (before : List LineReading) (line : List ℕ) → IsLeftBy d before old → length before + 1
+      ≡ number → held ≡ held_line line
+      → RepliesToLine d before line new (Some answer)
 
 module _ {O : Type 0} (passes : O → List ℕ → O → Type 0) (d : Declared) where
   -- the same, and the reply was passed if the line gets one

@@ -3,7 +3,7 @@ use Rattle.std.specs.List.{IsDistinct}
 use Rattle.std.specs.Str.{bytes_eq}
 use Rattle.std.proofs.lemmas.Bool.{false≢true}
 use Rattle.pw_info.specs.Words.{is_nil}
-use Rattle.pw_decl.specs.Declaration.{parameter_kinds, parameter_names}
+use Rattle.pw_decl.specs.Declaration.{Inside, parameter_kinds, parameter_names}
 use Rattle.pw_decl.specs.inside.Fields.{declared}
 use Rattle.pw_decl.proofs.CompoundLemmas.{faultless_begin, begin_unknown, begin_limit, begun_open}
 use Rattle.pw_decl.proofs.ParameterLemmas.{HaveKinds, none_where}
@@ -40,13 +40,16 @@ returns-in-Ok-clause-kept g c =
     (λ full. false≢true (c.if-is_full.ensures.1 full))
     (omega (arith, ap (λ x. length (parameter_names x)) c.again-else-is_full.ensures))
 
-pub returns-in-Ok-clause-none : goal.returns-in-Ok-clause-none
-returns-in-Ok-clause-none g c =
+pub returns-in-Ok-clause-ok : goal.returns-in-Ok-clause-ok
+returns-in-Ok-clause-ok g c =
     let d = declared c.args.declaration.now in
     let fresh = none_where c.callable.result _ (sym c.if-is_some.ensures) (rw c.as_bytes.ensures.value at c.callable.ensures.named) in
     let differ : IsDistinct bytes_eq (parameter_names c.args.parameters) = (rw c.again.ensures at c.if-not-parameters_differ.ensures).0 refl in
     let known : HaveKinds d (parameter_kinds c.args.parameters) = (rw c.again-2.ensures at c.if-not-have_kinds.ensures).0 refl in
     let some : c.args.parameters ≢ [] = λ none. false≢true (c.if-is_empty.ensures ∙ ap is_nil none) in
-    faultless_begin d c.args.name.now c.args.parameters fresh differ known some
-    (λ full. false≢true (c.if-is_full.ensures.1 full))
-    (omega (arith, ap (λ x. length (parameter_names x)) c.again-else-is_full.ensures))
+    record {
+      faultless = faultless_begin d c.args.name.now c.args.parameters fresh differ known some
+          (λ full. false≢true (c.if-is_full.ensures.1 full))
+          (omega (arith, ap (λ x. length (parameter_names x)) c.again-else-is_full.ensures));
+      makes = (c.in-Ok.opened.compound.parameters.items, c.in-Ok.ensures.begun.named, ap (Inside d) c.in-Ok.ensures.begun.is);
+    }

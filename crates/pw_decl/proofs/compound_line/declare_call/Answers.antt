@@ -3,6 +3,7 @@ use Rattle.std.specs.List.{list_all}
 use Rattle.std.proofs.lemmas.Bool.{false≢true}
 use Rattle.pw_procs.specs.Registry.{cells_of}
 use Rattle.pw_decl.specs.Compound.{cell_kinds}
+use Rattle.pw_decl.specs.Declaration.{Inside, with_call}
 use Rattle.pw_decl.specs.Faults.{is_cell_of}
 use Rattle.pw_decl.specs.inside.Fields.{declared}
 use Rattle.pw_decl.specs.inside.Held.{size_of}
@@ -62,15 +63,18 @@ returns-in-Ok-clause-kept g c =
     (same.0 (c.if-not-accepts_at.ensures.0 refl))
     (λ much. false≢true (c.if-outgrows.ensures.1 (large.1 much)))
 
-pub returns-in-Ok-clause-none : goal.returns-in-Ok-clause-none
-returns-in-Ok-clause-none g c =
+pub returns-in-Ok-clause-ok : goal.returns-in-Ok-clause-ok
+returns-in-Ok-clause-ok g c =
     let d = declared c.args.declaration.now in
     let opened = open_of c.args.opened.now in
     let all : list_all (is_cell_of opened) c.args.arguments ≡ true = sym (rw c.again.ensures at c.if-not-are_cells.ensures) in
     let same = accepts_same d.procedures d.compounds c.in-Some.callable _ _ _ _ (c.deref.ensures.value ∙ c.requires.kept.kinds) c.in-Some-place_arguments.ensures.some in
     let large = large_same _ _ _ _ c.requires.kept.size c.size-size.ensures.size in
-    faultless_call d opened c.args.callable.now c.args.arguments c.in-Some.callable (sym c.in-Some.ensures.named) all (same.0 (c.if-not-accepts_at.ensures.0 refl))
-    (λ much. false≢true (c.if-outgrows.ensures.1 (large.1 much)))
+    record {
+      faultless = faultless_call d opened c.args.callable.now c.args.arguments c.in-Some.callable (sym c.in-Some.ensures.named) all (same.0 (c.if-not-accepts_at.ensures.0 refl))
+          (λ much. false≢true (c.if-outgrows.ensures.1 (large.1 much)));
+      makes = (c.in-Some.callable, sym c.in-Some.ensures.named, ap (Inside d) (c.in-Ok.ensures.ok.is ∙ ap (with_call opened c.in-Some.callable) c.in-Some-place_arguments.ensures.some));
+    }
 
 pub returns-in-Err-clause-err : goal.returns-in-Err-clause-err
 returns-in-Err-clause-err g c =

@@ -1,6 +1,7 @@
 use Rattle.std.proofs.Common.{◌≡◌, false, is_some}
-use Rattle.std.proofs.Common.{inl, refl}
+use Rattle.std.proofs.Common.{inl, refl, ap}
 use Rattle.pw_procs.specs.Registering.{place_of_name}
+use Rattle.pw_decl.specs.Declaration.{Inside}
 use Rattle.pw_decl.specs.inside.Fields.{declared}
 use Rattle.pw_decl.specs.inside.Opened.{open_of}
 use Rattle.pw_decl.proofs.CompoundLemmas.{faultless_local, local_limit, full_local, fits_local, grown_open_local}
@@ -21,13 +22,16 @@ returns-in-Ok-clause-kept g c =
     grown_open_local d old c.add_local.new.opened c.args.name.now c.in-Some.kind c.requires.kept c.in-Ok.ensures.ok
     (fits_local d old c.requires.kept c.if-opened-ge-MOST_INNER_CELLS.false)
 
-pub returns-in-Ok-clause-none : goal.returns-in-Ok-clause-none
-returns-in-Ok-clause-none g c =
+pub returns-in-Ok-clause-ok : goal.returns-in-Ok-clause-ok
+returns-in-Ok-clause-ok g c =
     let d = declared c.args.declaration.now in
     let old = c.args.opened.now in
     let fresh : is_some (place_of_name old.names c.args.name.now) ≡ false = cc in
-    faultless_local d (open_of old) c.args.name.now c.args.kind.now c.in-Some.kind fresh c.in-Some.ensures.some
-    (fits_local d old c.requires.kept c.if-opened-ge-MOST_INNER_CELLS.false)
+    record {
+      faultless = faultless_local d (open_of old) c.args.name.now c.args.kind.now c.in-Some.kind fresh c.in-Some.ensures.some
+          (fits_local d old c.requires.kept c.if-opened-ge-MOST_INNER_CELLS.false);
+      makes = (c.in-Some.kind, c.in-Some.ensures.some, ap (Inside d) c.in-Ok.ensures.ok.is);
+    }
 
 pub returns-in-Err-clause-err : goal.returns-in-Err-clause-err
 returns-in-Err-clause-err g c =

@@ -8,13 +8,6 @@ returns-clause-ok g c =
       | in-Call+in_ok-declare_call-in-Call w ↦ rw (w.opened-is, w.in-Call.is) w.in_ok-declare_call-in-Call.ensures.ok
     ]
 
-pub returns-clause-none : goal.returns-clause-none
-returns-clause-none g c =
-    elim c.match-sentence.branch [
-      | in-Local+in_ok-declare_local-in-Local w ↦ rw w.in-Local.is w.in_ok-declare_local-in-Local.ensures.none
-      | in-Call+in_ok-declare_call-in-Call w ↦ rw w.in-Call.is w.in_ok-declare_call-in-Call.ensures.none
-    ]
-
 pub returns-clause-well : goal.returns-clause-well
 returns-clause-well g c =
     elim c.match-sentence.branch [

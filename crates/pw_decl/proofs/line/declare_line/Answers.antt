@@ -1,47 +1,47 @@
-use Rattle.std.proofs.Common.{sym, ap}
-use Rattle.pw_decl.specs.Declaration.{Outside, Inside}
+use Rattle.std.proofs.Common.{ap}
+use Rattle.pw_decl.specs.Declaration.{BeforeHeader, Outside, Inside}
 use Rattle.pw_decl.specs.inside.Fields.{declared}
 use Rattle.pw_decl.specs.inside.Forms.{outer_in, inner_in}
 use Rattle.pw_decl.specs.inside.Opened.{open_of}
 use Rattle.pw_decl.specs.inside.Fields.{placed}
 use Rattle.pw_info.specs.Words.{words_of}
-use Rattle.pw_decl.proofs.DeclarationLines.{no_header, header_declares, no_sentence, outer_parts, inner_parts, answer_declares, answer_faulty}
+use Rattle.pw_decl.proofs.DeclarationLines.{no_sentence, header_declares, outer_parts, inner_parts, answer_declares, answer_faulty}
 use Rattle.pw_decl.proofs.line.declare_line.Goals as goal
 
 -- before the header
 
-pub returns-then-not-is_header-clause-err : goal.returns-then-not-is_header-clause-err
-returns-then-not-is_header-clause-err g c =
-    let d = declared c.args.declaration.now in
-    no_header (placed d c.args.place) d c.args.line.now (ap (placed d) c.in-BeforeHeader.is) c.requires.short c.requires.spoken (sym c.if-not-is_header.ensures)
-
-pub returns-else-not-is_header-clause-ok : goal.returns-else-not-is_header-clause-ok
-returns-else-not-is_header-clause-ok g c =
-    let d = declared c.args.declaration.now in
-    header_declares (placed d c.args.place) d c.args.line.now (ap (placed d) c.in-BeforeHeader.is) c.requires.short c.requires.spoken c.requires.allowed
-    (sym c.if-not-is_header.ensures)
-
--- outside a compound
-
 pub returns-in_default-clause-err : goal.returns-in_default-clause-err
 returns-in_default-clause-err g c =
     let d = declared c.args.declaration.now in
-    no_sentence (placed d c.args.place) (Outside d) c.args.line.now (ap (placed d) c.in-Outside.is) c.requires.short c.requires.spoken c.in_default.ensures
-
-pub declare_outside-requires : goal.declare_outside-requires
-declare_outside-requires g c = record { parts = outer_parts (words_of c.args.line.now) (outer_in c.in-Some.sentence) c.in-Some.ensures }
+    no_sentence (placed d c.args.place) (BeforeHeader d) c.args.line.now (ap (placed d) c.in-BeforeHeader.is) c.requires.short c.requires.spoken c.in_default.ensures
 
 pub returns-in-Some-clause-ok : goal.returns-in-Some-clause-ok
 returns-in-Some-clause-ok g c =
     let d = declared c.args.declaration.now in
-    answer_declares (placed d c.args.place) (Outside d) c.args.line.now (outer_in c.in-Some.sentence) (ap (placed d) c.in-Outside.is) c.requires.short c.requires.spoken
-    (placed (declared c.declare_outside.new.declaration)) c.declare_outside.result c.requires.allowed c.in-Some.ensures c.declare_outside.ensures.none c.declare_outside.ensures.ok
+    header_declares (placed d c.args.place) d c.args.line.now c.in-Some.version (declared c.set_version.new.self) (ap (placed d) c.in-BeforeHeader.is) c.requires.short c.requires.spoken
+    c.requires.allowed c.in-Some.ensures c.set_version.ensures
 
-pub returns-in-Some-clause-err : goal.returns-in-Some-clause-err
-returns-in-Some-clause-err g c =
+-- outside a compound
+
+pub returns-in_default-read_outer-clause-err : goal.returns-in_default-read_outer-clause-err
+returns-in_default-read_outer-clause-err g c =
     let d = declared c.args.declaration.now in
-    answer_faulty (placed d c.args.place) (Outside d) c.args.line.now (outer_in c.in-Some.sentence) (ap (placed d) c.in-Outside.is) c.requires.short c.requires.spoken
-    c.declare_outside.result c.requires.allowed c.in-Some.ensures c.declare_outside.ensures.err
+    no_sentence (placed d c.args.place) (Outside d) c.args.line.now (ap (placed d) c.in-Outside.is) c.requires.short c.requires.spoken c.in_default-read_outer.ensures
+
+pub declare_outside-requires : goal.declare_outside-requires
+declare_outside-requires g c = record { parts = outer_parts (words_of c.args.line.now) (outer_in c.in-Some-read_outer.sentence) c.in-Some-read_outer.ensures }
+
+pub returns-in-Some-read_outer-clause-ok : goal.returns-in-Some-read_outer-clause-ok
+returns-in-Some-read_outer-clause-ok g c =
+    let d = declared c.args.declaration.now in
+    answer_declares (placed d c.args.place) (Outside d) c.args.line.now (outer_in c.in-Some-read_outer.sentence) (ap (placed d) c.in-Outside.is) c.requires.short c.requires.spoken
+    (placed (declared c.declare_outside.new.declaration)) c.declare_outside.result c.requires.allowed c.in-Some-read_outer.ensures c.declare_outside.ensures.ok
+
+pub returns-in-Some-read_outer-clause-err : goal.returns-in-Some-read_outer-clause-err
+returns-in-Some-read_outer-clause-err g c =
+    let d = declared c.args.declaration.now in
+    answer_faulty (placed d c.args.place) (Outside d) c.args.line.now (outer_in c.in-Some-read_outer.sentence) (ap (placed d) c.in-Outside.is) c.requires.short c.requires.spoken
+    c.declare_outside.result c.requires.allowed c.in-Some-read_outer.ensures c.declare_outside.ensures.err
 
 -- inside one
 
@@ -59,7 +59,7 @@ returns-in-Some-read_inner-clause-ok g c =
     let d = declared c.args.declaration.now in
     answer_declares (placed d c.args.place) (Inside d (open_of c.in-Inside.opened)) c.args.line.now (inner_in c.in-Some-read_inner.sentence) (ap (placed d) c.in-Inside.is)
     c.requires.short c.requires.spoken (placed (declared c.declare_inside.new.declaration)) c.declare_inside.result c.requires.allowed c.in-Some-read_inner.ensures
-    c.declare_inside.ensures.none c.declare_inside.ensures.ok
+    c.declare_inside.ensures.ok
 
 pub returns-in-Some-read_inner-clause-err : goal.returns-in-Some-read_inner-clause-err
 returns-in-Some-read_inner-clause-err g c =

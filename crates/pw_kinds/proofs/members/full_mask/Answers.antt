@@ -5,6 +5,6 @@ use Rattle.pw_kinds.proofs.members.full_mask.Goals as goal
 
 pub returns : goal.returns
 returns c =
-    let back : 64 - (64 - c.args.size) ≡ c.args.size = omega arith in
-    let within : 64 - c.args.size ≤ 64 = omega arith in
-    omega (arith, ones_shr 64 (64 - c.args.size) within, ap (λ k. 2 ^ k) back, pow_pos c.args.size)
+    let back : 128 - (128 - c.args.size) ≡ c.args.size = omega arith in
+    let within : 128 - c.args.size ≤ 128 = omega arith in
+    omega (arith, ones_shr 128 (128 - c.args.size) within, ap (λ k. 2 ^ k) back, pow_pos c.args.size)

@@ -1,38 +1,56 @@
-use Rattle.std.proofs.Common.{◌+◌, map, arith}
-use Rattle.pw_procs.specs.Registry.{cells_of}
-use Rattle.pw_decl.specs.Expansion.{at_place}
-use Rattle.pw_network.specs.inside.Held.{attachment}
-use Rattle.pw_network.proofs.AttachedCells.{instances_more}
-use Rattle.pw_network.proofs.ReaderLemmas.{inputs_here}
+use Rattle.std.proofs.Common.{◌≡◌, ◌<◌, ◌≤◌, List, ◌++◌, ◌∷◌, [], length, sym, ap, subst, ◌∙◌, arith, rules}
+use Rattle.std.specs.Prelude.{All}
+use Rattle.std.proofs.lemmas.List.{append_assoc, length_push}
+use Rattle.std.proofs.lemmas.Iterator.Adapters.{YieldsList-from_vec}
+use Rattle.std.proofs.lemmas.Iterator.Consumers.{YieldsList-turn}
+use Rattle.pw_network.specs.declared.instance.Instance.{Instance as InstanceType}
 use Rattle.pw_network.proofs.attaching.append_instances.Goals as goal
 
+-- one more after those that came so far
+one_more : (old come before after : List InstanceType) (x : InstanceType) → before ≡ old ++ come → after ≡ before ++ x ∷ [] → after ≡ old ++ (come ++ x ∷ [])
+one_more old come before after x so_far pushed = pushed ∙ ap (λ l. l ++ x ∷ []) so_far ∙ append_assoc old come (x ∷ [])
+
+pub append_instance-requires-clause-room : goal.append_instance-requires-clause-room
+append_instance-requires-clause-room g c =
+    let turn = YieldsList-turn (YieldsList-from_vec c.args.attached.items (search rules) (search rules)) c.loop-instance.yielded _ c.loop-instance.yielded_by _ c.next.new.self c.in-Some.instance c.in-Some.is c.next.ensures.steps in
+    omega (arith, turn.0, c.args.attached.ok.0, c.requires.room, c.loop-instance.invariant.len, c.loop-instance.invariant.room)
+
 pub append_instance-requires-clause-list_room : goal.append_instance-requires-clause-list_room
-append_instance-requires-clause-list_room g c = omega (arith, c.loop-call.invariant.list_room, c.loop-call-test.true)
+append_instance-requires-clause-list_room g c =
+    let turn = YieldsList-turn (YieldsList-from_vec c.args.attached.items (search rules) (search rules)) c.loop-instance.yielded _ c.loop-instance.yielded_by _ c.next.new.self c.in-Some.instance c.in-Some.is c.next.ensures.steps in
+    omega (arith, turn.0, c.args.attached.ok.0, c.requires.list_room, c.loop-instance.invariant.links, c.loop-instance.invariant.list_room)
+
+pub append_instance-requires-clause-few : goal.append_instance-requires-clause-few
+append_instance-requires-clause-few g c =
+    let turn = YieldsList-turn (YieldsList-from_vec c.args.attached.items (search rules) (search rules)) c.loop-instance.yielded _ c.loop-instance.yielded_by _ c.next.new.self c.in-Some.instance c.in-Some.is c.next.ensures.steps in
+    subst (λ (y : InstanceType). length y.inputs.items ≤ 8) (sym turn.1) (c.requires.few (length c.loop-instance.yielded) c.in-Some.instance turn.0)
 
 pub append_instance-requires-clause-here : goal.append_instance-requires-clause-here
 append_instance-requires-clause-here g c =
-    inputs_here c.args.calls.now c.loop-call.call-index c.call-item.result (at_place c.args.cells.now (λ j. c.args.first + j)) (cells_of c.place_cells-placed.result)
-    c.new-instance.result.inputs.items c.args.lists.now.ends.len c.loop-call.lists.ends.len c.loop-call-test.true c.call-item.is c.place_cells-placed.ensures
-    c.new-instance.ensures.inputs c.loop-call.invariant.cells c.requires.here
+    let turn = YieldsList-turn (YieldsList-from_vec c.args.attached.items (search rules) (search rules)) c.loop-instance.yielded _ c.loop-instance.yielded_by _ c.next.new.self c.in-Some.instance c.in-Some.is c.next.ensures.steps in
+    subst (λ n. All (λ cell. cell < n) c.in-Some.instance.inputs.items) (sym c.loop-instance.invariant.cells)
+    (subst (λ (y : InstanceType). All (λ cell. cell < c.args.lists.now.ends.len) y.inputs.items) (sym turn.1)
+    (c.requires.here (length c.loop-instance.yielded) c.in-Some.instance turn.0))
 
 pub append_instance-requires-clause-readers : goal.append_instance-requires-clause-readers
-append_instance-requires-clause-readers g c = c.loop-call.invariant.readers
+append_instance-requires-clause-readers g c = c.loop-instance.invariant.readers
 
-pub loop-call-preserved : goal.loop-call-preserved
-loop-call-preserved g c =
+pub loop-instance-preserved : goal.loop-instance-preserved
+loop-instance-preserved g c =
+    let long = length_push c.loop-instance.yielded c.in-Some.instance in
     record {
-      items = instances_more c.args.line c.args.support (at_place c.args.cells.now (λ j. c.args.first + j)) (map attachment c.args.instances.now.items)
-          c.loop-call.instances.items c.append_instance.new.instances.items c.args.calls.now c.loop-call.call-index c.call-item.result
-          (cells_of c.place_cells-placed.result) c.new-instance.result c.loop-call-test.true c.call-item.is c.append_instance.ensures.items c.place_cells-placed.ensures
-          c.new-instance.ensures.instance c.new-instance.ensures.line c.new-instance.ensures.support c.loop-call.invariant.items;
-      room = omega (arith, c.loop-call.invariant.room, c.append_instance.ensures.len, c.append_instance.ensures.room);
+      items = one_more c.args.instances.now.items c.loop-instance.yielded c.loop-instance.instances.items c.append_instance.new.instances.items c.in-Some.instance
+          c.loop-instance.invariant.items c.append_instance.ensures.items;
+      len = omega (arith, long, c.loop-instance.invariant.len, c.append_instance.ensures.len);
+      room = omega (arith, c.loop-instance.invariant.room, c.append_instance.ensures.room);
       readers = c.append_instance.ensures.readers;
-      cells = omega (arith, c.loop-call.invariant.cells, c.append_instance.ensures.cells);
-      list_room = omega (arith, c.loop-call.invariant.list_room, c.append_instance.ensures.links, c.append_instance.ensures.list_room);
+      cells = omega (arith, c.loop-instance.invariant.cells, c.append_instance.ensures.cells);
+      links = omega (arith, long, c.loop-instance.invariant.links, c.append_instance.ensures.links);
+      list_room = omega (arith, c.loop-instance.invariant.list_room, c.append_instance.ensures.list_room);
     }
 
 pub returns-clause-readers : goal.returns-clause-readers
-returns-clause-readers g c = c.loop-call.invariant.readers
+returns-clause-readers g c = c.loop-instance.invariant.readers
 
 pub returns-clause-cells : goal.returns-clause-cells
-returns-clause-cells g c = c.loop-call.invariant.cells
+returns-clause-cells g c = c.loop-instance.invariant.cells

@@ -1,18 +1,16 @@
-use Rattle.std.proofs.Common.{◌≡◌, ◌+◌, ◌*◌, ◌≤◌, ◌++◌, length, map, take, vec_len, vec_capacity}
-use Rattle.pw_decl.specs.Expansion.{at_place, renamed}
+use Rattle.std.proofs.Common.{◌≡◌, ◌+◌, ◌*◌, ◌≤◌, ◌++◌, length, map, vec_len, vec_capacity}
 use Rattle.pw_network.specs.inside.Held.{attachment}
-use Rattle.pw_decl.specs.inside.Held.{instances_of}
-use Rattle.pw_network.specs.Network.{attached_at}
 use Rattle.pw_network.specs.Readers.{link_reading}
 use Rattle.pw_network.specs.Readers.{AreReaders}
 use Rattle.pw_network.proofs.attaching.append_instances.Given as goal
 
-abbrev pub invariant-loop-call : goal.invariant-loop-call
-invariant-loop-call g l = record {
-  items : map attachment l.instances.items ≡ map attachment l.fn.instances.items
-      ++ map (attached_at l.line l.fn.support) (map (renamed (at_place l.cells (λ j. l.first + j))) (instances_of (take l.call-index l.calls)));
-  room : vec_len l.instances + length l.calls ≤ vec_capacity l.instances + l.call-index;
+abbrev pub invariant-loop-instance : goal.invariant-loop-instance
+invariant-loop-instance g l = record {
+  items : l.instances.items ≡ l.fn.instances.items ++ l.yielded;
+  len : vec_len l.instances ≡ vec_len l.fn.instances + length l.yielded;
+  room : vec_capacity l.fn.instances ≤ vec_capacity l.instances;
   readers : AreReaders (map link_reading l.lists.links.items) (map attachment l.instances.items);
   cells : vec_len l.lists.ends ≡ vec_len l.fn.lists.ends;
-  list_room : vec_len l.lists.links + 8 * length l.calls ≤ vec_capacity l.lists.links + 8 * l.call-index;
+  links : vec_len l.lists.links ≤ vec_len l.fn.lists.links + 8 * length l.yielded;
+  list_room : vec_capacity l.fn.lists.links ≤ vec_capacity l.lists.links;
 }

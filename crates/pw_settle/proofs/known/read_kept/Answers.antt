@@ -7,17 +7,15 @@ use Rattle.pw_settle.proofs.known.read_kept.Goals as goal
 pub loop-cell-init : goal.loop-cell-init
 loop-cell-init g c = record {
   same = refl;
-  read = read_none c.args.store.now c.args.worldview.now c.in_ok-infos.infos.items c.in_ok-supports.supports.items c.in_ok-infos.ensures.items c.in_ok-supports.ensures.items;
+  read = read_none c.args.store.now c.args.worldview.now c.in_ok-infos.infos.items c.in_ok-supports.supports c.in_ok-infos.ensures.items c.in_ok-supports.ensures;
   room = omega (arith, c.in_ok-infos.ensures.len, c.in_ok-infos.ensures.exact, c.cells.ensures);
-  room_beside = omega (arith, c.in_ok-supports.ensures.len, c.in_ok-supports.ensures.exact, c.cells-2.ensures);
 }
 
 pub loop-cell-preserved : goal.loop-cell-preserved
 loop-cell-preserved g c =
     let done = c.push.ensures.succeeds (omega (arith, c.loop-cell.invariant.room, c.loop-cell-test.true, c.cells-cell-end.ensures)) in
-    let also = c.push-in-loop-cell.ensures.succeeds (omega (arith, c.loop-cell.invariant.room_beside, c.loop-cell-test.true, c.cells-cell-end.ensures)) in
     let infos = c.loop-cell.infos.items in
-    let supports = c.loop-cell.supports.items in
+    let supports = c.loop-cell.supports in
     let same = c.loop-cell.invariant.same in
     let so_far : IsReadTo c.loop-cell.store c.args.worldview.now c.loop-cell.cell infos supports =
     subst (λ (s : Store). IsReadTo s c.args.worldview.now c.loop-cell.cell infos supports) (sym {A = Store} same) c.loop-cell.invariant.read in
@@ -33,24 +31,23 @@ loop-cell-preserved g c =
     })) in
     record {
       same = c.kept-fact.ensures.unchanged ∙ same;
-      read = rw ((rw done at c.push.ensures.items), (rw also at c.push-in-loop-cell.ensures.items)) one;
+      read = rw ((rw done at c.push.ensures.items), c.in_ok-push.ensures.ok) one;
       room = omega (arith, c.loop-cell.invariant.room, c.push.ensures.upper_bound, c.push.ensures.capacity);
-      room_beside = omega (arith, c.loop-cell.invariant.room_beside, c.push-in-loop-cell.ensures.upper_bound, c.push-in-loop-cell.ensures.capacity);
     }
 
 -- after the last cell all were read
 all_read : (g : given.Over) (c : goal.After-loop-cell g) →
-    IsReadTo c.args.store.now c.args.worldview.now (length c.args.store.now.cells) c.loop-cell.infos.items c.loop-cell.supports.items
+    IsReadTo c.args.store.now c.args.worldview.now (length c.args.store.now.cells) c.loop-cell.infos.items c.loop-cell.supports
 all_read g c =
     let last : c.loop-cell.cell ≡ length c.args.store.now.cells =
     omega (arith, c.loop-cell-test.false, c.loop-cell.auto.cell-end, c.cells-cell-end.ensures) in
-    subst (λ (n : ℕ). IsReadTo c.args.store.now c.args.worldview.now n c.loop-cell.infos.items c.loop-cell.supports.items) last c.loop-cell.invariant.read
+    subst (λ (n : ℕ). IsReadTo c.args.store.now c.args.worldview.now n c.loop-cell.infos.items c.loop-cell.supports) last c.loop-cell.invariant.read
 
 pub returns-clause-kept : goal.returns-clause-kept
-returns-clause-kept g c = all_kept c.args.store.now c.args.worldview.now c.loop-cell.infos.items c.loop-cell.supports.items (all_read g c)
+returns-clause-kept g c = all_kept c.args.store.now c.args.worldview.now c.loop-cell.infos.items c.loop-cell.supports (all_read g c)
 
 pub returns-clause-told : goal.returns-clause-told
-returns-clause-told g c = says_told c.args.store.now c.args.worldview.now c.loop-cell.infos.items c.loop-cell.supports.items (all_read g c)
+returns-clause-told g c = says_told c.args.store.now c.args.worldview.now c.loop-cell.infos.items c.loop-cell.supports (all_read g c)
 
 pub returns-clause-upstream : goal.returns-clause-upstream
-returns-clause-upstream g c = lie_upstream c.args.store.now c.args.worldview.now c.loop-cell.infos.items c.loop-cell.supports.items (all_read g c)
+returns-clause-upstream g c = lie_upstream c.args.store.now c.args.worldview.now c.loop-cell.infos.items c.loop-cell.supports (all_read g c)

@@ -5,7 +5,6 @@ use Rattle.pw_settle.proofs.known.read_kept.Given as goal
 abbrev pub invariant-loop-cell : goal.invariant-loop-cell
 invariant-loop-cell g l = record {
   same : l.store ≡ l.fn.store;
-  read : IsReadTo l.fn.store l.worldview l.cell l.infos.items l.supports.items;
+  read : IsReadTo l.fn.store l.worldview l.cell l.infos.items l.supports;
   room : vec_len l.infos + length l.fn.store.cells ≤ vec_capacity l.infos + l.cell;
-  room_beside : vec_len l.supports + length l.fn.store.cells ≤ vec_capacity l.supports + l.cell;
 }

@@ -13,12 +13,12 @@ queue_changed-requires-clause-kinds g c cell below =
     (sym (c.deref.ensures.value ∙ ap (λ (s : Settled). s.infos) c.before-2.view_is))
     (subst (λ (l : List Info). kind_of (found_of c.args.before.now.infos l cell) ≡ kind_of (info_at l cell)) (sym c.deref-2.ensures.value)
     (kinds_found (wiring c.args.network.now) c.args.network.now.well c.args.store.now c.args.worldview.now c.requires.kinds c.args.before.now c.requires.fits
-    c.requires.within c.in_ok-known.known.infos.items c.in_ok-known.known.supports.items c.in_ok-known.ensures.kept cell))
+    c.requires.within c.in_ok-known.known.infos.items c.in_ok-known.known.supports c.in_ok-known.ensures.kept cell))
 
 pub returns-clause-due : goal.returns-clause-due
 returns-clause-due g c =
     due_flags (wiring c.args.network.now) c.args.network.now.well c.args.store.now c.args.worldview.now c.requires.kinds c.args.before.now c.requires.fits
-    c.requires.within c.in_ok-known.known.infos.items c.in_ok-known.known.supports.items c.in_ok-known.ensures.kept
+    c.requires.within c.in_ok-known.known.infos.items c.in_ok-known.known.supports c.in_ok-known.ensures.kept
     c.args.visible.now c.in_ok-agenda.agenda c.queue_changed.new.agenda c.requires.visible c.in_ok-agenda.ensures.flags c.in_ok-agenda.ensures.new
     (subst (λ (l : List Info). QueuesReaders (wiring c.args.network.now) c.args.visible.now
     (λ cell. (cell < length c.in_ok-known.known.infos.items) × HasChanged l c.in_ok-known.known.infos.items cell)

@@ -3,7 +3,6 @@ use Rattle.std.specs.List.{count_by}
 use Rattle.std.proofs.lemmas.List.{length-set}
 use Rattle.pw_info.specs.declared.info.Info.{Info}
 use Rattle.pw_info.specs.Information.{kind_of}
-use Rattle.pw_premises.specs.Premises.{Premises}
 use Rattle.pw_cells.specs.Cells.{kept_in}
 use Rattle.pw_network.specs.Wiring.{wiring}
 use Rattle.pw_network.specs.Readers.{readers_of}
@@ -14,15 +13,16 @@ use Rattle.pw_settle.specs.inside.Progress.{IsNews}
 use Rattle.pw_settle.specs.Values.{IsSatisfied, attached_no}
 use Rattle.pw_settle.specs.Settled.{info_at}
 use Rattle.pw_settle.proofs.KeptFacts.{kind-kept}
-use Rattle.pw_settle.proofs.KeptProgress.{IsAfterNews, after_news, kinds_at_hand, no_instance, satisfied_all, satisfied_kept}
+use Rattle.pw_settle.proofs.KeptProgress.{IsAfterNews, after_news, keeps_news, keeps_upstream, kinds_at_hand, no_instance, satisfied_all, satisfied_kept}
 use Rattle.pw_settle.proofs.SourceLists.{came_back}
 use Rattle.pw_settle.proofs.settling.call.Given as given
 use Rattle.pw_settle.proofs.settling.call.Goals as goal
+use Rattle.pw_settle.proofs.settling.call.Goals.{After-take_in}
 
 pub news-requires-clause-kinds : goal.news-requires-clause-kinds
 news-requires-clause-kinds g c =
     ap (map kind_of) c.deref.ensures.value
-    ∙ kinds_at_hand c.args.store.now c.args.worldview.now c.args.known.now.infos.items c.args.known.now.supports.items c.requires.kept ∙ c.requires.kinds
+    ∙ kinds_at_hand c.args.store.now c.args.worldview.now c.args.known.now.infos.items c.args.known.now.supports c.requires.kept ∙ c.requires.kinds
 
 pub keep-requires-clause-kind : goal.keep-requires-clause-kind
 keep-requires-clause-kind g c =
@@ -30,69 +30,76 @@ keep-requires-clause-kind g c =
     ∙ ap kind_of (c.requires.kept.infos_are c.in-Some.cell) ∙ kind-kept c.args.store.now c.in-Some.cell c.args.worldview.now
 
 -- the news, of what is at hand
-news_is : (g : given.Over) (c : goal.After-queue_readers g) →
-    IsNews (wiring c.args.network.now) c.args.known.now.infos.items c.args.known.now.supports.items
+news_is : (g : given.Over) (c : After-take_in g) →
+    IsNews (wiring c.args.network.now) c.args.known.now.infos.items c.args.known.now.supports
     (attached_no (wiring c.args.network.now) c.args.number no_instance) c.in-Some.cell c.in-Some.fact
 news_is g c =
-    subst (λ (l : List Info). IsNews (wiring c.args.network.now) l c.args.known.now.supports.items
+    subst (λ (l : List Info). IsNews (wiring c.args.network.now) l c.args.known.now.supports
     (attached_no (wiring c.args.network.now) c.args.number no_instance) c.in-Some.cell c.in-Some.fact) c.deref.ensures.value
-    (subst (λ (l : List Premises). IsNews (wiring c.args.network.now) c.deref.result.now l
-    (attached_no (wiring c.args.network.now) c.args.number no_instance) c.in-Some.cell c.in-Some.fact) c.deref-2.ensures.value
-    (c.in-Some.ensures.news no_instance))
+    (c.in-Some.ensures.news no_instance)
 
--- and how they are taken in
+-- how they are taken in
 taken : (g : given.Over) (c : goal.After-queue_readers g) →
-    TakesIn c.in-Some.cell c.in-Some.fact c.args.known.now.infos.items c.take_in.new.infos c.args.known.now.supports.items c.take_in.new.supports
+    TakesIn c.in-Some.cell c.in-Some.fact c.args.known.now.infos.items c.take_in.new.infos c.args.known.now.supports c.take_in.new.supports
 taken g c =
-    subst (λ (l : List Info). TakesIn c.in-Some.cell c.in-Some.fact l c.take_in.new.infos c.args.known.now.supports.items c.take_in.new.supports)
-    c.deref_mut.ensures.value
-    (subst (λ (l : List Premises). TakesIn c.in-Some.cell c.in-Some.fact c.deref_mut.result.now c.take_in.new.infos l c.take_in.new.supports)
-    c.deref_mut-in-Some.ensures.value c.take_in.ensures)
+    subst (λ (l : List Info). TakesIn c.in-Some.cell c.in-Some.fact l c.take_in.new.infos c.args.known.now.supports c.take_in.new.supports)
+    c.deref_mut.ensures.value c.in_ok-take_in.ensures.taken
 
--- what there is afterwards
+-- and what there is afterwards
 after : (g : given.Over) (c : goal.After-queue_readers g) →
     IsAfterNews (wiring c.args.network.now) c.args.store.now c.keep.new.self c.args.worldview.now c.take_in.new.infos
-    c.args.known.now.supports.items c.take_in.new.supports c.args.number c.in-Some.cell
+    c.args.known.now.supports c.take_in.new.supports c.args.number c.in-Some.cell
 after g c =
     after_news (wiring c.args.network.now) c.args.network.now.well c.args.store.now c.keep.new.self c.requires.kinds c.args.worldview.now
-    c.args.known.now.infos.items c.take_in.new.infos c.args.known.now.supports.items c.take_in.new.supports c.requires.kept
-    c.args.number c.requires.number c.in-Some.cell c.in-Some.fact (news_is g c)
+    c.args.known.now.infos.items c.args.known.now.supports c.requires.kept c.args.number c.requires.number c.in-Some.cell c.in-Some.fact (news_is g (goal.at.returns-in_ok-take_in-clause-grows g c).After-take_in)
     (subst (λ (l : List Info). c.in-Some.cell < length l) c.deref.ensures.value c.in-Some.ensures.there)
     (c.in-Some.ensures.kind ∙ ap (λ (l : List Info). kind_of (info_at l c.in-Some.cell)) c.deref.ensures.value)
-    c.in_ok-keep.ensures.told c.in_ok-keep.ensures.kept c.in_ok-keep.ensures.assimilates c.in_ok-keep.ensures.others c.in_ok-keep.ensures.kinds (taken g c)
+    c.in_ok-keep.ensures.told c.in_ok-keep.ensures.kept c.in_ok-keep.ensures.assimilates c.in_ok-keep.ensures.others c.in_ok-keep.ensures.kinds
+    c.take_in.new.infos c.take_in.new.supports (taken g c)
 
--- the lists at hand come back whole
+-- the informations at hand come back whole
 infos_back : (g : given.Over) (c : goal.After-queue_readers g) →
     take c.args.known.now.infos.len (c.take_in.new.infos ++ drop (length c.take_in.new.infos) c.args.known.now.infos.items) ≡ c.take_in.new.infos
 infos_back g c =
     came_back c.take_in.new.infos c.args.known.now.infos.items c.args.known.now.infos.len
     (sym c.deref.ensures.len ∙ ap length c.deref.ensures.value) (ap length (taken g c).infos_are ∙ length-set c.args.known.now.infos.items c.in-Some.cell _)
 
-supports_back : (g : given.Over) (c : goal.After-queue_readers g) →
-    take c.args.known.now.supports.len (c.take_in.new.supports ++ drop (length c.take_in.new.supports) c.args.known.now.supports.items) ≡ c.take_in.new.supports
-supports_back g c =
-    came_back c.take_in.new.supports c.args.known.now.supports.items c.args.known.now.supports.len
-    (sym c.deref-2.ensures.len ∙ ap length c.deref-2.ensures.value) (ap length (taken g c).supports_are ∙ length-set c.args.known.now.supports.items c.in-Some.cell _)
+-- where the fact is not taken in, the store has kept it all the same
+pub returns-in_err-take_in-clause-grows : goal.returns-in_err-take_in-clause-grows
+returns-in_err-take_in-clause-grows g c =
+    keeps_news (wiring c.args.network.now) c.args.network.now.well c.args.store.now c.keep.new.self c.requires.kinds c.args.worldview.now
+    c.args.known.now.infos.items c.args.known.now.supports c.requires.kept c.args.number c.requires.number c.in-Some.cell c.in-Some.fact (news_is g (goal.at.returns-in_err-take_in-clause-grows g c).After-take_in)
+    (subst (λ (l : List Info). c.in-Some.cell < length l) c.deref.ensures.value c.in-Some.ensures.there)
+    (c.in-Some.ensures.kind ∙ ap (λ (l : List Info). kind_of (info_at l c.in-Some.cell)) c.deref.ensures.value)
+    c.in_ok-keep.ensures.told c.in_ok-keep.ensures.kept c.in_ok-keep.ensures.assimilates c.in_ok-keep.ensures.others c.in_ok-keep.ensures.kinds
 
-pub returns-in_ok-keep-clause-grows : goal.returns-in_ok-keep-clause-grows
-returns-in_ok-keep-clause-grows g c = (after g c).grows
+pub returns-in_err-take_in-clause-upstream : goal.returns-in_err-take_in-clause-upstream
+returns-in_err-take_in-clause-upstream g c given are =
+    subst (AreUpstream (wiring c.args.network.now) given c.keep.new.self) (sym c.in_err-take_in.ensures.supports)
+    (keeps_upstream (wiring c.args.network.now) c.args.network.now.well c.args.store.now c.keep.new.self c.requires.kinds c.args.worldview.now
+    c.args.known.now.infos.items c.args.known.now.supports c.requires.kept c.args.number c.requires.number c.in-Some.cell c.in-Some.fact (news_is g (goal.at.returns-in_err-take_in-clause-upstream g c).After-take_in)
+    (subst (λ (l : List Info). c.in-Some.cell < length l) c.deref.ensures.value c.in-Some.ensures.there)
+    (c.in-Some.ensures.kind ∙ ap (λ (l : List Info). kind_of (info_at l c.in-Some.cell)) c.deref.ensures.value)
+    c.in_ok-keep.ensures.told c.in_ok-keep.ensures.kept c.in_ok-keep.ensures.assimilates c.in_ok-keep.ensures.others c.in_ok-keep.ensures.kinds given are)
 
-pub returns-in_ok-keep-clause-upstream : goal.returns-in_ok-keep-clause-upstream
-returns-in_ok-keep-clause-upstream g c given are =
-    subst (AreUpstream (wiring c.args.network.now) given c.keep.new.self) (sym (supports_back g c)) ((after g c).upstream given are)
+pub returns-in_ok-take_in-clause-grows : goal.returns-in_ok-take_in-clause-grows
+returns-in_ok-take_in-clause-grows g c = (after g c).grows
 
-pub returns-in_ok-keep-clause-kept : goal.returns-in_ok-keep-clause-kept
-returns-in_ok-keep-clause-kept g c =
-    rw (infos_back g c, supports_back g c) (after g c).kept
+pub returns-in_ok-take_in-clause-upstream : goal.returns-in_ok-take_in-clause-upstream
+returns-in_ok-take_in-clause-upstream g c given are = (after g c).upstream given are
 
-pub returns-in_ok-keep-clause-satisfied : goal.returns-in_ok-keep-clause-satisfied
-returns-in_ok-keep-clause-satisfied g c =
+pub returns-in_ok-take_in-clause-kept : goal.returns-in_ok-take_in-clause-kept
+returns-in_ok-take_in-clause-kept g c =
+    rw (infos_back g c) (after g c).kept
+
+pub returns-in_ok-take_in-clause-satisfied : goal.returns-in_ok-take_in-clause-satisfied
+returns-in_ok-take_in-clause-satisfied g c =
     (after g c).satisfied c.args.agenda.now c.queue_readers.new.agenda c.requires.others
     (λ n reader seen. c.queue_readers.ensures.readers.readers c.in-Some.cell n refl reader (ap (λ l. is_set l n) c.requires.visible ∙ seen))
     c.queue_readers.ensures.readers.stay
 
-pub returns-in_ok-keep-clause-most : goal.returns-in_ok-keep-clause-most
-returns-in_ok-keep-clause-most g c =
+pub returns-in_ok-take_in-clause-most : goal.returns-in_ok-take_in-clause-most
+returns-in_ok-take_in-clause-most g c =
     let readers : count_by (is_set c.args.visible.now) (readers_of (wiring c.args.network.now) c.in-Some.cell)
     ≡ reader_count (wiring c.args.network.now) c.args.worldview.now c.in-Some.cell =
     ap (λ (l : List Bool). count_by (is_set l) (readers_of (wiring c.args.network.now) c.in-Some.cell)) c.requires.visible in
@@ -102,7 +109,7 @@ pub returns-in_default-clause-satisfied : goal.returns-in_default-clause-satisfi
 returns-in_default-clause-satisfied g c =
     satisfied_all (wiring c.args.network.now) c.args.worldview.now (λ cell. kept_in c.args.store.now cell c.args.worldview.now) c.args.agenda.now c.args.number
     c.requires.others
-    (λ d. satisfied_kept (wiring c.args.network.now) c.args.store.now c.args.worldview.now c.args.known.now.infos.items c.args.known.now.supports.items
+    (λ d. satisfied_kept (wiring c.args.network.now) c.args.store.now c.args.worldview.now c.args.known.now.infos.items c.args.known.now.supports
     c.requires.kept (attached_no (wiring c.args.network.now) c.args.number d)
     (subst (λ (l : List Info). IsSatisfied (wiring c.args.network.now) (info_at l) (attached_no (wiring c.args.network.now) c.args.number d))
     c.deref.ensures.value (c.in_default.ensures.none d)))

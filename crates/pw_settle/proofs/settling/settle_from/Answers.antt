@@ -38,12 +38,12 @@ returns-clause-found g c =
     record {
       settled = λ sound. settled_known network well c.args.store.now new c.args.worldview.now c.requires.kinds
           c.work.ensures.grows c.requires.told c.work.new.agenda c.in_ok-calls.ensures.satisfied c.in_ok-calls.ensures.done sound
-          c.work.new.known.infos.items c.work.new.known.supports.items _ c.in_ok-calls.calls kept;
+          c.work.new.known.infos.items c.work.new.known.supports _ c.in_ok-calls.calls kept;
       cells = kept.many ∙ cells_kept network new well kinds;
       fits = fits_now network well new
           (record {
             infos = c.work.new.known.infos.items;
-            supports = c.work.new.known.supports.items;
+            supports = c.work.new.known.supports;
             worldview = c.args.worldview.now;
             instances = _;
             calls = c.in_ok-calls.calls;

@@ -11,9 +11,9 @@ use Rattle.pw_settle.proofs.settling.work.Given as goal
 abbrev pub invariant-loop-number : goal.invariant-loop-number
 invariant-loop-number g l = record {
   grows : KeepsMore (wiring l.network) l.fn.store l.store;
-  upstream : (given : ℕ → ℕ → Bool) → AreUpstream (wiring l.network) given l.fn.store l.fn.known.supports.items
-      → AreUpstream (wiring l.network) given l.store l.known.supports.items;
-  kept : AreKept l.store l.worldview l.known.infos.items l.known.supports.items;
+  upstream : (given : ℕ → ℕ → Bool) → AreUpstream (wiring l.network) given l.fn.store l.fn.known.supports
+      → AreUpstream (wiring l.network) given l.store l.known.supports;
+  kept : AreKept l.store l.worldview l.known.infos.items l.known.supports;
   flags : length l.agenda ≡ length (wiring l.network).attached;
   seen : (n : ℕ) → is_set l.agenda n ≡ true → visible_at (wiring l.network) l.worldview n ≡ true;
   satisfied : AreSatisfied (wiring l.network) l.worldview (λ cell. kept_in l.store cell l.worldview) l.agenda;

@@ -15,10 +15,10 @@ loop-word-init g c = record {
 pub loop-word-preserved : goal.loop-word-preserved
 loop-word-preserved g c = record {
   known = search rules;
-  set = premises_step (declared c.args.declaration.now) c.in-Some.word.now c.next.new.self c.args.words c.in-Some-premise.premise c.loop-word.set c.join-set.result c.one.result
+  set = premises_step (declared c.args.declaration.now) c.in-Some.word.now c.next.new.self c.args.words c.in-Some-premise.premise c.loop-word.set c.insert.new.self
       (sym c.in-Some-premise.ensures.number)
       (c.loop-word.invariant.set ∙ ap (λ (words : List (List ℕ)). union c.loop-word.set (premises_of (declared c.args.declaration.now) words)) c.in-Some.ensures)
-      c.one.ensures.single c.join-set.ensures.union;
+      c.insert.ensures.inserted;
 }
 
 pub returns-clause-ok : goal.returns-clause-ok

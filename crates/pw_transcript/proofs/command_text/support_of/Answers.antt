@@ -18,10 +18,10 @@ loop-word-preserved g c = record {
   known = search rules;
   own = one_more_word (λ word. may_use (declared c.args.declaration.now) c.args.user word) c.args.words c.loop-word.words c.next.new.self c.in-Some.word.now c.loop-word.may_use_all c.may_use-may_use_all.result
       c.loop-word.invariant.own c.in-Some.ensures (c.may_use-may_use_all.ensures ∙ ap (may_use_at (declared c.args.declaration.now) c.args.user) c.in-Some-premise.ensures.number);
-  set = premises_step (declared c.args.declaration.now) c.in-Some.word.now c.next.new.self c.args.words c.in-Some-premise.premise c.loop-word.set c.join-set.result c.one.result
+  set = premises_step (declared c.args.declaration.now) c.in-Some.word.now c.next.new.self c.args.words c.in-Some-premise.premise c.loop-word.set c.insert.new.self
       (sym c.in-Some-premise.ensures.number)
       (c.loop-word.invariant.set ∙ ap (λ (words : List (List ℕ)). union c.loop-word.set (premises_of (declared c.args.declaration.now) words)) c.in-Some.ensures)
-      c.one.ensures.single c.join-set.ensures.union;
+      c.insert.ensures.inserted;
 }
 
 pub returns-clause-ok : goal.returns-clause-ok

@@ -1,4 +1,5 @@
-use Rattle.std.proofs.Common.{◌<◌, ◌^◌, arith, refl}
+use Rattle.std.proofs.Common.{◌≡◌, ◌<◌, ◌^◌, ◌==◌, true, arith, refl, ap, subst, ◌∙◌}
+use Rattle.std.specs.Int.{bit_at}
 use Rattle.pw_kinds.proofs.Masks.{high_bit, set_one, one_set, bit_below}
 use Rattle.pw_kinds.proofs.members.Members.of.Goals as goal
 
@@ -14,5 +15,11 @@ returns-clause-some c = let below : c.args.mask < 2 ^ c.args.size = omega arith 
   λ h. refl,
 )
 
+pub of_mask-requires : goal.of_mask-requires
+of_mask-requires c = record { fewest = omega arith; most = omega arith; below = omega arith }
+
 pub returns-clause-values : goal.returns-clause-values
-returns-clause-values c = λ k. (one_set c.args.mask k, set_one c.args.mask k)
+returns-clause-values c = λ k. (
+  λ one. one_set c.args.mask k (subst (λ mask. (bit_at mask k == 1) ≡ true) c.of_mask.ensures.mask one),
+  λ set. ap (λ mask. bit_at mask k == 1) c.of_mask.ensures.mask ∙ set_one c.args.mask k set,
+)

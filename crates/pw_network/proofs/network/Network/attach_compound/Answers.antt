@@ -14,25 +14,28 @@ append_instances-requires-clause-here g c =
     c.requires.calls c.requires.may (let few = c.requires.few in let long = ap length c.requires.kinds in omega arith)
     c.cells-first.result c.add_cells.new.self.ends.len c.cells-first.ensures.count
     (let long = ap length c.requires.kinds in omega (arith, c.add_cells.ensures.cells, c.reserve-3.ensures.cells, c.args.self.now.cells)) in
-    rw (← c.cells.ensures.cells) at here
+    let placed = rw (← c.cells.ensures.cells) at here in
+    c.in_ok-attached.ensures.here c.add_cells.new.self.ends.len placed
 
 pub returns-clause-ok : goal.returns-clause-ok
 returns-clause-ok g c =
     compound_attached (declared c.args.self.now.declaration.now) c.args.self.now.inner.items c.reserve.new.self.items c.append_inner.new.inner.items
-    c.args.self.now.instances.items c.reserve-2.new.self.items c.append_instances.new.instances.items
+    c.args.self.now.instances.items c.reserve-2.new.self.items c.in_ok-attached.attached.items c.append_instances.new.instances.items
     c.args.self.now.last_line c.args.line c.args.compound c.args.calls.now c.args.kinds.now (cells_of c.args.cells) c.args.support
     c.args.self.now.well c.requires.calls c.requires.may c.requires.kinds c.requires.few c.cells-first.result c.cells-first.ensures.count
-    c.reserve.ensures.items c.append_inner.ensures c.reserve-2.ensures.items (rw c.cells.ensures.cells at c.append_instances.ensures.items)
+    c.reserve.ensures.items c.append_inner.ensures c.reserve-2.ensures.items c.append_instances.ensures.items
+    (rw c.cells.ensures.cells at c.in_ok-attached.ensures.items)
 
 pub invariant_of-self-2 : goal.invariant_of-self-2
 invariant_of-self-2 g c =
     let network = wiring c.args.self.now in
     let cells = cells_of c.args.cells in
     let after = compound_attached (declared c.args.self.now.declaration.now) c.args.self.now.inner.items c.reserve.new.self.items c.append_inner.new.inner.items
-    c.args.self.now.instances.items c.reserve-2.new.self.items c.append_instances.new.instances.items
+    c.args.self.now.instances.items c.reserve-2.new.self.items c.in_ok-attached.attached.items c.append_instances.new.instances.items
     c.args.self.now.last_line c.args.line c.args.compound c.args.calls.now c.args.kinds.now cells c.args.support
     c.args.self.now.well c.requires.calls c.requires.may c.requires.kinds c.requires.few c.cells-first.result c.cells-first.ensures.count
-    c.reserve.ensures.items c.append_inner.ensures c.reserve-2.ensures.items (rw c.cells.ensures.cells at c.append_instances.ensures.items) in
+    c.reserve.ensures.items c.append_inner.ensures c.reserve-2.ensures.items c.append_instances.ensures.items
+    (rw c.cells.ensures.cells at c.in_ok-attached.ensures.items) in
     let long = ap length c.requires.kinds in
     let more = cells_after network c.args.line (callables.Compound c.args.compound) cells c.args.support c.args.self.now.well in
     let here = ap cells_in after in

@@ -1,5 +1,8 @@
-use Rattle.std.proofs.Common.{◌≡◌, true, Some, refl, sym, ap, ◌∙◌, subst, arith, inl}
+use Rattle.std.proofs.Common.{◌≡◌, ℕ, ◌<◌, true, length, get_or, refl, sym, ap, ◌∙◌, subst, arith, inl}
+use Rattle.std.specs.FinSet.{empty}
+use Rattle.std.proofs.lemmas.List.{get_or_default}
 use Rattle.std.proofs.lemmas.Bool.{both_ways}
+use Rattle.pw_premises.specs.Premises.{Premises}
 use Rattle.pw_cells.specs.Cells.{Store, told_in}
 use Rattle.pw_network.specs.Wiring.{wiring}
 use Rattle.pw_sessions.specs.inside.Fields.{state}
@@ -8,11 +11,17 @@ use Rattle.pw_sessions.specs.Reply as reply
 use Rattle.pw_sessions.specs.inside.Steps.{OnlyKeepsMore, is_written}
 use Rattle.pw_sessions.specs.Workbench.{Workbench, beliefs_in}
 use Rattle.pw_sessions.proofs.AskedCells.{told_answers}
-use Rattle.pw_sessions.proofs.FreshUsers.{asked_known, asked_quiet, asked_remembered}
-use Rattle.pw_sessions.proofs.LastValues.{only_keeps_itself, only_keeps_then, only_remembers, session_of}
+use Rattle.pw_sessions.proofs.FreshUsers.{asked_known, asked_quiet}
+use Rattle.pw_sessions.proofs.LastValues.{only_keeps_itself}
 use Rattle.pw_sessions.proofs.UnchangedReplies.{notes_none}
 use Rattle.pw_settle.proofs.StoreCells.{cells_kept}
 use Rattle.pw_sessions.proofs.workbench.Workbench.ask.Goals as goal
+
+-- what the code reads of the beliefs are those of the user
+beliefs_read : (old : Workbench) (user at : ℕ) (read : Premises) → user < length old.beliefs → at ≡ user
+    → read ≡ get_or old.beliefs at read → read ≡ beliefs_in old user
+beliefs_read old user at read within here is =
+    is ∙ ap (λ n. get_or old.beliefs n read) here ∙ get_or_default old.beliefs user read empty within
 
 pub recall-requires : goal.recall-requires
 recall-requires g c =
@@ -35,14 +44,16 @@ returns-in-Some-clause-grows g c = only_keeps_itself (state c.args.self.now) c.a
 
 pub returns-then-not-is_written_by-clause-answer : goal.returns-then-not-is_written_by-clause-answer
 returns-then-not-is_written_by-clause-answer g c = λ d before left.
-    let written = c.is_written_by.ensures ∙ (λ i. is_written (c.instances.ensures.instances i) c.args.cell (c.beliefs_of-beliefs.ensures i)) in
-    let told = c.recall.ensures.value ∙ ap (told_in c.args.self.now.store c.args.cell) c.beliefs_of-beliefs.ensures in
+    let believed = beliefs_read (state c.args.self.now) c.args.user c.from.result c.index-beliefs.result.now c.requires.can.exists c.from.ensures c.index-beliefs.ensures in
+    let written = c.is_written_by.ensures ∙ (λ i. is_written (c.instances.ensures.instances i) c.args.cell (believed i)) in
+    let told = c.recall.ensures.value ∙ ap (told_in c.args.self.now.store c.args.cell) believed in
     told_answers d before (state c.args.self.now) c.args.user c.args.cell c.recall.result c.args.self.now.network.well left c.requires.cell
     (sym written ∙ c.if-not-is_written_by.true) told
 
 pub returns-then-not-is_written_by-clause-asked : goal.returns-then-not-is_written_by-clause-asked
 returns-then-not-is_written_by-clause-asked g c =
-    let written = c.is_written_by.ensures ∙ (λ i. is_written (c.instances.ensures.instances i) c.args.cell (c.beliefs_of-beliefs.ensures i)) in
+    let believed = beliefs_read (state c.args.self.now) c.args.user c.from.result c.index-beliefs.result.now c.requires.can.exists c.from.ensures c.index-beliefs.ensures in
+    let written = c.is_written_by.ensures ∙ (λ i. is_written (c.instances.ensures.instances i) c.args.cell (believed i)) in
     let old : Workbench = state c.args.self.now in
     let same : record old { store = c.recall.new.self } ≡ old = ap (λ (s : Store). record old { store = s }) c.recall.ensures.unchanged in
     let Settling : Type 0 = is_written old.network.attached c.args.cell (beliefs_in old c.args.user) ≡ true in
@@ -60,23 +71,11 @@ returns-then-not-is_written_by-clause-grows g c =
 
 -- ---- what settles
 
-pub returns-clause-asked : goal.returns-clause-asked
-returns-clause-asked g c =
-    let written = c.is_written_by.ensures ∙ (λ i. is_written (c.instances.ensures.instances i) c.args.cell (c.beliefs_of-beliefs.ensures i)) in
-    let old : Workbench = state c.args.self.now in
-    let Settling : Type 0 = is_written old.network.attached c.args.cell (beliefs_in old c.args.user) ≡ true in
-    subst (λ (new : Workbench). IsAsked old c.args.user Settling new (reply.Value c.value-info.result.info)) (sym c.remember.ensures)
-    (asked_remembered old (state c.settle_for.new.self) c.args.user c.in-Ok.settled Settling (reply.Value c.value-info.result.info) (sym written ∙ c.if-not-is_written_by.false)
-    (omega (arith, c.requires.can.session, c.settle_for.ensures.grows.users)) c.settle_for.ensures.grows.beliefs c.in-Ok.ensures.settled.worldview_is
-    c.in-Ok.ensures.current c.settle_for.ensures.calls c.in-Ok.ensures.due)
-
-pub returns-clause-grows : goal.returns-clause-grows
-returns-clause-grows g c =
-    only_keeps_then (state c.args.self.now) c.args.user (state c.settle_for.new.self) (state c.remember.new.self) c.settle_for.ensures.grows
-    (subst (OnlyKeepsMore (state c.settle_for.new.self) c.args.user) (sym c.remember.ensures)
-    (only_remembers (state c.settle_for.new.self) c.args.user (Some (record { values = c.in-Ok.settled; is_current = true }))
-    (session_of (state c.args.self.now) c.args.user (state c.settle_for.new.self) c.in-Ok.settled c.args.self.now.network.well
-    c.settle_for.ensures.grows c.in-Ok.ensures.settled c.in-Ok.ensures.current)))
+pub ask_settled-requires-clause-written : goal.ask_settled-requires-clause-written
+ask_settled-requires-clause-written g c =
+    let believed = beliefs_read (state c.args.self.now) c.args.user c.from.result c.index-beliefs.result.now c.requires.can.exists c.from.ensures c.index-beliefs.ensures in
+    let written = c.is_written_by.ensures ∙ (λ i. is_written (c.instances.ensures.instances i) c.args.cell (believed i)) in
+    sym written ∙ c.if-not-is_written_by.false
 
 -- ---- what is noted
 
@@ -85,10 +84,3 @@ returns-in-Some-clause-noted g c = notes_none _ _ _ refl (λ info reason is. abs
 
 pub returns-then-not-is_written_by-clause-noted : goal.returns-then-not-is_written_by-clause-noted
 returns-then-not-is_written_by-clause-noted g c = notes_none _ _ _ refl (λ info reason is. absurd (cc))
-
-pub returns-in_default-settle_for-clause-noted : goal.returns-in_default-settle_for-clause-noted
-returns-in_default-settle_for-clause-noted g c = notes_none _ _ _ c.settle_for.ensures.nogoods (λ info reason is. absurd (cc))
-
-pub returns-clause-noted : goal.returns-clause-noted
-returns-clause-noted g c =
-    notes_none _ _ _ (ap (λ (bench : Workbench). bench.nogoods) c.remember.ensures ∙ c.settle_for.ensures.nogoods) (λ info reason is. absurd (cc))

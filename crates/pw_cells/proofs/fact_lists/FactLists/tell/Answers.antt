@@ -1,0 +1,53 @@
+use Rattle.std.proofs.Common.{◌≡◌, true, List, inl, inr, sym, ◌∙◌, ap, subst, arith}
+use Rattle.std.proofs.lemmas.Bool.{cases_Bool}
+use Rattle.pw_info.specs.Information.{kind_of}
+use Rattle.pw_info.specs.declared.kind.Kind.{Kind}
+use Rattle.pw_facts.specs.declared.fact.Fact.{Fact}
+use Rattle.pw_cells.specs.Cells.{all_assimilated}
+use Rattle.pw_cells.specs.inside.OneCell.{Bounds}
+use Rattle.pw_cells.specs.Cells.{Cell, IsSubsumedBy}
+use Rattle.pw_cells.specs.inside.OneCell.{AreOfKind}
+use Rattle.pw_cells.proofs.Tells.{KeepsMore, keeps_more, whole_told, late_more}
+use Rattle.pw_cells.proofs.fact_lists.FactLists.tell.Given as given
+use Rattle.pw_cells.proofs.fact_lists.FactLists.tell.Goals as goal
+
+pub is_lately_subsumed-known-requires : goal.is_lately_subsumed-known-requires
+is_lately_subsumed-known-requires g c =
+    let is : kind_of c.args.fact.now.info ≡ c.self.inside.kind = c.requires ∙ sym (ap (λ (cell : Cell). cell.kind) c.self.view_is) in
+    subst (λ (l : List Fact). AreOfKind (kind_of c.args.fact.now.info) l) (sym c.as_slice.ensures.value)
+    (subst (λ (k : Kind). AreOfKind k c.self.inside.late.items) (sym is) c.self.invariant.0.late_kinds)
+
+-- the fact is of the kind of the facts inside
+of_kind : (g : given.Over) (c : goal.After-add_late g) → kind_of c.args.fact.now.info ≡ c.self.inside.kind
+of_kind g c = c.requires ∙ sym (ap (λ (cell : Cell). cell.kind) c.self.view_is)
+
+-- if it is known, a late fact subsumes it
+by_late : (g : given.Over) (c : goal.After-add_late g) → c.is_lately_subsumed-known.result ≡ true → IsSubsumedBy c.self.inside.late.items c.args.fact.now
+by_late g c known = subst (λ (l : List Fact). IsSubsumedBy l c.args.fact.now) c.as_slice.ensures.value (c.is_lately_subsumed-known.ensures known)
+
+pub invariant_of-self-2 : goal.invariant_of-self-2
+invariant_of-self-2 g c =
+    let self = c.self.inside in
+    let known = c.is_lately_subsumed-known.result in
+    let whole = whole_told _ _ _ _ _ _ _ (of_kind g c) c.self.invariant.0 (by_late g c) c.in_ok-add.ensures.kinds c.in_ok-add.ensures.shown in (
+      rw (c.reserve_late.ensures.kept, c.add_late.ensures.items, c.reserve_late.ensures.late) whole,
+      elim (cases_Bool known) [
+        | inl e ↦ let same = c.add_late.ensures.known e in omega (arith, same, c.reserve_late.ensures.room)
+        | inr e ↦ let more = c.in_ok-reserve_late.ensures.more e in omega (arith, more, c.add_late.ensures.len)
+      ],
+      subst (λ (l : List Fact). Bounds self.kind l self.bound) (sym {A = List Fact} c.reserve_late.ensures.kept) c.self.invariant.2,
+    )
+
+-- what is kept afterwards
+kept_then : (g : given.Over) (c : goal.After-add_late g) →
+    KeepsMore c.args.fact.now c.args.self.now c.self.inside.kind (all_assimilated c.reserve_late.new.kept.items c.add_late.new.late.items)
+kept_then g c =
+    keeps_more _ _ _ _ _ _ _ c.self.view_is (of_kind g c) c.self.invariant.0
+    (rw (c.reserve_late.ensures.kept, c.add_late.ensures.items, c.reserve_late.ensures.late)
+    (late_more _ _ _ _ _ _ (of_kind g c) c.self.invariant.0 (by_late g c)))
+
+pub returns-clause-kept : goal.returns-clause-kept
+returns-clause-kept g c = (kept_then g c).gains
+
+pub returns-clause-assimilates : goal.returns-clause-assimilates
+returns-clause-assimilates g c = (kept_then g c).assimilates

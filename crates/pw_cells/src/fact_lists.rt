@@ -1,0 +1,416 @@
+//! The facts of one cell, with supports of one width.
+
+ghost use Rattle.std.specs.Prelude.{◌≡◌, ◌+◌, ◌<◌, ◌≤◌, ◌↔◌, ◌++◌, ◌∷◌, [], true, false};
+ghost use Rattle.std.specs.Prelude.{if◌then◌else◌};
+ghost use Rattle.std.specs.Prelude.{length, reverse, vec_len, vec_capacity, IsTrue, IfOk, OnOk, OnErr};
+ghost use Rattle.pw_info.specs.Information.{kind_of, Implies};
+ghost use Rattle.pw_facts.specs.Facts.{IsMerge, IsMergeOfAll, MergesTo, visible_facts};
+ghost use Rattle.pw_facts.specs.Facts.{IsLeastAbove, IsMostBelow};
+ghost use Rattle.pw_cells.specs.inside.OneCell.{Bounds};
+ghost use Rattle.pw_cells.specs.Cells.{new_cell, told_of, kept_of, IsSubsumedBy};
+ghost use Rattle.pw_cells.specs.Changes.{GainsFact, Assimilates, TellsNews};
+ghost use Rattle.pw_cells.specs.Cells.{assimilated, all_assimilated, unsubsumed};
+ghost use Rattle.pw_cells.specs.inside.OneCell.{AreApart, AreOfKind, StandsFor};
+
+use crate::bound::Bound;
+use crate::held::Held;
+use crate::support::Support;
+use crate::told_facts::ToldFacts;
+use pw_info::{Info, Kind};
+use pw_premises::PremiseSet;
+use std::alloc::{AllocError, Allocator};
+use std::marker::Model;
+
+// This many facts are gone over quickly. A tell also looks at this many of the late facts, so that
+// a fact told again and again is not held as often.
+const FEW: usize = 8;
+
+// A cell's kind, the facts told about it, and the facts kept of it. Facts told under one support
+// are held as one fact, their meet, so asking for them costs no more for a cell that was told
+// often. Told facts are assimilated late, when the kept facts are first asked for. So a cell that
+// gets only tells and asks needs no walk over its facts.
+#[derive(Drop)]
+pub(crate) struct FactLists<S: Support, A: Allocator> {
+    kind: Kind,
+    told: ToldFacts<S, A>,
+    // The kept facts, except for the late ones. It has room for these.
+    kept: Vec<Held<S>, A>,
+    // A bound on what the older kept facts say.
+    bound: Bound,
+    // The facts told since, which are not assimilated yet.
+    late: Vec<Held<S>, A>,
+}
+
+impl<S: Support, A: Allocator> Model for FactLists<S, A> {
+    ghost use Rattle.std.specs.Prelude.{◌+◌, ◌≤◌, vec_len, vec_capacity};
+    ghost use Rattle.pw_info.specs.contracts.kind.Kind as kinds;
+    ghost use Rattle.pw_facts.specs.contracts.fact.Fact as facts;
+    ghost use Rattle.pw_cells.specs.Cells.{all_assimilated};
+    ghost use Rattle.pw_cells.specs.inside.OneCell.{Bounds};
+    ghost use Rattle.pw_cells.specs.Cells.{Cell};
+    ghost use Rattle.pw_cells.specs.inside.OneCell.{cell_code};
+    ghost use Rattle.pw_cells.specs.inside.OneCell.{IsCellWhole};
+
+    ghost Value = { Cell };
+
+    ghost coded = { cell_code kinds.the_row.coded facts.the_row.coded };
+
+    ghost view = { λ a. record {
+      kind = a.kind;
+      told = a.told;
+      kept = all_assimilated a.kept.items a.late.items;
+    } };
+
+    ghost invariant = { λ a. IsCellWhole a.kind a.told a.kept.items a.late.items
+        × (vec_len a.kept + vec_len a.late ≤ vec_capacity a.kept) × Bounds a.kind a.kept.items a.bound };
+}
+
+impl<S: Support, A: Allocator + Copy> FactLists<S, A> {
+    // A cell about which nothing was told. Takes no memory.
+    pub(crate) fn new(alloc: A, kind: Kind) -> FactLists<S, A>
+        ensures { result ≡ new_cell kind }
+    {
+        FactLists {
+            kind,
+            told: ToldFacts::new(alloc),
+            kept: Vec::new(alloc),
+            bound: Bound::none(kind),
+            late: Vec::new(alloc),
+        }
+    }
+
+    pub(crate) fn kind(&self) -> Kind
+        ensures { result ≡ self.now.kind }
+    {
+        self.kind
+    }
+
+    // Records that a fact was told, and keeps it. If memory is refused, nothing changes.
+    pub(crate) fn tell(&mut self, fact: &Held<S>) -> Result<(), AllocError>
+        requires { kind_of fact.now.info ≡ self.old.kind }
+        ensures told { OnOk result (GainsFact fact.now (told_of self.old) (told_of self.new)) }
+        ensures kept { OnOk result (GainsFact fact.now (kept_of self.old) (kept_of self.new)) }
+        ensures assimilates { OnOk result (Assimilates fact.now self.old.kept self.new.kept) }
+        ensures kind { self.new.kind ≡ self.old.kind }
+        ensures err { OnErr result (self.new ≡ self.old) }
+    {
+        let known = is_lately_subsumed(self.late.as_slice(), fact);
+        // All growths come first, so that a refused growth changes nothing.
+        reserve_late(&mut self.kept, &mut self.late, known)?;
+        self.told.add(fact)?;
+        add_late(&mut self.late, known, fact);
+        Ok(())
+    }
+
+    // Keeps a fact, and answers whether it was news. If memory is refused, nothing changes.
+    pub(crate) fn keep(&mut self, fact: &Held<S>) -> Result<bool, AllocError>
+        requires { kind_of fact.now.info ≡ self.old.kind }
+        ensures answer { IfOk result (λ news. TellsNews self.old.kept fact.now news) }
+        ensures known { IfOk result (λ news. news ≡ false → self.new ≡ self.old) }
+        ensures kept { OnOk result (GainsFact fact.now (kept_of self.old) (kept_of self.new)) }
+        ensures assimilates { OnOk result (Assimilates fact.now self.old.kept self.new.kept) }
+        ensures told { self.new.told ≡ self.old.told }
+        ensures kind { self.new.kind ≡ self.old.kind }
+        ensures err { OnErr result (self.new ≡ self.old) }
+    {
+        assimilate_late(self.kind, &mut self.kept, &mut self.bound, &mut self.late);
+        let known = is_subsumed(self.kept.as_slice(), &self.bound, fact);
+        reserve_unless(&mut self.kept, known)?;
+        assimilate(&mut self.kept, &mut self.bound, known, fact);
+        Ok(!known)
+    }
+
+    // Whether there are few told facts to go over.
+    #[inline(always)]
+    pub(crate) fn is_told_little(&self) -> bool {
+        self.told.len() <= FEW
+    }
+
+    // The merge of the told facts, in a worldview.
+    pub(crate) fn told(&self, worldview: &PremiseSet) -> Info
+        ensures value { result ≡ told_of self.now worldview.now }
+        ensures kind { kind_of result ≡ self.now.kind }
+        ensures larger { IsLeastAbove worldview.now (told_of self.now) result }
+    {
+        self.told.shown(self.kind, worldview)
+    }
+
+    // The merge of the kept facts, in a worldview, with premises that it rests on. The late facts
+    // are assimilated first.
+    pub(crate) fn kept(&mut self, worldview: &PremiseSet) -> Held<S>
+        ensures same { self.new ≡ self.old }
+        ensures merge { IsMergeOfAll (visible_facts worldview.now self.old.kept) result }
+        ensures stands { StandsFor self.old.kind worldview.now self.old.kept result }
+        ensures kind { kind_of result.info ≡ self.old.kind }
+        ensures told { Implies result.info (told_of self.old worldview.now) }
+        ensures larger { IsLeastAbove result.support (kept_of self.old) result.info }
+        ensures smaller { IsMostBelow worldview.now (kept_of self.old) result.info }
+    {
+        assimilate_late(self.kind, &mut self.kept, &mut self.bound, &mut self.late);
+        merged(self.kind, self.kept.as_slice(), &self.bound, worldview)
+    }
+
+    // The same cell, with supports of any premises. Fails only when out of memory.
+    pub(crate) fn widened(&self) -> Result<FactLists<PremiseSet, A>, AllocError>
+        ensures { IfOk result (λ wide. wide ≡ self.now) }
+    {
+        let alloc = *self.kept.allocator();
+        Ok(FactLists {
+            kind: self.kind,
+            told: self.told.widened(alloc)?,
+            kept: all_widened(
+                alloc,
+                self.kept.as_slice(),
+                self.kept.len() + self.late.len(),
+            )?,
+            bound: self.bound,
+            late: all_widened(alloc, self.late.as_slice(), self.late.len())?,
+        })
+    }
+}
+
+// The same facts, with supports of any premises, and room for this many. Fails only when out of
+// memory.
+fn all_widened<S: Support, A: Allocator>(
+    alloc: A,
+    facts: &[Held<S>],
+    room: usize,
+) -> Result<Vec<Held<PremiseSet>, A>, AllocError>
+    requires { length facts.now ≤ room }
+    ensures items { IfOk result (λ wide. wide.items ≡ facts.now) }
+    ensures room { IfOk result (λ wide. room ≤ vec_capacity wide) }
+{
+    let mut wide = Vec::with_capacity(alloc, room)?;
+    for held in facts {
+        append(&mut wide, &held.widened());
+    }
+    Ok(wide)
+}
+
+// Whether one of the last few facts subsumes this one. Inlined, like `assimilate`.
+#[inline(always)]
+fn is_lately_subsumed<S: Support>(facts: &[Held<S>], fact: &Held<S>) -> bool
+    requires { AreOfKind (kind_of fact.now.info) facts.now }
+    ensures { IsTrue result → IsSubsumedBy facts.now fact.now }
+{
+    let len = facts.len();
+    for back in 1..=len.min(FEW) {
+        if facts[len - back].subsumes(fact) {
+            return true;
+        }
+    }
+    false
+}
+
+// Whether one of the facts subsumes this one.
+fn is_subsumed_by<S: Support>(facts: &[Held<S>], fact: &Held<S>) -> bool
+    requires { AreOfKind (kind_of fact.now.info) facts.now }
+    ensures { IsTrue result ↔ IsSubsumedBy facts.now fact.now }
+{
+    for held in facts {
+        if held.subsumes(fact) {
+            return true;
+        }
+    }
+    false
+}
+
+// Whether a kept fact subsumes this one. The older facts are gone over only if one of them may say
+// as much.
+#[inline(always)]
+fn is_subsumed<S: Support>(kept: &[Held<S>], bound: &Bound, fact: &Held<S>) -> bool
+    requires kinds { AreOfKind (kind_of fact.now.info) kept.now }
+    requires bounds { Bounds (kind_of fact.now.info) kept.now bound.now }
+    ensures { IsTrue result ↔ IsSubsumedBy kept.now fact.now }
+{
+    let (older, newer) = kept.split_at(bound.count);
+    if is_subsumed_by(newer, fact) {
+        return true;
+    }
+    bound.info.implies(fact.info()) && is_subsumed_by(older, fact)
+}
+
+// Makes room for one more fact, unless the fact is known.
+fn reserve_unless<S: Support, A: Allocator>(
+    facts: &mut Vec<Held<S>, A>,
+    known: bool,
+) -> Result<(), AllocError>
+    ensures items { facts.new.items ≡ facts.old.items }
+    ensures room { OnOk result (known ≡ false → vec_len facts.new < vec_capacity facts.new) }
+{
+    if known {
+        return Ok(());
+    }
+    facts.reserve(1)
+}
+
+// Makes room for one more late fact, and for all late facts among the kept ones, unless the fact is
+// known.
+fn reserve_late<S: Support, A: Allocator>(
+    kept: &mut Vec<Held<S>, A>,
+    late: &mut Vec<Held<S>, A>,
+    known: bool,
+) -> Result<(), AllocError>
+    requires { vec_len kept.old + vec_len late.old ≤ vec_capacity kept.old }
+    ensures kept { kept.new.items ≡ kept.old.items }
+    ensures late { late.new.items ≡ late.old.items }
+    ensures room { vec_len kept.new + vec_len late.new ≤ vec_capacity kept.new }
+    ensures more { OnOk result (known ≡ false → vec_len kept.new + vec_len late.new < vec_capacity
+        kept.new) }
+    ensures late_room { OnOk result (known ≡ false → vec_len late.new < vec_capacity late.new) }
+{
+    if known {
+        return Ok(());
+    }
+    kept.reserve(late.len() + 1)?;
+    late.reserve(1)
+}
+
+// Adds a fact to the late ones, where there is room, unless the fact is known.
+fn add_late<S: Support, A: Allocator>(late: &mut Vec<Held<S>, A>, known: bool, fact: &Held<S>)
+    requires { known ≡ false → vec_len late.old < vec_capacity late.old }
+    ensures items { late.new.items ≡ (if known then late.old.items else late.old.items ++ fact.now ∷
+        []) }
+    ensures known { known ≡ true → vec_len late.new ≡ vec_len late.old }
+    ensures len { vec_len late.new ≤ vec_len late.old + 1 }
+{
+    if known {
+        return;
+    }
+    append(late, fact);
+}
+
+// Assimilates the late facts; then none is late. The kept facts have room for them.
+fn assimilate_late<S: Support, A: Allocator>(
+    kind: Kind,
+    kept: &mut Vec<Held<S>, A>,
+    bound: &mut Bound,
+    late: &mut Vec<Held<S>, A>,
+)
+    requires kinds { AreOfKind kind kept.old.items }
+    requires late_kinds { AreOfKind kind late.old.items }
+    requires apart { AreApart kept.old.items }
+    requires bounds { Bounds kind kept.old.items bound.old }
+    requires room { vec_len kept.old + vec_len late.old ≤ vec_capacity kept.old }
+    ensures kept { kept.new.items ≡ all_assimilated kept.old.items late.old.items }
+    ensures bounds { Bounds kind kept.new.items bound.new }
+    ensures late { late.new.items ≡ [] }
+    ensures none { vec_len late.new ≡ 0 }
+{
+    for fact in late.as_slice() {
+        let known = is_subsumed(kept.as_slice(), bound, fact);
+        assimilate(kept, bound, known, fact);
+    }
+    late.clear();
+}
+
+// Keeps a fact, where there is room, and drops the facts that it subsumes. If the fact is known, a
+// kept fact subsumes it, and nothing is done.
+#[inline(always)]
+fn assimilate<S: Support, A: Allocator>(
+    kept: &mut Vec<Held<S>, A>,
+    bound: &mut Bound,
+    known: bool,
+    fact: &Held<S>,
+)
+    requires kinds { AreOfKind (kind_of fact.now.info) kept.old.items }
+    requires bounds { Bounds (kind_of fact.now.info) kept.old.items bound.old }
+    requires known { IsTrue known ↔ IsSubsumedBy kept.old.items fact.now }
+    requires room { known ≡ false → vec_len kept.old < vec_capacity kept.old }
+    ensures assimilated { kept.new.items ≡ assimilated kept.old.items fact.now }
+    ensures bounds { Bounds (kind_of fact.now.info) kept.new.items bound.new }
+    ensures len { vec_len kept.new ≤ vec_len kept.old + 1 }
+    ensures capacity { vec_capacity kept.old ≤ vec_capacity kept.new }
+{
+    if !known {
+        let before = kept.len();
+        drop_subsumed(kept, fact);
+        bound.lower(before - kept.len());
+        append(kept, fact);
+        bound.raise(kept.as_slice());
+    }
+}
+
+// Drops the facts that this one subsumes. (`retain` takes no test that may be asked of facts of one
+// kind alone.) Few facts are dropped at a time, so the later ones move down together and not one by
+// one.
+fn drop_subsumed<S: Support, A: Allocator>(kept: &mut Vec<Held<S>, A>, fact: &Held<S>)
+    requires { AreOfKind (kind_of fact.now.info) kept.old.items }
+    ensures rest { kept.new.items ≡ unsubsumed fact.now kept.old.items }
+    ensures len { vec_len kept.new ≤ vec_len kept.old }
+    ensures capacity { vec_capacity kept.new ≡ vec_capacity kept.old }
+{
+    let mut place = 0;
+    while place < kept.len() {
+        if fact.subsumes(&kept[place]) {
+            kept.remove(place);
+        } else {
+            place += 1;
+        }
+    }
+}
+
+// Appends a fact where there is room.
+fn append<S: Support, A: Allocator>(facts: &mut Vec<Held<S>, A>, fact: &Held<S>)
+    requires { vec_len facts.old < vec_capacity facts.old }
+    ensures items { facts.new.items ≡ facts.old.items ++ fact.now ∷ [] }
+    ensures capacity { vec_capacity facts.old ≤ vec_capacity facts.new }
+{
+    let _ = facts.push(*fact);
+}
+
+// The merge of the facts that rest only on premises of the worldview.
+fn merged<S: Support>(
+    kind: Kind,
+    facts: &[Held<S>],
+    bound: &Bound,
+    worldview: &PremiseSet,
+) -> Held<S>
+    requires kinds { AreOfKind kind facts.now }
+    requires bounds { Bounds kind facts.now bound.now }
+    ensures stands { StandsFor kind worldview.now facts.now result }
+    ensures merge { IsMergeOfAll (visible_facts worldview.now facts.now) result }
+{
+    let (older, newer) = facts.split_at(bound.count);
+    let mut merge = Held::nothing(kind);
+    merge_all_in(&mut merge, newer, worldview);
+    // Mostly the merge says more than each of the older facts. Then none of them changes it.
+    if merge.info().implies(&bound.info) && !bound.info.implies(merge.info()) {
+        return merge;
+    }
+    merge_all_in(&mut merge, older, worldview);
+    merge
+}
+
+// Merges the facts that rest only on premises of the worldview into what is merged so far. The last
+// facts come first: they mostly say the most, and then one look at each of the others is enough.
+fn merge_all_in<S: Support>(merge: &mut Held<S>, facts: &[Held<S>], worldview: &PremiseSet)
+    requires { AreOfKind (kind_of merge.old.info) facts.now }
+    ensures merges { MergesTo merge.old (visible_facts worldview.now (reverse facts.now)) merge.new }
+    ensures kind { kind_of merge.new.info ≡ kind_of merge.old.info }
+{
+    for back in 0..facts.len() {
+        let held = &facts[facts.len() - 1 - back];
+        if held.is_visible(worldview) {
+            merge_in(merge, held);
+        }
+    }
+}
+
+// Merges one more fact into what is merged so far, as `merge_facts` does. Mostly the merge says as
+// much already. Then it is unchanged, and nothing is copied.
+#[inline(always)]
+fn merge_in<S: Support>(merge: &mut Held<S>, held: &Held<S>)
+    requires { kind_of merge.old.info ≡ kind_of held.now.info }
+    ensures { IsMerge merge.old held.now merge.new }
+{
+    if !merge.info().implies(held.info()) {
+        *merge = if held.info().implies(merge.info()) {
+            *held
+        } else {
+            merge.joined(held)
+        };
+    } else if held.rests_within(merge) && held.info().implies(merge.info()) {
+        *merge = *held;
+    }
+}
