@@ -3,13 +3,15 @@ ghost use Rattle.std.specs.Prelude.{◌≡◌, ◌+◌, ◌^◌};
 ghost use Rattle.pw_kinds.specs.Masks.{AreWords, bits_of_words};
 ghost use Rattle.pw_kinds.specs.Places.{IsMask, IsSize};
 
+use std::fmt;
+
 /// The greatest number of members of a set, which is the number of bits in a mask.
 const MOST_MEMBERS: u8 = 128;
 
 /// What is known about one of the members of a set: which of them are still possible. A set has 2
 /// to 128 members, and each is identified by its place, from 0 on. Two values that leave the same
 /// places of sets of one size possible are equal.
-#[derive(Clone, Copy, Debug, PartialEq, Eq)]
+#[derive(Clone, Copy, PartialEq, Eq)]
 pub struct Members {
     size: u8,
     // The mask of the places that are possible, the lowest word first. (In words, since a `u128` may
@@ -160,5 +162,15 @@ impl Members {
         ensures { IsTrue result ↔ IsWithin self other }
     {
         self.bits() & other.bits() == self.bits()
+    }
+}
+
+// The words of the mask are a matter of layout: print the mask that they hold.
+impl fmt::Debug for Members {
+    fn fmt<W: fmt::Write>(&self, f: &mut fmt::Formatter<W>) -> fmt::Result {
+        f.debug_struct("Members")
+            .field("size", &self.size)
+            .field("mask", &self.bits())
+            .finish()
     }
 }

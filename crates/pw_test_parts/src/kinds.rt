@@ -114,7 +114,7 @@ fn full_and_empty(rt: HostRuntime) -> Result<(), Fail> {
     assert!(rt; !members(3, 3)?.is_full());
     assert!(rt; members(2, 3)?.is_full());
     let text = format!(in rt.alloc(); "{:?}", members(3, 5)?)?;
-    assert_eq!(rt; text.as_str(), "Members { size: 3, first: 5, second: 0, third: 0, fourth: 0 }");
+    assert_eq!(rt; text.as_str(), "Members { size: 3, mask: 5 }");
     Ok(())
 }
 
