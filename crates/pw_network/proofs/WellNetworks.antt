@@ -17,7 +17,7 @@ use Rattle.pw_decl.specs.Limits.{most_inner_cells}
 use Rattle.pw_network.specs.Network.{MayAttach}
 use Rattle.pw_network.specs.Network.{Attached, InnerCell, Network, cells_in, kind_in, inner_cells_from, attached_at, with_attached, IsWellNetwork}
 use Rattle.pw_decl.proofs.ExpansionFits.{expansion_speaks, expansion_fits}
-use Rattle.pw_network.proofs.LineLemmas.{lines_of_inner, order_more, past_more}
+use Rattle.pw_network.proofs.LineLemmas.{attached_more, attached_of, lines_of_inner, order_more, past_more, supports_more}
 
 -- ---- lists
 
@@ -163,4 +163,8 @@ module _ (network : Network) (line : ℕ) (callable : Callable) (cells : List �
               later well.reached (lines_of_inner line 0 own) well.order;
           reached = past_more (λ (inner : InnerCell). inner.line) network.last_line line network.inner (inner_cells_from line 0 own)
               later well.reached (lines_of_inner line 0 own);
+          attached = attached_more network.last_line line support network.attached (map (attached_at line support) made)
+              may.next well.attached (attached_of line support made);
+          supports = supports_more network.last_line line support network.attached (map (attached_at line support) made)
+              may.next well.attached (attached_of line support made) well.supports;
         }

@@ -1,5 +1,5 @@
 -- What a network is, its limits, and what an attachment adds to it.
-use Rattle.std.specs.Prelude.{ℕ, ◌+◌, ◌*◌, ◌<◌, ◌≤◌, List, [], ◌∷◌, ◌++◌, All, Option, Some, None}
+use Rattle.std.specs.Prelude.{◌≡◌, ℕ, ◌+◌, ◌*◌, ◌<◌, ◌≤◌, List, [], ◌∷◌, ◌++◌, All, Option, Some, None}
 use Rattle.std.specs.Prelude.{length, map, slice_index_or}
 use Rattle.pw_decl.specs.Limits.{most_cells, most_inner_cells}
 use Rattle.std.specs.List.Sorted.{IsNonDecreasingBy}
@@ -109,6 +109,18 @@ LinesInOrder network = IsNonDecreasingBy (λ (inner : InnerCell). inner.line) ne
 abbrev pub LinesReached : Network → Type 0
 LinesReached network = All (λ inner. inner.line ≤ network.last_line) network.inner
 
+-- an instance comes from line 1 or a later one, and from none after this line
+abbrev pub IsAttachedBy : ℕ → Attached → Type 0
+IsAttachedBy last attached = (1 ≤ attached.line) × (attached.line ≤ last)
+
+-- two instances have one support if they have one line
+abbrev pub IsSupportedAs : Attached → Attached → Type 0
+IsSupportedAs one other = one.line ≡ other.line → one.support ≡ other.support
+
+-- the instances of each line have one support
+abbrev pub HaveSupportsByLine : List Attached → Type 0
+HaveSupportsByLine attached = All (λ one. All (IsSupportedAs one) attached) attached
+
 -- all of this holds, and the limits are kept
 pub record IsWellNetwork (network : Network) : Type 0 where
   pub declared : IsWellDeclared network.declared
@@ -118,6 +130,8 @@ pub record IsWellNetwork (network : Network) : Type 0 where
   pub fits : InstancesFit network
   pub order : LinesInOrder network
   pub reached : LinesReached network
+  pub attached : All (IsAttachedBy network.last_line) network.attached
+  pub supports : HaveSupportsByLine network.attached
 
 -- ---- conditions of an attachment
 

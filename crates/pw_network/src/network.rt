@@ -18,7 +18,7 @@ ghost use Rattle.pw_network.specs.Readers.{readers_of};
 ghost use Rattle.std.proofs.Props.{props};
 ghost use Rattle.std.specs.Prelude.{vec_len};
 ghost use Rattle.pw_decl.specs.inside.Held.{named_prop};
-ghost use Rattle.pw_network.specs.inside.Held.{wiring_from};
+ghost use Rattle.pw_network.specs.inside.Held.{support_code, wiring_from};
 ghost use Rattle.pw_network.specs.Network.{IsWellNetwork};
 ghost use Rattle.pw_network.specs.Readers.{link_reading};
 ghost use Rattle.pw_network.specs.Readers.{AreReaders};
@@ -64,7 +64,7 @@ pub struct Network<'d, 'r, A: Allocator = Global> {
     // The line of the last attachment, 0 before the first.
     last_line: u32,
     ghost well: { IsWellNetwork (wiring_from (declared declaration.now) inner.items instances.items
-        last_line) } by { Prim.hlevel (props, named_prop) },
+        last_line) } by { Prim.hlevel (props, named_prop, support_code) },
     ghost cells: { vec_len lists.ends
         ≡ cells_in (wiring_from (declared declaration.now) inner.items instances.items last_line) },
     ghost readers: { AreReaders (map link_reading lists.links.items) (map attachment instances.items) } by { Prim.hlevel props },

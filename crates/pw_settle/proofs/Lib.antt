@@ -28,3 +28,4 @@ pub mod WiderNetworks
 pub mod SoundStores
 pub mod StoreCells
 pub mod GrowingGains
+pub mod SeenLines

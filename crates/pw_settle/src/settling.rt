@@ -1,9 +1,10 @@
 //! Settling: the values of all cells of a network in a worldview.
-ghost use Rattle.std.specs.Prelude.{◌≡◌, ◌+◌, ◌<◌, ◌≤◌, ℕ, true, false, length, map, IfOk, OnOk};
+ghost use Rattle.std.specs.Prelude.{◌≡◌, ◌+◌, ◌<◌, ◌≤◌, ℕ, true, false, All, length, map, IfOk, OnOk};
 ghost use Rattle.std.specs.List.{count_by};
 ghost use Rattle.pw_cells.specs.Cells.{kept_in, kinds_of};
 ghost use Rattle.pw_network.specs.Wiring.{wiring};
 ghost use Rattle.pw_network.specs.inside.Held.{attachment};
+ghost use Rattle.pw_network.specs.Network.{HaveSupportsByLine};
 ghost use Rattle.pw_network.specs.Readers.{readers_of};
 ghost use Rattle.pw_settle.specs.inside.Progress.{is_set, tally};
 ghost use Rattle.pw_settle.specs.Calls.{gains, is_instance_visible, most_calls, visible_at};
@@ -29,18 +30,29 @@ use pw_network::{Instance, Network};
 use pw_premises::PremiseSet;
 use std::alloc::{AllocError, Allocator};
 
-// Which instances are visible in the worldview, by number. Fails only when out of memory.
+// Which instances are visible in the worldview, by number. Instances of one line have one support.
+// Fails only when out of memory.
 pub(crate) fn seen<A: Allocator + Copy>(
     alloc: A,
     instances: &[Instance],
     worldview: &PremiseSet,
 ) -> Result<Vec<bool, A>, AllocError>
+    requires lines { All (λ attached. 1 ≤ attached.line) (map attachment instances.now) }
+    requires supports { HaveSupportsByLine (map attachment instances.now) }
     ensures { IfOk result (λ visible.
         visible.items ≡ map (is_instance_visible worldview.now) (map attachment instances.now)) }
 {
     let mut visible = Vec::with_capacity(alloc, instances.len())?;
+    // The flag of the last instance, and its line, 0 before the first: a support is tested once a
+    // line.
+    let mut line = 0;
+    let mut is_visible = false;
     for instance in instances {
-        let _ = visible.push(instance.support.is_subset(worldview));
+        if instance.line != line {
+            line = instance.line;
+            is_visible = instance.support.is_subset(worldview);
+        }
+        let _ = visible.push(is_visible);
     }
     Ok(visible)
 }

@@ -1,5 +1,7 @@
 -- Instances, inner cells and a network, by the fields that the code stores.
 use Rattle.std.specs.Prelude.{ℕ, List, map}
+use Rattle.std.specs.Coded.{Coded, coded_ℕ}
+use Rattle.std.specs.FinSet.{code}
 use Rattle.pw_decl.specs.Declaration.{Declared}
 use Rattle.pw_network.specs.declared.network.InnerCell.{InnerCell as InnerType}
 use Rattle.pw_network.specs.declared.instance.Instance.{Instance as InstanceType}
@@ -35,6 +37,10 @@ wiring_from declared inner instances last_line =
       attached = map attachment instances;
       last_line = last_line;
     }
+
+-- two supports are equal in one way at most, since they have a code
+pub support_code : Coded Premises
+support_code = code coded_ℕ
 
 -- what calls over places are on these cells, attached in this line under these premises
 abbrev pub attached_on : ℕ → Premises → List ℕ → ℕ → List FlatCall → List Attached
