@@ -1,6 +1,11 @@
+pub mod ChoiceLemmas
+pub mod CombinationLemmas
 pub mod ConflictLemmas
 pub mod EnoughLemmas
+pub mod GroupLemmas
 pub mod NogoodLemmas
 pub mod ReasonLemmas
 pub mod SameInfoLemmas
 pub mod ValueGrows
+pub mod SetLemmas
+pub mod SkippingLemmas

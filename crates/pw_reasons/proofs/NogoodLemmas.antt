@@ -1,7 +1,8 @@
 -- Premises that contradict themselves: they do so if more is believed, told and attached; and which
 -- sets are covered after one more is noted.
-use Rattle.std.proofs.Common.{◌≡◌, ℕ, ◌<◌, Bool, true, false, not, cond, ◌||◌, ◌⊎◌, List, [], ◌∷◌, ◌++◌, Contains, filter, length, refl, sym, ap, ◌∙◌, subst, arith, inl, inr, length-append}
+use Rattle.std.proofs.Common.{◌≡◌, ℕ, ◌<◌, Bool, true, false, not, cond, ◌||◌, ◌⊎◌, None, Some, List, [], ◌∷◌, ◌++◌, Contains, filter, length, refl, sym, ap, ◌∙◌, subst, arith, inl, inr, length-append}
 use Rattle.std.specs.FinSet.{is_subset}
+use Rattle.std.specs.List.{find}
 use Rattle.std.proofs.lemmas.Bool.{cases_Bool, false≢true}
 use Rattle.std.proofs.lemmas.List.Elements.{All-contains, All-contains_itself, All-filter, All-weaker, Contains-push_cases}
 use Rattle.std.proofs.lemmas.List.Folds.{Any-from_list_any, list_any-append, list_any-from_Any}
@@ -84,6 +85,56 @@ covers_grows : (nogoods : List Premises) (part w : Premises) → is_subset part 
 covers_grows nogoods part w within covered =
     let some = Any-from_list_any (λ noted. is_subset noted part) nogoods covered in
     list_any-from_Any (λ noted. is_subset noted w) nogoods (some.0, some.1, some.2, some.3, is_subset_trans some.1 part w some.4 within)
+
+-- ---- the set that covers
+
+none_is_not_some : (nogood : Premises) → None ≡ Some nogood → ⊥
+none_is_not_some nogood same = (cc)
+
+-- where some are covered, a noted set that lies within them is found
+pub covering_found : (nogoods : List Premises) (w : Premises) → covers nogoods w ≡ true →
+    (nogood : Premises) × (find (λ noted. is_subset noted w) nogoods ≡ Some nogood)
+covering_found [] w covered = absurd (false≢true covered)
+covering_found (noted ∷ nogoods) w covered = by_test (is_subset noted w) (covering_found nogoods w) covered
+  where
+    by_test : (b : Bool) → (covers nogoods w ≡ true → (nogood : Premises) × (find (λ other. is_subset other w) nogoods ≡ Some nogood)) →
+        (b || covers nogoods w) ≡ true → (nogood : Premises) × (cond b (Some noted) (find (λ other. is_subset other w) nogoods) ≡ Some nogood)
+    by_test true later one = (noted, refl)
+    by_test false later one = later one
+
+-- and nothing where they are not
+pub covering_not_found : (nogoods : List Premises) (w : Premises) → find (λ noted. is_subset noted w) nogoods ≡ None → covers nogoods w ≡ true → ⊥
+covering_not_found nogoods w none covered =
+    let found = covering_found nogoods w covered in none_is_not_some found.0 (sym none ∙ found.1)
+
+-- what is found lies within them
+pub covering_is_part : (nogoods : List Premises) (w nogood : Premises) → find (λ noted. is_subset noted w) nogoods ≡ Some nogood → is_subset nogood w ≡ true
+covering_is_part [] w nogood found = absurd (none_is_not_some nogood found)
+covering_is_part (noted ∷ nogoods) w nogood found = by_test (is_subset noted w) refl (covering_is_part nogoods w nogood) found
+  where
+    by_test : (b : Bool) → is_subset noted w ≡ b → (find (λ other. is_subset other w) nogoods ≡ Some nogood → is_subset nogood w ≡ true) →
+        cond b (Some noted) (find (λ other. is_subset other w) nogoods) ≡ Some nogood → is_subset nogood w ≡ true
+    by_test true part later same = let one : noted ≡ nogood = cc in subst (λ (set : Premises). is_subset set w ≡ true) one part
+    by_test false part later same = later same
+
+-- and covers each that includes it
+pub covering_covers : (nogoods : List Premises) (w nogood : Premises) → find (λ noted. is_subset noted w) nogoods ≡ Some nogood → (more : Premises) →
+    is_subset nogood more ≡ true → covers nogoods more ≡ true
+covering_covers [] w nogood found more part = absurd (none_is_not_some nogood found)
+covering_covers (noted ∷ nogoods) w nogood found more part = by_test (is_subset noted w) (λ same. covering_covers nogoods w nogood same more part) found
+  where
+    or_true : (a : Bool) → (a || true) ≡ true
+    or_true true = refl
+    or_true false = refl
+
+    by_test : (b : Bool) → (find (λ other. is_subset other w) nogoods ≡ Some nogood → covers nogoods more ≡ true) →
+        cond b (Some noted) (find (λ other. is_subset other w) nogoods) ≡ Some nogood → (is_subset noted more || covers nogoods more) ≡ true
+    by_test true later same =
+        let one : noted ≡ nogood = cc in
+        ap (λ (set : Premises). is_subset set more || covers nogoods more) one ∙ ap (λ b. b || covers nogoods more) part
+    by_test false later same = ap (λ b. is_subset noted more || b) (later same) ∙ or_true (is_subset noted more)
+
+-- ---- one more covered set
 
 -- if these are covered, one more set of them covers nothing more
 pub covers_already : (premises : Premises) (nogoods : List Premises) → covers nogoods premises ≡ true → (w : Premises) →

@@ -1,3 +1,6 @@
+pub mod Groups
+pub mod Combinations
+pub mod Choice
 pub mod Conflicts
 pub mod Nogood
 pub mod Reason

@@ -1,2 +1,5 @@
 -- What only the steps of the code and their proofs speak of.
+pub mod GroupsHeld
+pub mod Held
 pub mod Reasoning
+pub mod Skipping

@@ -1,13 +1,22 @@
 //! Why a value is what it is, and what is contradictory.
 #![tactic(auto)]
 
+mod choosing;
+mod combinations;
 mod conflicts;
+mod group;
+mod groups;
 pub mod laws;
 mod listing;
 mod nogoods;
+mod picks;
 mod reasoning;
 
+pub use choosing::choose;
+pub use combinations::worldview_with;
 pub use conflicts::Conflicts;
+pub use groups::Groups;
 pub use listing::list_conflicts;
 pub use nogoods::Nogoods;
+pub use picks::Picks;
 pub use reasoning::reason;

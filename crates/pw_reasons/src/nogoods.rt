@@ -2,6 +2,7 @@
 ghost use Rattle.std.specs.Prelude.{◌≡◌, ◌↔◌, ◌⊎◌, ◌||◌, [], true, false, not, filter, vec_len};
 ghost use Rattle.std.specs.Prelude.{vec_capacity, ◌≤◌, Contains, OnErr, OnOk};
 ghost use Rattle.std.specs.FinSet.{is_subset};
+ghost use Rattle.std.specs.List.{find};
 ghost use Rattle.pw_premises.specs.Premises.{Premises};
 ghost use Rattle.pw_reasons.specs.Nogood.{covers};
 
@@ -69,6 +70,16 @@ impl<A: Allocator + Copy> Nogoods<A> {
         ensures { result ≡ covers self.now premises.now }
     {
         self.sets.iter().any(|noted| noted.is_subset(premises))
+    }
+
+    // The first noted set that is a subset of these premises, if there is one.
+    pub(crate) fn covering(&self, premises: &PremiseSet) -> Option<PremiseSet>
+        ensures { result ≡ find (λ noted. is_subset noted premises.now) self.now }
+    {
+        self.sets
+            .iter()
+            .find(|noted| noted.is_subset(premises))
+            .copied()
     }
 }
 

@@ -1,7 +1,9 @@
-//! For tests alone: the tests of networks, of what follows in them, and of reasons. They use
-//! helpers of `pw_testing`. Each thing tested has a folder.
+//! For tests alone: the tests of networks, of what follows in them, of reasons and of choices. They
+//! use helpers of `pw_testing`. Each thing tested has a folder.
 #![tactic(auto)]
 
+#[cfg(test)]
+mod choices;
 #[cfg(test)]
 mod networks;
 #[cfg(test)]

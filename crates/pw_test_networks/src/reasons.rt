@@ -37,8 +37,8 @@ pub struct Answer {
     pub is_told_the_same: bool,
 }
 
-// Settles the worldview, and finds the reason.
-fn reason_once<A: Allocator + Copy>(
+/// Settles the worldview, and finds the reason.
+pub fn reason_once<A: Allocator + Copy>(
     memory: A,
     network: &Network<'_, '_, A>,
     store: &mut CellStore<A>,
@@ -76,8 +76,8 @@ fn reason_anyhow<A: Allocator + Copy>(
     Ok((true, found))
 }
 
-// Whether each of these sets is covered.
-fn all_covered<A: Allocator + Copy>(
+/// Whether each of these sets is covered.
+pub fn all_covered<A: Allocator + Copy>(
     alloc: Global,
     nogoods: &Nogoods<A>,
     asked: &[PremiseSet],

@@ -138,8 +138,8 @@ pub fn tell_fact<A: Allocator + Copy>(
     Err("no memory".into())
 }
 
-// Tells facts of declared cells.
-fn tell_each<A: Allocator + Copy>(
+/// Tells facts of declared cells.
+pub fn tell_each<A: Allocator + Copy>(
     network: &Network<'_, '_, A>,
     store: &mut CellStore<A>,
     tells: &[Tell<'_>],

@@ -80,8 +80,9 @@ pub fn table_of(alloc: Global, rules: &[Rule], output: Kind) -> Result<Vec<Rule>
     Ok(table)
 }
 
-/// Runs the task over the procedures that each declaration calls, `copy`, `at_most`, and `light`, a
-/// procedure of the tests' own. The first name is that of the adder, the second that of `at_most`.
+/// Runs the task over the procedures that each declaration calls, `copy`, `at_most`, `equal`, and
+/// `light`, a procedure of the tests' own. The first name is that of the adder, the second that of
+/// `at_most`.
 pub fn over_procedures<T: OverRegistry + Drop>(
     alloc: Global,
     names: [&str; 2],
@@ -118,6 +119,7 @@ pub fn over_procedures<T: OverRegistry + Drop>(
         "switch", Switch switch;
         "copy", Copy copy;
         names[1], AtMost at_most;
+        "equal", Equal equal;
     }
     match Registry::new(alloc, list) {
         Ok(registry) => Ok(task.over(&registry)),

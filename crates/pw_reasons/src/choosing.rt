@@ -1,0 +1,144 @@
+//! The first consistent combination of groups of premises.
+
+ghost use Rattle.std.specs.Prelude.{◌≡◌, ◌<◌, ℕ, true, All, Ok, None, Some, IfOk, IfNone, IfSome, length};
+ghost use Rattle.std.specs.FinSet.{is_subset};
+ghost use Rattle.pw_cells.specs.Cells.{kinds_of};
+ghost use Rattle.pw_info.specs.Information.{IsContradiction};
+ghost use Rattle.pw_network.specs.Wiring.{wiring};
+ghost use Rattle.pw_network.specs.Network.{cells_in};
+ghost use Rattle.pw_premises.specs.Premises.{Premises, most_premises};
+ghost use Rattle.pw_reasons.specs.Choice.{IsConsistent, IsFirstConsistent};
+ghost use Rattle.pw_reasons.specs.Combinations.{groups_of, picked_in, worldviews_of};
+ghost use Rattle.pw_reasons.specs.Nogood.{AreNogoods, covers};
+ghost use Rattle.pw_settle.specs.Growth.{KeepsMore, StaysUpstream};
+ghost use Rattle.pw_settle.specs.Settled.{info_at};
+ghost use Rattle.pw_settle.specs.Sound.{IsSound};
+ghost use Rattle.pw_settle.specs.Values.{kinds_in};
+
+use crate::combinations::{
+    believed_beside, combination, count_combinations, next_number, with_taken,
+};
+use crate::groups::Groups;
+use crate::nogoods::Nogoods;
+use crate::picks::Picks;
+use pw_cells::CellStore;
+use pw_network::Network;
+use pw_premises::PremiseSet;
+use pw_settle::{Settled, settle};
+use std::alloc::{AllocError, Allocator};
+
+// A cell of the network whose settled value is a contradiction, if there is one.
+fn contradictory_cell<A: Allocator + Copy>(
+    network: &Network<'_, '_, A>,
+    settled: &Settled<A>,
+) -> Option<u32>
+    requires { length settled.now.infos ≡ cells_in (wiring network.now) }
+    ensures some { IfSome result (λ cell. (cell < cells_in (wiring network.now))
+        × IsContradiction (info_at settled.now.infos cell)) }
+    ensures none { IfNone result ((cell : ℕ) → cell < cells_in (wiring network.now)
+        → IsContradiction (info_at settled.now.infos cell) → ⊥) }
+{
+    for cell in 0..network.cells() {
+        if settled.value(cell).info.is_contradiction() {
+            return Some(cell);
+        }
+    }
+    None
+}
+
+// A set of these premises that contradicts itself, if something is contradictory when exactly these
+// are believed: then a noted set covers each worldview that includes it. If a noted set covers the
+// premises, it is that set, and nothing is settled. Otherwise the network is settled, and the
+// support of a contradiction is noted. Fails only when out of memory.
+fn contradict<A: Allocator + Copy>(
+    alloc: A,
+    network: &Network<'_, '_, A>,
+    store: &mut CellStore<A>,
+    nogoods: &mut Nogoods<A>,
+    premises: &PremiseSet,
+) -> Result<Option<PremiseSet>, AllocError>
+    requires kinds { kinds_of store.old ≡ kinds_in (wiring network.now) }
+    requires sound { IsSound (wiring network.now) store.old }
+    requires nogoods { AreNogoods (wiring network.now) store.old nogoods.old }
+    ensures known { covers nogoods.old premises.now ≡ true
+        → ((nogood : Premises) × (result ≡ Ok (Some nogood)))
+        × (store.new ≡ store.old) × (nogoods.new ≡ nogoods.old) }
+    ensures part { IfOk result (λ found. IfSome found (λ nogood.
+        is_subset nogood premises.now ≡ true)) }
+    ensures covered { IfOk result (λ found. IfSome found (λ nogood. (w : Premises)
+        → is_subset nogood w ≡ true → covers nogoods.new w ≡ true)) }
+    ensures consistent { IfOk result (λ found. IfNone found
+        (IsConsistent (wiring network.now) store.old premises.now)) }
+    ensures nogoods { AreNogoods (wiring network.now) store.old nogoods.new }
+    ensures covers { (w : Premises) → covers nogoods.old w ≡ true → covers nogoods.new w ≡ true }
+    ensures grows { KeepsMore (wiring network.now) store.old store.new }
+    ensures upstream { StaysUpstream (wiring network.now) store.old store.new }
+{
+    if let Some(noted) = nogoods.covering(premises) {
+        return Ok(Some(noted));
+    }
+    let settled = settle(alloc, network, store, premises)?;
+    match contradictory_cell(network, &settled) {
+        Some(cell) => {
+            let support = settled.value(cell).support;
+            nogoods.note(&support)?;
+            Ok(Some(support))
+        }
+        None => Ok(None),
+    }
+}
+
+/// The first combination of the groups under which nothing is contradictory: one premise from each
+/// group, in the order of the groups. Combinations come in the order of the premises as given, the
+/// last group changing fastest. What is then believed is the worldview without all premises of the
+/// groups, together with those taken. None if something is contradictory under each combination.
+/// Fails only when out of memory.
+///
+/// Each earlier combination contradicts itself, and what contradicted is noted. A combination that
+/// a noted set covers is passed over unsettled: so if all are covered, nothing is settled, and no
+/// memory is taken. After an answer of None all are covered. (Radul and Sussman, *The Art of the
+/// Propagator*, on hypothetical premises. The order is this program's own.)
+///
+/// The store is sound, and the nogoods are sets of premises that contradict themselves. Both stay
+/// so, the store keeps no less than before, the told facts are unchanged, and what was covered is
+/// covered: after a failure too.
+pub fn choose<A: Allocator + Copy>(
+    alloc: A,
+    network: &Network<'_, '_, A>,
+    store: &mut CellStore<A>,
+    nogoods: &mut Nogoods<A>,
+    worldview: &PremiseSet,
+    groups: &Groups,
+) -> Result<Option<Picks>, AllocError>
+    requires kinds { kinds_of store.old ≡ kinds_in (wiring network.now) }
+    requires sound { IsSound (wiring network.now) store.old }
+    requires nogoods { AreNogoods (wiring network.now) store.old nogoods.old }
+    requires premises { All (All (λ premise. premise < most_premises)) (groups_of groups.now) }
+    ensures some { IfOk result (λ chosen. IfSome chosen (λ picks. IsFirstConsistent
+        (wiring network.now) store.old worldview.now (groups_of groups.now) (picked_in picks))) }
+    ensures none { IfOk result (λ chosen. IfNone chosen (AreNogoods (wiring network.now) store.old
+        (worldviews_of worldview.now (groups_of groups.now)))) }
+    ensures covered { IfOk result (λ chosen. IfNone chosen (All (λ w. covers nogoods.new w ≡ true)
+        (worldviews_of worldview.now (groups_of groups.now)))) }
+    ensures known { All (λ w. covers nogoods.old w ≡ true)
+        (worldviews_of worldview.now (groups_of groups.now))
+        → (result ≡ Ok None) × (store.new ≡ store.old) × (nogoods.new ≡ nogoods.old) }
+    ensures nogoods { AreNogoods (wiring network.now) store.old nogoods.new }
+    ensures covers { (w : Premises) → covers nogoods.old w ≡ true → covers nogoods.new w ≡ true }
+    ensures grows { KeepsMore (wiring network.now) store.old store.new }
+    ensures upstream { StaysUpstream (wiring network.now) store.old store.new }
+{
+    let others = believed_beside(worldview, groups);
+    let count = count_combinations(groups);
+    let mut number = 0;
+    while number < count {
+        let picks = combination(groups, number);
+        let tried = with_taken(&others, &picks);
+        let found = contradict(alloc, network, store, nogoods, &tried)?;
+        let Some(nogood) = found else {
+            return Ok(Some(picks));
+        };
+        number = next_number(groups, &picks, number, &nogood);
+    }
+    Ok(None)
+}
