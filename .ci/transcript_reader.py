@@ -2,6 +2,7 @@
 replies, worked out from scratch. Where a value takes too many steps to follow, only what was told of its cell is known, and how
 values are written.
 """
+import itertools
 from collections import namedtuple
 
 from texts import Refused, has_wrong_byte, is_silent, lines_of, require, words_of
@@ -12,8 +13,10 @@ REFUSALS = {
     8: "wrong information", 9: "wrong arguments", 5: "unknown premise", 7: "not your premise",
 }
 MOST_IN_LINE = 1024
-WORDS = ("tell", "attach", "believe", "doubt", "beliefs", "ask", "why", "conflicts")
-# `rest` is the information of a tell, or the callable of an attachment.
+WORDS = ("tell", "attach", "believe", "doubt", "beliefs", "ask", "why", "conflicts", "choose")
+# The most groups of a choice, and the most names in a group.
+MOST_GROUPS, MOST_NAMES = 6, 4
+# `rest` is the information of a tell, the callable of an attachment, or the groups of a choice.
 Command = namedtuple("Command", "user word cells premises rest")
 
 
@@ -30,6 +33,10 @@ def read_words(user, word, *rest):
     if word in ("believe", "doubt"):
         require(rest, 1)
         return Command(user, word, [], rest, None)
+    if word == "choose":
+        groups = [group.split("|") for group in rest]
+        require(groups and all(map(all, groups)), 1)
+        return Command(user, word, [], sum(groups, []), groups)
     require(word not in WORDS or len(rest) == (word in ("ask", "why")), 1)
     return Command(user, word, rest, [], None)
 
@@ -49,6 +56,9 @@ def read_line(line, declared):
         require(declared.callables[command.rest].accepts(kinds), 9)
     elif command.word == "tell":
         require(kinds[0].read(command.rest) is not None, 8)
+    elif command.word == "choose":
+        is_small = len(command.rest) <= MOST_GROUPS and all(len(group) <= MOST_NAMES for group in command.rest)
+        require(is_small and len(set(command.premises)) == len(command.premises), 9)
     require(all(premise in declared.premises for premise in command.premises), 5)
     if command.word in ("tell", "attach"):
         require(all(declared.premises[premise] in (None, command.user) for premise in command.premises), 7)
@@ -58,6 +68,11 @@ def read_line(line, declared):
 def conflicts_text(cells, lines):
     """How conflicts are written."""
     return " ".join(["conflicts", *cells, *(f"line {number}" for number in lines)] if cells or lines else ["conflicts none"])
+
+
+def chosen_text(names):
+    """How what was chosen is written: the names taken, or None."""
+    return " ".join(["chose", *(names or ["none"])])
 
 
 class Session:
@@ -86,6 +101,8 @@ class Session:
         if command.word == "conflicts":
             found = self.network.conflicts(beliefs)
             return [None if found is None else conflicts_text(*found)]
+        if command.word == "choose":
+            return [self.choose(command)]
         if command.word not in ("ask", "why"):
             self.do(number, command)
             return ["ok"]
@@ -95,6 +112,37 @@ class Session:
             reason = self.network.reason(command.cells[0], self.ordered(beliefs))
             parts.append(None if reason is None else self.names(reason))
         return parts
+
+    def combinations(self, command):
+        """What is tried in a choice, in order: the names taken, what is believed then, and whether nothing is contradictory under
+        that, None where this takes too many calls. After such a one no other is followed."""
+        others, known = self.beliefs[command.user] - set(command.premises), {}
+        for names in itertools.product(*command.rest):
+            beliefs = others | set(names)
+            key = frozenset(beliefs & self.network.named)
+            if key not in known:
+                known[key] = self.network.is_consistent(beliefs, None not in known.values())
+            yield names, beliefs, known[key]
+
+    def choose(self, command):
+        """The reply to a choice, which is then done; None where it takes too many calls, and is not done."""
+        for names, beliefs, is_consistent in self.combinations(command):
+            if is_consistent is None:
+                return None
+            if is_consistent:
+                self.beliefs[command.user] = beliefs
+                return chosen_text(names)
+        return chosen_text(None)
+
+    def may_choose(self, command, text):
+        """Whether the text may be the reply to a choice, which is then done."""
+        for names, beliefs, is_consistent in self.combinations(command):
+            if text == chosen_text(names) and is_consistent is not False:
+                self.beliefs[command.user] = beliefs
+                return True
+            if is_consistent:
+                return False
+        return text == chosen_text(None)
 
     def do(self, number, command):
         """Does what a command says that is no question."""
@@ -112,6 +160,8 @@ class Session:
 
     def may_be(self, command, text, reason="none"):
         """Whether the parts of a reply to a question may be right, by what was told and what attachments write."""
+        if command.word == "choose":
+            return self.may_choose(command, text)
         beliefs = self.beliefs[command.user]
         if command.word == "conflicts":
             words = text.split(" ")[1:]

@@ -153,6 +153,14 @@ class Network:
                 value = meet(value, info)
         return value
 
+    def all_told(self, beliefs):
+        """What was told of each cell under these beliefs."""
+        values = dict(self.nothing)
+        for cell, info, support in self.tells:
+            if support <= beliefs:
+                values[cell] = meet(values[cell], info)
+        return values
+
     def is_written(self, cell, beliefs):
         """Whether an attachment that counts under these beliefs writes the cell."""
         return any(cell in written for _, written, _, support in self.attached.values() if support <= beliefs)
@@ -161,12 +169,8 @@ class Network:
         """The values of all cells under these beliefs, from scratch; None where following them takes too many calls."""
         key = frozenset(beliefs & self.named), len(self.tells), len(self.attached)
         if self.most and self.last[0] != key:
-            values = dict(self.nothing)
-            for cell, info, support in self.tells:
-                if support <= beliefs:
-                    values[cell] = meet(values[cell], info)
             instances = [instance for _, instances, _, _ in self.visible(beliefs) for instance in instances]
-            self.last = key, settled(values, instances, self.most)
+            self.last = key, settled(self.all_told(beliefs), instances, self.most)
         return self.last[1]
 
     def value(self, cell, beliefs):
@@ -196,6 +200,13 @@ class Network:
             return None
         lines = [number for number, _, _, inner in self.visible(beliefs) if any(is_empty(values[cell]) for cell in inner)]
         return [cell for cell in self.declared if is_empty(values[cell])], lines
+
+    def is_consistent(self, beliefs, follows=True):
+        """Whether nothing is contradictory under these beliefs; None as for a value, and where values are not to be followed."""
+        if any(map(is_empty, self.all_told(beliefs).values())):
+            return False
+        found = self.conflicts(beliefs) if follows else None
+        return None if found is None else found == ([], [])
 
     def may_conflict(self, cells, lines, beliefs):
         """Whether these may be the conflicts, by what was told and what attachments write."""

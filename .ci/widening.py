@@ -63,6 +63,8 @@ def wide_line(chance, line, premises):
         words += [far(chance, premises, NUMBERS) for _ in range(chance.choice([1, 1, 2, 5]))]
     elif words[1] in ("tell", "attach") and chance.random() < 0.5:
         words += ["under", far(chance, premises, NUMBERS)]
+    elif words[1] == "choose":
+        words[-1] += chance.choice("| ") + far(chance, premises, NUMBERS)
     return " ".join(words)
 
 

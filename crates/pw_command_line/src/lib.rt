@@ -33,6 +33,8 @@ Command lines:
   USER ask CELL                    asks what follows at CELL under the premises USER believes
   USER why CELL                    asks the same, and which of these premises it needs
   USER conflicts                   asks which cells and attachments contradict themselves under these premises
+  USER choose GROUP..              asks for one premise of each GROUP, as a|b|c, so that nothing contradicts itself,
+                                   and believes the first such choice in place of all premises of the groups
 
 Each command is answered on standard output by a line `N: REPLY`, where N is the number of its line.
 

@@ -1,104 +1,184 @@
 -- Blanking the lines that a reply does not rest on leaves the reply unchanged.
-use Rattle.std.proofs.Common.{◌≡◌, ℕ, ◌+◌, eqb, List, [], ◌∷◌, ◌++◌, map, fold, Some, refl, sym, ap, ◌∙◌, inl, inr}
+use Rattle.std.proofs.Common.{◌≡◌, ℕ, ◌+◌, eqb, Bool, true, false, List, [], ◌∷◌, ◌++◌, length, Some, Contains, refl, sym, ap, subst, ◌∙◌, inl, inr, append-nil, append_assoc, length-append, arith}
+use Rattle.std.specs.List.{list_any}
 use Rattle.std.specs.FinSet.{is_subset}
-use Rattle.std.proofs.lemmas.Bool.{cases_Bool}
-use Rattle.std.proofs.lemmas.List.Elements.{filter-append}
+use Rattle.std.proofs.lemmas.Bool.{cases_Bool, both_ways}
+use Rattle.std.proofs.lemmas.List.Elements.{Contains-append_left, Contains-append_right, filter-append}
 use Rattle.pw_premises.specs.Premises.{Premises}
 use Rattle.pw_decl.specs.Declaration.{Declared}
+use Rattle.pw_settle.proofs.Membership.{contains_first}
+use Rattle.pw_reasons.specs.declared.groups.Groups.{Groups}
+use Rattle.pw_reasons.specs.Combinations.{groups_of}
 use Rattle.pw_sessions.specs.declared.command.Command.{Command}
 use Rattle.pw_sessions.specs.declared.command.Command.TheVariants as commands
-use Rattle.pw_sessions.specs.Answer.{answer_to, is_visible, reply_to, user_of, visible_in}
-use Rattle.pw_sessions.specs.Beliefs.{all_premises, believed_after, beliefs_at}
-use Rattle.pw_sessions.specs.Blanking.{blanked_for, kept_if, rests_on}
-use Rattle.pw_sessions.specs.Entries.{Entry, entries_before, entries_from, entries_of}
+use Rattle.pw_sessions.specs.Answer.{answer_to, reply_to, user_of}
+use Rattle.pw_sessions.specs.Values.{is_visible, visible_in}
+use Rattle.pw_sessions.specs.Beliefs.{after_choice, all_premises, believed_after, beliefs_at, beliefs_from}
+use Rattle.pw_sessions.specs.Blanking.{blanked_for, blanked_from, kept_if, rests_on, tried_at, tried_by, tried_from, tried_in, tried_with}
+use Rattle.pw_sessions.specs.Choosing.{chosen_in}
+use Rattle.pw_sessions.specs.Entries.{Entry, entries_before, entries_of}
 use Rattle.pw_sessions.specs.Reply.{LineReading, Blank, Refused, Says}
-use Rattle.pw_sessions.proofs.EntryLemmas.{answer-visible}
+use Rattle.pw_sessions.proofs.FurtherLines.{beliefs_at-snoc, entries_before-snoc}
+use Rattle.pw_sessions.proofs.ListMembers.{any_member}
+use Rattle.pw_sessions.proofs.VisibleEntries.{answer-tried, chosen_seen}
 
-module _ (user : ℕ) (beliefs : Premises) where
+-- a test that finds nothing fails at each element
+nowhere : {X : Type 0} (p : X → Bool) (xs : List X) (x : X) → list_any p xs ≡ false → Contains xs x → p x ≡ false
+nowhere p xs x none there = elim (cases_Bool (p x)) [
+  | inl passes ↦ absurd (both_ways (list_any p xs) none (any_member p xs x there passes))
+  | inr fails ↦ fails
+]
+
+-- both show the same entries in these premises
+abbrev Shows : List LineReading → List LineReading → Premises → Type 0
+Shows some others w = visible_in (entries_before some) w ≡ visible_in (entries_before others) w
+
+-- where both show the same in what is tried, the same is chosen
+same_choice : (d : Declared) (some others : List LineReading) (beliefs : Premises) (groups : List (List ℕ)) → Shows some others (tried_with beliefs groups) →
+    chosen_in d (entries_before some) beliefs groups ≡ chosen_in d (entries_before others) beliefs groups
+same_choice d some others beliefs groups same =
+    sym (chosen_seen d (entries_before some) beliefs groups)
+    ∙ ap (λ (l : List Entry). chosen_in d l beliefs groups) same
+    ∙ chosen_seen d (entries_before others) beliefs groups
+
+-- so the user believes the same after an own choose line
+same_after : (d : Declared) (user : ℕ) (some before : List LineReading) (beliefs : Premises) → beliefs ≡ beliefs_at d user before →
+    (other : ℕ) (groups : Groups) → eqb other user ≡ true →
+    ((w : Premises) → Contains (tried_at d user before (Says (commands.Choose other groups))) w → Shows some before w) →
+    after_choice beliefs (groups_of groups) (chosen_in d (entries_before some) beliefs (groups_of groups))
+    ≡ after_choice beliefs (groups_of groups) (chosen_in d (entries_before before) beliefs (groups_of groups))
+same_after d user some before beliefs is other groups own shows =
+    let tried : Premises = tried_with (beliefs_at d user before) (groups_of groups) in
+    let among : Contains (tried_at d user before (Says (commands.Choose other groups))) tried = rw own (contains_first tried []) in
+    ap (after_choice beliefs (groups_of groups)) (same_choice d some before beliefs (groups_of groups)
+    (subst (λ (b : Premises). Shows some before (tried_with b (groups_of groups))) (sym is) (shows tried among)))
+
+module _ (user : ℕ) (later : List Premises) where
   -- a line, made blank where the user does not rest on it
   abbrev kept : LineReading → LineReading
-  kept reading = kept_if (rests_on user beliefs reading) reading
+  kept reading = kept_if (rests_on user later reading) reading
 
-  -- ---- entries
-
-  -- it leaves the same visible entries
-  same_entries : (number : ℕ) (reading : LineReading) → visible_in (entries_of number (kept reading)) beliefs ≡ visible_in (entries_of number reading) beliefs
-  same_entries number Blank = refl
-  same_entries number (Refused refusal) = refl
-  same_entries number (Says (commands.Tell other cell fact)) = elim (cases_Bool (is_subset fact.support beliefs)) [
-    | inl seen ↦ rw seen (rw seen refl)
-    | inr hidden ↦ rw hidden refl
+  -- it leaves the same visible entries in each set that is tried later
+  same_entries : (w : Premises) → Contains later w → (number : ℕ) (reading : LineReading) →
+      visible_in (entries_of number (kept reading)) w ≡ visible_in (entries_of number reading) w
+  same_entries w there number Blank = refl
+  same_entries w there number (Refused refusal) = refl
+  same_entries w there number (Says (commands.Tell other cell fact)) = elim (cases_Bool (list_any (λ tried. is_subset fact.support tried) later)) [
+    | inl seen ↦ rw seen refl
+    | inr hidden ↦ let none = nowhere (λ tried. is_subset fact.support tried) later w hidden there in rw hidden (rw none refl)
   ]
-  same_entries number (Says (commands.Attach other callable cells support)) = elim (cases_Bool (is_subset support beliefs)) [
-    | inl seen ↦ rw seen (rw seen refl)
-    | inr hidden ↦ rw hidden refl
+  same_entries w there number (Says (commands.Attach other callable cells support)) = elim (cases_Bool (list_any (λ tried. is_subset support tried) later)) [
+    | inl seen ↦ rw seen refl
+    | inr hidden ↦ let none = nowhere (λ tried. is_subset support tried) later w hidden there in rw hidden (rw none refl)
   ]
-  same_entries number (Says (commands.Believe other premises)) = elim (cases_Bool (eqb other user)) [
+  same_entries w there number (Says (commands.Believe other premises)) = elim (cases_Bool (eqb other user)) [
     | inl own ↦ rw own refl
     | inr foreign ↦ rw foreign refl
   ]
-  same_entries number (Says (commands.Doubt other premises)) = elim (cases_Bool (eqb other user)) [
+  same_entries w there number (Says (commands.Doubt other premises)) = elim (cases_Bool (eqb other user)) [
     | inl own ↦ rw own refl
     | inr foreign ↦ rw foreign refl
   ]
-  same_entries number (Says (commands.Beliefs other)) = refl
-  same_entries number (Says (commands.Ask other cell)) = refl
-  same_entries number (Says (commands.Why other cell)) = refl
-  same_entries number (Says (commands.Conflicts other)) = refl
+  same_entries w there number (Says (commands.Choose other groups)) = elim (cases_Bool (eqb other user)) [
+    | inl own ↦ rw own refl
+    | inr foreign ↦ rw foreign refl
+  ]
+  same_entries w there number (Says (commands.Beliefs other)) = refl
+  same_entries w there number (Says (commands.Ask other cell)) = refl
+  same_entries w there number (Says (commands.Why other cell)) = refl
+  same_entries w there number (Says (commands.Conflicts other)) = refl
 
-  -- and so do lines
-  all_entries : (number : ℕ) (readings : List LineReading) →
-      visible_in (entries_from number (map kept readings)) beliefs ≡ visible_in (entries_from number readings) beliefs
-  all_entries number [] = refl
-  all_entries number (reading ∷ readings) =
-      filter-append (is_visible beliefs) (entries_of number (kept reading)) (entries_from (number + 1) (map kept readings))
-      ∙ ap (λ (l : List Entry). l ++ visible_in (entries_from (number + 1) (map kept readings)) beliefs) (same_entries number reading)
-      ∙ ap (λ (l : List Entry). visible_in (entries_of number reading) beliefs ++ l) (all_entries (number + 1) readings)
-      ∙ sym (filter-append (is_visible beliefs) (entries_of number reading) (entries_from (number + 1) readings))
-
-  -- ---- beliefs
-
-  -- it leaves the user the same beliefs
-  same_beliefs : (now : Premises) (reading : LineReading) → believed_after user now (kept reading) ≡ believed_after user now reading
-  same_beliefs now Blank = refl
-  same_beliefs now (Refused refusal) = refl
-  same_beliefs now (Says (commands.Tell other cell fact)) = elim (cases_Bool (is_subset fact.support beliefs)) [
+  -- it leaves the user the same beliefs, after lines of which both show the same in what the user
+  -- tries there
+  same_beliefs : (d : Declared) (some before : List LineReading) (beliefs : Premises) → beliefs ≡ beliefs_at d user before → (reading : LineReading) →
+      ((w : Premises) → Contains (tried_at d user before reading) w → Shows some before w) →
+      believed_after d user some beliefs (kept reading) ≡ believed_after d user before beliefs reading
+  same_beliefs d some before beliefs is Blank shows = refl
+  same_beliefs d some before beliefs is (Refused refusal) shows = refl
+  same_beliefs d some before beliefs is (Says (commands.Tell other cell fact)) shows = elim (cases_Bool (list_any (λ tried. is_subset fact.support tried) later)) [
     | inl seen ↦ rw seen refl
     | inr hidden ↦ rw hidden refl
   ]
-  same_beliefs now (Says (commands.Attach other callable cells support)) = elim (cases_Bool (is_subset support beliefs)) [
+  same_beliefs d some before beliefs is (Says (commands.Attach other callable cells support)) shows = elim (cases_Bool (list_any (λ tried. is_subset support tried) later)) [
     | inl seen ↦ rw seen refl
     | inr hidden ↦ rw hidden refl
   ]
-  same_beliefs now (Says (commands.Believe other premises)) = elim (cases_Bool (eqb other user)) [
+  same_beliefs d some before beliefs is (Says (commands.Believe other premises)) shows = elim (cases_Bool (eqb other user)) [
     | inl own ↦ rw own (rw own refl)
     | inr foreign ↦ rw foreign refl
   ]
-  same_beliefs now (Says (commands.Doubt other premises)) = elim (cases_Bool (eqb other user)) [
+  same_beliefs d some before beliefs is (Says (commands.Doubt other premises)) shows = elim (cases_Bool (eqb other user)) [
     | inl own ↦ rw own (rw own refl)
     | inr foreign ↦ rw foreign refl
   ]
-  same_beliefs now (Says (commands.Beliefs other)) = refl
-  same_beliefs now (Says (commands.Ask other cell)) = refl
-  same_beliefs now (Says (commands.Why other cell)) = refl
-  same_beliefs now (Says (commands.Conflicts other)) = refl
+  same_beliefs d some before beliefs is (Says (commands.Choose other groups)) shows = elim (cases_Bool (eqb other user)) [
+    | inl own ↦ rw own (rw own (same_after d user some before beliefs is other groups own shows))
+    | inr foreign ↦ rw foreign refl
+  ]
+  same_beliefs d some before beliefs is (Says (commands.Beliefs other)) shows = refl
+  same_beliefs d some before beliefs is (Says (commands.Ask other cell)) shows = refl
+  same_beliefs d some before beliefs is (Says (commands.Why other cell)) shows = refl
+  same_beliefs d some before beliefs is (Says (commands.Conflicts other)) shows = refl
 
-  -- and so do lines
-  all_beliefs : (now : Premises) (readings : List LineReading) → fold (believed_after user) now (map kept readings) ≡ fold (believed_after user) now readings
-  all_beliefs now [] = refl
-  all_beliefs now (reading ∷ readings) =
-      ap (λ b. fold (believed_after user) b (map kept readings)) (same_beliefs now reading)
-      ∙ all_beliefs (believed_after user now reading) readings
+module _ (d : Declared) (user : ℕ) (last : Premises) where
+  -- the sets that are tried at the lines to come and at last
+  abbrev still : List LineReading → List LineReading → List Premises
+  still before readings = tried_from d user before readings ++ last ∷ []
+
+  -- one more line, perhaps blanked, shows the same in each set that is still tried
+  same_more : (before some : List LineReading) → length some ≡ length before → (reading : LineReading) (readings : List LineReading) →
+      ((w : Premises) → Contains (still (before ++ reading ∷ []) readings) w → Shows some before w) →
+      (w : Premises) → Contains (still (before ++ reading ∷ []) readings) w →
+      Shows (some ++ kept user (still (before ++ reading ∷ []) readings) reading ∷ []) (before ++ reading ∷ []) w
+  same_more before some many reading readings shows w there =
+      let later : List Premises = still (before ++ reading ∷ []) readings in
+      let own : LineReading = kept user later reading in
+      ap (λ (l : List Entry). visible_in l w) (entries_before-snoc some own)
+      ∙ filter-append (is_visible w) (entries_before some) (entries_of (length some + 1) own)
+      ∙ ap (λ (l : List Entry). l ++ visible_in (entries_of (length some + 1) own) w) (shows w there)
+      ∙ ap (λ (l : List Entry). visible_in (entries_before before) w ++ l) (same_entries user later w there (length some + 1) reading)
+      ∙ ap (λ n. visible_in (entries_before before) w ++ visible_in (entries_of (n + 1) reading) w) many
+      ∙ sym (filter-append (is_visible w) (entries_before before) (entries_of (length before + 1) reading))
+      ∙ ap (λ (l : List Entry). visible_in l w) (sym (entries_before-snoc before reading))
+
+  -- what is left of further lines, after what is left of earlier ones, leaves the user the same
+  -- beliefs, and shows the same in the set that is tried at last
+  walk : (before some : List LineReading) → length some ≡ length before → (beliefs : Premises) → beliefs ≡ beliefs_at d user before →
+      (readings : List LineReading) → ((w : Premises) → Contains (still before readings) w → Shows some before w) →
+      (beliefs_from d user some beliefs (blanked_from d user last before readings) ≡ beliefs_from d user before beliefs readings)
+      × Shows (some ++ blanked_from d user last before readings) (before ++ readings) last
+  walk before some many beliefs is [] shows = (refl, rw (append-nil some, append-nil before) (shows last (contains_first last [])))
+  walk before some many beliefs is (reading ∷ readings) shows =
+      let next : List LineReading = before ++ reading ∷ [] in
+      let here : List Premises = tried_at d user before reading in
+      let rest : List Premises = tried_from d user next readings in
+      let own : LineReading = kept user (still next readings) reading in
+      let left : List LineReading = blanked_from d user last next readings in
+      let then : Premises = believed_after d user before beliefs reading in
+      let same : believed_after d user some beliefs own ≡ then =
+      same_beliefs user (still next readings) d some before beliefs is reading
+      (λ w there. shows w (Contains-append_left (here ++ rest) (last ∷ []) w (Contains-append_left here rest w there))) in
+      let longer : length (some ++ own ∷ []) ≡ length next = omega (arith, many, length-append some (own ∷ []), length-append before (reading ∷ [])) in
+      let further = walk next (some ++ own ∷ []) longer then
+      (ap (λ (b : Premises). believed_after d user before b reading) is ∙ sym (beliefs_at-snoc d user before reading)) readings
+      (same_more before some many reading readings
+      (λ w there. shows w (subst (λ (l : List Premises). Contains l w) (sym (append_assoc here rest (last ∷ [])))
+      (Contains-append_right here (still next readings) w there)))) in (
+        ap (λ (b : Premises). beliefs_from d user (some ++ own ∷ []) b left) same ∙ further.0,
+        subst (λ (l : List LineReading). Shows (some ++ own ∷ left) l last) (append_assoc before (reading ∷ []) readings)
+            (subst (λ (l : List LineReading). Shows l (next ++ readings) last) (append_assoc some (own ∷ []) left) further.1),
+      )
 
 -- ---- replies
 
--- the answer to a command is one from the visible entries
-answer_of_visible : (d : Declared) (some others : List Entry) (beliefs : Premises) (command : Command) →
-    visible_in some beliefs ≡ visible_in others beliefs → answer_to d some beliefs command ≡ answer_to d others beliefs command
-answer_of_visible d some others beliefs command same =
-    sym (answer-visible d some beliefs command)
+-- the answer to a command is one from the entries that are visible in what is tried
+answer_of_tried : (d : Declared) (some others : List Entry) (beliefs : Premises) (command : Command) →
+    visible_in some (tried_by beliefs command) ≡ visible_in others (tried_by beliefs command) →
+    answer_to d some beliefs command ≡ answer_to d others beliefs command
+answer_of_tried d some others beliefs command same =
+    sym (answer-tried d some beliefs command)
     ∙ ap (λ (l : List Entry). answer_to d l beliefs command) same
-    ∙ answer-visible d others beliefs command
+    ∙ answer-tried d others beliefs command
 
 -- the lines that a reply does not rest on may be made blank
 pub reply-blanked : (d : Declared) (before : List LineReading) (last : LineReading) → reply_to d (blanked_for d before last) last ≡ reply_to d before last
@@ -106,7 +186,7 @@ reply-blanked d before Blank = refl
 reply-blanked d before (Refused refusal) = refl
 reply-blanked d before (Says command) =
     let user : ℕ = user_of command in
-    let beliefs : Premises = beliefs_at d user before in
-    let blanked : List LineReading = map (kept user beliefs) before in
-    ap (λ (b : Premises). Some (answer_to d (entries_before blanked) b command)) (all_beliefs user beliefs (all_premises d) before)
-    ∙ ap (λ a. Some a) (answer_of_visible d (entries_before blanked) (entries_before before) beliefs command (all_entries user beliefs 1 before))
+    let left : List LineReading = blanked_from d user (tried_in d before command) [] before in
+    let walked = walk d user (tried_in d before command) [] [] refl (all_premises d) refl before (λ w there. refl) in
+    ap (λ (b : Premises). Some (answer_to d (entries_before left) b command)) walked.0
+    ∙ ap (λ a. Some a) (answer_of_tried d (entries_before left) (entries_before before) (beliefs_at d user before) command walked.1)

@@ -17,7 +17,8 @@ use Rattle.pw_sessions.specs.declared.command.Command.TheVariants as commands
 use Rattle.pw_sessions.specs.Reply.{Reply}
 use Rattle.pw_sessions.specs.Reply as reply
 use Rattle.pw_sessions.specs.declared.reply.Refusal.TheVariants as refusal
-use Rattle.pw_sessions.specs.Answer.{IsWritten, conflicts_of, cell_value, visible_in}
+use Rattle.pw_sessions.specs.Answer.{conflicts_of}
+use Rattle.pw_sessions.specs.Values.{IsWritten, cell_value, visible_in}
 use Rattle.pw_sessions.specs.Beliefs.{beliefs_at}
 use Rattle.pw_sessions.specs.Entries.{entries_before}
 use Rattle.pw_sessions.specs.Reply.{LineReading, Refused, Says}
@@ -62,7 +63,7 @@ module _ (d : Declared) (well : IsWellDeclared d) (readings : List LineReading) 
       record {
         reading = Refused refusal.Memory;
         became = inr (refl, tt);
-        left = left_same d well.kinds readings (Refused refusal.Memory) old left (λ n. refl) (λ user beliefs. refl);
+        left = left_same d well.kinds readings (Refused refusal.Memory) old left (λ n. refl) (λ u below. refl);
         replied = refl;
       }
 
@@ -89,7 +90,7 @@ module _ (d : Declared) (well : IsWellDeclared d) (readings : List LineReading) 
         reading = Refused refusal.Memory;
         became = inr (refl, tt);
         left = left_as_before d well.kinds (readings ++ Refused refusal.Memory ∷ []) old new still
-            (left_same d well.kinds readings (Refused refusal.Memory) old left (λ n. refl) (λ user beliefs. refl));
+            (left_same d well.kinds readings (Refused refusal.Memory) old left (λ n. refl) (λ u below. refl));
         replied = refl;
       }
 
@@ -128,7 +129,7 @@ module _ (d : Declared) (well : IsWellDeclared d) (readings : List LineReading) 
       record {
         reading = Says (commands.Beliefs user);
         became = inl refl;
-        left = left_same d well.kinds readings (Says (commands.Beliefs user)) old left (λ n. refl) (λ u beliefs. refl);
+        left = left_same d well.kinds readings (Says (commands.Beliefs user)) old left (λ n. refl) (λ u below. refl);
         replied = ap (λ (p : Premises). Some (reply.Believes p)) (sym (is ∙ left.beliefs user there));
       }
 
@@ -155,14 +156,14 @@ module _ (d : Declared) (well : IsWellDeclared d) (readings : List LineReading) 
       record {
         reading = Says (commands.Ask user cell);
         became = inl refl;
-        left = left_same d well.kinds readings (Says (commands.Ask user cell)) old left (λ n. refl) (λ u beliefs. refl);
+        left = left_same d well.kinds readings (Says (commands.Ask user cell)) old left (λ n. refl) (λ u below. refl);
         replied = ap (λ (r : Reply). Some r) (sym (is ∙ ap (λ (i : Info). reply.Value i) (value_settles user cell named.0 named.1)));
       }
   carried_ask user cell answer named (inr refused) =
       record {
         reading = Refused refusal.Memory;
         became = inr (refl, entries_write user cell named.0 named.1 refused.1);
-        left = left_same d well.kinds readings (Refused refusal.Memory) old left (λ n. refl) (λ u beliefs. refl);
+        left = left_same d well.kinds readings (Refused refusal.Memory) old left (λ n. refl) (λ u below. refl);
         replied = ap (λ (r : Reply). Some r) (sym refused.0);
       }
 
@@ -188,14 +189,14 @@ module _ (d : Declared) (well : IsWellDeclared d) (readings : List LineReading) 
       record {
         reading = Says (commands.Why user cell);
         became = inl refl;
-        left = left_same d well.kinds readings (Says (commands.Why user cell)) old left (λ n. refl) (λ u beliefs. refl);
+        left = left_same d well.kinds readings (Says (commands.Why user cell)) old left (λ n. refl) (λ u below. refl);
         replied = sym (ap (λ (r : Reply). Some r) is ∙ (λ i. why (settles_everywhere cell named.1 i) (left.beliefs user named.0 i)));
       }
   carried_why user cell answer named (inr refused) =
       record {
         reading = Refused refusal.Memory;
         became = inr (refl, tt);
-        left = left_same d well.kinds readings (Refused refusal.Memory) old left (λ n. refl) (λ u beliefs. refl);
+        left = left_same d well.kinds readings (Refused refusal.Memory) old left (λ n. refl) (λ u below. refl);
         replied = ap (λ (r : Reply). Some r) (sym refused);
       }
 
@@ -211,7 +212,7 @@ module _ (d : Declared) (well : IsWellDeclared d) (readings : List LineReading) 
       record {
         reading = Says (commands.Conflicts user);
         became = inl refl;
-        left = left_same d well.kinds readings (Says (commands.Conflicts user)) old left (λ n. refl) (λ u beliefs. refl);
+        left = left_same d well.kinds readings (Says (commands.Conflicts user)) old left (λ n. refl) (λ u below. refl);
         replied = ap (λ (r : Reply). Some r) (sym (listed.1 ∙ ap reply.Listed named
             ∙ ap (λ w. reply.Listed (conflicts_of d (visible_in (entries_before readings) w))) (left.beliefs user there)));
       }
@@ -219,6 +220,6 @@ module _ (d : Declared) (well : IsWellDeclared d) (readings : List LineReading) 
       record {
         reading = Refused refusal.Memory;
         became = inr (refl, tt);
-        left = left_same d well.kinds readings (Refused refusal.Memory) old left (λ n. refl) (λ u beliefs. refl);
+        left = left_same d well.kinds readings (Refused refusal.Memory) old left (λ n. refl) (λ u below. refl);
         replied = ap (λ (r : Reply). Some r) (sym refused);
       }

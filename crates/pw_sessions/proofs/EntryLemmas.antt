@@ -1,10 +1,9 @@
 -- What entries tell about a cell by its name, with one more entry.
-use Rattle.std.proofs.Common.{◌≡◌, Bool, true, false, List, [], ◌∷◌, ◌++◌, cond, fold, refl, sym, ap, ◌∙◌, append-nil, inl, inr}
+use Rattle.std.proofs.Common.{◌≡◌, Bool, true, false, List, [], ◌∷◌, ◌++◌, cond, fold, refl, sym, ap, ◌∙◌, append-nil}
 use Rattle.std.specs.Prelude.{ℕ, Option, Some, None, if◌then◌else◌, filter, not, slice_get}
 use Rattle.std.specs.List.{cons_option, flat_map}
 use Rattle.std.specs.Option.{option_map}
 use Rattle.std.specs.FinSet.{is_subset}
-use Rattle.std.proofs.lemmas.Bool.{cases_Bool}
 use Rattle.std.proofs.lemmas.Grind.{flat_map-append}
 use Rattle.std.proofs.lemmas.List.Elements.{filter-append}
 use Rattle.std.proofs.lemmas.List.Sums.{fold-append}
@@ -12,7 +11,6 @@ use Rattle.pw_info.specs.declared.info.Info.{Info}
 use Rattle.pw_info.specs.Information.{kind_of, meet, nothing}
 use Rattle.pw_info.proofs.Informations.{kind-meet, meet_nothing}
 use Rattle.pw_premises.specs.Premises.{Premises}
-use Rattle.pw_premises.specs.PremiseSubsets.{is_subset_trans}
 use Rattle.pw_procs.specs.Procedure.{Procedure}
 use Rattle.pw_facts.specs.declared.fact.Fact.{Fact}
 use Rattle.pw_facts.specs.Facts.{shows}
@@ -25,13 +23,9 @@ use Rattle.pw_settle.specs.Sources.{Source, Propagator, is_propagator}
 use Rattle.pw_settle.specs.Fixpoint.{with_source}
 use Rattle.pw_settle.specs.Values.{propagators_of}
 use Rattle.pw_settle.proofs.FixpointLemmas.{kind-fixpoint}
-use Rattle.pw_reasons.proofs.ReasonLemmas.{reason_of_subsets}
-use Rattle.pw_sessions.specs.declared.command.Command.{Command}
-use Rattle.pw_sessions.specs.declared.command.Command.TheVariants as commands
-use Rattle.pw_sessions.specs.Reply as reply
-use Rattle.pw_sessions.specs.Answer.{answer_to, conflicts_of, is_visible, reason_in, sources_after, sources_of, cell_value, visible_in}
+use Rattle.pw_sessions.specs.Values.{is_visible, sources_after, sources_of, cell_value, visible_in}
 use Rattle.pw_sessions.specs.CellNames.{named_cells, names_after, same_name}
-use Rattle.pw_sessions.specs.Entries.{Entry, Told, Attached, support_of}
+use Rattle.pw_sessions.specs.Entries.{Entry, Told, Attached}
 
 -- ---- tells
 
@@ -159,52 +153,3 @@ told_elsewhere d entries w name info line at fact there =
     told_more d entries (Told line at fact) w name info
     ∙ ap (λ b. if is_subset fact.support w then (if b then meet known fact.info else known) else known) there
     ∙ if_same (is_subset fact.support w) known known refl
-
--- ---- what is visible of what is visible
-
--- what passes a test passes it again
-filter_twice : {X : Type 0} (p : X → Bool) (xs : List X) → filter p (filter p xs) ≡ filter p xs
-filter_twice p [] = refl
-filter_twice p (x ∷ xs) = elim (cases_Bool (p x)) [
-  | inl passes ↦ rw passes (rw passes (ap (λ l. x ∷ l) (filter_twice p xs)))
-  | inr fails ↦ rw fails (filter_twice p xs)
-]
-
--- what passes the narrower of two tests passes it among what passes the wider
-filter_narrower : {X : Type 0} (p q : X → Bool) → ((x : X) → p x ≡ true → q x ≡ true) → (xs : List X) → filter p (filter q xs) ≡ filter p xs
-filter_narrower p q within [] = refl
-filter_narrower p q within (x ∷ xs) = elim (cases_Bool (p x)) [
-  | inl passes ↦ rw passes (rw (within x passes) (rw passes (ap (λ l. x ∷ l) (filter_narrower p q within xs))))
-  | inr fails ↦ elim (cases_Bool (q x)) [
-    | inl kept ↦ rw fails (rw kept (rw fails (filter_narrower p q within xs)))
-    | inr dropped ↦ rw fails (rw dropped (filter_narrower p q within xs))
-  ]
-]
-
--- what is visible under some of the beliefs is visible
-visible_narrower : (entries : List Entry) (some beliefs : Premises) → is_subset some beliefs ≡ true →
-    visible_in (visible_in entries beliefs) some ≡ visible_in entries some
-visible_narrower entries some beliefs within =
-    filter_narrower (is_visible some) (is_visible beliefs) (λ entry seen. is_subset_trans (support_of entry) some beliefs seen within) entries
-
--- the reason from only the visible entries is the reason
-reason-visible : (d : Declared) (entries : List Entry) (beliefs : Premises) (cell : ℕ) →
-    reason_in d (visible_in entries beliefs) beliefs cell ≡ reason_in d entries beliefs cell
-reason-visible d entries beliefs cell =
-    reason_of_subsets (λ w. cell_value d (visible_in (visible_in entries beliefs) w) cell) (λ w. cell_value d (visible_in entries w) cell) beliefs
-    (λ some within. ap (λ (l : List Entry). cell_value d l cell) (visible_narrower entries some beliefs within))
-
--- the answer from only the visible entries is the answer
-pub answer-visible : (d : Declared) (entries : List Entry) (beliefs : Premises) (command : Command) →
-    answer_to d (visible_in entries beliefs) beliefs command ≡ answer_to d entries beliefs command
-answer-visible d entries beliefs (commands.Ask user cell) =
-    ap (λ (l : List Entry). reply.Value (cell_value d l cell)) (filter_twice (is_visible beliefs) entries)
-answer-visible d entries beliefs (commands.Why user cell) = λ i.
-    reply.Because (cell_value d (filter_twice (is_visible beliefs) entries i) cell) (reason-visible d entries beliefs cell i)
-answer-visible d entries beliefs (commands.Conflicts user) =
-    ap (λ (l : List Entry). reply.Listed (conflicts_of d l)) (filter_twice (is_visible beliefs) entries)
-answer-visible d entries beliefs (commands.Tell user cell fact) = refl
-answer-visible d entries beliefs (commands.Attach user callable cells support) = refl
-answer-visible d entries beliefs (commands.Believe user premises) = refl
-answer-visible d entries beliefs (commands.Doubt user premises) = refl
-answer-visible d entries beliefs (commands.Beliefs user) = refl

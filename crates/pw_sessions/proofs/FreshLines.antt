@@ -16,7 +16,7 @@ use Rattle.pw_settle.specs.Values.{kinds_in}
 use Rattle.pw_settle.specs.Growth.{IsWider}
 use Rattle.pw_sessions.specs.declared.command.Command.{Command}
 use Rattle.pw_sessions.specs.declared.command.Command.TheVariants as commands
-use Rattle.pw_sessions.specs.Answer.{IsWritten, visible_in}
+use Rattle.pw_sessions.specs.Values.{IsWritten, visible_in}
 use Rattle.pw_sessions.specs.Entries.{entries_before}
 use Rattle.pw_sessions.specs.Freshness.{IsFresh, MayEndFreshness, Settles}
 use Rattle.pw_sessions.specs.Reply.{LineReading, Says}

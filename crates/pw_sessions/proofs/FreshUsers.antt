@@ -58,6 +58,15 @@ fresh_beside old user new fits keeps other differs =
     (λ settled is. subst (λ (n : Network). IsCurrent n new.store settled) (sym keeps.network)
     (current_keeping old.network old.store new.store settled fits.kinds fits.sound keeps.grows is))
 
+-- all users, if their sessions stay
+pub fresh_keeping : (old : Workbench) (user : ℕ) (new : Workbench) → StoreFits old → OnlyKeepsMore old user new → new.sessions ≡ old.sessions →
+    (other : ℕ) → IsFresh old other → IsFresh new other
+fresh_keeping old user new fits keeps sessions other =
+    stays_fresh old new other (ap (λ (ss : List (Option Session)). get_or ss other None) sessions)
+    (ap (λ (bs : List Premises). get_or bs other empty) keeps.beliefs)
+    (λ settled is. subst (λ (n : Network). IsCurrent n new.store settled) (sym keeps.network)
+    (current_keeping old.network old.store new.store settled fits.kinds fits.sound keeps.grows is))
+
 -- all users, if only the room for cells changes
 fresh_as_before : (old new : Workbench) → StoreFits old → IsAsBefore old new → (user : ℕ) → IsFresh old user → IsFresh new user
 fresh_as_before old new fits still user =

@@ -1,11 +1,11 @@
 -- Entries, beliefs and replies of one more line.
 use Rattle.std.proofs.Common.{◌≡◌, ℕ, suc, ◌+◌, List, [], ◌∷◌, ◌++◌, length, Option, refl, sym, ap, ◌∙◌, append-nil, append_assoc, arith}
-use Rattle.std.proofs.lemmas.List.Sums.{fold-append}
 use Rattle.pw_decl.specs.Declaration.{Declared}
 use Rattle.pw_sessions.specs.Reply.{Reply}
 use Rattle.pw_sessions.specs.Reply.{LineReading}
 use Rattle.pw_sessions.specs.Entries.{entries_of, entries_from, entries_before}
-use Rattle.pw_sessions.specs.Beliefs.{all_premises, believed_after, beliefs_at}
+use Rattle.pw_premises.specs.Premises.{Premises}
+use Rattle.pw_sessions.specs.Beliefs.{all_premises, believed_after, beliefs_at, beliefs_from}
 use Rattle.pw_sessions.specs.Answer.{reply_to, replies_after, replies_of}
 
 -- ---- entries
@@ -29,11 +29,22 @@ entries_before-snoc readings reading = entries_from-snoc 1 readings reading ∙ 
 
 -- ---- beliefs
 
+-- the same after further lines, from any beliefs
+beliefs_from-snoc : (d : Declared) (user : ℕ) (before : List LineReading) (beliefs : Premises) (readings : List LineReading) (reading : LineReading) →
+    beliefs_from d user before beliefs (readings ++ reading ∷ [])
+    ≡ believed_after d user (before ++ readings) (beliefs_from d user before beliefs readings) reading
+beliefs_from-snoc d user before beliefs [] reading =
+    ap (λ (rs : List LineReading). believed_after d user rs beliefs reading) (sym (append-nil before))
+beliefs_from-snoc d user before beliefs (first ∷ readings) reading =
+    beliefs_from-snoc d user (before ++ first ∷ []) (believed_after d user before beliefs first) readings reading
+    ∙ ap (λ (rs : List LineReading). believed_after d user rs
+    (beliefs_from d user (before ++ first ∷ []) (believed_after d user before beliefs first) readings) reading) (append_assoc before (first ∷ []) readings)
+
 -- what a user believes after one more line: what the user believed before it, and what the line
 -- changes of that
 pub beliefs_at-snoc : (d : Declared) (user : ℕ) (readings : List LineReading) (reading : LineReading) →
-    beliefs_at d user (readings ++ reading ∷ []) ≡ believed_after user (beliefs_at d user readings) reading
-beliefs_at-snoc d user readings reading = fold-append (believed_after user) (all_premises d) readings (reading ∷ [])
+    beliefs_at d user (readings ++ reading ∷ []) ≡ believed_after d user readings (beliefs_at d user readings) reading
+beliefs_at-snoc d user readings reading = beliefs_from-snoc d user [] (all_premises d) readings reading
 
 -- ---- replies
 

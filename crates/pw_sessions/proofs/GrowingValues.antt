@@ -16,7 +16,7 @@ use Rattle.pw_settle.proofs.FixpointLemmas.{fixpoint_more}
 use Rattle.pw_settle.proofs.Membership.{contains_filter, each_member}
 use Rattle.pw_reasons.specs.Reason.{Grows}
 use Rattle.pw_sessions.specs.declared.command.Command.TheVariants as commands
-use Rattle.pw_sessions.specs.Answer.{MeetTheLaws, is_visible, sources_after, sources_of, cell_value_under, visible_in}
+use Rattle.pw_sessions.specs.Values.{MeetTheLaws, is_visible, sources_after, sources_of, cell_value_under, visible_in}
 use Rattle.pw_sessions.specs.CellNames.{named_cells, names_after}
 use Rattle.pw_sessions.specs.Entries.{Entry, FitsDeclared, RiseFrom, entries_before, entries_from, entries_of, support_of}
 use Rattle.pw_sessions.specs.Reply.{LineReading, Blank, Refused, Says}
@@ -70,6 +70,7 @@ fit_of d number (Says (commands.Beliefs user)) named = All-nil (FitsDeclared d)
 fit_of d number (Says (commands.Ask user cell)) named = All-nil (FitsDeclared d)
 fit_of d number (Says (commands.Why user cell)) named = All-nil (FitsDeclared d)
 fit_of d number (Says (commands.Conflicts user)) named = All-nil (FitsDeclared d)
+fit_of d number (Says (commands.Choose user groups)) named = All-nil (FitsDeclared d)
 fit_of d number Blank named = All-nil (FitsDeclared d)
 fit_of d number (Refused refusal) named = All-nil (FitsDeclared d)
 

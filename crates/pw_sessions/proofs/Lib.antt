@@ -8,12 +8,14 @@ pub mod FewCalls
 pub mod FreshLines
 pub mod FreshUsers
 pub mod CarriedCommands
+pub mod ChosenLines
 pub mod EntriesRise
 pub mod EntryLemmas
 pub mod FurtherLines
 pub mod GrowingValues
 pub mod ListMembers
 pub mod NameMembers
+pub mod NamedChoices
 pub mod NamedConflicts
 pub mod NamedNetworks
 pub mod NamedSources
@@ -26,6 +28,7 @@ pub mod NotedPremises
 pub mod NotedSessions
 pub mod StoreLemmas
 pub mod Uncounted
+pub mod VisibleEntries
 pub mod WorkbenchLemmas
 pub mod WrittenCells
 pub mod WrittenLemmas

@@ -28,7 +28,8 @@ use Rattle.pw_settle.proofs.MergedTells.{told_merged, unwritten_told}
 use Rattle.pw_reasons.specs.Conflicts.{AreConflicts, Conflicts, HasConflict}
 use Rattle.pw_reasons.specs.SameInfo.{is_contradiction}
 use Rattle.pw_reasons.proofs.ConflictLemmas.{nothing_is_possible, same_passing}
-use Rattle.pw_sessions.specs.Answer.{conflicts_of, has_conflict, is_visible, sources_after, value_by_name, cell_value, visible_in}
+use Rattle.pw_sessions.specs.Answer.{conflicts_of, has_conflict}
+use Rattle.pw_sessions.specs.Values.{is_visible, sources_after, value_by_name, cell_value, visible_in}
 use Rattle.pw_sessions.specs.CellNames.{inner_names_of, kind_by_name, named_cells, names_after, same_name, same_name_decides}
 use Rattle.pw_sessions.specs.Entries.{Entry, Told, Attached, FitsDeclared, RiseFrom, line_of}
 use Rattle.pw_sessions.specs.Workbench.{WasTold, network_after}
@@ -127,18 +128,18 @@ module _ (d : Declared) (entries : List Entry) (network : Network) (store : Stor
     (fit : All (FitsDeclared d) entries) (rise : RiseFrom 0 entries) (named : IsNamedAfter d entries network)
     (told : WasTold d entries network store) where
   -- the visible entries, and what they say
-  abbrev shown : List Entry
+  abbrev pub shown : List Entry
   shown = visible_in entries w
 
   abbrev said : List (Source Name)
   said = sources_after d shown
 
   -- the value of a cell by its number
-  abbrev value : ℕ → Info
+  abbrev pub value : ℕ → Info
   value = values.value_in network store w
 
   -- a value of the visible entries by name is a contradiction
-  abbrev clashes : Name → Bool
+  abbrev pub clashes : Name → Bool
   clashes name = is_contradiction (value_by_name d shown name)
 
   shown_fit : All (FitsDeclared d) shown
@@ -156,7 +157,7 @@ module _ (d : Declared) (entries : List Entry) (network : Network) (store : Stor
       (told_alone (named_cells d entries) said) (λ c among. refl) (name_in network cell)
 
   -- if the visible entries name it, this is their value by name
-  value_shown : (cell : ℕ) → cell < cells_in network → Contains (names_after d shown) (name_in network cell) →
+  pub value_shown : (cell : ℕ) → cell < cells_in network → Contains (names_after d shown) (name_in network cell) →
       value cell ≡ value_by_name d shown (name_in network cell)
   value_shown cell here among =
       value_follows cell here
@@ -177,7 +178,7 @@ module _ (d : Declared) (entries : List Entry) (network : Network) (store : Stor
       (λ s among same. hidden (subst (Contains (names_after d shown)) same among)) said own.within)
 
   -- so a cell whose value is a contradiction is named by the visible entries
-  clash_named : (cell : ℕ) → cell < cells_in network → is_contradiction (value cell) ≡ true →
+  pub clash_named : (cell : ℕ) → cell < cells_in network → is_contradiction (value cell) ≡ true →
       Contains (names_after d shown) (name_in network cell)
   clash_named cell here clash =
       let among : Bool = is_member same_name (names_after d shown) (name_in network cell) in
@@ -205,19 +206,24 @@ module _ (d : Declared) (entries : List Entry) (network : Network) (store : Stor
       (contains_map line_of (filter (has_conflict d shown) shown) found.0
       (contains_filter (has_conflict d shown) shown found.0 conflict found.1))
 
-  -- an inner cell of a visible entry is one of the network's, called by the line
-  cell_named : (entry : Entry) (name : Name) → Contains shown entry → Contains (inner_names_of d entry) name →
+  -- each cell that entries name is one of the network's
+  pub cell_called : (name : Name) → Contains (names_after d entries) name →
       (cell : ℕ) × (cell < cells_in network) × (name_in network cell ≡ name)
-  cell_named entry name made has =
+  cell_called name among =
       let numbers : List ℕ = range_with_len 0 (cells_in network) in
-      let of_all : Contains entries entry = (member_kept (is_visible w) entries entry made).0 in
-      let among : Contains (names_after d entries) name =
-      All-contains (Contains (names_after d entries)) (inner_names_of d entry) name
-      (All-contains (AreNamed d entries) entries entry (inner_named d entries) of_all) has in
       let below : All (λ c. c < cells_in network) numbers = range_below (cells_in network) (cells_in network) (omega arith) in
       let found =
       member_mapped (name_in network) numbers name (subst (λ (l : List Name). Contains l name) (sym named.names) among) in
       (found.0, All-contains (λ c. c < cells_in network) numbers found.0 below found.1, found.2)
+
+  -- so is an inner cell of a visible entry
+  pub cell_named : (entry : Entry) (name : Name) → Contains shown entry → Contains (inner_names_of d entry) name →
+      (cell : ℕ) × (cell < cells_in network) × (name_in network cell ≡ name)
+  cell_named entry name made has =
+      let of_all : Contains entries entry = (member_kept (is_visible w) entries entry made).0 in
+      cell_called name
+      (All-contains (Contains (names_after d entries)) (inner_names_of d entry) name
+      (All-contains (AreNamed d entries) entries entry (inner_named d entries) of_all) has)
 
   -- by name first
   line_had : (line : ℕ) → Contains (map line_of (filter (has_conflict d shown) shown)) line → HasConflict network value line

@@ -11,7 +11,7 @@ use Rattle.pw_network.specs.Wiring.{DeclaredCell, name_in}
 use Rattle.pw_network.specs.Network.{Attached as AttachedInstance, InstancesStay, Network, bare, cells_in, kind_in}
 use Rattle.pw_settle.specs.Sources.{is_propagator, source_renamed}
 use Rattle.pw_settle.specs.Values.{kinds_in, propagators_of, visible_instances}
-use Rattle.pw_sessions.specs.Answer.{sources_after, visible_in}
+use Rattle.pw_sessions.specs.Values.{sources_after, visible_in}
 use Rattle.pw_sessions.specs.CellNames.{kind_by_name, names_after}
 use Rattle.pw_sessions.specs.Entries.{Entry, FitsDeclared, RiseFrom}
 use Rattle.pw_sessions.specs.Workbench.{network_after}

@@ -20,7 +20,7 @@ use Rattle.pw_settle.specs.Values.{propagator_of, propagators_of}
 use Rattle.pw_settle.specs.Fixpoint.{AreOver}
 use Rattle.pw_settle.proofs.Membership.{contains_map}
 use Rattle.pw_settle.proofs.Propagators.{names_cell, propagators_fit, propagators_name, propagators_only}
-use Rattle.pw_sessions.specs.Answer.{sources_after, sources_of}
+use Rattle.pw_sessions.specs.Values.{sources_after, sources_of}
 use Rattle.pw_sessions.specs.CellNames.{kind_by_name, named_cells, names_after}
 use Rattle.pw_sessions.specs.Entries.{Entry, Told, Attached, FitsDeclared}
 use Rattle.pw_sessions.proofs.EntriesRise.{FindsKinds}

@@ -23,7 +23,7 @@ use Rattle.pw_settle.proofs.FixpointLemmas.{fixpoint_wider}
 use Rattle.pw_settle.proofs.Membership.{same_on}
 use Rattle.pw_settle.proofs.MergedTells.{told_merged}
 use Rattle.pw_settle.proofs.Renaming.{fixpoint_renamed}
-use Rattle.pw_sessions.specs.Answer.{is_visible, sources_after, value_by_name, cell_value, visible_in}
+use Rattle.pw_sessions.specs.Values.{is_visible, sources_after, value_by_name, cell_value, visible_in}
 use Rattle.pw_sessions.specs.CellNames.{kind_by_name, named_cells, names_after}
 use Rattle.pw_sessions.specs.Entries.{Entry, FitsDeclared, RiseFrom}
 use Rattle.pw_sessions.specs.Workbench.{WasTold, network_after}

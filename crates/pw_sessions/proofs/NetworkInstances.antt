@@ -16,7 +16,7 @@ use Rattle.pw_network.specs.Network.{Attached as AttachedInstance, InstancesStay
 use Rattle.pw_network.proofs.NameLemmas.{attached_by_name}
 use Rattle.pw_settle.specs.Values.{visible_instances}
 use Rattle.pw_settle.proofs.Membership.{same_on}
-use Rattle.pw_sessions.specs.Answer.{is_visible, visible_in}
+use Rattle.pw_sessions.specs.Values.{is_visible, visible_in}
 use Rattle.pw_sessions.specs.Entries.{Entry, Told, Attached, FitsDeclared}
 use Rattle.pw_sessions.specs.Workbench.{network_after, with_entry}
 use Rattle.pw_sessions.proofs.NetworkNames.{cells_with_attached, names_stay}

@@ -24,7 +24,7 @@ use Rattle.pw_network.proofs.NameLemmas.{declared_name, kept_name}
 use Rattle.pw_settle.specs.Fixpoint.{unknown_at, told_alone}
 use Rattle.pw_settle.specs.Values.{nat_eq_decides}
 use Rattle.pw_settle.specs.Values.{kinds_in}
-use Rattle.pw_sessions.specs.Answer.{sources_after, visible_in}
+use Rattle.pw_sessions.specs.Values.{sources_after, visible_in}
 use Rattle.pw_sessions.specs.CellNames.{kind_by_name, named_cells, same_name, same_name_decides}
 use Rattle.pw_sessions.specs.Entries.{Entry, Told, Attached, RiseFrom}
 use Rattle.pw_sessions.specs.Workbench.{WasTold, network_after}

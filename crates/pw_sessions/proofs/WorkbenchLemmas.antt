@@ -116,7 +116,7 @@ module _ (d : Declared) (many : length d.kinds ≡ length d.cells) where
       entries_of (length readings + 1) reading ≡ added → IsSetUpFor d new → All (FitsDeclared d) (entries_before readings ++ added) →
       new.network ≡ network_after d (entries_before readings ++ added) → TellsEntries d (entries_before readings ++ added) new.network new.store →
       RestsUpstream new.network (is_told_on (entries_before readings ++ added)) new.store →
-      ((user : ℕ) → user < length d.users → beliefs_in new user ≡ believed_after user (beliefs_at d user readings) reading) →
+      ((user : ℕ) → user < length d.users → beliefs_in new user ≡ believed_after d user readings (beliefs_at d user readings) reading) →
       IsLeftBy d (readings ++ reading ∷ []) new
   left_after readings reading new added own fits fit is tells rests believed =
       let all : entries_before readings ++ added ≡ entries_before (readings ++ reading ∷ []) =
@@ -137,7 +137,7 @@ module _ (d : Declared) (many : length d.kinds ≡ length d.cells) where
   -- change
   left_quiet : (readings : List LineReading) (reading : LineReading) (old : Workbench) (beliefs : List Premises) → IsLeftBy d readings old →
       entries_of (length readings + 1) reading ≡ [] → length beliefs ≡ length d.users →
-      ((user : ℕ) → user < length d.users → get_or beliefs user empty ≡ believed_after user (beliefs_at d user readings) reading) →
+      ((user : ℕ) → user < length d.users → get_or beliefs user empty ≡ believed_after d user readings (beliefs_at d user readings) reading) →
       IsLeftBy d (readings ++ reading ∷ []) (record old { beliefs = beliefs })
   left_quiet readings reading old beliefs left none all believed =
       let es : List Entry = entries_before readings in
@@ -158,11 +158,12 @@ module _ (d : Declared) (many : length d.kinds ≡ length d.cells) where
 
   -- a line that adds no entry and changes no beliefs
   pub left_same : (readings : List LineReading) (reading : LineReading) (old : Workbench) → IsLeftBy d readings old →
-      ((n : ℕ) → entries_of n reading ≡ []) → ((user : ℕ) (beliefs : Premises) → believed_after user beliefs reading ≡ beliefs) →
+      ((n : ℕ) → entries_of n reading ≡ []) →
+      ((user : ℕ) → user < length d.users → believed_after d user readings (beliefs_at d user readings) reading ≡ beliefs_at d user readings) →
       IsLeftBy d (readings ++ reading ∷ []) old
   left_same readings reading old left none same =
       left_quiet readings reading old old.beliefs left (none (length readings + 1)) left.set_up.users
-      (λ user below. left.beliefs user below ∙ sym (same user (beliefs_at d user readings)))
+      (λ user below. left.beliefs user below ∙ sym (same user below))
 
   -- what is as before is what the same lines leave
   pub left_as_before : (readings : List LineReading) (old new : Workbench) → IsAsBefore old new → IsLeftBy d readings old → IsLeftBy d readings new
@@ -329,7 +330,7 @@ module _ (d : Declared) (many : length d.kinds ≡ length d.cells) where
   -- the line leaves the user what it makes of the user's beliefs
   pub left_believed : (readings : List LineReading) (reading : LineReading) (old : Workbench) (at : ℕ) (f : Premises → Premises) → IsLeftBy d readings old →
       at < length d.users → ((n : ℕ) → entries_of n reading ≡ []) →
-      ((user : ℕ) (beliefs : Premises) → believed_after user beliefs reading ≡ (if eqb at user then f beliefs else beliefs)) →
+      ((user : ℕ) (beliefs : Premises) → believed_after d user readings beliefs reading ≡ (if eqb at user then f beliefs else beliefs)) →
       IsLeftBy d (readings ++ reading ∷ []) (record old { beliefs = set old.beliefs at (f (beliefs_in old at)) })
   left_believed readings reading old at f left there none changed =
       left_quiet readings reading old (set old.beliefs at (f (beliefs_in old at))) left (none (length readings + 1))

@@ -25,7 +25,7 @@ use Rattle.pw_settle.specs.Values as values
 use Rattle.pw_settle.specs.Values.{propagator_of, propagators_of, visible_instances}
 use Rattle.pw_settle.proofs.Membership.{contains_filter, contains_first, contains_map, contains_more, each_member}
 use Rattle.pw_settle.proofs.MergedTells.{unwritten_told}
-use Rattle.pw_sessions.specs.Answer.{IsWritten, is_visible, sources_after, visible_in}
+use Rattle.pw_sessions.specs.Values.{IsWritten, is_visible, sources_after, visible_in}
 use Rattle.pw_sessions.specs.CellNames.{kind_by_name, named_cells, names_after}
 use Rattle.pw_sessions.specs.Entries.{Entry, FitsDeclared, RiseFrom}
 use Rattle.pw_sessions.specs.inside.Steps.{is_written}

@@ -16,7 +16,8 @@ use Rattle.pw_settle.specs.Values.{value_in}
 use Rattle.pw_sessions.specs.declared.command.Command.{Command}
 use Rattle.pw_sessions.specs.declared.command.Command.TheVariants as commands
 use Rattle.pw_sessions.specs.declared.reply.Refusal.TheVariants as refusal
-use Rattle.pw_sessions.specs.Answer.{IsWritten, user_of, visible_in}
+use Rattle.pw_sessions.specs.Answer.{user_of}
+use Rattle.pw_sessions.specs.Values.{IsWritten, visible_in}
 use Rattle.pw_sessions.specs.Beliefs.{beliefs_at}
 use Rattle.pw_sessions.specs.Entries.{entries_before}
 use Rattle.pw_sessions.specs.Reply.{LineReading}
@@ -36,7 +37,7 @@ pub record IsFresh (workbench : Workbench) (user : ℕ) : Type 0 where
   pub current : IsCurrent workbench.network workbench.store session.values
 
 -- after lines with these readings, the command settles: it asks why or for conflicts, or for a cell
--- that a visible instance writes
+-- that a visible instance writes. What a choice settles is no session, and is not counted
 abbrev pub Settles : Declared → List LineReading → Command → Type 0
 Settles d before (commands.Ask user cell) = IsWritten d
     (visible_in (entries_before before) (beliefs_at d user before)) cell

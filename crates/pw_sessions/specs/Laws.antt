@@ -13,9 +13,9 @@ use Rattle.pw_sessions.specs.declared.command.Command.{Command}
 use Rattle.pw_sessions.specs.Entries.{Entry, entries_before}
 use Rattle.pw_sessions.specs.Command.{IsDeclared}
 use Rattle.pw_reasons.specs.Reason.{Grows}
-use Rattle.pw_sessions.specs.Answer.{visible_in, answer_to, reply_to, replies_after}
-use Rattle.pw_sessions.specs.Answer.{MeetTheLaws, reason_in, cell_value_under}
-use Rattle.pw_sessions.specs.Blanking.{blanked_for}
+use Rattle.pw_sessions.specs.Answer.{answer_to, reason_in, reply_to, replies_after}
+use Rattle.pw_sessions.specs.Values.{MeetTheLaws, cell_value_under, visible_in}
+use Rattle.pw_sessions.specs.Blanking.{blanked_for, tried_by}
 use Rattle.pw_sessions.specs.Carrying.{IsAnswered}
 use Rattle.pw_sessions.specs.Workbench.{Workbench, IsCarriedOut, IsLeftBy}
 
@@ -26,11 +26,12 @@ RefusedLinesCountAsBlank =
     replies_after d (before ++ Refused refusal ∷ []) after
     ≡ replies_after d (before ++ Blank ∷ []) after
 
--- what a user does not believe changes no answer to that user
+-- what a user neither believes nor tries changes no answer to that user
 abbrev pub UnbelievedEntriesChangeNothing : Type 0
 UnbelievedEntriesChangeNothing =
     (d : Declared) (entries : List Entry) (beliefs : Premises) (command : Command) →
-    answer_to d (visible_in entries beliefs) beliefs command ≡ answer_to d entries beliefs command
+    answer_to d (visible_in entries (tried_by beliefs command)) beliefs command
+    ≡ answer_to d entries beliefs command
 
 -- what visible entries say meets what the laws of the fixpoint ask
 abbrev pub VisibleEntriesMeetTheLaws : Type 0

@@ -3,11 +3,13 @@ pub mod Beliefs
 pub mod Blanking
 pub mod Carrying
 pub mod CellNames
+pub mod Choosing
 pub mod Command
 pub mod Entries
 pub mod Freshness
 pub mod Reply
 pub mod Session
+pub mod Values
 pub mod Workbench
 pub mod Laws
 pub mod inside

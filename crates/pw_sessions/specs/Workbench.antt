@@ -16,7 +16,8 @@ use Rattle.pw_settle.specs.Values.{kinds_in}
 use Rattle.pw_reasons.specs.Nogood.{AreNogoods}
 use Rattle.pw_sessions.specs.declared.command.Command.{Command}
 use Rattle.pw_sessions.specs.Reply.{Reply}
-use Rattle.pw_sessions.specs.Answer.{reply_to, sources_after, visible_in}
+use Rattle.pw_sessions.specs.Answer.{reply_to}
+use Rattle.pw_sessions.specs.Values.{sources_after, visible_in}
 use Rattle.pw_sessions.specs.Beliefs.{beliefs_at}
 use Rattle.pw_sessions.specs.CellNames.{named_cells}
 use Rattle.pw_sessions.specs.Entries.{Entry, Told, Attached, FitsDeclared, entries_before}

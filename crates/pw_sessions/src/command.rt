@@ -4,6 +4,7 @@ use pw_decl::Callable;
 use pw_facts::Fact;
 use pw_premises::PremiseSet;
 use pw_procs::Arguments;
+use pw_reasons::Groups;
 
 /// The command on a line of a transcript. Users, cells, callables and premises are given by their
 /// numbers in the declaration.
@@ -54,5 +55,12 @@ pub enum Command {
     /// Asks what is contradictory under the user's beliefs.
     Conflicts {
         user: u8,
+    },
+    /// Asks for the first combination of one premise from each group under which nothing is
+    /// contradictory. If there is one, the user believes it from now on, in place of all premises
+    /// of the groups.
+    Choose {
+        user: u8,
+        groups: Groups,
     },
 }

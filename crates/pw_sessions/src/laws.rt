@@ -14,7 +14,8 @@ pub fn refused_lines_count_as_blank()
 {}
 
 /// The answer to a command is the answer from only the visible entries, as if everything that its
-/// user does not believe had never been said.
+/// user does not believe had never been said. For a choice, what its user names to choose from
+/// counts as believed.
 pub fn unbelieved_entries_change_nothing()
     ensures { UnbelievedEntriesChangeNothing }
 {}
@@ -36,9 +37,10 @@ pub fn reasons_say_why()
 {}
 
 /// Users do not disturb each other. A line gets the reply that it would get if all earlier lines
-/// that it does not rest on were blank. It rests on the tells and attachments whose premises its
-/// user then believes, and on its user's own lines that change beliefs. A line that says no command
-/// rests on no line.
+/// that it does not rest on were blank. It rests on its user's own lines that change beliefs, own
+/// choices among them; on the tells and attachments whose premises its user then believes; and on
+/// those whose premises the user believed or named to choose from, at a later choice of the user's
+/// own. A line that says no command rests on no line.
 pub fn unbelieved_lines_count_as_blank()
     ensures { UnbelievedLinesCountAsBlank }
 {}

@@ -2,7 +2,7 @@
 
 use pw_info::Info;
 use pw_premises::PremiseSet;
-use pw_reasons::Conflicts;
+use pw_reasons::{Conflicts, Picks};
 use std::alloc::{Allocator, Global};
 use thiserror::Error;
 
@@ -60,6 +60,9 @@ pub enum Reply<A: Allocator = Global> {
     Listed(Conflicts<A>),
     /// The premises that the user believes.
     Believes(PremiseSet),
+    /// The premises of the combination that the user believes now; None if something is
+    /// contradictory under each combination.
+    Chose(Option<Picks>),
     /// The line was refused, and changed nothing.
     Refused(Refusal),
 }

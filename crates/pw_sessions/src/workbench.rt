@@ -246,17 +246,22 @@ impl<'d, 'r, A: Allocator + Copy> Workbench<'d, 'r, A> {
             Command::Ask { user, cell } => self.ask(user, cell),
             Command::Why { user, cell } => self.why(user, cell),
             Command::Conflicts { user } => self.conflicts(user),
+            Command::Choose { user, groups } => self.choose(user, &groups),
         }
     }
 
     /// Carries out a command at a line, from 1 to 1,000,000, that comes after every line given
     /// before; the lines in between count as blank. Everything that it names is declared: its user,
-    /// its cells, and its callable, which takes them; and a fact is of the kind of its cell.
+    /// its cells, its callable, which takes them, and the premises that it chooses from; and a fact
+    /// is of the kind of its cell.
     ///
     /// The reply is the answer to the command from what the lines before it left. It is
     /// `Refused(Memory)` if memory is refused to a tell, to an attach, to an ask of a cell that is
-    /// written by an instance whose premises are all believed, to a why, or to conflicts; then
-    /// nothing changes that a reply shows. Commands on beliefs are never refused.
+    /// written by an instance whose premises are all believed, to a why, to conflicts, or to a
+    /// choose; then nothing changes that a reply shows. The other commands are never refused.
+    ///
+    /// After a choose that answers premises its user believes these, and no others of its groups.
+    /// After one that answers none, or is refused, the user believes what it did before.
     ///
     /// Derived facts are cached with their premises and reused for every user. Caching never
     /// changes a reply: each is what it would be from scratch.
@@ -289,7 +294,7 @@ impl<'d, 'r, A: Allocator + Copy> Workbench<'d, 'r, A> {
     /// and at most one for each visible instance if a user of the same beliefs was fresh. It is 0
     /// before the first command, and after a command that settled nothing or was refused while
     /// settling. A why or conflicts that was refused after it had settled counts these calls. Calls
-    /// made to find a reason do not count.
+    /// made to find a reason or a choice do not count.
     pub fn last_calls(&self) -> u128
         ensures { result ≡ (state self.now).calls }
     {

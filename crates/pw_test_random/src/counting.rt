@@ -117,3 +117,44 @@ fn who_is_fresh_calls_nothing(rt: HostRuntime) -> Result<(), Fail> {
     assert_eq!(rt; [calls[11], calls[12]], [3, 0]);
     Ok(())
 }
+
+// Ann chooses where nothing is consistent, where another premise is, and where her beliefs are. She
+// asks for y after each.
+const CHOOSING: &[&str] = &[
+    "ann attach copy x y",
+    "ann tell x 1 under a",
+    "ann tell x 2 under b",
+    "ann tell x 9",
+    "ann ask y",
+    "ann choose a|b",
+    "ann ask y",
+    "ann choose a|b|c",
+    "ann ask y",
+    "ann choose c",
+    "ann ask y",
+    "bob choose a|b",
+    "ann ask y",
+];
+
+#[test]
+fn who_chose_none_is_still_fresh(rt: HostRuntime) -> Result<(), Fail> {
+    let counting = Counting {
+        alloc: rt.alloc(),
+        lines: CHOOSING,
+    };
+    let calls = over_text(rt.alloc(), rt.alloc(), GENERAL, counting)??;
+    let Some(calls) = calls.get(..13) else {
+        return Err("a line is missing".into());
+    };
+    // A choice counts no calls.
+    assert_eq!(rt; [calls[5], calls[7], calls[9], calls[11]], [0; 4]);
+    // Nothing was settled before.
+    assert!(rt; calls[4] >= 1);
+    // Nothing was chosen, and beliefs are as they were.
+    assert_eq!(rt; calls[6], 0);
+    // Other beliefs were chosen: the visible instance is called.
+    assert!(rt; calls[8] >= 1);
+    // The same beliefs were chosen, and then another user chose.
+    assert_eq!(rt; [calls[10], calls[12]], [0, 0]);
+    Ok(())
+}

@@ -1,6 +1,7 @@
 //! Random calls: commands of several users over one workbench, drawn from a seed, with growths of
 //! memory refused among them. Each reply is the answer by rounds, or a refusal for memory if a
-//! growth was refused during the command.
+//! growth was refused during the command. What each user believes after it is compared too, and how
+//! often it called procedures.
 //!
 //! A failing test names the seed, the line that differs and the refused growths, and prints the
 //! lines that it takes. The sequence ends at the line that differs, and leaves out each command
@@ -8,21 +9,27 @@
 //! try more sequences, raise `DRAWN` and give the tests more time, as `rt try --test --seconds
 //! 3600` does.
 
+mod alternatives;
 mod answers;
 mod chance;
+mod choices;
+mod counts;
 mod cutting;
 mod declared;
 mod drawing;
 mod entries;
+mod fresh;
 mod lines;
 mod playing;
 mod refusing;
 mod rounds;
+mod showing;
 
 use chance::Random;
+use counts::Counts;
 use cutting::{cut_short, lines_given};
 use drawing::COMMANDS;
-use playing::{Counts, Outcome, Play, played};
+use playing::{Outcome, Play, played};
 use refusing::Refused;
 use std::process::Abort;
 use std::test::Fail;
@@ -30,7 +37,7 @@ use std::test::Fail;
 // The first seed, and the number of sequences drawn from it on.
 const FIRST: u64 = 0;
 
-const DRAWN: u64 = 300;
+const DRAWN: u64 = 150;
 
 // Ends the test if a reply differs from the answer by rounds, and prints the seed and the sequence
 // cut short. Else answers what was compared, or nothing if that takes too many rounds.
@@ -89,6 +96,10 @@ fn is_telling<R: Abort>(rt: &R, compared: u64, all: &Counts) {
     assert!(rt; u64::from(all.lines_in_conflict) >= half / 2, "{all:?}");
     assert!(rt; u64::from(all.contradictions) >= half / 2, "{all:?}");
     assert!(rt; u64::from(all.refused) >= half, "{all:?}");
+    assert!(rt; u64::from(all.chosen) >= half, "{all:?}");
+    assert!(rt; u64::from(all.chosen_none) >= half / 2, "{all:?}");
+    assert!(rt; u64::from(all.fresh) >= half, "{all:?}");
+    assert!(rt; u64::from(all.fresh_after_none) >= half / 20, "{all:?}");
 }
 
 #[test]

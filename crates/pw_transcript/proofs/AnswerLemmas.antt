@@ -1,9 +1,9 @@
 -- The result of a line that is held, or too long to be held.
 use Rattle.std.proofs.Common.{◌≡◌, ℕ, ◌+◌, ◌<◌, ◌≤◌, nat_le, Bool, true, false, List, [], ◌∷◌, ◌++◌, length, Option, Result, Some, None, Ok, Err, refl, sym, ap, ◌∙◌, subst, inl, inr, append-nil, length-append, arith}
-use Rattle.std.specs.Prelude.{All, filter, is_some}
-use Rattle.std.specs.List.{range_with_len}
+use Rattle.std.specs.Prelude.{All, IfSome, filter, is_some}
+use Rattle.std.specs.List.{AllByRecursion, find, range_with_len}
 use Rattle.std.proofs.lemmas.Bool.{cases_Bool, leb-false}
-use Rattle.std.proofs.lemmas.List.Elements.{All-filter}
+use Rattle.std.proofs.lemmas.List.Elements.{All-filter, recursion_from_All}
 use Rattle.std.proofs.lemmas.List.FromFn.{get_or-range_with_len, length-range_with_len}
 use Rattle.pw_info.specs.declared.kind.Kind.TheVariants as kinds
 use Rattle.pw_info.specs.Information.{kind_of}
@@ -16,8 +16,12 @@ use Rattle.pw_sessions.specs.Reply.{Reply}
 use Rattle.pw_sessions.specs.Reply as reply
 use Rattle.pw_sessions.specs.declared.reply.Refusal.{Refusal}
 use Rattle.pw_sessions.specs.declared.reply.Refusal.TheVariants as refusal
+use Rattle.pw_reasons.specs.Combinations.{combinations_of, groups_of, worldview_of}
+use Rattle.pw_reasons.proofs.CombinationLemmas.{taken_from}
+use Rattle.pw_sessions.specs.Choosing.{is_consistent}
 use Rattle.pw_reasons.specs.SameInfo.{is_contradiction}
-use Rattle.pw_sessions.specs.Answer.{answer_to, reply_to, sources_after, user_of, cell_value, visible_in}
+use Rattle.pw_sessions.specs.Answer.{answer_to, reply_to, user_of}
+use Rattle.pw_sessions.specs.Values.{sources_after, cell_value, visible_in}
 use Rattle.pw_sessions.specs.Beliefs.{beliefs_at}
 use Rattle.pw_sessions.specs.Carrying.{CanBeCarriedOut, CarriesOut}
 use Rattle.pw_premises.specs.Premises.{Premises}
@@ -57,6 +61,14 @@ listed_below keeps most =
     (λ k d within.
     let below : k < most = omega (arith, within, length-range_with_len 0 most) in
     omega (arith, below, get_or-range_with_len 0 most k d below))
+
+-- what is found is one of the list
+found_holds : (P : List ℕ → Type 0) (test : List ℕ → Bool) (xs : List (List ℕ)) → AllByRecursion P xs → IfSome (find test xs) P
+found_holds P test [] all = tt
+found_holds P test (x ∷ xs) all = elim (cases_Bool (test x)) [
+  | inl here ↦ rw here all.0
+  | inr past ↦ rw past (found_holds P test xs all.1)
+]
 
 -- with one more line the next number is the next line's
 one_more : (before : List LineReading) (reading : LineReading) (number : ℕ) → length before + 1 ≡ number → length (before ++ reading ∷ []) + 1 ≡ number + 1
@@ -152,6 +164,11 @@ module _ (d : Declared) (well : IsWellDeclared d) where
     named_answer entries beliefs (commands.Believe user premises) named = tt
     named_answer entries beliefs (commands.Doubt user premises) named = tt
     named_answer entries beliefs (commands.Beliefs user) named = tt
+    named_answer entries beliefs (commands.Choose user groups) named =
+        found_holds (All (λ premise. premise < length d.premises)) (λ taken. is_consistent d entries (worldview_of beliefs (groups_of groups) taken))
+        (combinations_of (groups_of groups))
+        (recursion_from_All (All (λ premise. premise < length d.premises)) (combinations_of (groups_of groups))
+        (taken_from (λ premise. premise < length d.premises) (groups_of groups) named.1))
 
     named_outcome : (before : List LineReading) (command : Command) (reading : LineReading) (answer : Reply) → IsDeclared d (Says command) →
         MayBecome d before command reading → reply_to d before reading ≡ Some answer → IsReplyNamed d answer

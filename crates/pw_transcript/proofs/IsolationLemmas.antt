@@ -1,7 +1,6 @@
 -- The reply to a line is the reply to the same line of a text in which every line is empty that it
 -- does not rest on.
-use Rattle.std.proofs.Common.{◌≡◌, ℕ, zero, suc, ◌+◌, Bool, true, false, List, [], ◌∷◌, ◌++◌, length, take, drop, map, Option, Some, slice_get, Contains, refl, sym, ap, ◌∙◌, subst, append-nil, append_assoc, arith}
-use Rattle.std.specs.Prelude.{if◌then◌else◌}
+use Rattle.std.proofs.Common.{◌≡◌, ℕ, zero, suc, ◌+◌, Bool, true, false, List, [], ◌∷◌, ◌++◌, length, take, drop, Option, Some, slice_get, Contains, refl, sym, ap, ◌∙◌, subst, append-nil, append_assoc, arith}
 use Rattle.std.proofs.Math.Seq.{drop-append_seam, take-append_seam}
 use Rattle.pw_info.specs.Lines.{lines_of}
 use Rattle.pw_decl.specs.Declaration.{Declared}
@@ -9,12 +8,13 @@ use Rattle.pw_decl.specs.WellDeclared.{IsWellDeclared}
 use Rattle.pw_sessions.specs.Reply.{Reply}
 use Rattle.pw_sessions.specs.Reply as reply
 use Rattle.pw_sessions.specs.declared.reply.Refusal.TheVariants as refusal
-use Rattle.pw_sessions.specs.Answer.{replies_after, reply_to}
-use Rattle.pw_sessions.specs.Blanking.{blanked_for, kept_if, matters_to}
-use Rattle.pw_sessions.specs.Reply.{LineReading, Blank, Refused}
+use Rattle.pw_premises.specs.Premises.{Premises}
+use Rattle.pw_sessions.specs.Answer.{replies_after, reply_to, user_of}
+use Rattle.pw_sessions.specs.Blanking.{all_blank, blanked_for, blanked_from, kept_if, rests_on, tried_from, tried_in}
+use Rattle.pw_sessions.specs.Reply.{LineReading, Blank, Refused, Says}
 use Rattle.pw_sessions.proofs.BlankedLines.{reply-blanked}
 use Rattle.pw_transcript.specs.FromScratch.{GetReplies, ReadAs}
-use Rattle.pw_transcript.specs.Isolation.{BeginsWith, IsReplyAt, RestsOn, emptied}
+use Rattle.pw_transcript.specs.Isolation.{BeginsWith, IsReplyAt, RestsOn, all_empty, emptied_for, emptied_from, kept_or_empty}
 use Rattle.pw_transcript.specs.Reading.{Reads}
 use Rattle.pw_transcript.proofs.ReadingLemmas.{one_reading}
 
@@ -58,26 +58,50 @@ empty_reads d = (omega arith, refl)
 
 -- a line, made empty or not, reads as it did or is blank
 kept_reads : (d : Declared) (keeps : Bool) (line : List ℕ) (reading : LineReading) → Reads d line reading →
-    Reads d (if keeps then line else []) (kept_if keeps reading)
+    Reads d (kept_or_empty keeps line) (kept_if keeps reading)
 kept_reads d true line reading reads = reads
 kept_reads d false line reading reads = empty_reads d
 
 -- so do lines
-emptied_read : (d : Declared) (keeps : LineReading → Bool) (lines : List (List ℕ)) (readings : List LineReading) → ReadAs d lines readings →
-    ReadAs d (emptied keeps lines readings) (map (λ reading. kept_if (keeps reading) reading) readings)
-emptied_read d keeps [] [] read = tt
-emptied_read d keeps (line ∷ lines) (reading ∷ readings) read =
-    (kept_reads d (keeps reading) line reading read.0, emptied_read d keeps lines readings read.1)
-emptied_read d keeps [] (reading ∷ readings) read = absurd read
-emptied_read d keeps (line ∷ lines) [] read = absurd read
+from_read : (d : Declared) (user : ℕ) (last : Premises) (before : List LineReading) (lines : List (List ℕ)) (readings : List LineReading) → ReadAs d lines readings →
+    ReadAs d (emptied_from d user last before lines readings) (blanked_from d user last before readings)
+from_read d user last before [] [] read = tt
+from_read d user last before (line ∷ lines) (reading ∷ readings) read = (
+  kept_reads d (rests_on user (tried_from d user (before ++ reading ∷ []) readings ++ last ∷ []) reading) line reading read.0,
+  from_read d user last (before ++ reading ∷ []) lines readings read.1,
+)
+from_read d user last before [] (reading ∷ readings) read = absurd read
+from_read d user last before (line ∷ lines) [] read = absurd read
+
+all_read : (d : Declared) (lines : List (List ℕ)) (readings : List LineReading) → ReadAs d lines readings → ReadAs d (all_empty lines) (all_blank readings)
+all_read d [] [] read = tt
+all_read d (line ∷ lines) (reading ∷ readings) read = (empty_reads d, all_read d lines readings read.1)
+all_read d [] (reading ∷ readings) read = absurd read
+all_read d (line ∷ lines) [] read = absurd read
+
+emptied_read : (d : Declared) (readings : List LineReading) (reading : LineReading) (lines : List (List ℕ)) → ReadAs d lines readings →
+    ReadAs d (emptied_for d readings reading lines) (blanked_for d readings reading)
+emptied_read d readings (Says command) lines read = from_read d (user_of command) (tried_in d readings command) [] lines readings read
+emptied_read d readings Blank lines read = all_read d lines readings read
+emptied_read d readings (Refused refused) lines read = all_read d lines readings read
 
 -- there are as many
-length-emptied : (d : Declared) (keeps : LineReading → Bool) (lines : List (List ℕ)) (readings : List LineReading) → ReadAs d lines readings →
-    length (emptied keeps lines readings) ≡ length lines
-length-emptied d keeps [] [] read = refl
-length-emptied d keeps (line ∷ lines) (reading ∷ readings) read = ap suc (length-emptied d keeps lines readings read.1)
-length-emptied d keeps [] (reading ∷ readings) read = absurd read
-length-emptied d keeps (line ∷ lines) [] read = absurd read
+length-from : (d : Declared) (user : ℕ) (last : Premises) (before : List LineReading) (lines : List (List ℕ)) (readings : List LineReading) → ReadAs d lines readings →
+    length (emptied_from d user last before lines readings) ≡ length lines
+length-from d user last before [] [] read = refl
+length-from d user last before (line ∷ lines) (reading ∷ readings) read = ap suc (length-from d user last (before ++ reading ∷ []) lines readings read.1)
+length-from d user last before [] (reading ∷ readings) read = absurd read
+length-from d user last before (line ∷ lines) [] read = absurd read
+
+length-all : (lines : List (List ℕ)) → length (all_empty lines) ≡ length lines
+length-all [] = refl
+length-all (line ∷ lines) = ap suc (length-all lines)
+
+length-emptied : (d : Declared) (readings : List LineReading) (reading : LineReading) (lines : List (List ℕ)) → ReadAs d lines readings →
+    length (emptied_for d readings reading lines) ≡ length lines
+length-emptied d readings (Says command) lines read = length-from d (user_of command) (tried_in d readings command) [] lines readings read
+length-emptied d readings Blank lines read = length-all lines
+length-emptied d readings (Refused refused) lines read = length-all lines
 
 -- ---- replies
 
@@ -107,13 +131,12 @@ module _ (d : Declared) (well : IsWellDeclared d) (number : ℕ) where
   rested : (text blanked : List ℕ) (lines : List (List ℕ)) (answer : Option Reply) (rests : RestsOn d text number lines) → BeginsWith blanked lines →
       IsReplyAt d blanked number answer → answer ≡ reply_to d rests.0.readings rests.0.reading
   rested text blanked lines answer (at, are) (after, begins) is =
-      let keeps : LineReading → Bool = matters_to d at.readings at.reading in
-      let front : List (List ℕ) = emptied keeps at.before at.readings in
+      let front : List (List ℕ) = emptied_for d at.readings at.reading at.before in
       let parts : lines_of blanked ≡ front ++ at.line ∷ after =
       begins ∙ ap (λ (l : List (List ℕ)). l ++ after) are ∙ append_assoc front (at.line ∷ []) after in
       reply_found blanked answer front after at.line (blanked_for d at.readings at.reading) at.reading parts
-      (omega (arith, length-emptied d keeps at.before at.readings at.read, at.number_is))
-      (emptied_read d keeps at.before at.readings at.read) at.reads is
+      (omega (arith, length-emptied d at.readings at.reading at.before at.read, at.number_is))
+      (emptied_read d at.readings at.reading at.before at.read) at.reads is
       ∙ reply-blanked d at.readings at.reading
 
   -- it is the reply to the line
@@ -134,12 +157,10 @@ module _ (d : Declared) (well : IsWellDeclared d) (number : ℕ) where
   pub agreeing : (one other : List ℕ) (lines : List (List ℕ)) (a b : Option Reply) → RestsOn d one number lines → RestsOn d other number lines →
       IsReplyAt d one number a → IsReplyAt d other number b → a ≡ b
   agreeing one other lines a b (at, are) (at', are') is is' =
-      let keeps : LineReading → Bool = matters_to d at.readings at.reading in
-      let keeps' : LineReading → Bool = matters_to d at'.readings at'.reading in
-      let front : List (List ℕ) = emptied keeps at.before at.readings in
-      let front' : List (List ℕ) = emptied keeps' at'.before at'.readings in
+      let front : List (List ℕ) = emptied_for d at.readings at.reading at.before in
+      let front' : List (List ℕ) = emptied_for d at'.readings at'.reading at'.before in
       let long : length front ≡ length front' =
-      omega (arith, length-emptied d keeps at.before at.readings at.read, length-emptied d keeps' at'.before at'.readings at'.read, at.number_is, at'.number_is) in
+      omega (arith, length-emptied d at.readings at.reading at.before at.read, length-emptied d at'.readings at'.reading at'.before at'.read, at.number_is, at'.number_is) in
       let same = sym are ∙ are' in
       let fronts : front ≡ front' = same_front front (at.line ∷ []) front' (at'.line ∷ []) long same in
       let line : at.line ≡ at'.line = same_first at.line at'.line [] [] (same_end front (at.line ∷ []) front' (at'.line ∷ []) long same) in
@@ -147,8 +168,8 @@ module _ (d : Declared) (well : IsWellDeclared d) (number : ℕ) where
       one_reading d at'.line at.reading at'.reading well (subst (λ (l : List ℕ). Reads d l at.reading) line at.reads) at'.reads in
       let readings : blanked_for d at.readings at.reading ≡ blanked_for d at'.readings at'.reading =
       one_list d front' (blanked_for d at.readings at.reading) (blanked_for d at'.readings at'.reading) well
-      (subst (λ (l : List (List ℕ)). ReadAs d l (blanked_for d at.readings at.reading)) fronts (emptied_read d keeps at.before at.readings at.read))
-      (emptied_read d keeps' at'.before at'.readings at'.read) in
+      (subst (λ (l : List (List ℕ)). ReadAs d l (blanked_for d at.readings at.reading)) fronts (emptied_read d at.readings at.reading at.before at.read))
+      (emptied_read d at'.readings at'.reading at'.before at'.read) in
       by_lines one lines a (at, are) is
       ∙ ap (λ (rs : List LineReading). reply_to d rs at.reading) readings
       ∙ ap (reply_to d (blanked_for d at'.readings at'.reading)) reading

@@ -1,7 +1,12 @@
 pub mod AnswerLemmas
 pub mod CellLists
 pub mod GatheringFacts
+pub mod GroupPremises
+pub mod GroupTexts
+pub mod GroupWords
+pub mod GroupsInFull
 pub mod HeldFacts
+pub mod HeldGroups
 pub mod IsolationLemmas
 pub mod PremiseLists
 pub mod PremiseTexts

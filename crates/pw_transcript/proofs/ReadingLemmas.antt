@@ -16,15 +16,16 @@ use Rattle.pw_info.specs.Lines.{IsFirstIn, HoldsOfNone}
 use Rattle.pw_decl.specs.declared.step.Callable.{Callable}
 use Rattle.pw_decl.specs.Declaration.{Declared, kind_at, members_of}
 use Rattle.pw_decl.specs.WellDeclared.{IsWellDeclared}
-use Rattle.pw_transcript.specs.Sentence.{Said, Tell, Attach, Believe, Doubt, Beliefs, Ask, Why, Conflicts, Other, Sentence}
+use Rattle.pw_transcript.specs.Sentence.{Said, Tell, Attach, Believe, Doubt, Beliefs, Ask, Why, Choose, Conflicts, Other, Sentence}
 use Rattle.pw_transcript.specs.inside.Forms.{sentence_form}
 use Rattle.pw_info.specs.Words.{words_of, is_idle, is_allowed}
-use Rattle.pw_transcript.specs.Reading.{premises_of, cells_named, MeansFor, Means, HasAnothersPremise, RefusalAppliesTo, IsRefusedWith, sentence_refusals, SaysSentence, RefusalAppliesToLine, RefusalApplies, line_refusals, Reads}
+use Rattle.pw_transcript.specs.Reading.{premises_of, premise_groups, cells_named, MeansFor, Means, HasAnothersPremise, RefusalAppliesTo, IsRefusedWith, sentence_refusals, SaysSentence, RefusalAppliesToLine, RefusalApplies, line_refusals, Reads}
 use Rattle.pw_sessions.specs.Reply.{LineReading, Blank, Refused, Says}
 use Rattle.pw_info.proofs.FirstLemmas.{one_first, none_is_first, IsFirstIn-from, HoldsOfNone-from}
 use Rattle.pw_decl.proofs.Places.{place_of_name-lt}
 use Rattle.pw_transcript.specs.inside.Resolving.{RefusalAppliesToSaid, said_refusals, IsRefusedFor}
 use Rattle.pw_transcript.proofs.CellLists.{same_arguments}
+use Rattle.pw_transcript.proofs.HeldGroups.{same_groups}
 use Rattle.pw_transcript.proofs.SentenceLemmas.{one_sentence, given, found}
 
 -- a place is one number
@@ -58,6 +59,8 @@ one_meaning_for d user Beliefs a b limits e e' = e ∙ sym e'
 one_meaning_for d user (Ask cell) a b limits (c, at_c, e) (c', at_c', e') = e ∙ ap (λ x. commands.Ask user x) (one_place _ c c' at_c at_c') ∙ sym e'
 one_meaning_for d user (Why cell) a b limits (c, at_c, e) (c', at_c', e') = e ∙ ap (λ x. commands.Why user x) (one_place _ c c' at_c at_c') ∙ sym e'
 one_meaning_for d user Conflicts a b limits e e' = e ∙ sym e'
+one_meaning_for d user (Choose groups) a b limits (held, in_held, e) (held', in_held', e') =
+    e ∙ ap (λ x. commands.Choose user x) (same_groups held held' (premise_groups d groups) in_held in_held') ∙ sym e'
 one_meaning_for d user Other a b limits p q = absurd p
 
 -- a sentence means one command

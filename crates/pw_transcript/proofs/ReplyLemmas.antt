@@ -1,12 +1,14 @@
 -- Texts and readings of one more line, and the names that a line says.
 use Rattle.std.proofs.Common.{◌≡◌, ℕ, suc, ◌+◌, ◌<◌, ◌≤◌, List, [], ◌∷◌, ◌++◌, length, Option, Some, None, Contains, refl, sym, ap, ◌∙◌, subst, inl, inr, append-nil, append_assoc, arith}
+use Rattle.std.specs.List.{AllByRecursion}
+use Rattle.std.proofs.lemmas.List.Elements.{All-from_recursion}
 use Rattle.std.specs.Prelude.{All, if◌then◌else◌, is_some}
 use Rattle.pw_sessions.specs.declared.command.Command.{Command}
 use Rattle.pw_sessions.specs.Reply.{Reply}
 use Rattle.pw_sessions.specs.declared.reply.Refusal.TheVariants as refusal
 use Rattle.pw_decl.specs.Declaration.{Declared}
-use Rattle.pw_transcript.specs.Sentence.{Said, Tell, Attach, Believe, Doubt, Beliefs, Ask, Why, Conflicts, Other}
-use Rattle.pw_transcript.specs.Reading.{MeansFor, Reads}
+use Rattle.pw_transcript.specs.Sentence.{Said, Tell, Attach, Believe, Doubt, Beliefs, Ask, Why, Choose, Conflicts, Other}
+use Rattle.pw_transcript.specs.Reading.{MeansFor, Reads, premise_groups}
 use Rattle.pw_sessions.specs.Reply.{LineReading, Refused, Says}
 use Rattle.pw_sessions.specs.Answer.{user_of, reply_to, replies_of}
 use Rattle.pw_sessions.specs.Command.{NamesDeclared, IsDeclared}
@@ -120,6 +122,14 @@ ReadAs-from_ComeTo d lines readings all plain = ReadAs-from_FurtherLinesComeTo d
 -- ---- names that a line says
 
 module _ (d : Declared) where
+  -- the premises that names name are declared
+  below_each : (groups : List (List (List ℕ))) → AllByRecursion (All (λ premise. premise < length d.premises)) (premise_groups d groups)
+  below_each [] = tt
+  below_each (names ∷ groups) = (places_below d.premises names, below_each groups)
+
+  groups_below : (groups : List (List (List ℕ))) → All (All (λ premise. premise < length d.premises)) (premise_groups d groups)
+  groups_below groups = All-from_recursion (All (λ premise. premise < length d.premises)) (premise_groups d groups) (below_each groups)
+
   -- what a user means by what is said is declared
   MeansFor-cell : (user : ℕ) (said : Said) (command : Command) → MeansFor d user said command → (user_of command ≡ user) × NamesDeclared d command
   MeansFor-cell user (Tell cell_word info_word words) command (cell, info, at_cell, spells, is) = rw is (refl, (place_of_name-lt d.cells cell_word cell at_cell, spells.0))
@@ -131,6 +141,8 @@ module _ (d : Declared) where
   MeansFor-cell user (Ask cell_word) command (cell, at_cell, is) = rw is (refl, place_of_name-lt d.cells cell_word cell at_cell)
   MeansFor-cell user (Why cell_word) command (cell, at_cell, is) = rw is (refl, place_of_name-lt d.cells cell_word cell at_cell)
   MeansFor-cell user Conflicts command is = rw is (refl, tt)
+  MeansFor-cell user (Choose groups) command (held, in_held, is) =
+      rw is (refl, subst (All (All (λ premise. premise < length d.premises))) (sym in_held.0) (groups_below groups))
   MeansFor-cell user Other command means = absurd means
 
   -- a line that says a command names what is declared

@@ -1,12 +1,15 @@
 -- The relation of words and sentence, and the function, agree.
-use Rattle.std.proofs.Common.{◌≡◌, ◌≢◌, ℕ, ◌<◌, true, false, List, [], ◌∷◌, ◌++◌, length, Option, None, Some, refl, sym, ap, ◌∙◌, subst, inl, inr, arith, rules}
+use Rattle.std.proofs.Common.{◌≡◌, ◌≢◌, ℕ, ◌<◌, true, false, List, [], ◌∷◌, ◌++◌, length, map, Option, None, Some, refl, sym, ap, ◌∙◌, subst, inl, inr, arith, rules}
 use Rattle.std.specs.Prelude.{option_map, codes}
-use Rattle.std.proofs.lemmas.Bool.{cases_Bool, false≢true}
+use Rattle.std.proofs.lemmas.Bool.{and_from, and_parts, cases_Bool, false≢true}
 use Rattle.std.proofs.lemmas.Slice.Eq.{bytes_eq-Decides}
-use Rattle.std.specs.List.{AllByRecursion}
+use Rattle.std.specs.List.{AllByRecursion, list_all}
 use Rattle.std.specs.Str.{bytes_eq}
-use Rattle.pw_transcript.specs.Sentence.{Said, Tell, Attach, Believe, Doubt, Beliefs, Ask, Why, Conflicts, Other, Sentence, command_names, NamesNoCommand, IsUnder, AreNoUnder, IsSaid, IsSentence}
-use Rattle.pw_transcript.specs.inside.Forms.{under_form, tell_form, before_under, from_under, attach_form, premises_form, bare_form, cell_form, said_form, sentence_by, sentence_form}
+use Rattle.pw_transcript.specs.Sentence.{Said, Tell, Attach, Believe, Doubt, Beliefs, Ask, Why, Choose, Conflicts, Other, Sentence, command_names, NamesNoCommand, IsUnder, AreNoUnder, IsSaid, IsSentence}
+use Rattle.pw_transcript.specs.GroupNames.{IsNameGroup, text_of_group}
+use Rattle.pw_transcript.specs.inside.Grouping.{is_group_word, names_in}
+use Rattle.pw_transcript.proofs.GroupTexts.{names_of_text, text_is_group, text_of_names_in, word_is_group}
+use Rattle.pw_transcript.specs.inside.Forms.{under_form, tell_form, before_under, from_under, attach_form, premises_form, bare_form, cell_form, choose_form, said_form, HasCells, sentence_by, sentence_form}
 
 -- words that differ are found to differ
 differ : (a b : List ℕ) → a ≢ b → bytes_eq a b ≡ false
@@ -74,13 +77,56 @@ given_attach callable (cell ∷ cells) tail premises some none under =
     ∙ ap (λ (l : List (List ℕ)). option_map (Attach callable (cell ∷ cells)) (under_form l)) rest.1
     ∙ ap (option_map (Attach callable (cell ∷ cells))) (given_under tail premises under))
 
+-- ---- the groups of a choose
+
+groups_found : (groups : List (List (List ℕ))) → AllByRecursion IsNameGroup groups → list_all is_group_word (map text_of_group groups) ≡ true
+groups_found [] are = refl
+groups_found (names ∷ groups) are =
+    and_from (is_group_word (text_of_group names)) (list_all is_group_word (map text_of_group groups)) (text_is_group names are.0) (groups_found groups are.1)
+
+same_names : (groups : List (List (List ℕ))) → AllByRecursion IsNameGroup groups → map names_in (map text_of_group groups) ≡ groups
+same_names [] are = refl
+same_names (names ∷ groups) are =
+    ap (λ (l : List (List ℕ)). l ∷ map names_in (map text_of_group groups)) (names_of_text names are.0)
+    ∙ ap (λ (l : List (List (List ℕ))). names ∷ l) (same_names groups are.1)
+
+-- groups as they are written give a choose
+given_choose : (groups : List (List (List ℕ))) → 0 < length groups → AllByRecursion IsNameGroup groups → choose_form (map text_of_group groups) ≡ Some (Choose groups)
+given_choose [] some are = absurd (omega arith)
+given_choose (names ∷ groups) some are =
+    rw (groups_found (names ∷ groups) are) (ap (λ (l : List (List (List ℕ))). Some (Choose l)) (same_names (names ∷ groups) are))
+
+words_are_groups : (words : List (List ℕ)) → list_all is_group_word words ≡ true → AllByRecursion IsNameGroup (map names_in words)
+words_are_groups [] all = tt
+words_are_groups (word ∷ words) all =
+    let both = and_parts (is_group_word word) (list_all is_group_word words) all in
+    (word_is_group word both.0, words_are_groups words both.1)
+
+same_words : (words : List (List ℕ)) → words ≡ map text_of_group (map names_in words)
+same_words [] = refl
+same_words (word ∷ words) =
+    ap (λ (l : List ℕ). l ∷ words) (sym (text_of_names_in word))
+    ∙ ap (λ (l : List (List ℕ)). text_of_group (names_in word) ∷ l) (same_words words)
+
+-- and anything that gives a choose is groups as they are written
+found_choose : (rest : List (List ℕ)) (said : Said) → choose_form rest ≡ Some said → IsSaid (codes "choose" ∷ rest) said
+found_choose [] said is = absurd (cc)
+found_choose (word ∷ words) said is = elim (cases_Bool (list_all is_group_word (word ∷ words))) [
+  | inl all ↦
+      let found : Some (Choose (map names_in (word ∷ words))) ≡ Some said = rw all at is in
+      let same : Choose (map names_in (word ∷ words)) ≡ said = cc in
+      subst (IsSaid (codes "choose" ∷ word ∷ words)) same
+      (ap (λ (l : List (List ℕ)). codes "choose" ∷ l) (same_words (word ∷ words)), omega arith, words_are_groups (word ∷ words) all)
+  | inr some ↦ let none : None ≡ Some said = rw some at is in absurd (cc)
+]
+
 -- what comes after the user, as one list
 abbrev after_user : List (List ℕ) → Option Said
 after_user [] = None
 after_user (name ∷ rest) = said_form name rest
 
 other_form : (name : List ℕ) (rest : List (List ℕ)) → NamesNoCommand name → said_form name rest ≡ Some Other
-other_form name rest (no_tell, (no_attach, (no_believe, (no_doubt, (no_beliefs, (no_ask, (no_why, (no_conflicts, none)))))))) =
+other_form name rest (no_tell, (no_attach, (no_believe, (no_doubt, (no_beliefs, (no_ask, (no_why, (no_conflicts, (no_choose, none))))))))) =
     rw (
       differ name (codes "tell") no_tell,
       differ name (codes "attach") no_attach,
@@ -90,6 +136,7 @@ other_form name rest (no_tell, (no_attach, (no_believe, (no_doubt, (no_beliefs, 
       differ name (codes "ask") no_ask,
       differ name (codes "why") no_why,
       differ name (codes "conflicts") no_conflicts,
+      differ name (codes "choose") no_choose,
     ) refl
 
 given_said : (words : List (List ℕ)) (said : Said) → IsSaid words said → after_user words ≡ Some said
@@ -101,6 +148,7 @@ given_said words Beliefs is = search rules
 given_said words (Ask cell) is = search rules
 given_said words (Why cell) is = search rules
 given_said words Conflicts is = search rules
+given_said words (Choose groups) (is, some, are) = ap after_user is ∙ given_choose groups some are
 given_said words Other (word, rest, is, none) = ap after_user is ∙ other_form word rest none
 
 form_after : (user : List ℕ) (rest : List (List ℕ)) → sentence_form (user ∷ rest) ≡ option_map (sentence_by user) (after_user rest)
@@ -175,13 +223,17 @@ found_said name rest said is = elim (cases_Bool (bytes_eq name (codes "tell"))) 
               | inr no_why ↦ elim (cases_Bool (bytes_eq name (codes "conflicts"))) [
                 | inl same ↦ named name (codes "conflicts") rest said same
                     (found_conflicts rest said (rw (no_tell, no_attach, no_believe, no_doubt, no_beliefs, no_ask, no_why, same) at is))
-                | inr no_conflicts ↦
-                    let other : Some Other ≡ Some said =
-                    rw (no_tell, no_attach, no_believe, no_doubt, no_beliefs, no_ask, no_why, no_conflicts) at is in
-                    let same : Other ≡ said = cc in
-                    let none = none_of name command_names
-                    (no_tell, (no_attach, (no_believe, (no_doubt, (no_beliefs, (no_ask, (no_why, (no_conflicts, tt)))))))) in
-                    subst (IsSaid (name ∷ rest)) same (name, rest, refl, none)
+                | inr no_conflicts ↦ elim (cases_Bool (bytes_eq name (codes "choose"))) [
+                  | inl same ↦ named name (codes "choose") rest said same
+                      (found_choose rest said (rw (no_tell, no_attach, no_believe, no_doubt, no_beliefs, no_ask, no_why, no_conflicts, same) at is))
+                  | inr no_choose ↦
+                      let other : Some Other ≡ Some said =
+                      rw (no_tell, no_attach, no_believe, no_doubt, no_beliefs, no_ask, no_why, no_conflicts, no_choose) at is in
+                      let same : Other ≡ said = cc in
+                      let none = none_of name command_names
+                      (no_tell, (no_attach, (no_believe, (no_doubt, (no_beliefs, (no_ask, (no_why, (no_conflicts, (no_choose, tt))))))))) in
+                      subst (IsSaid (name ∷ rest)) same (name, rest, refl, none)
+                ]
               ]
             ]
           ]
@@ -208,3 +260,22 @@ found (user ∷ name ∷ rest) sentence is =
 -- so the words form at most one sentence
 pub one_sentence : (words : List (List ℕ)) (s t : Sentence) → IsSentence words s → IsSentence words t → s ≡ t
 one_sentence words s t is other = let same = sym (given words s is) ∙ given words t other in cc
+
+-- ---- an attach has a cell
+
+has_cells : (words : List (List ℕ)) (said : Said) → IsSaid words said → HasCells said
+has_cells words (Tell cell info premises) is = tt
+has_cells words (Attach callable cells premises) (tail, is, some, none, under) = some
+has_cells words (Believe premises) is = tt
+has_cells words (Doubt premises) is = tt
+has_cells words Beliefs is = tt
+has_cells words (Ask cell) is = tt
+has_cells words (Why cell) is = tt
+has_cells words Conflicts is = tt
+has_cells words (Choose groups) is = tt
+has_cells words Other is = tt
+
+pub form_has_cells : (words : List (List ℕ)) (sentence : Sentence) → sentence_form words ≡ Some sentence → HasCells sentence.said
+form_has_cells words sentence is =
+    let (rest, parts, said) = found words sentence is in
+    has_cells rest sentence.said said

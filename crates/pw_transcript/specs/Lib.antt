@@ -1,4 +1,5 @@
 pub mod FromScratch
+pub mod GroupNames
 pub mod Isolation
 pub mod Limits
 pub mod Readers

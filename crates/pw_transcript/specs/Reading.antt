@@ -1,6 +1,6 @@
 -- The reading of a line of a transcript: it is blank, it is refused, or it says a command.
 use Rattle.std.specs.Prelude.{◌≡◌, ℕ, ◌<◌, ◌≤◌, ◌==◌, Bool, true, false, List, [], ◌∷◌, length}
-use Rattle.std.specs.Prelude.{Option, Some, None, is_some, Result, Ok, Err}
+use Rattle.std.specs.Prelude.{Option, Some, None, is_some, Result, Ok, Err, All, map}
 use Rattle.std.specs.List.{list_all, filter_map}
 use Rattle.std.specs.FinSet.{from_list}
 use Rattle.pw_info.specs.declared.info.Info.{Info}
@@ -11,6 +11,9 @@ use Rattle.pw_procs.specs.Registry.{cells_of}
 use Rattle.pw_procs.specs.inside.Shapes.{most_arguments}
 use Rattle.pw_decl.specs.declared.step.Callable.{Callable}
 use Rattle.pw_decl.specs.Compound.{kinds_at}
+use Rattle.pw_reasons.specs.Combinations.{groups_of}
+use Rattle.pw_reasons.specs.Groups.{AreGroups, all_of, most_groups, most_in_a_group}
+use Rattle.pw_reasons.specs.declared.groups.Groups.{Groups}
 use Rattle.pw_sessions.specs.declared.command.Command.{Command}
 use Rattle.pw_sessions.specs.declared.command.Command.TheVariants as commands
 use Rattle.pw_sessions.specs.declared.reply.Refusal.{Refusal}
@@ -22,7 +25,7 @@ use Rattle.pw_decl.specs.Declaration.{Declared, Takes, callable_named, owner_of,
 use Rattle.pw_decl.specs.Declaration.{members_of}
 use Rattle.pw_transcript.specs.Limits.{most_command_bytes}
 use Rattle.pw_transcript.specs.Sentence.{Said, Tell, Attach, Believe, Doubt, Beliefs, Ask, Why}
-use Rattle.pw_transcript.specs.Sentence.{Conflicts, Other, Sentence, IsSentence}
+use Rattle.pw_transcript.specs.Sentence.{Choose, Conflicts, Other, Sentence, IsSentence}
 use Rattle.pw_info.specs.Words.{words_of, is_idle, is_allowed}
 
 -- ---- names in the declaration
@@ -61,6 +64,21 @@ cells_named d words = filter_map (place_of_name d.cells) words
 abbrev pub HoldsCells : Arguments → List ℕ → Type 0
 HoldsCells arguments cells = (cells_of arguments ≡ cells) × (length arguments.held ≡ most_arguments)
 
+-- the premises that the names name, in order
+abbrev pub premises_named : Declared → List (List ℕ) → List ℕ
+premises_named d names = filter_map (place_of_name d.premises) names
+
+-- the same for each group
+abbrev pub premise_groups : Declared → List (List (List ℕ)) → List (List ℕ)
+premise_groups d groups = map (premises_named d) groups
+
+-- The groups are these. The other parts, that six places hold groups and four places the numbers
+-- of each, are true of all groups in the code: so no others are the same groups
+abbrev pub HoldsGroups : Groups → List (List ℕ) → Type 0
+HoldsGroups held groups =
+    (groups_of held ≡ groups) × (length held.held ≡ most_groups)
+    × All (λ group. length group.held ≡ most_in_a_group) held.held
+
 -- ---- sentences
 
 -- the words of this user mean the command: each word names what the command has there
@@ -82,6 +100,9 @@ MeansFor d user (Ask cell_word) command =
 MeansFor d user (Why cell_word) command =
     (cell : ℕ) × (place_of_name d.cells cell_word ≡ Some cell) × (command ≡ commands.Why user cell)
 MeansFor d user Conflicts command = command ≡ commands.Conflicts user
+MeansFor d user (Choose groups) command =
+    (held : Groups) × HoldsGroups held (premise_groups d groups)
+    × (command ≡ commands.Choose user held)
 MeansFor d user Other command = ⊥
 
 -- the sentence means the command: its first word names the user, and the other words mean the
@@ -95,6 +116,7 @@ premise_words_of (Tell cell info premises) = premises
 premise_words_of (Attach callable cells premises) = premises
 premise_words_of (Believe premises) = premises
 premise_words_of (Doubt premises) = premises
+premise_words_of (Choose groups) = all_of groups
 premise_words_of said = []
 
 abbrev pub HasUnknownCommand : Said → Type 0
@@ -120,11 +142,13 @@ HasWrongInformation d (Tell cell_word info_word premises) =
     × ((info : Info) → SpellsInfo (members_of d) info_word (kind_at d cell) info → ⊥)
 HasWrongInformation d said = ⊥
 
--- the callable does not take cells of these kinds, or this number of cells
+-- the callable does not take cells of these kinds, or this number of cells; or what stands to be
+-- chosen from are too many groups, too many names in one, or names of which one stands twice
 abbrev pub HasWrongArguments : Declared → Said → Type 0
 HasWrongArguments d (Attach callable_word cells premises) =
     (callable : Callable) × (callable_named d callable_word ≡ Some callable)
     × (Takes d callable (kinds_at d.kinds (cells_named d cells)) → ⊥)
+HasWrongArguments d (Choose groups) = AreGroups groups → ⊥
 HasWrongArguments d said = ⊥
 
 abbrev pub HasUnknownPremise : Declared → Said → Type 0

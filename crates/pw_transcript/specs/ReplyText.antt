@@ -1,6 +1,6 @@
 -- The text of replies.
 use Rattle.std.specs.Prelude.{ℕ, ◌+◌, ◌<◌, All, List, [], ◌∷◌, ◌++◌, Option, Some, None, codes}
-use Rattle.std.specs.Prelude.{filter, length, map}
+use Rattle.std.specs.Prelude.{IfSome, filter, length, map}
 use Rattle.std.specs.FinSet.{contains}
 use Rattle.std.specs.Fmt.{decimal}
 use Rattle.std.specs.List.{flat_map, range_with_len}
@@ -50,12 +50,23 @@ abbrev pub conflict_names : Declared → Conflicts → List (List ℕ)
 conflict_names d conflicts = map (name_at d.cells) conflicts.cells
     ++ map (λ line. codes "line " ++ decimal line) conflicts.lines
 
--- everything in the reply has names: every member of the kind of a value, and each cell that is
--- listed
+-- the names of the premises that were chosen, each after a space; if none were, `none` after a
+-- space
+abbrev pub text_of_chosen : Declared → Option (List ℕ) → List ℕ
+text_of_chosen d None = codes " none"
+text_of_chosen d (Some taken) = flat_map after_space (map (name_at d.premises) taken)
+
+-- the premises that were chosen are declared
+abbrev pub AreChosenNamed : Declared → Option (List ℕ) → Type 0
+AreChosenNamed d chosen = IfSome chosen (All (λ premise. premise < length d.premises))
+
+-- everything in the reply has names: every member of the kind of a value, each cell that is
+-- listed, and each premise that was chosen
 abbrev pub IsReplyNamed : Declared → Reply → Type 0
 IsReplyNamed d (reply.Value info) = IsNamed (members_of d) (kind_of info)
 IsReplyNamed d (reply.Because info premises) = IsNamed (members_of d) (kind_of info)
 IsReplyNamed d (reply.Listed conflicts) = All (λ cell. cell < length d.cells) conflicts.cells
+IsReplyNamed d (reply.Chose taken) = AreChosenNamed d taken
 IsReplyNamed d reply = Unit {0}
 
 -- the content of a reply
@@ -68,6 +79,7 @@ text_of_answer d (reply.Listed conflicts) = codes "conflicts"
     ++ text_of_names (conflict_names d conflicts)
 text_of_answer d (reply.Believes premises) = codes "believes"
     ++ text_of_names (premise_names d premises)
+text_of_answer d (reply.Chose taken) = codes "chose" ++ text_of_chosen d taken
 text_of_answer d (reply.Refused refusal) = codes "refused " ++ text_of_refusal refusal
 
 -- a reply as it is written: the number of its line, a colon and a space, its content, and a line

@@ -1,7 +1,8 @@
 -- The form of a command line: the user, and the words of the command by their roles. No names are
 -- looked up.
-use Rattle.std.specs.Prelude.{◌≡◌, ◌≢◌, ℕ, ◌<◌, List, [], ◌∷◌, ◌++◌, length, codes}
+use Rattle.std.specs.Prelude.{◌≡◌, ◌≢◌, ℕ, ◌<◌, List, [], ◌∷◌, ◌++◌, length, codes, map}
 use Rattle.std.specs.List.{AllByRecursion}
+use Rattle.pw_transcript.specs.GroupNames.{IsNameGroup, text_of_group}
 
 -- the words of a command, by their roles
 pub data Said : Type 0 where
@@ -13,6 +14,7 @@ pub data Said : Type 0 where
   Ask : (cell : List ℕ) → Said
   Why : (cell : List ℕ) → Said
   Conflicts : Said
+  Choose : (groups : List (List (List ℕ))) → Said
   Other : Said
 
 -- the content of a line: the user, and the command
@@ -25,7 +27,7 @@ abbrev pub command_names : List (List ℕ)
 command_names =
     codes "tell" ∷ codes "attach" ∷ codes "believe" ∷ codes "doubt" ∷ codes "beliefs" ∷ codes "ask"
     ∷ codes "why"
-    ∷ codes "conflicts" ∷ []
+    ∷ codes "conflicts" ∷ codes "choose" ∷ []
 
 -- the word names no command
 abbrev pub NamesNoCommand : List ℕ → Type 0
@@ -57,6 +59,9 @@ IsSaid words Beliefs = words ≡ codes "beliefs" ∷ []
 IsSaid words (Ask cell) = words ≡ codes "ask" ∷ cell ∷ []
 IsSaid words (Why cell) = words ≡ codes "why" ∷ cell ∷ []
 IsSaid words Conflicts = words ≡ codes "conflicts" ∷ []
+IsSaid words (Choose groups) =
+    (words ≡ codes "choose" ∷ map text_of_group groups) × (0 < length groups)
+    × AllByRecursion IsNameGroup groups
 IsSaid words Other =
     (word : List ℕ) × (rest : List (List ℕ)) × (words ≡ word ∷ rest)
     × AllByRecursion (λ name. word ≢ name) command_names

@@ -2,5 +2,6 @@
 pub mod Answering
 pub mod Forms
 pub mod Gathering
+pub mod Grouping
 pub mod Resolving
 pub mod Running

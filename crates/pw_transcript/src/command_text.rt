@@ -13,6 +13,7 @@ ghost use Rattle.pw_transcript.specs.inside.Resolving.{IsFree, IsRefusedFor};
 ghost use Rattle.pw_transcript.specs.Reading.{MeansFor};
 ghost use Rattle.pw_transcript.specs.Reading as spec;
 
+use crate::choice_text::resolve_choose;
 use crate::sentence::{Said, Sentence, next_cell, read_sentence};
 use pw_decl::Declaration;
 use pw_facts::Fact;
@@ -328,6 +329,7 @@ fn resolve_said<A: Allocator + Copy>(
         Said::Ask { cell } => resolve_ask(declaration, user, cell),
         Said::Why { cell } => resolve_why(declaration, user, cell),
         Said::Conflicts => Ok(Command::Conflicts { user }),
+        Said::Choose { groups } => resolve_choose(declaration, user, groups),
         Said::Other => Err(Refusal::UnknownCommand),
     }
 }

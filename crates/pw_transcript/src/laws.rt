@@ -30,7 +30,7 @@ pub fn replies_are_from_scratch()
 /// Users do not disturb each other. The reply to a line is the reply to the line of that number in
 /// a text in which each earlier line is made empty, except those that the line rests on: its user's
 /// own lines that change beliefs, and the lines that tell or attach under premises that the user
-/// then believes. Later lines do not matter.
+/// then believes or names to choose from, or did at an own choose before. Later lines do not matter.
 pub fn isolation()
     ensures { Isolation }
 {}

@@ -2,8 +2,10 @@
 #![tactic(auto)]
 
 mod answer;
+mod choice_text;
 mod command_text;
 mod gathered;
+mod group_names;
 mod input;
 pub mod laws;
 mod line_buffer;

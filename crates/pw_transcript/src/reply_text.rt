@@ -1,6 +1,6 @@
 //! Writing replies.
 
-ghost use Rattle.std.specs.Prelude.{◌≡◌, ◌<◌, ◌++◌, All, codes, length, map};
+ghost use Rattle.std.specs.Prelude.{◌≡◌, ◌<◌, ◌++◌, All, codes, length, map, option_map};
 ghost use Rattle.std.specs.Fmt.{decimal};
 ghost use Rattle.std.specs.List.{flat_map};
 ghost use Rattle.pw_info.specs.Information.{kind_of};
@@ -9,8 +9,10 @@ ghost use Rattle.pw_info.specs.SetNames.{IsNamed, name_at};
 ghost use Rattle.pw_info.specs.Text.{text_of_info};
 ghost use Rattle.pw_decl.specs.Declaration.{members_of};
 ghost use Rattle.pw_decl.specs.inside.Fields.{declared};
+ghost use Rattle.pw_reasons.specs.Combinations.{picked_in};
 ghost use Rattle.pw_sessions.specs.Reply.{reply_by};
-ghost use Rattle.pw_transcript.specs.ReplyText.{IsReplyNamed, after_space, conflict_names};
+ghost use Rattle.pw_transcript.specs.ReplyText.{AreChosenNamed, IsReplyNamed, after_space};
+ghost use Rattle.pw_transcript.specs.ReplyText.{conflict_names, text_of_chosen};
 ghost use Rattle.pw_transcript.specs.ReplyText.{premise_names, text_of_names};
 ghost use Rattle.pw_transcript.specs.ReplyText.{text_of_refusal, text_of_answer, text_of_reply};
 
@@ -18,7 +20,7 @@ use itoa::Buffer;
 use pw_decl::Declaration;
 use pw_info::{Failed, Info, Output, put_all, write_info};
 use pw_premises::PremiseSet;
-use pw_reasons::Conflicts;
+use pw_reasons::{Conflicts, Picks};
 use pw_sessions::{Refusal, Reply};
 use std::alloc::Allocator;
 
@@ -182,6 +184,53 @@ fn write_conflicts<A: Allocator + Copy, O: Output>(
     write_conflict_names(conflicts, declaration, output)
 }
 
+// Writes the names of the premises, each after a space.
+fn write_premise_names<A: Allocator + Copy, O: Output>(
+    premises: &[u16],
+    declaration: &Declaration<'_, A>,
+    output: &mut O,
+) -> Result<(), Failed>
+    requires { All (λ premise. premise < length (declared declaration.now).premises) premises.now }
+    ensures { Writes O.passes O.has_failed output.old output.new result
+        (flat_map after_space (map (name_at (declared declaration.now).premises) premises.now)) }
+{
+    for &premise in premises {
+        write_after_space(declaration.premise_name(premise), output)?;
+    }
+    Ok(())
+}
+
+// Writes the names of the premises that were chosen, each after a space, or that none were.
+fn write_chosen<A: Allocator + Copy, O: Output>(
+    chosen: Option<Picks>,
+    declaration: &Declaration<'_, A>,
+    output: &mut O,
+) -> Result<(), Failed>
+    requires named { AreChosenNamed (declared declaration.now) (option_map picked_in chosen) }
+    ensures { Writes O.passes O.has_failed output.old output.new result
+        (text_of_chosen (declared declaration.now) (option_map picked_in chosen)) }
+{
+    match chosen {
+        Some(picks) => write_premise_names(picks.premises(), declaration, output),
+        None => put_all(output, b" none"),
+    }
+}
+
+// Writes what was chosen.
+#[tactic(auto, using(pw_info::proofs::PassingFacts::first_fails, pw_info::proofs::PassingFacts::second_writes))]
+fn write_choice<A: Allocator + Copy, O: Output>(
+    chosen: Option<Picks>,
+    declaration: &Declaration<'_, A>,
+    output: &mut O,
+) -> Result<(), Failed>
+    requires named { AreChosenNamed (declared declaration.now) (option_map picked_in chosen) }
+    ensures { Writes O.passes O.has_failed output.old output.new result (codes "chose"
+        ++ text_of_chosen (declared declaration.now) (option_map picked_in chosen)) }
+{
+    put_all(output, b"chose")?;
+    write_chosen(chosen, declaration, output)
+}
+
 // Writes the content of a reply.
 fn write_answer<A: Allocator + Copy, O: Output>(
     reply: &Reply<A>,
@@ -200,6 +249,7 @@ fn write_answer<A: Allocator + Copy, O: Output>(
         Reply::Believes(premises) => {
             write_word_and_premises(b"believes", *premises, declaration, output)
         }
+        Reply::Chose(chosen) => write_choice(*chosen, declaration, output),
         Reply::Refused(refusal) => write_refusal(*refusal, output),
     }
 }

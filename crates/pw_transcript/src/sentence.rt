@@ -8,9 +8,11 @@ ghost use Rattle.pw_info.specs.Words.{words_of};
 ghost use Rattle.pw_transcript.specs.Sentence as spec;
 ghost use Rattle.pw_transcript.specs.inside.Forms.{TakesCell, before_under, from_under, under_form};
 ghost use Rattle.pw_transcript.specs.inside.Forms.{tell_form, attach_form, bare_form, cell_form};
+ghost use Rattle.pw_transcript.specs.inside.Forms.{choose_form};
 ghost use Rattle.pw_transcript.specs.inside.Forms.{said_form, sentence_form};
 ghost use Rattle.pw_transcript.specs.inside.Forms.{said_in, sentence_in};
 
+use crate::group_names::are_group_words;
 use pw_info::Words;
 
 /// The command, by its words. No names are looked up.
@@ -50,6 +52,10 @@ pub enum Said<'a> {
     },
     /// `conflicts`
     Conflicts,
+    /// `choose GROUP..`: in no group is a name empty.
+    Choose {
+        groups: Words<'a>,
+    },
     /// A word that names no command, with any words after it.
     Other,
 }
@@ -182,6 +188,16 @@ fn read_cell<'a>(mut rest: Words<'a>) -> Option<&'a [u8]>
     rest.is_empty().then_some(cell)
 }
 
+// What follows `choose`.
+fn read_choose<'a>(rest: Words<'a>) -> Option<Said<'a>>
+    ensures { option_map said_in result ≡ choose_form rest.entry }
+{
+    if rest.is_empty() || !are_group_words(rest.again()) {
+        return None;
+    }
+    Some(Said::Choose { groups: rest })
+}
+
 // The command given by a word, and the words after it.
 fn read_said<'a>(name: &[u8], rest: Words<'a>) -> Option<Said<'a>>
     ensures { option_map said_in result ≡ said_form name.now rest.entry }
@@ -210,6 +226,8 @@ fn read_said<'a>(name: &[u8], rest: Words<'a>) -> Option<Said<'a>>
         Some(Said::Why { cell })
     } else if name == b"conflicts".as_slice() {
         read_bare(Said::Conflicts, rest)
+    } else if name == b"choose".as_slice() {
+        read_choose(rest)
     } else {
         Some(Said::Other)
     }

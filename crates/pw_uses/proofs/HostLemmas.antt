@@ -11,7 +11,7 @@ use Rattle.pw_sessions.specs.declared.command.Command.TheVariants as commands
 use Rattle.pw_sessions.specs.Reply.{Reply}
 use Rattle.pw_sessions.specs.Reply as reply
 use Rattle.pw_sessions.specs.declared.reply.Refusal.TheVariants as refusal
-use Rattle.pw_sessions.specs.Answer.{cell_value, visible_in}
+use Rattle.pw_sessions.specs.Values.{cell_value, visible_in}
 use Rattle.pw_sessions.specs.Beliefs.{all_premises}
 use Rattle.pw_sessions.specs.Carrying.{CanBeCarriedOut, CarriesOut, IsAnswered}
 use Rattle.pw_sessions.specs.Entries.{Told, Attached}

@@ -7,7 +7,7 @@ use Rattle.pw_decl.specs.Declaration.{Declared}
 use Rattle.pw_sessions.specs.declared.command.Command.TheVariants as commands
 use Rattle.pw_sessions.specs.Reply.{Reply}
 use Rattle.pw_sessions.specs.Reply as reply
-use Rattle.pw_sessions.specs.Answer.{cell_value, visible_in}
+use Rattle.pw_sessions.specs.Values.{cell_value, visible_in}
 use Rattle.pw_sessions.specs.Beliefs.{all_premises}
 use Rattle.pw_sessions.specs.Entries.{Entry, Told, Attached}
 use Rattle.pw_sessions.specs.Reply.{Says}

@@ -1,10 +1,10 @@
 -- The conditions that the steps of a command put on a workbench, and their results.
 use Rattle.std.specs.Prelude.{◌≡◌, ◌⊎◌, ℕ, ◌+◌, ◌<◌, ◌≤◌, Bool, true, ◌&&◌, List, ◌++◌, length, map}
-use Rattle.std.specs.Prelude.{nat_eq, Some, slice_set}
+use Rattle.std.specs.Prelude.{nat_eq, All, None, Some, slice_set}
 use Rattle.std.specs.Option.{option_map}
 use Rattle.std.specs.List.{list_any}
 use Rattle.std.specs.FinSet.{is_subset}
-use Rattle.pw_premises.specs.Premises.{Premises}
+use Rattle.pw_premises.specs.Premises.{Premises, most_premises}
 use Rattle.pw_facts.specs.declared.fact.Fact.{Fact}
 use Rattle.pw_cells.specs.Cells.{Store, kinds_of, new_cell}
 use Rattle.pw_cells.specs.Changes.{AssimilatesAt, GainsKept, GainsTold, LeavesOthers}
@@ -16,6 +16,8 @@ use Rattle.pw_network.specs.Network.{Attached, with_attached}
 use Rattle.pw_settle.specs.Growth.{KeepsMore, StaysUpstream}
 use Rattle.pw_settle.specs.Sound.{IsSound}
 use Rattle.pw_settle.specs.Values.{kinds_in, value_in}
+use Rattle.pw_reasons.specs.Choice.{IsFirstConsistent}
+use Rattle.pw_reasons.specs.Combinations.{worldview_of, worldviews_of}
 use Rattle.pw_reasons.specs.Conflicts.{Conflicts, AreConflicts}
 use Rattle.pw_reasons.specs.Nogood.{AreNogoods}
 use Rattle.pw_reasons.specs.Reason.{reason_of}
@@ -173,3 +175,38 @@ believing workbench user premises = record workbench {
   beliefs =
       slice_set workbench.beliefs user premises;
 }
+
+-- the groups are of premises that a set can contain
+abbrev pub AreOfPremises : List (List ℕ) → Type 0
+AreOfPremises groups = All (All (λ premise. premise < most_premises)) groups
+
+-- these are the user's first premises of the groups under which nothing is contradictory
+abbrev pub IsFirstChoice : Workbench → ℕ → List (List ℕ) → List ℕ → Type 0
+IsFirstChoice workbench user groups taken =
+    IsFirstConsistent workbench.network workbench.store (beliefs_in workbench user) groups taken
+
+-- for the user something is contradictory under each combination of the groups
+abbrev pub AllContradict : Workbench → ℕ → List (List ℕ) → Type 0
+AllContradict workbench user groups =
+    AreNogoods workbench.network workbench.store (worldviews_of (beliefs_in workbench user) groups)
+
+-- a choice by the user among the groups was answered, once this was found: with the first premises
+-- under which nothing is contradictory, which the user believes from then on in the place of all
+-- others of the groups; with none, if something is contradictory under each combination; or with
+-- out of memory
+abbrev pub AnswersChoose : Workbench → ℕ → List (List ℕ) → Workbench → Workbench → Reply → Type 0
+AnswersChoose old user groups found new answer =
+    ((taken : List ℕ) × (answer ≡ reply.Chose (Some taken)) × IsFirstChoice old user groups taken
+    × (new ≡ believing found user (worldview_of (beliefs_in old user) groups taken)))
+    ⊎ (((answer ≡ reply.Chose None) × AllContradict old user groups × (new ≡ found))
+    ⊎ ((answer ≡ reply.Refused refusal.Memory) × (new ≡ found)))
+
+-- the user chose among the groups: more may be kept and noted, and all sessions stay; and the
+-- choice was answered
+pub record IsChosen (old : Workbench) (user : ℕ) (groups : List (List ℕ)) (new : Workbench)
+    (answer : Reply) : Type 0 where
+  pub found : Workbench
+  pub grows : OnlyKeepsMore old user found
+  pub sessions : found.sessions ≡ old.sessions
+  pub calls : found.calls ≡ old.calls
+  pub answers : AnswersChoose old user groups found new answer

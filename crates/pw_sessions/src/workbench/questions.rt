@@ -1,9 +1,13 @@
 //! Questions of users: what settles under a user's beliefs, starting from what the user's last
 //! question found.
-ghost use Rattle.std.specs.Prelude.{◌≡◌, ◌<◌, true, length, map, IfOk, IfSome, None, OnErr, Some};
+ghost use Rattle.std.specs.Prelude.{◌≡◌, ◌<◌, true, length, map, IfNone, IfOk, IfSome, None};
+ghost use Rattle.std.specs.Prelude.{OnErr, Some};
 ghost use Rattle.pw_cells.specs.Cells.{kinds_of};
 ghost use Rattle.pw_network.specs.Wiring.{wiring};
 ghost use Rattle.pw_network.specs.inside.Held.{attachment};
+ghost use Rattle.pw_premises.specs.Premises.{Premises};
+ghost use Rattle.pw_reasons.specs.Combinations.{groups_of, picked_in};
+ghost use Rattle.pw_reasons.specs.Nogood.{covers};
 ghost use Rattle.pw_settle.specs.Growth.{IsFitting};
 ghost use Rattle.pw_settle.specs.Growth.{KeepsMore, StaysUpstream};
 ghost use Rattle.pw_settle.specs.Settled.{IsSettled};
@@ -13,7 +17,8 @@ ghost use Rattle.pw_sessions.specs.inside.Fields.{state};
 ghost use Rattle.pw_sessions.specs.Freshness.{CallsDue, CallsDueFor, CallsFew, IsAsked, IsFresh};
 ghost use Rattle.pw_sessions.specs.Reply.{reply_by};
 ghost use Rattle.pw_sessions.specs.Session.{IsCurrent};
-ghost use Rattle.pw_sessions.specs.inside.Steps.{AnswersConflicts, AnswersWhy};
+ghost use Rattle.pw_sessions.specs.inside.Steps.{AllContradict, AreOfPremises, IsChosen};
+ghost use Rattle.pw_sessions.specs.inside.Steps.{AnswersConflicts, AnswersWhy, IsFirstChoice};
 ghost use Rattle.pw_sessions.specs.inside.Steps.{CanAnswer, OnlyKeepsMore, is_written};
 ghost use Rattle.pw_sessions.specs.inside.Steps.{AnswersAskIfLeft, SeesWriter, remembering};
 ghost use Rattle.pw_sessions.specs.Freshness.{CallsNoneAgain, CallsOnceIfKept, IsSettledFor};
@@ -27,7 +32,7 @@ use pw_cells::CellStore;
 use pw_info::Info;
 use pw_network::{Instance, Network};
 use pw_premises::PremiseSet;
-use pw_reasons::{list_conflicts, reason};
+use pw_reasons::{Groups, Picks, choose, list_conflicts, reason, worldview_with};
 use pw_settle::{Settled, resettle, settle};
 use std::alloc::{AllocError, Allocator};
 
@@ -188,6 +193,56 @@ impl<'d, 'r, A: Allocator + Copy> Workbench<'d, 'r, A> {
         let info = settled.value(cell).info;
         self.remember(user, settled);
         Reply::Because(info, reason)
+    }
+
+    // The first combination of the groups under which nothing is contradictory, for the user, who
+    // must exist, if there is one. Fails only when out of memory.
+    fn find_choice(&mut self, user: u8, groups: &Groups) -> Result<Option<Picks>, AllocError>
+        requires can { CanAnswer (state self.old) user }
+        requires premises { AreOfPremises (groups_of groups.now) }
+        ensures some { IfOk result (λ chosen. IfSome chosen (λ picks.
+            IsFirstChoice (state self.old) user (groups_of groups.now) (picked_in picks))) }
+        ensures none { IfOk result (λ chosen. IfNone chosen
+            (AllContradict (state self.old) user (groups_of groups.now))) }
+        ensures covers { (w : Premises) → covers (state self.old).nogoods w ≡ true
+            → covers (state self.new).nogoods w ≡ true }
+        ensures sessions { (state self.new).sessions ≡ (state self.old).sessions }
+        ensures calls { (state self.new).calls ≡ (state self.old).calls }
+        ensures grows { OnlyKeepsMore (state self.old) user (state self.new) }
+    {
+        let alloc = *self.beliefs.allocator();
+        let beliefs = self.beliefs_of(user);
+        let nogoods = &mut self.nogoods;
+        choose(
+            alloc,
+            &self.network,
+            &mut self.store,
+            nogoods,
+            &beliefs,
+            groups,
+        )
+    }
+
+    // Chooses for the user, who must exist: if a combination is found, the user believes it from
+    // now on, in the place of all premises of the groups. Never inlined, like `why`.
+    #[inline(never)]
+    pub(super) fn choose(&mut self, user: u8, groups: &Groups) -> Reply<A>
+        requires can { CanAnswer (state self.old) user }
+        requires premises { AreOfPremises (groups_of groups.now) }
+        ensures chosen { IsChosen (state self.old) user (groups_of groups.now) (state self.new)
+            (reply_by result) }
+        ensures noted { KeepsNogoods (state self.old) (state self.new) (reply_by result) }
+    {
+        let Ok(chosen) = self.find_choice(user, groups) else {
+            return Reply::Refused(Refusal::Memory);
+        };
+        let Some(picks) = chosen else {
+            return Reply::Chose(None);
+        };
+        let beliefs = self.beliefs_of(user);
+        let worldview = worldview_with(&beliefs, groups, &picks);
+        self.set_beliefs(user, worldview);
+        Reply::Chose(Some(picks))
     }
 
     // What is contradictory under the beliefs of the user, who must exist.

@@ -1,6 +1,6 @@
 //! The answer to each command, from what the lines before it left, by rounds.
 
-use super::declared::{CELLS, PREMISE_COUNT};
+use super::declared::CELLS;
 use super::drawing::{Action, Command};
 use super::entries::{Cell, Entries};
 use pw_info::Info;
@@ -19,11 +19,17 @@ pub enum Answer {
     /// Contradictory declared cells, and lines of attachments that have a contradictory inner cell.
     Listed(Vec<u32>, Vec<u32>),
     Believes(PremiseSet),
+    /// The premises taken, in the order of the groups.
+    Chose(Option<Vec<u16>>),
     NoMemory,
     /// Refused for another reason.
     Refused,
     /// The line says no command.
     Blank,
+    /// The line says other groups than those that were drawn.
+    OtherGroups,
+    /// How often procedures were called; if wanted, at most so often.
+    Calls(u128),
 }
 
 impl Answer {
@@ -44,6 +50,10 @@ impl Answer {
                 Vec::from_slice(alloc, conflicts.lines())?,
             ),
             Reply::Believes(premises) => Answer::Believes(*premises),
+            Reply::Chose(None) => Answer::Chose(None),
+            Reply::Chose(Some(picks)) => {
+                Answer::Chose(Some(Vec::from_slice(alloc, picks.premises())?))
+            }
             Reply::Refused(Refusal::Memory) => Answer::NoMemory,
             Reply::Refused(_) => Answer::Refused,
         })
@@ -63,8 +73,8 @@ fn add_line(lines: &mut Vec<u32>, cell: &Cell, worldview: &PremiseSet) -> Result
 }
 
 impl Entries {
-    // The value of a cell in the worldview. None if that takes too many rounds.
-    fn value(
+    /// The value of a cell in the worldview. None if that takes too many rounds.
+    pub fn value(
         &self,
         registry: &Registry,
         worldview: &PremiseSet,
@@ -76,8 +86,8 @@ impl Entries {
         Ok(Some(*values.get(cell).ok_or("no cell")?))
     }
 
-    // The value of a cell in the worldview, and its reason. From the last declared premise to the
-    // first, it takes out each one without which the value stays.
+    // The value of a cell in the worldview, and its reason. From the last premise of the worldview
+    // to the first, it takes out each one without which the value stays.
     fn because(
         &self,
         registry: &Registry,
@@ -88,7 +98,7 @@ impl Entries {
             return Ok(None);
         };
         let mut left = *worldview;
-        for premise in (0..PREMISE_COUNT).rev() {
+        for premise in worldview.numbers().rev() {
             let smaller = left.without(premise);
             let Some(without) = self.value(registry, &smaller, cell)? else {
                 return Ok(None);
@@ -135,6 +145,7 @@ impl Entries {
             }
             Action::Why(cell) => self.because(registry, &beliefs, cell),
             Action::Conflicts => self.conflicts(registry, &beliefs),
+            Action::Choose(alternatives) => self.choice(registry, beliefs, &alternatives),
             _ => Ok(Some(Answer::Done)),
         }
     }

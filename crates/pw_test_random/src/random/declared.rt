@@ -12,6 +12,10 @@ premise a
 premise b
 premise c
 premise d
+premise f
+premise h
+premise i
+premise j
 premise mine of bob
 set color red green blue
 cell x interval
@@ -47,13 +51,13 @@ end
 pub const USERS: [&str; 3] = ["ann", "bob", "cid"];
 
 /// The premises, in declared order.
-pub const PREMISES: [&str; 5] = ["a", "b", "c", "d", "mine"];
+pub const PREMISES: [&str; 9] = ["a", "b", "c", "d", "f", "h", "i", "j", "mine"];
 
 /// How many premises there are.
-pub const PREMISE_COUNT: u16 = 5;
+pub const PREMISE_COUNT: u16 = 9;
 
 /// How many premises everybody may tell under: those before the last, which is Bob's.
-pub const GENERAL: u16 = 4;
+pub const GENERAL: u16 = 8;
 
 /// The place of the user who may tell under each premise.
 pub const BOB: usize = 1;

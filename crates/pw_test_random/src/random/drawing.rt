@@ -1,5 +1,6 @@
 //! Commands of several users, drawn from a seed.
 
+use super::alternatives::{Alternatives, draw_alternatives};
 use super::chance::Random;
 use super::declared::{BOB, Callable, GENERAL, PREMISE_COUNT, Sort, USERS};
 use pw_info::{Info, SetKind};
@@ -74,6 +75,7 @@ pub enum Action {
     Ask(usize),
     Why(usize),
     Conflicts,
+    Choose(Alternatives),
 }
 
 /// A command of a user, by the place among the users.
@@ -119,7 +121,7 @@ fn draw_alike(random: &mut Random) -> (usize, usize) {
 
 // Premises under which the user may tell, mostly few.
 fn draw_support(random: &mut Random, user: usize) -> PremiseSet {
-    let support = random.premises(GENERAL, 4);
+    let support = random.premises(GENERAL, 8);
     if user == BOB && random.below(4) == 0 {
         return support.join(PremiseSet::one(GENERAL));
     }
@@ -128,8 +130,8 @@ fn draw_support(random: &mut Random, user: usize) -> PremiseSet {
 
 // One premise, and maybe others.
 fn draw_premises(random: &mut Random) -> PremiseSet {
-    let one = PremiseSet::one(random.below(5).min(4) as u16);
-    one.join(random.premises(PREMISE_COUNT, 5))
+    let one = PremiseSet::one(random.below(9).min(8) as u16);
+    one.join(random.premises(PREMISE_COUNT, 9))
 }
 
 // A callable over cells of intervals.
@@ -234,11 +236,12 @@ fn draw_change(random: &mut Random, user: usize) -> Action {
 fn draw_question(random: &mut Random) -> Action {
     let sort = draw_sort(random);
     let cell = draw_cell(random, sort);
-    match random.below(12) {
+    match random.below(14) {
         0 => Action::Beliefs,
         1..=4 => Action::Ask(cell),
         5..=8 => Action::Why(cell),
-        _ => Action::Conflicts,
+        9..=11 => Action::Conflicts,
+        _ => Action::Choose(draw_alternatives(random)),
     }
 }
 

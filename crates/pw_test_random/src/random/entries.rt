@@ -82,8 +82,8 @@ impl Entries {
         }
     }
 
-    // From now on the user believes these premises.
-    fn set_beliefs(&mut self, user: usize, premises: PremiseSet) {
+    /// From now on the user believes these premises.
+    pub fn set_beliefs(&mut self, user: usize, premises: PremiseSet) {
         if let Some(beliefs) = self.beliefs.get_mut(user) {
             *beliefs = premises;
         }
@@ -152,7 +152,7 @@ impl Entries {
         Ok(())
     }
 
-    /// Takes in a command that was accepted at this line.
+    /// Takes in a command that was accepted at this line, but for what a choice comes to.
     pub fn accept(
         &mut self,
         registry: &Registry,

@@ -1,5 +1,6 @@
 //! The line that says a command.
 
+use super::alternatives::{Alternatives, Group};
 use super::declared::{CELLS, PREMISES, USERS};
 use super::drawing::{Action, Command, Known};
 use pw_premises::PremiseSet;
@@ -55,6 +56,25 @@ fn add_members(line: &mut String, names: &[&str], mask: u128) -> Result<(), Allo
     line.push('}')
 }
 
+// Adds a blank and the names of the premises of a group.
+fn add_group(line: &mut String, group: &Group) -> Result<(), AllocError> {
+    let mut mark = ' ';
+    for premise in group.premises() {
+        line.push(mark)?;
+        line.push_str(PREMISES.get(usize::from(*premise)).unwrap_or(&"?"))?;
+        mark = '|';
+    }
+    Ok(())
+}
+
+// Adds the groups, each after a blank.
+fn add_groups(line: &mut String, alternatives: &Alternatives) -> Result<(), AllocError> {
+    for group in alternatives.groups() {
+        add_group(line, group)?;
+    }
+    Ok(())
+}
+
 // Adds what is told.
 fn add_known(line: &mut String, known: &Known) -> Result<(), AllocError> {
     match known {
@@ -100,6 +120,10 @@ fn add_action(line: &mut String, action: &Action) -> Result<(), AllocError> {
             add_cell(line, *cell)
         }
         Action::Conflicts => line.push_str(" conflicts"),
+        Action::Choose(alternatives) => {
+            line.push_str(" choose")?;
+            add_groups(line, alternatives)
+        }
     }
 }
 

@@ -7,11 +7,14 @@ ghost use Rattle.pw_transcript.specs.Limits.{most_lines};
 ghost use Rattle.pw_transcript.specs.inside.Answering.{IsLeft};
 
 use super::answers::Answer;
+use super::counts::Counts;
 use super::declared::WORLD;
-use super::drawing::{COMMANDS, Command, draw_command};
+use super::drawing::{Action, COMMANDS, Command, draw_command};
 use super::entries::Entries;
+use super::fresh::Users;
 use super::lines::line_of;
 use super::refusing::{Refused, Watch, refusing_again};
+use super::showing::{Shown, shown_before};
 use pw_decl::Declaration;
 use pw_network::Network;
 use pw_procs::Registry;
@@ -49,84 +52,6 @@ pub struct Difference {
     pub given: Answer,
 }
 
-/// What was compared.
-#[derive(Clone, Copy, Debug)]
-pub struct Counts {
-    pub lines: u32,
-    pub refused: u32,
-    pub values: u32,
-    pub contradictions: u32,
-    pub reasons: u32,
-    pub cells_in_conflict: u32,
-    pub lines_in_conflict: u32,
-    /// Growths that were asked for before the first line, and in all.
-    pub growths_before: u64,
-    pub growths: u64,
-}
-
-impl Counts {
-    /// Nothing compared.
-    pub fn none() -> Counts {
-        Counts {
-            lines: 0,
-            refused: 0,
-            values: 0,
-            contradictions: 0,
-            reasons: 0,
-            cells_in_conflict: 0,
-            lines_in_conflict: 0,
-            growths_before: 0,
-            growths: 0,
-        }
-    }
-
-    // Counts an answer.
-    fn count(&mut self, answer: &Answer) {
-        self.lines = self.lines.saturating_add(1);
-        match answer {
-            Answer::Value(info) => {
-                let says = !info.is_nothing() && !info.is_contradiction();
-                self.values = self.values.saturating_add(u32::from(says));
-            }
-            Answer::Because(info, reason) => {
-                let (wrong, rests) = (info.is_contradiction(), !reason.is_empty());
-                self.contradictions = self.contradictions.saturating_add(u32::from(wrong));
-                self.reasons = self.reasons.saturating_add(u32::from(rests));
-            }
-            Answer::Listed(cells, lines) => {
-                let (has_cells, has_lines) = (!cells.is_empty(), !lines.is_empty());
-                self.cells_in_conflict = self
-                    .cells_in_conflict
-                    .saturating_add(u32::from(has_cells));
-                self.lines_in_conflict = self
-                    .lines_in_conflict
-                    .saturating_add(u32::from(has_lines));
-            }
-            Answer::NoMemory => self.refused = self.refused.saturating_add(1),
-            _ => {}
-        }
-    }
-
-    /// The counts of both, growths left out.
-    pub fn and(&self, other: &Counts) -> Counts {
-        Counts {
-            lines: self.lines.saturating_add(other.lines),
-            refused: self.refused.saturating_add(other.refused),
-            values: self.values.saturating_add(other.values),
-            contradictions: self.contradictions.saturating_add(other.contradictions),
-            reasons: self.reasons.saturating_add(other.reasons),
-            cells_in_conflict: self
-                .cells_in_conflict
-                .saturating_add(other.cells_in_conflict),
-            lines_in_conflict: self
-                .lines_in_conflict
-                .saturating_add(other.lines_in_conflict),
-            growths_before: 0,
-            growths: 0,
-        }
-    }
-}
-
 /// What a sequence comes to.
 #[derive(Drop)]
 pub enum Outcome {
@@ -156,18 +81,48 @@ fn reply_to<A: Allocator + Copy>(
     }
 }
 
-// A line, and its answer by rounds.
+// Whether the line is read as the command says it, if the command is a choose.
+fn reads_groups<A: Allocator + Copy>(
+    declaration: &Declaration<'_, A>,
+    line: &[u8],
+    command: &Option<Command>,
+) -> bool {
+    let Some(command) = command else {
+        return true;
+    };
+    let Action::Choose(alternatives) = &command.action else {
+        return true;
+    };
+    match read_command(line, declaration) {
+        Ok(Some(pw_sessions::Command::Choose { groups, .. })) => {
+            alternatives.said() == Some(groups)
+        }
+        _ => false,
+    }
+}
+
+// A line, its answer by rounds, and how often it may call procedures.
 #[derive(Drop)]
 struct Asked {
     number: u32,
     line: String,
     wanted: Answer,
+    most_calls: u128,
+}
+
+// What a line got: the answer, what the workbench shows then, and whether a growth was refused.
+#[derive(Drop)]
+struct Got {
+    answer: Answer,
+    shown: Shown,
+    is_met: bool,
 }
 
 // What the lines so far left and came to.
 #[derive(Drop)]
 struct State {
     entries: Entries,
+    users: Users,
     counts: Counts,
 }
 
@@ -186,6 +141,7 @@ impl State {
                 number,
                 line: String::new(alloc),
                 wanted: Answer::Blank,
+                most_calls: u128::MAX,
             }));
         };
         let Some(wanted) = self.entries.answer(registry, &command)? else {
@@ -196,41 +152,71 @@ impl State {
             number,
             line,
             wanted,
+            most_calls: self.users.most_calls(&self.entries, &command),
         }))
     }
 
-    // Takes in the given answer, if it is the one by rounds, or if the command was refused and
-    // `is_met`: a growth was refused. Else answers the difference.
+    // Takes in a command that was accepted and got this answer.
+    fn accept(
+        &mut self,
+        registry: &Registry,
+        number: u32,
+        command: &Command,
+        answer: &Answer,
+    ) -> Result<(), Fail> {
+        let before = self.entries.beliefs(command.user);
+        self.users.note_news(registry, &self.entries, command)?;
+        self.entries.accept(registry, number, command)?;
+        self.entries.accept_choice(command, answer);
+        self.users
+            .note_answer(&self.entries, command, answer, &before);
+        Ok(())
+    }
+
+    // Takes in what a line got, if it is the answer by rounds, or if the command was refused and a
+    // growth was. Else answers the difference.
     fn take_in(
         &mut self,
         registry: &Registry,
         command: Option<Command>,
         asked: Asked,
-        given: Answer,
-        is_met: bool,
+        got: Got,
     ) -> Result<Option<Difference>, Fail> {
         let Some(command) = command else {
-            return Ok(asked.unless(given));
+            return Ok(asked.unless(got, &self.entries));
         };
-        if given == Answer::NoMemory && is_met && !self.entries.takes_no_memory(&command) {
-            self.counts.count(&given);
-            return Ok(None);
+        self.counts.count(&got.answer);
+        if self.entries.settles(&command) {
+            self.counts.count_settling(self.users.of(command.user));
         }
-        self.counts.count(&given);
-        self.entries.accept(registry, asked.number, &command)?;
-        Ok(asked.unless(given))
+        if got.answer == Answer::NoMemory && got.is_met && !self.entries.takes_no_memory(&command) {
+            self.users.note_refusal(command.user);
+            return Ok(asked.unless_shown(&got.shown, &self.entries));
+        }
+        self.accept(registry, asked.number, &command, &asked.wanted)?;
+        Ok(asked.unless(got, &self.entries))
     }
 }
 
 impl Asked {
-    // The difference between the wanted answer and the given one, if there is one.
-    fn unless(self, given: Answer) -> Option<Difference> {
-        if given == self.wanted {
-            return None;
+    // The difference between the wanted answer and what the line got, if there is one.
+    fn unless(self, got: Got, entries: &Entries) -> Option<Difference> {
+        if got.answer == self.wanted {
+            return self.unless_shown(&got.shown, entries);
         }
         Some(Difference {
             line: self.number,
             wanted: self.wanted,
+            given: got.answer,
+        })
+    }
+
+    // The same of what the workbench shows beside its reply.
+    fn unless_shown(&self, shown: &Shown, entries: &Entries) -> Option<Difference> {
+        let (wanted, given) = shown.difference(entries, self.most_calls)?;
+        Some(Difference {
+            line: self.number,
+            wanted,
             given,
         })
     }
@@ -255,6 +241,7 @@ fn play_over<A: Allocator + Copy>(
     let registry = declaration.registry();
     let mut state = State {
         entries: Entries::new(task.alloc)?,
+        users: Users::new(),
         counts: Counts::none(),
     };
     state.counts.growths_before = task.watch.asked();
@@ -267,14 +254,25 @@ fn play_over<A: Allocator + Copy>(
         let Some(asked) = state.ask(registry, number, command)? else {
             return Ok(Outcome::TooLong);
         };
+        let line = asked.line.as_bytes();
         let before = task.watch.met();
-        let reply = reply_to(declaration, number, asked.line.as_bytes(), &mut workbench);
+        let reply = reply_to(declaration, number, line, &mut workbench);
         let is_met = task.watch.met() > before;
-        let given = Answer::given(task.alloc, &reply)?;
-        if let Some(difference) = state.take_in(registry, command, asked, given, is_met)? {
+        let answer = if reads_groups(declaration, line, &command) {
+            Answer::given(task.alloc, &reply)?
+        } else {
+            Answer::OtherGroups
+        };
+        number += 1;
+        let shown = shown_before(declaration, number, &workbench);
+        let got = Got {
+            answer,
+            shown,
+            is_met,
+        };
+        if let Some(difference) = state.take_in(registry, command, asked, got)? {
             return Ok(Outcome::Differs(difference));
         }
-        number += 1;
     }
     state.counts.growths = task.watch.asked();
     Ok(Outcome::Same(state.counts))

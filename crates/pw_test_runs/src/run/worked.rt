@@ -137,3 +137,45 @@ pub const COPYING: Session<'_> = Session {
         ("ann ask y", "1..2"),
     ],
 };
+
+// Three neighbours, each of one of two colors under a premise, and whether two have the same color.
+const TWO_COLORS: &str = "workbench 1
+user ann
+premise ra
+premise ga
+premise rb
+premise gb
+premise rc
+premise gc
+set color red green
+cell na color
+cell nb color
+cell nc color
+cell e1 bool
+cell e2 bool
+cell e3 bool
+";
+
+/// Neighbours have different colors: two can have that, three cannot.
+pub const COLORING: Session<'_> = Session {
+    declaration: TWO_COLORS,
+    rows: &[
+        ("ann tell na {red} under ra", "ok"),
+        ("ann tell na {green} under ga", "ok"),
+        ("ann tell nb {red} under rb", "ok"),
+        ("ann tell nb {green} under gb", "ok"),
+        ("ann attach equal na nb e1", "ok"),
+        ("ann tell e1 {false}", "ok"),
+        ("ann choose ra|ga rb|gb", "chose ra gb"),
+        ("ann beliefs", "believes ra gb rc gc"),
+        ("ann ask nb", "{green}"),
+        ("ann tell nc {red} under rc", "ok"),
+        ("ann tell nc {green} under gc", "ok"),
+        ("ann attach equal nb nc e2", "ok"),
+        ("ann tell e2 {false}", "ok"),
+        ("ann attach equal na nc e3", "ok"),
+        ("ann tell e3 {false}", "ok"),
+        ("ann choose ra|ga rb|gb rc|gc", "chose none"),
+        ("ann beliefs", "believes ra gb rc gc"),
+    ],
+};

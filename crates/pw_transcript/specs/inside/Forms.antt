@@ -1,12 +1,14 @@
 -- The sentence that the words of a line form, as a function.
 use Rattle.std.specs.Prelude.{◌≡◌, ℕ, ◌<◌, List, [], ◌∷◌, length, Option, None, Some, option_map}
-use Rattle.std.specs.Prelude.{codes, if◌then◌else◌}
+use Rattle.std.specs.Prelude.{codes, if◌then◌else◌, map}
+use Rattle.std.specs.List.{list_all}
 use Rattle.std.specs.Str.{bytes_eq}
 use Rattle.pw_transcript.specs.declared.sentence.Said.{Said as Spelled}
 use Rattle.pw_transcript.specs.declared.sentence.Said.TheVariants as spelled
 use Rattle.pw_transcript.specs.declared.sentence.Sentence.{Sentence as SentenceSpelled}
 use Rattle.pw_transcript.specs.Sentence.{Said, Tell, Attach, Believe, Doubt, Beliefs, Ask, Why}
-use Rattle.pw_transcript.specs.Sentence.{Conflicts, Other, Sentence}
+use Rattle.pw_transcript.specs.Sentence.{Choose, Conflicts, Other, Sentence}
+use Rattle.pw_transcript.specs.inside.Grouping.{is_group_word, names_in}
 
 -- the premises at the end of a tell or of an attach
 abbrev pub under_form : List (List ℕ) → Option (List (List ℕ))
@@ -60,6 +62,12 @@ abbrev pub cell_form : (List ℕ → Said) → List (List ℕ) → Option Said
 cell_form says (cell ∷ []) = Some (says cell)
 cell_form says rest = None
 
+-- the words after `choose`: at least one group, and no empty name in a group
+abbrev pub choose_form : List (List ℕ) → Option Said
+choose_form [] = None
+choose_form (word ∷ words) =
+    if list_all is_group_word (word ∷ words) then Some (Choose (map names_in (word ∷ words))) else None
+
 -- the command given by a word, and the words after it
 abbrev pub said_form : List ℕ → List (List ℕ) → Option Said
 said_form name rest =
@@ -71,7 +79,8 @@ said_form name rest =
     else (if bytes_eq name (codes "ask") then cell_form Ask rest
     else (if bytes_eq name (codes "why") then cell_form Why rest
     else (if bytes_eq name (codes "conflicts") then bare_form Conflicts rest
-    else Some Other)))))))
+    else (if bytes_eq name (codes "choose") then choose_form rest
+    else Some Other))))))))
 
 abbrev pub sentence_by : List ℕ → Said → Sentence
 sentence_by user said = record { user = user; said = said }
@@ -91,6 +100,7 @@ said_in spelled.Beliefs = Beliefs
 said_in (spelled.Ask cell) = Ask cell.now
 said_in (spelled.Why cell) = Why cell.now
 said_in spelled.Conflicts = Conflicts
+said_in (spelled.Choose groups) = Choose (map names_in groups)
 said_in spelled.Other = Other
 
 -- an attach has at least one cell

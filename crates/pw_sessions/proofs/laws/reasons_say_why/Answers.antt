@@ -1,5 +1,5 @@
 use Rattle.pw_reasons.proofs.ReasonLemmas.{reason_needed, reason_same}
-use Rattle.pw_sessions.specs.Answer.{cell_value_under}
+use Rattle.pw_sessions.specs.Values.{cell_value_under}
 use Rattle.pw_sessions.specs.Entries.{entries_before}
 use Rattle.pw_sessions.proofs.GrowingValues.{values_grow}
 use Rattle.pw_sessions.proofs.laws.reasons_say_why.Goals as goal

@@ -1,5 +1,5 @@
-use Rattle.pw_sessions.proofs.EntryLemmas.{answer-visible}
+use Rattle.pw_sessions.proofs.VisibleEntries.{answer-tried}
 use Rattle.pw_sessions.proofs.laws.unbelieved_entries_change_nothing.Goals as goal
 
 pub returns : goal.returns
-returns c = answer-visible
+returns c = answer-tried

@@ -45,6 +45,30 @@ const CONFLICTING: Session<'_> = Session {
     ],
 };
 
+const CHOOSING: Session<'_> = Session {
+    declaration: GENERAL,
+    rows: &[
+        ("ann attach copy x y", "ok"),
+        ("ann tell x 1 under a", "ok"),
+        ("ann tell y 2 under b", "ok"),
+        ("bob tell y 1..9 under mine", "ok"),
+        ("ann choose c a|b", "chose c a"),
+        ("ann choose c a|b", "chose c a"),
+    ],
+};
+
+const CHOOSING_NONE: Session<'_> = Session {
+    declaration: GENERAL,
+    rows: &[
+        ("ann attach copy x y", "ok"),
+        ("ann tell x 1 under a", "ok"),
+        ("ann tell x 2 under b", "ok"),
+        ("bob tell y 3 under mine", "ok"),
+        ("ann choose a|b c", "chose none"),
+        ("ann choose a|b c", "chose none"),
+    ],
+};
+
 // The replies to the session if the line after the first `before` lines runs out of memory.
 fn replies_without(alloc: Global, session: Session<'_>, before: usize) -> Result<String, Fail> {
     let mut rows = Vec::new(alloc);
@@ -95,6 +119,25 @@ fn a_why_is_answered_again(rt: HostRuntime) -> Result<(), Fail> {
 #[test]
 fn conflicts_are_listed_again(rt: HostRuntime) -> Result<(), Fail> {
     is_answered_again(&rt, CONFLICTING)
+}
+
+#[test]
+fn a_choice_is_made_again(rt: HostRuntime) -> Result<(), Fail> {
+    is_answered_again(&rt, CHOOSING)
+}
+
+#[test]
+fn none_is_chosen_again(rt: HostRuntime) -> Result<(), Fail> {
+    is_answered_again(&rt, CHOOSING_NONE)
+}
+
+// What a choice found to contradict itself is not tried again, so that this takes no memory.
+#[test]
+fn none_is_chosen_again_without_memory(rt: HostRuntime) -> Result<(), Fail> {
+    let before = CHOOSING_NONE.rows.len().saturating_sub(1);
+    let asked = growths_of(&rt, CHOOSING_NONE, CHOOSING_NONE.rows.len())?;
+    assert_eq!(rt; growths_of(&rt, CHOOSING_NONE, before)?, asked);
+    Ok(())
 }
 
 // The first growth that the attachment asks for is that of the store, before there is any inner

@@ -74,6 +74,8 @@ const AMONG_OTHERS: Session<'_> = Session {
         ("ann attach copy x y", "refused 11 memory"),
         ("ann ask y", "nothing"),
         ("bob beliefs", "believes a b c mine"),
+        ("ann choose a|c", "refused 11 memory"),
+        ("ann beliefs", "believes b c mine"),
     ],
 };
 

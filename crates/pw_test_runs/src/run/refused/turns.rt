@@ -4,7 +4,7 @@
 //! one that asked for it.
 
 use super::super::worked::{
-    APART, BUILDING, COPYING, DISAGREEING, SUMMING, SWITCHING, Session, TWICE,
+    APART, BUILDING, COLORING, COPYING, DISAGREEING, SUMMING, SWITCHING, Session, TWICE,
 };
 use super::{Outcome, counts_of, growths_of, run_with};
 use pw_testing::Refusing;
@@ -210,4 +210,14 @@ fn a_growth_for_an_inner_cell(rt: HostRuntime) -> Result<(), Fail> {
 #[test]
 fn a_growth_for_a_copy(rt: HostRuntime) -> Result<(), Fail> {
     each_is_refused_in_turn(&rt, COPYING, Others::None)
+}
+
+#[test]
+fn a_growth_for_neighbours_in_two_colors(rt: HostRuntime) -> Result<(), Fail> {
+    each_is_refused_in_turn(&rt, COLORING, Others::None)
+}
+
+#[test]
+fn all_later_growths_for_neighbours_in_two_colors(rt: HostRuntime) -> Result<(), Fail> {
+    each_is_refused_in_turn(&rt, COLORING, Others::Later)
 }

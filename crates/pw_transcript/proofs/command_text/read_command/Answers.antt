@@ -4,10 +4,15 @@ use Rattle.pw_transcript.specs.inside.Forms.{sentence_in}
 use Rattle.pw_transcript.specs.Reading.{SaysSentence}
 use Rattle.pw_sessions.specs.Reply.{Refused, Says}
 use Rattle.pw_sessions.specs.declared.reply.Refusal.TheVariants as refusal
+use Rattle.pw_info.specs.Words.{words_of}
+use Rattle.pw_transcript.proofs.SentenceLemmas.{form_has_cells}
 use Rattle.pw_transcript.proofs.ReadingLemmas.{one_reading, no_form, says_found, says_of_line, first_of_line}
 use Rattle.pw_transcript.proofs.command_text.read_command.Given as given
 use Rattle.pw_transcript.proofs.command_text.read_command.Goals as goal
 use Rattle.pw_transcript.proofs.command_text.read_command.Goals.{In-Some}
+
+pub resolve-requires : goal.resolve-requires
+resolve-requires g c = record { cells = form_has_cells (words_of c.args.line.now) (sentence_in c.in-Some.sentence) (sym c.in-Some.ensures) }
 
 pub returns-in_default-clause-reads : goal.returns-in_default-clause-reads
 returns-in_default-clause-reads g c = no_form (declared c.args.declaration.now) c.args.line.now (omega arith) (sym c.idles.ensures ∙ c.if-idles.false) (sym c.in_default.ensures)

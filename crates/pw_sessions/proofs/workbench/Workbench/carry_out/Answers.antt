@@ -8,6 +8,7 @@ use Rattle.pw_sessions.specs.Reply as reply
 use Rattle.pw_sessions.specs.Reply.{reply_by}
 use Rattle.pw_sessions.specs.declared.reply.Refusal.TheVariants as refusal
 use Rattle.pw_network.specs.Wiring.{wiring}
+use Rattle.pw_reasons.specs.Combinations.{groups_of}
 use Rattle.pw_sessions.specs.inside.Fields.{state}
 use Rattle.pw_sessions.specs.Carrying.{ShowsNoChange}
 use Rattle.pw_sessions.specs.Freshness.{CountsCalls, IsFresh, KeepsFresh}
@@ -16,6 +17,7 @@ use Rattle.pw_sessions.specs.Command.{IsDeclared}
 use Rattle.pw_sessions.specs.Workbench.{Workbench, IsCarriedOut, beliefs_in}
 use Rattle.pw_sessions.proofs.AskedCells.{well_left}
 use Rattle.pw_sessions.proofs.CarriedCommands.{carried_ask, carried_attach, carried_beliefs, carried_believe, carried_conflicts, carried_doubt, carried_keeping, carried_tell, carried_why, refused_attach, refused_tell}
+use Rattle.pw_sessions.proofs.ChosenLines.{carried_choose, chosen_calls, chosen_fresh, chosen_refused, groups_fit}
 use Rattle.pw_sessions.proofs.FreshLines.{asks_written, attached_seen, can_answer, kind_of_told, store_fits, written_asks}
 use Rattle.pw_sessions.proofs.UnchangedReplies.{no_change_as_before, no_change_itself, no_change_keeping, notes_none}
 use Rattle.pw_sessions.proofs.FreshUsers.{counts_none, fresh_believed, fresh_refused, fresh_told, keeps_fresh, question_counts, question_keeps}
@@ -363,3 +365,45 @@ returns-in-Why-clause-refused g c = λ refused.
 pub returns-in-Conflicts-clause-refused : goal.returns-in-Conflicts-clause-refused
 returns-in-Conflicts-clause-refused g c = λ refused.
     no_change_keeping (state c.args.self.now) c.in-Conflicts.user (state c.conflicts.new.self) c.args.self.now.network.well c.conflicts.ensures.grows
+
+-- ---- a choice
+
+pub choose-requires-clause-can : goal.choose-requires-clause-can
+choose-requires-clause-can g c =
+    let named = subst (λ (x : Command). IsDeclared (wiring c.args.self.now.network).declared (Says x)) c.in-Choose.is c.requires.can.declared in
+    can_answer (state c.args.self.now) c.requires.can c.in-Choose.user named.0
+
+pub choose-requires-clause-premises : goal.choose-requires-clause-premises
+choose-requires-clause-premises g c =
+    let named = subst (λ (x : Command). IsDeclared (wiring c.args.self.now.network).declared (Says x)) c.in-Choose.is c.requires.can.declared in
+    groups_fit (wiring c.args.self.now.network).declared c.args.self.now.network.well.declared (groups_of c.in-Choose.groups) named.1
+
+pub returns-in-Choose-clause-carried : goal.returns-in-Choose-clause-carried
+returns-in-Choose-clause-carried g c = λ d before left at named.
+    let bench : Workbench = state c.args.self.now in
+    let well = well_left d before bench c.args.self.now.network.well left in
+    let named' = subst (λ (x : Command). IsDeclared d (Says x)) c.in-Choose.is named in
+    subst (λ (x : Command). IsCarriedOut d before x (state c.choose.new.self) (reply_by c.choose.result)) (sym c.in-Choose.is)
+    (carried_choose d well before bench left c.in-Choose.user c.in-Choose.groups named'.0 (state c.choose.new.self) (reply_by c.choose.result)
+    c.choose.ensures.chosen)
+
+pub returns-in-Choose-clause-fresh : goal.returns-in-Choose-clause-fresh
+returns-in-Choose-clause-fresh g c =
+    subst (λ (x : Command). KeepsFresh (state c.args.self.now) x (state c.choose.new.self) (reply_by c.choose.result)) (sym c.in-Choose.is)
+    (keeps_fresh (state c.args.self.now) (state c.choose.new.self) (commands.Choose c.in-Choose.user c.in-Choose.groups) (reply_by c.choose.result)
+    (λ d before settles. settles)
+    (chosen_fresh (state c.args.self.now) c.in-Choose.user (groups_of c.in-Choose.groups) (state c.choose.new.self) (reply_by c.choose.result)
+    c.choose.ensures.chosen (commands.Choose c.in-Choose.user c.in-Choose.groups) (store_fits (state c.args.self.now) c.requires.can)))
+
+pub returns-in-Choose-clause-calls : goal.returns-in-Choose-clause-calls
+returns-in-Choose-clause-calls g c =
+    subst (λ (x : Command). CountsCalls (state c.args.self.now) x (state c.choose.new.self) (reply_by c.choose.result)) (sym c.in-Choose.is)
+    (counts_none (state c.args.self.now) (state c.choose.new.self) (commands.Choose c.in-Choose.user c.in-Choose.groups) (reply_by c.choose.result)
+    (λ d before settles. settles)
+    (chosen_calls (state c.args.self.now) c.in-Choose.user (groups_of c.in-Choose.groups) (state c.choose.new.self) (reply_by c.choose.result)
+    c.choose.ensures.chosen ∙ c.requires.calls))
+
+pub returns-in-Choose-clause-refused : goal.returns-in-Choose-clause-refused
+returns-in-Choose-clause-refused g c =
+    chosen_refused (state c.args.self.now) c.in-Choose.user (groups_of c.in-Choose.groups) (state c.choose.new.self) (reply_by c.choose.result)
+    c.choose.ensures.chosen c.args.self.now.network.well

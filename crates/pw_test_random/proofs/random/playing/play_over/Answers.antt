@@ -9,3 +9,6 @@ reply_to-reply-requires-clause-left g c = c.loop-place.invariant
 
 pub loop-place-preserved : goal.loop-place-preserved
 loop-place-preserved g c = c.reply_to-reply.ensures
+
+pub shown_before-shown-requires : goal.shown_before-shown-requires
+shown_before-shown-requires g c = record { left = c.reply_to-reply.ensures }
