@@ -22,7 +22,7 @@ length_of_pieces f long each (x ∷ xs) =
 taken_within : {X : Type 0} (xs : List X) (n : ℕ) → n ≤ length xs → length (take n xs) ≡ n
 taken_within xs n within = omega (arith, length-take n xs)
 
--- what stands at a place of them: the piece, and the place in it
+-- the item at a place of the pieces: the number of its piece, and its place there
 pub in_pieces : {X Y : Type 0} (f : X → List Y) (long : ℕ) → 0 < long → ((x : X) → length (f x) ≡ long) → (xs : List X)
     (place : ℕ) (e : X) (d : Y) → place < length xs * long →
     slice_index_or (flat_map f xs) place d ≡ slice_index_or (f (slice_index_or xs (place / long) e)) (place % long) d

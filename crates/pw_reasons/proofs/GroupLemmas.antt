@@ -53,7 +53,7 @@ pub once_more : (xs : List ℕ) (x : ℕ) → IsOnce xs → (Contains xs x → �
 once_more xs x once new = all_pairs_push (λ m n. m ≢ n) xs x once (λ k d within same.
     new (k, within, get_or_default xs k x d within ∙ same))
 
--- one that is there stands twice, whatever follows
+-- a premise that is in the list already is in it twice once it is added, and stays so with more
 pub twice : (xs : List ℕ) (x : ℕ) (ys : List ℕ) → Contains xs x → IsOnce (xs ++ x ∷ ys) → ⊥
 twice xs x ys (k, within, is) once =
     once k (length xs) x within (omega (arith, length-append xs (x ∷ ys)))

@@ -100,7 +100,7 @@ same_block number later block some from to =
 
 -- ---- a set that lies within premises
 
--- it has none of the last ones: so it lies within whatever these are
+-- a set that has none of the last premises stays within, if others take their place
 pub within_others : (part others : Premises) (front rest new : List ℕ) → All (λ premise. contains part premise ≡ false) rest →
     is_subset part (union others (from_list (front ++ rest))) ≡ true → is_subset part (union others (from_list (front ++ new))) ≡ true
 within_others part others front rest new apart within =

@@ -22,7 +22,7 @@ pub struct Groups {
     ghost rest: { FillsUp held count },
 }
 
-// Whether the premise stands in one of the groups.
+// Whether one of the groups has the premise.
 fn hold(groups: &[Group], premise: u16) -> bool
     ensures { IsTrue result ↔ Contains (all_premises groups.now) premise }
 {
