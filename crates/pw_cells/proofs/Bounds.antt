@@ -1,26 +1,28 @@
 -- The bound on the older facts: what it saves in a search and in a merge, and how it is kept.
-use Rattle.std.proofs.Common.{◌≡◌, ◌⊎◌, ℕ, zero, suc, ◌+◌, ◌-◌, ◌<◌, ◌≤◌, Bool, cond, List, [], ◌∷◌, ◌++◌, length, get_or, take, drop, reverse, inl, inr, refl, sym, ◌∙◌, ap, subst, arith, append_assoc, length-append}
+use Rattle.std.proofs.Common.{◌≡◌, ◌⊎◌, ℕ, true, zero, suc, ◌+◌, ◌-◌, ◌<◌, ◌≤◌, Bool, cond, List, [], ◌∷◌, ◌++◌, length, get_or, take, drop, reverse, inl, inr, sym, ◌∙◌, ap, subst, arith, append_assoc, length-append}
 use Rattle.std.specs.Prelude.{All, Contains, filter}
 use Rattle.std.specs.FinSet.{is_subset}
 use Rattle.std.proofs.lemmas.Bool.{cases_Bool, cases_lt}
 use Rattle.std.proofs.lemmas.List.{append-nil, reverse-append, take_all, take_more, take-append-drop, take-append-le}
-use Rattle.std.proofs.lemmas.List.Elements.{All-nil, All-cons, All-head, All-tail, All-push, All-weaker, All-contains, Contains-append_cases, Contains-append_left, Contains-append_right, filter-append}
+use Rattle.std.proofs.lemmas.List.Elements.{All-nil, All-cons, All-head, All-tail, All-push, All-weaker, All-contains, All-take, All-drop, Contains-append_cases, Contains-append_left, Contains-append_right, filter-append}
 use Rattle.pw_kinds.proofs.Order.{true_both}
 use Rattle.pw_info.specs.declared.kind.Kind.{Kind}
 use Rattle.pw_info.specs.declared.info.Info.{Info}
 use Rattle.pw_info.specs.Information.{kind_of, allows, meet, Implies}
-use Rattle.pw_info.proofs.Informations.{kind-meet, allows-meet}
+use Rattle.pw_info.proofs.Informations.{kind-meet, allows-meet, meet_implied}
 use Rattle.pw_premises.specs.Premises.{Premises}
+use Rattle.pw_premises.specs.PremiseSubsets.{is_subset_union_left}
 use Rattle.pw_facts.specs.declared.fact.Fact.{Fact}
-use Rattle.pw_facts.specs.Facts.{IsMerge, IsMergeOfAll, MergesTo, nothing_known, visible_facts}
-use Rattle.pw_facts.proofs.Merges.{merge_is_first, merge_rests, merge_shows}
+use Rattle.pw_facts.specs.Facts.{MergesTo, nothing_known, shows, visible_facts}
+use Rattle.pw_facts.proofs.Merges.{merge_rests, merge_shows}
+use Rattle.pw_facts.proofs.Shown.{kind-shows, says_shown, shows-supported}
 use Rattle.pw_cells.specs.declared.bound.Bound.{Bound}
 use Rattle.pw_cells.specs.inside.OneCell.{Bounds}
 use Rattle.pw_cells.specs.Cells.{IsSubsumedBy}
 use Rattle.pw_cells.specs.inside.OneCell.{AreOfKind, StandsFor}
 use Rattle.pw_cells.proofs.Together.{all_reversed, kind-shown_by, meet_first}
 use Rattle.pw_cells.proofs.MergesTogether.{merge_none, merge_hidden, merge_visible}
-use Rattle.pw_cells.proofs.LastFirst.{stands_reversed, visible_reversed}
+use Rattle.pw_cells.proofs.LastFirst.{stands_reversed}
 
 -- ---- a search
 
@@ -53,28 +55,31 @@ merges_on : (a b m : Fact) (xs ys : List Fact) → MergesTo a xs b → MergesTo 
 merges_on a b m [] ys first rest = subst (λ (x : Fact). MergesTo x ys m) first rest
 merges_on a b m (x ∷ xs) ys first rest = (first.0, first.1, merges_on first.0 b m xs ys first.2 rest)
 
--- what says more than each of some facts is unchanged when they are merged into it
-merges_nothing : (w : Premises) (i : Info) (m : Fact) (fs : List Fact) → AreOfKind (kind_of m.info) fs → All (λ f. Implies i f.info) fs
-    → Implies m.info i → (Implies i m.info → ⊥) → MergesTo m (visible_facts w fs) m
-merges_nothing w i m [] kinds says more less = refl
-merges_nothing w i m (f ∷ fs) kinds says more less =
-    let rest : MergesTo m (visible_facts w fs) m =
-    merges_nothing w i m fs (All-tail (λ x. kind_of x.info ≡ kind_of m.info) f fs kinds) (All-tail (λ x. Implies i x.info) f fs says) more less in
-    let below : Implies i f.info = All-head (λ x. Implies i x.info) f fs says in
-    let merge : IsMerge m f m = merge_is_first m f (sym (All-head (λ x. kind_of x.info ≡ kind_of m.info) f fs kinds)) (λ v h. below v (more v h))
-    (λ back. absurd (less (λ v h. back v (below v h)))) in
-    elim (cases_Bool (is_subset f.support w)) [
-      | inl e ↦ subst (λ b. MergesTo m (cond b (f ∷ visible_facts w fs) (visible_facts w fs)) m) (sym e) (m, merge, rest)
-      | inr e ↦ subst (λ b. MergesTo m (cond b (f ∷ visible_facts w fs) (visible_facts w fs)) m) (sym e) rest
-    ]
+-- what says as much as a fact, and that fact, show together what the first says
+shows_already : (a f : Fact) (u : Premises) → kind_of a.info ≡ kind_of f.info → Implies a.info f.info → is_subset a.support u ≡ true
+    → meet (shows u a) (shows u f) ≡ a.info
+shows_already a f u alike says within =
+    (λ j. meet (shows-supported u a within j) (shows u f))
+    ∙ meet_implied a.info (shows u f) (alike ∙ sym (kind-shows u f)) ((λ v e. says_shown u f v (says v e)))
 
--- so the older facts change nothing that says more than they do
-pub merges_older : (k : Kind) (w : Premises) (xs : List Fact) (b : Bound) (m : Fact) → kind_of m.info ≡ k → AreOfKind k (take b.count xs) → Bounds k xs b
-    → Implies m.info b.info → (Implies b.info m.info → ⊥) → MergesTo m (visible_facts w (reverse (take b.count xs))) m
-merges_older k w xs b m is kinds bounds more less =
-    merges_nothing w b.info m (reverse (take b.count xs))
-    (all_reversed (λ x. kind_of x.info ≡ kind_of m.info) (take b.count xs) (subst (λ (x : Kind). AreOfKind x (take b.count xs)) (sym is) kinds))
-    (all_reversed (λ x. Implies b.info x.info) (take b.count xs) bounds.says) more less
+-- what stands for some facts, and says as much as each of further ones, stands for all of them
+stands_longer : (k : Kind) (w : Premises) (before fs : List Fact) (a : Fact) → AreOfKind k fs → StandsFor k w before a → All (λ f. Implies a.info f.info) fs
+    → StandsFor k w (before ++ fs) a
+stands_longer k w before [] a kinds stands says = subst (λ (l : List Fact). StandsFor k w l a) (sym (append-nil before)) stands
+stands_longer k w before (f ∷ fs) a kinds stands says =
+    let is : kind_of f.info ≡ k = All-head (λ x. kind_of x.info ≡ k) f fs kinds in
+    let rest : AreOfKind k fs = All-tail (λ x. kind_of x.info ≡ k) f fs kinds in
+    let head : Implies a.info f.info = All-head (λ x. Implies a.info x.info) f fs says in
+    let tail : All (λ x. Implies a.info x.info) fs = All-tail (λ x. Implies a.info x.info) f fs says in
+    let alike : kind_of a.info ≡ kind_of f.info = ap kind_of stands.info ∙ kind-shown_by k w before ∙ sym is in
+    subst (λ (l : List Fact). StandsFor k w l a) (append_assoc before (f ∷ []) fs)
+    (elim (cases_Bool (is_subset f.support w)) [
+      | inl e ↦
+          stands_longer k w (before ++ f ∷ []) fs a rest
+          (merge_visible k w before f a a is stands e (sym (meet_implied a.info f.info alike head)) (λ u sub. shows_already a f u alike head sub)
+          (is_subset_union_left a.support f.support)) tail
+      | inr e ↦ stands_longer k w (before ++ f ∷ []) fs a rest (merge_hidden k w before f a is stands e) tail
+    ])
 
 -- a merge of further facts into what stands for some facts stands for all of them
 merges_stand : (k : Kind) (w : Premises) (before fs : List Fact) (a m : Fact) → AreOfKind k fs → StandsFor k w before a → MergesTo a (visible_facts w fs) m
@@ -111,15 +116,20 @@ merged_stands k w n fs a m kinds first rest =
     stands_reversed k w fs m kinds (merges_stand k w [] (reverse fs) (nothing_known k) m (all_reversed (λ f. kind_of f.info ≡ k) fs kinds) (merge_none k w)
     (merges_whole k w n fs a m first rest))
 
-pub merged_all : (k : Kind) (w : Premises) (n : ℕ) (fs : List Fact) (a m : Fact) → AreOfKind k fs
-    → MergesTo (nothing_known k) (visible_facts w (reverse (drop n fs))) a → MergesTo a (visible_facts w (reverse (take n fs))) m
-    → IsMergeOfAll (visible_facts w fs) m
-merged_all k w n fs a m kinds first rest =
-    let is : kind_of m.info ≡ k = ap kind_of (merged_stands k w n fs a m kinds first rest).info ∙ kind-shown_by k w fs in (
-      visible_facts w (reverse fs),
-      visible_reversed w fs,
-      subst (λ (x : Kind). MergesTo (nothing_known x) (visible_facts w (reverse fs)) m) (sym is) (merges_whole k w n fs a m first rest),
-    )
+-- the later facts are merged, and what they come to says as much as each of the older ones
+pub merged_later : (k : Kind) (w : Premises) (fs : List Fact) (b : Bound) (a : Fact) → AreOfKind k fs → Bounds k fs b
+    → MergesTo (nothing_known k) (visible_facts w (reverse (drop b.count fs))) a → Implies a.info b.info → StandsFor k w fs a
+merged_later k w fs b a kinds bounds first more =
+    let later : AreOfKind k (drop b.count fs) = All-drop (λ f. kind_of f.info ≡ k) b.count fs kinds in
+    let older : AreOfKind k (take b.count fs) = All-take (λ f. kind_of f.info ≡ k) b.count fs kinds in
+    let says : All (λ f. Implies a.info f.info) (take b.count fs) =
+    All-weaker (λ f. Implies b.info f.info) (λ f. Implies a.info f.info) (λ f below v h. below v (more v h)) (take b.count fs) bounds.says in
+    let stands : StandsFor k w (reverse (drop b.count fs)) a =
+    merges_stand k w [] (reverse (drop b.count fs)) (nothing_known k) a (all_reversed (λ f. kind_of f.info ≡ k) (drop b.count fs) later) (merge_none k w) first in
+    stands_reversed k w fs a kinds
+    (subst (λ (l : List Fact). StandsFor k w l a) (sym (reverse-append (take b.count fs) (drop b.count fs)) ∙ ap reverse (take-append-drop b.count fs))
+    (stands_longer k w (reverse (drop b.count fs)) (reverse (take b.count fs)) a (all_reversed (λ f. kind_of f.info ≡ k) (take b.count fs) older) stands
+    (all_reversed (λ f. Implies a.info f.info) (take b.count fs) says)))
 
 -- ---- how the bound is kept
 

@@ -2,7 +2,7 @@
 
 ghost use Rattle.std.specs.Prelude.{◌≡◌, false, IfOk, OnOk, OnErr};
 ghost use Rattle.pw_info.specs.Information.{kind_of, Implies};
-ghost use Rattle.pw_facts.specs.Facts.{IsLeastAbove, IsMergeOfAll, IsMostBelow, visible_facts};
+ghost use Rattle.pw_facts.specs.Facts.{IsLeastAbove, IsMostBelow};
 ghost use Rattle.pw_cells.specs.Cells.{new_cell, told_of, kept_of};
 ghost use Rattle.pw_cells.specs.Changes.{GainsFact, Assimilates, TellsNews};
 ghost use Rattle.pw_cells.specs.inside.OneCell.{StandsFor};
@@ -167,7 +167,6 @@ impl<A: Allocator + Copy> CellFacts<A> {
     // The merge of the kept facts, in a worldview, with premises that it rests on.
     pub(crate) fn kept(&mut self, worldview: &PremiseSet) -> Fact
         ensures same { self.new ≡ self.old }
-        ensures merge { IsMergeOfAll (visible_facts worldview.now self.old.kept) result }
         ensures stands { StandsFor self.old.kind worldview.now self.old.kept result }
         ensures kind { kind_of result.info ≡ self.old.kind }
         ensures told { Implies result.info (told_of self.old worldview.now) }

@@ -5,7 +5,6 @@ ghost use Rattle.std.specs.Prelude.{IfOk, vec_len, vec_capacity, OnOk, OnErr};
 ghost use Rattle.std.specs.FinSet.{is_subset};
 ghost use Rattle.pw_info.specs.Information.{kind_of, Implies};
 ghost use Rattle.pw_premises.specs.Premises.{Premises};
-ghost use Rattle.pw_facts.specs.Facts.{IsMergeOfAll, visible_facts};
 ghost use Rattle.pw_facts.specs.Facts.{IsLeastAbove, IsMostBelow};
 ghost use Rattle.pw_cells.specs.Changes.{GainsTold, GainsKept, TellsNews, AssimilatesAt};
 ghost use Rattle.pw_cells.specs.Changes.{LeavesOthers};
@@ -199,8 +198,6 @@ impl<A: Allocator + Copy> CellStore<A> {
     pub fn kept(&mut self, cell: u32, worldview: &PremiseSet) -> Fact
         requires { cell < length self.old.cells }
         ensures unchanged { self.new ≡ self.old }
-        // The result is the merge of the visible kept facts, one after another in some order.
-        ensures merge { IsMergeOfAll (visible_facts worldview.now (kept_at self.old cell)) result }
         ensures info { result.info ≡ kept_in self.old cell worldview.now }
         ensures kind { kind_of result.info ≡ kind_in_store self.old cell }
         ensures within { is_subset result.support worldview.now ≡ true }

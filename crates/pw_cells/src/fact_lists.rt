@@ -4,7 +4,7 @@ ghost use Rattle.std.specs.Prelude.{◌≡◌, ◌+◌, ◌<◌, ◌≤◌, ◌�
 ghost use Rattle.std.specs.Prelude.{if◌then◌else◌};
 ghost use Rattle.std.specs.Prelude.{length, reverse, vec_len, vec_capacity, IsTrue, IfOk, OnOk, OnErr};
 ghost use Rattle.pw_info.specs.Information.{kind_of, Implies};
-ghost use Rattle.pw_facts.specs.Facts.{IsMerge, IsMergeOfAll, MergesTo, visible_facts};
+ghost use Rattle.pw_facts.specs.Facts.{IsMerge, MergesTo, visible_facts};
 ghost use Rattle.pw_facts.specs.Facts.{IsLeastAbove, IsMostBelow};
 ghost use Rattle.pw_cells.specs.inside.OneCell.{Bounds};
 ghost use Rattle.pw_cells.specs.Cells.{new_cell, told_of, kept_of, IsSubsumedBy};
@@ -139,7 +139,6 @@ impl<S: Support, A: Allocator + Copy> FactLists<S, A> {
     // are assimilated first.
     pub(crate) fn kept(&mut self, worldview: &PremiseSet) -> Held<S>
         ensures same { self.new ≡ self.old }
-        ensures merge { IsMergeOfAll (visible_facts worldview.now self.old.kept) result }
         ensures stands { StandsFor self.old.kind worldview.now self.old.kept result }
         ensures kind { kind_of result.info ≡ self.old.kind }
         ensures told { Implies result.info (told_of self.old worldview.now) }
@@ -359,7 +358,7 @@ fn append<S: Support, A: Allocator>(facts: &mut Vec<Held<S>, A>, fact: &Held<S>)
     let _ = facts.push(*fact);
 }
 
-// The merge of the facts that rest only on premises of the worldview.
+// A fact that stands for those that rest only on premises of the worldview: it says their merge.
 fn merged<S: Support>(
     kind: Kind,
     facts: &[Held<S>],
@@ -368,14 +367,13 @@ fn merged<S: Support>(
 ) -> Held<S>
     requires kinds { AreOfKind kind facts.now }
     requires bounds { Bounds kind facts.now bound.now }
-    ensures stands { StandsFor kind worldview.now facts.now result }
-    ensures merge { IsMergeOfAll (visible_facts worldview.now facts.now) result }
+    ensures { StandsFor kind worldview.now facts.now result }
 {
     let (older, newer) = facts.split_at(bound.count);
     let mut merge = Held::nothing(kind);
     merge_all_in(&mut merge, newer, worldview);
-    // Mostly the merge says more than each of the older facts. Then none of them changes it.
-    if merge.info().implies(&bound.info) && !bound.info.implies(merge.info()) {
+    // Mostly the merge says as much as each of the older facts. Then it stands for them too.
+    if merge.info().implies(&bound.info) {
         return merge;
     }
     merge_all_in(&mut merge, older, worldview);

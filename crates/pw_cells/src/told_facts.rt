@@ -1,7 +1,7 @@
 //! The facts told about a cell, one for each support, in the order in which the supports came.
 
 ghost use Rattle.std.specs.Prelude.{◌≡◌, [], map, position, IfOk, OnOk, OnErr};
-ghost use Rattle.pw_info.specs.Information.{kind_of};
+ghost use Rattle.pw_info.specs.Information.{kind_of, meet};
 ghost use Rattle.pw_cells.specs.Cells.{shown_by};
 ghost use Rattle.pw_cells.specs.inside.OneCell.{AreOfKind, ShowsMore, place_of_support};
 
@@ -103,7 +103,7 @@ impl<S: Support, A: Allocator + Copy> ToldFacts<S, A> {
         let mut info = Info::nothing(kind);
         for place in 0..supports.len() {
             if supports[place].is_within(worldview) {
-                info = info.meet(&infos[place]);
+                narrow(&mut info, &infos[place]);
             }
         }
         info
@@ -120,6 +120,18 @@ impl<S: Support, A: Allocator + Copy> ToldFacts<S, A> {
             wide.insert(supports[place].widen(), infos[place])?;
         }
         Ok(ToldFacts { infos: wide })
+    }
+}
+
+// Merges one more information of the same kind into what is merged so far. Mostly the merge says as
+// much already. Then it is unchanged, and nothing is copied.
+#[inline(always)]
+fn narrow(merge: &mut Info, info: &Info)
+    requires { kind_of merge.old ≡ kind_of info.now }
+    ensures { merge.new ≡ meet merge.old info.now }
+{
+    if !merge.implies(info) {
+        *merge = merge.meet(info);
     }
 }
 

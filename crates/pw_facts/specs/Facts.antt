@@ -1,6 +1,6 @@
 -- What a supported value shows in a worldview, which one subsumes which, what the merge of two
 -- rests on, and how much a larger or a smaller worldview knows.
-use Rattle.std.specs.Prelude.{◌≡◌, ◌≢◌, true, if◌then◌else◌, List, [], ◌∷◌, filter, IsPermutation}
+use Rattle.std.specs.Prelude.{◌≡◌, ◌≢◌, true, if◌then◌else◌, List, [], ◌∷◌, filter}
 use Rattle.std.specs.FinSet.{empty, union, is_subset}
 use Rattle.pw_info.specs.declared.kind.Kind.{Kind}
 use Rattle.pw_info.specs.declared.info.Info.{Info}
@@ -45,11 +45,6 @@ nothing_known kind = record { info = nothing kind; support = empty }
 abbrev pub MergesTo : Fact → List Fact → Fact → Type 0
 MergesTo first [] last = last ≡ first
 MergesTo first (f ∷ fs) last = (merge : Fact) × IsMerge first f merge × MergesTo merge fs last
-
--- the merge of these facts, one after another in some order, from nothing on
-abbrev pub IsMergeOfAll : List Fact → Fact → Type 0
-IsMergeOfAll facts merge = (order : List Fact) × IsPermutation facts order
-    × MergesTo (nothing_known (kind_of merge.info)) order merge
 
 -- the facts whose premises are all in the worldview
 abbrev pub visible_facts : Premises → List Fact → List Fact

@@ -1,6 +1,5 @@
 use Rattle.std.proofs.Common.{◌≡◌, length-set, subst, ap, arith}
 use Rattle.pw_info.specs.Information.{kind_of, Implies}
-use Rattle.pw_facts.specs.Facts.{IsMergeOfAll, visible_facts}
 use Rattle.pw_facts.specs.Facts.{IsLeastAbove, IsMostBelow}
 use Rattle.pw_cells.specs.Cells.{Cell, cell_at, told_of, kept_of, ArePremisesOf}
 use Rattle.pw_cells.proofs.RightAnswers.{slots_told_the_same}
@@ -43,6 +42,3 @@ returns-clause-smaller g c = subst (λ (cell : Cell). IsMostBelow c.args.worldvi
 
 pub returns-clause-rests : goal.returns-clause-rests
 returns-clause-rests g c = subst (λ (cell : Cell). ArePremisesOf cell.kept c.kept.result.support) (read g c) c.kept.ensures.stands.rests
-
-pub returns-clause-merge : goal.returns-clause-merge
-returns-clause-merge g c = subst (λ (cell : Cell). IsMergeOfAll (visible_facts c.args.worldview.now cell.kept) c.kept.result) (read g c) c.kept.ensures.merge

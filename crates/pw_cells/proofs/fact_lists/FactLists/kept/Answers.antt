@@ -11,14 +11,14 @@ use Rattle.pw_cells.proofs.fact_lists.FactLists.kept.Goals as goal
 
 pub returns-clause-kind : goal.returns-clause-kind
 returns-clause-kind g c =
-    ap kind_of c.merged.ensures.stands.info ∙ kind-shown_by c.self.inside.kind c.args.worldview.now c.as_slice.result.now ∙ ap (λ (cell : Cell). cell.kind) c.self.view_is
+    ap kind_of c.merged.ensures.info ∙ kind-shown_by c.self.inside.kind c.args.worldview.now c.as_slice.result.now ∙ ap (λ (cell : Cell). cell.kind) c.self.view_is
 
 pub returns-clause-larger : goal.returns-clause-larger
-returns-clause-larger g c = λ w sub. rw (← c.merged.ensures.stands.same, c.as_slice.ensures.value, c.assimilate_late.ensures.kept, ← c.self.view_is)
+returns-clause-larger g c = λ w sub. rw (← c.merged.ensures.same, c.as_slice.ensures.value, c.assimilate_late.ensures.kept, ← c.self.view_is)
     (larger_shown c.self.inside.kind c.merged.result.support w (all_assimilated c.self.inside.kept.items c.self.inside.late.items) sub)
 
 pub returns-clause-smaller : goal.returns-clause-smaller
-returns-clause-smaller g c = λ w sub. rw (c.merged.ensures.stands.info, c.as_slice.ensures.value, c.assimilate_late.ensures.kept, ← c.self.view_is)
+returns-clause-smaller g c = λ w sub. rw (c.merged.ensures.info, c.as_slice.ensures.value, c.assimilate_late.ensures.kept, ← c.self.view_is)
     (larger_shown c.self.inside.kind w c.args.worldview.now (all_assimilated c.self.inside.kept.items c.self.inside.late.items) sub)
 
 pub merged-requires-clause-kinds : goal.merged-requires-clause-kinds

@@ -8,8 +8,8 @@ use Rattle.pw_cells.proofs.ToldFacts.{fact_at, shown_next}
 use Rattle.pw_cells.proofs.told_facts.ToldFacts.shown.Goals as goal
 use Rattle.pw_cells.proofs.told_facts.ToldFacts.shown.Goals.{then-is_within, else-is_within}
 
-pub meet-info-requires : goal.meet-info-requires
-meet-info-requires g c =
+pub narrow-requires : goal.narrow-requires
+narrow-requires g c =
     let told = c.args.self.now in
     let i = c.loop-place.place in
     let support = c.index-supports-place.result in
@@ -33,7 +33,7 @@ loop-place-preserved g c =
       | then-is_within w ↦
           let fact : Fact = record { info = w.index-infos-place.result; support = g.S.Support.premises support } in
           let at = fact_at _ _ told _ _ i support fact.info c.self.view_is supports infos c.loop-place-test.true c.index-supports-place.is w.index-infos-place.is in
-          w.info-is ∙ w.meet-info.ensures.exact
+          w.info-is ∙ w.narrow.ensures
           ∙ (λ j. meet (c.loop-place.invariant j) (sym (shows-supported worldview fact (sym c.is_within.ensures ∙ w.if-is_within.true)) j))
           ∙ sym (shown_next kind worldview told i fact at)
       | else-is_within w ↦
