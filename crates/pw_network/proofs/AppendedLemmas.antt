@@ -1,10 +1,10 @@
 -- An instance that is appended to the lists of cells, one after another, and once to each; or to that of one cell.
-use Rattle.std.proofs.Common.{◌≡◌, ℕ, ◌+◌, ◌<◌, inl, inr, Bool, true, false, ◌||◌, cond, List, [], ◌∷◌, ◌++◌, length, take, get_or, eqb, refl, sym, ap, ◌∙◌, append_assoc, append-nil, ◌≤◌, arith}
+use Rattle.std.proofs.Common.{◌≡◌, ℕ, ◌+◌, ◌<◌, inl, inr, Bool, true, false, ◌||◌, cond, List, [], ◌∷◌, ◌++◌, length, take, get_or, eqb, refl, sym, ap, ◌∙◌, append_assoc}
 use Rattle.std.specs.List.{list_any}
 use Rattle.std.proofs.lemmas.Bool.Decides.{eqb_tells}
 use Rattle.std.proofs.lemmas.List.Folds.{list_any_more}
 use Rattle.pw_network.specs.inside.Lists.{AddsNumberTo, Listed, number_for, numbers_for}
-use Rattle.pw_network.proofs.LinkLemmas.{number_other, numbers_push}
+use Rattle.pw_network.proofs.LinkLemmas.{numbers_push}
 
 -- the number, where this is so
 abbrev once : ℕ → Bool → List ℕ
@@ -47,9 +47,3 @@ pub added_one : (cells cell number : ℕ) (old new : List Listed) → new ≡ ol
 added_one cells cell number old new pushed c within =
     let x : Listed = record { cell = cell; number = number } in
     ap (numbers_for c) pushed ∙ numbers_push c old x
-
--- a cell past the last has no list
-pub added_none : (cells cell number : ℕ) (old : List Listed) → cells ≤ cell → AddsNumberTo cells cell number old old
-added_none cells cell number old past c within =
-    let x : Listed = record { cell = cell; number = number } in
-    sym (ap (λ l. numbers_for c old ++ l) (number_other c x (λ same. omega (arith, same, past, within))) ∙ append-nil (numbers_for c old))

@@ -1,6 +1,6 @@
-use Rattle.std.proofs.Common.{map, refl, arith}
+use Rattle.std.proofs.Common.{map}
 use Rattle.pw_network.specs.inside.Lists.{listed_by}
-use Rattle.pw_network.proofs.AppendedLemmas.{added_none, added_one}
+use Rattle.pw_network.proofs.AppendedLemmas.{added_one}
 use Rattle.pw_network.proofs.instance_lists.InstanceLists.append_to.Goals as goal
 
 pub returns-then-cell-len-clause-lists : goal.returns-then-cell-len-clause-lists
