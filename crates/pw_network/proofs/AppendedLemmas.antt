@@ -1,9 +1,9 @@
--- A reader that is appended to the lists of cells, one after another, and once to each.
+-- An instance that is appended to the lists of cells, one after another, and once to each; or to that of one cell.
 use Rattle.std.proofs.Common.{◌≡◌, ℕ, ◌+◌, ◌<◌, inl, inr, Bool, true, false, ◌||◌, cond, List, [], ◌∷◌, ◌++◌, length, take, get_or, eqb, refl, sym, ap, ◌∙◌, append_assoc}
 use Rattle.std.specs.List.{list_any}
 use Rattle.std.proofs.lemmas.Bool.Decides.{eqb_tells}
 use Rattle.std.proofs.lemmas.List.Folds.{list_any_more}
-use Rattle.pw_network.specs.Readers.{Reading, number_for, reader_numbers}
+use Rattle.pw_network.specs.inside.Lists.{AddsNumberTo, Listed, number_for, numbers_for}
 use Rattle.pw_network.proofs.LinkLemmas.{numbers_push}
 
 -- the number, where this is so
@@ -15,9 +15,9 @@ once_new number true true new = absurd (let e = new refl in cc)
 once_new number true false new = refl
 once_new number false t new = refl
 
-module _ (old now : List Reading) (number : ℕ) (cells : List ℕ) (place cell : ℕ) (known : Bool) (there : place < length cells) (read : get_or cells place 0 ≡ cell)
+module _ (old now : List Listed) (number : ℕ) (cells : List ℕ) (place cell : ℕ) (known : Bool) (there : place < length cells) (read : get_or cells place 0 ≡ cell)
     (tells : known ≡ list_any (eqb cell) (take place cells))
-    (so_far : (c : ℕ) → reader_numbers c now ≡ reader_numbers c old ++ once number (list_any (eqb c) (take place cells))) where
+    (so_far : (c : ℕ) → numbers_for c now ≡ numbers_for c old ++ once number (list_any (eqb c) (take place cells))) where
   one_more : (c : ℕ) → list_any (eqb c) (take (place + 1) cells) ≡ (list_any (eqb c) (take place cells) || eqb c cell)
   one_more c = list_any_more (eqb c) cells place 0 there ∙ ap (λ n. list_any (eqb c) (take place cells) || eqb c n) read
 
@@ -29,13 +29,21 @@ module _ (old now : List Reading) (number : ℕ) (cells : List ℕ) (place cell 
       ]
 
   -- a cell that was not named before
-  pub appended_now : (after : List Reading) → known ≡ false → after ≡ now ++ record { cell = cell; number = number } ∷ [] →
-      (c : ℕ) → reader_numbers c after ≡ reader_numbers c old ++ once number (list_any (eqb c) (take (place + 1) cells))
+  pub appended_now : (after : List Listed) → known ≡ false → after ≡ now ++ record { cell = cell; number = number } ∷ [] →
+      (c : ℕ) → numbers_for c after ≡ numbers_for c old ++ once number (list_any (eqb c) (take (place + 1) cells))
   appended_now after is pushed c =
-      let x : Reading = record { cell = cell; number = number } in
-      ap (reader_numbers c) pushed ∙ numbers_push c now x
+      let x : Listed = record { cell = cell; number = number } in
+      ap (numbers_for c) pushed ∙ numbers_push c now x
       ∙ ap (λ l. l ++ number_for c x) (so_far c)
-      ∙ append_assoc (reader_numbers c old) (once number (list_any (eqb c) (take place cells))) (once number (eqb c cell))
-      ∙ ap (λ l. reader_numbers c old ++ l)
+      ∙ append_assoc (numbers_for c old) (once number (list_any (eqb c) (take place cells))) (once number (eqb c cell))
+      ∙ ap (λ l. numbers_for c old ++ l)
       (once_new number (list_any (eqb c) (take place cells)) (eqb c cell) (λ same. same_cell c same ∙ is)
       ∙ ap (once number) (sym (one_more c)))
+
+-- ---- one cell
+
+-- what is pushed for a cell is added to the list of that cell
+pub added_one : (cells cell number : ℕ) (old new : List Listed) → new ≡ old ++ record { cell = cell; number = number } ∷ [] → AddsNumberTo cells cell number old new
+added_one cells cell number old new pushed c within =
+    let x : Listed = record { cell = cell; number = number } in
+    ap (numbers_for c) pushed ∙ numbers_push c old x

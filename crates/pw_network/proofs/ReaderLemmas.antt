@@ -1,4 +1,4 @@
--- The readers of a cell, with one more instance.
+-- The readers and the writers of a cell, with one more instance.
 use Rattle.std.proofs.Common.{◌≡◌, ℕ, zero, suc, ◌+◌, ◌-◌, ◌<◌, Bool, true, false, cond, List, [], ◌∷◌, ◌++◌, length, map, take, get_or, eqb, refl, sym, ap, subst, ◌∙◌, arith}
 use Rattle.std.specs.Prelude.{All, filter}
 use Rattle.std.specs.List.{list_any, range_with_len}
@@ -9,8 +9,9 @@ use Rattle.pw_decl.specs.declared.flat_call.FlatCall.{FlatCall}
 use Rattle.pw_network.specs.declared.instance.Instance.{Instance as InstanceType}
 use Rattle.pw_network.specs.inside.Held.{attachment}
 use Rattle.pw_network.specs.Network.{Attached}
-use Rattle.pw_network.specs.Readers.{Reading, reader_numbers}
-use Rattle.pw_network.specs.Readers.{AreReaders, reads, readers_from}
+use Rattle.pw_network.specs.inside.Lists.{Listed, numbers_for}
+use Rattle.pw_network.specs.Readers.{AreReaders, numbers_from, reads}
+use Rattle.pw_network.specs.Writers.{AreWriters, writes}
 
 -- ---- numbers that pass a test, of those in a row
 
@@ -36,35 +37,53 @@ filter_alike p q a (suc n) alike =
 
 -- ---- one more instance
 
-readers_push : (attached : List Attached) (x : Attached) (cell number : ℕ) → number ≡ length attached →
-    readers_from (attached ++ x ∷ []) cell 0 ≡ readers_from attached cell 0 ++ cond (reads cell x) (number ∷ []) []
-readers_push attached x cell number is =
-    let before : ℕ → Bool = λ k. get_or (map (reads cell) attached) k false in
-    let after : ℕ → Bool = λ k. get_or (map (reads cell) (attached ++ x ∷ [])) k false in
-    let many = length-map attached (reads cell) in
+numbers_more : (test : Attached → Bool) (attached : List Attached) (x : Attached) (number : ℕ) → number ≡ length attached →
+    numbers_from test (attached ++ x ∷ []) 0 ≡ numbers_from test attached 0 ++ cond (test x) (number ∷ []) []
+numbers_more test attached x number is =
+    let before : ℕ → Bool = λ k. get_or (map test attached) k false in
+    let after : ℕ → Bool = λ k. get_or (map test (attached ++ x ∷ [])) k false in
+    let many = length-map attached test in
     let more : length (attached ++ x ∷ []) - 0 ≡ suc number = let l = length_push attached x in omega arith in
     let as_many : number ≡ length attached - 0 = omega arith in
     let old : (k : ℕ) → k < 0 + number → after k ≡ before k = λ k within.
-    ap (λ l. get_or l k false) (map_push (reads cell) attached x)
-    ∙ get_or_append_left (map (reads cell) attached) (reads cell x ∷ []) false k (omega arith) in
-    let new : after number ≡ reads cell x =
-    ap (λ l. get_or l number false) (map_push (reads cell) attached x)
-    ∙ get_or_push (map (reads cell) attached) (reads cell x) false number (omega arith) in
+    ap (λ l. get_or l k false) (map_push test attached x)
+    ∙ get_or_append_left (map test attached) (test x ∷ []) false k (omega arith) in
+    let new : after number ≡ test x =
+    ap (λ l. get_or l number false) (map_push test attached x)
+    ∙ get_or_push (map test attached) (test x) false number (omega arith) in
     ap (λ n. filter after (range_with_len 0 n)) more
     ∙ filter_more after 0 number number (omega arith)
     ∙ (λ i. filter_alike after before 0 number old i ++ cond (new i) (number ∷ []) [])
-    ∙ ap (λ n. filter before (range_with_len 0 n) ++ cond (reads cell x) (number ∷ []) []) as_many
+    ∙ ap (λ n. filter before (range_with_len 0 n) ++ cond (test x) (number ∷ []) []) as_many
+
+-- the same, of what the code holds
+numbers_after : (test : Attached → Bool) (instances after : List InstanceType) (x : InstanceType) (number : ℕ) →
+    number ≡ length instances → after ≡ instances ++ x ∷ [] →
+    numbers_from test (map attachment after) 0 ≡ numbers_from test (map attachment instances) 0 ++ cond (test (attachment x)) (number ∷ []) []
+numbers_after test instances after x number numbered pushed =
+    ap (λ l. numbers_from test l 0) (ap (map attachment) pushed ∙ map_push attachment instances x)
+    ∙ numbers_more test (map attachment instances) (attachment x) number (numbered ∙ sym (length-map instances attachment))
 
 -- lists that an instance is appended to, as its inputs say, list the readers with it
-pub readers_more : (old new : List Reading) (instances after : List InstanceType) (x : InstanceType) (number : ℕ) (inputs : List ℕ) →
+pub readers_more : (old new : List Listed) (instances after : List InstanceType) (x : InstanceType) (number : ℕ) (inputs : List ℕ) →
     number ≡ length instances → inputs ≡ x.inputs.items → after ≡ instances ++ x ∷ [] →
-    ((cell : ℕ) → reader_numbers cell new ≡ reader_numbers cell old ++ cond (list_any (eqb cell) inputs) (number ∷ []) []) →
+    ((cell : ℕ) → numbers_for cell new ≡ numbers_for cell old ++ cond (list_any (eqb cell) inputs) (number ∷ []) []) →
     AreReaders old (map attachment instances) → AreReaders new (map attachment after)
 readers_more old new instances after x number inputs numbered are_inputs pushed appended readers cell =
     appended cell
     ∙ (λ i. readers cell i ++ cond (list_any (eqb cell) (are_inputs i)) (number ∷ []) [])
-    ∙ sym (ap (λ l. readers_from l cell 0) (ap (map attachment) pushed ∙ map_push attachment instances x)
-    ∙ readers_push (map attachment instances) (attachment x) cell number (numbered ∙ sym (length-map instances attachment)))
+    ∙ sym (numbers_after (reads cell) instances after x number numbered pushed)
+
+-- lists that an instance is appended to, as its output says, list the writers with it
+pub writers_more : (cells same : ℕ) (old new : List Listed) (instances after : List InstanceType) (x : InstanceType) (number : ℕ) →
+    number ≡ length instances → same ≡ cells → after ≡ instances ++ x ∷ [] →
+    ((cell : ℕ) → cell < cells → numbers_for cell new ≡ numbers_for cell old ++ cond (eqb cell x.output) (number ∷ []) []) →
+    AreWriters cells old (map attachment instances) → AreWriters same new (map attachment after)
+writers_more cells same old new instances after x number numbered many pushed appended writers cell within =
+    let there : cell < cells = omega (arith, within, many) in
+    appended cell there
+    ∙ (λ i. writers cell there i ++ cond (eqb cell x.output) (number ∷ []) [])
+    ∙ sym (numbers_after (writes cell) instances after x number numbered pushed)
 
 -- ---- the cells that are read are there
 

@@ -1,4 +1,5 @@
 pub mod Network
 pub mod Readers
 pub mod Wiring
+pub mod Writers
 pub mod inside

@@ -1,2 +1,3 @@
 -- What only the steps of the code and their proofs speak of.
 pub mod Held
+pub mod Lists

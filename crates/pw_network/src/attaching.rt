@@ -5,40 +5,52 @@ ghost use Rattle.pw_procs.specs.Registry.{cells_of};
 ghost use Rattle.pw_decl.specs.Expansion.{at_place};
 ghost use Rattle.pw_network.specs.inside.Held.{attachment, inner_of};
 ghost use Rattle.pw_network.specs.Network.{inner_cells_from};
-ghost use Rattle.pw_network.specs.Readers.{link_reading};
 ghost use Rattle.pw_network.specs.Readers.{AreReaders};
+ghost use Rattle.pw_network.specs.Writers.{AreWriters};
 ghost use Rattle.pw_network.specs.inside.Held.{attached_on};
+ghost use Rattle.pw_network.specs.inside.Lists.{listed_by};
 
 use crate::instance::Instance;
+use crate::instance_lists::InstanceLists;
 use crate::network::InnerCell;
-use crate::reader_lists::ReaderLists;
 use pw_decl::{FlatCall, place_cells};
 use pw_info::Kind;
 use pw_premises::PremiseSet;
 use std::alloc::{AllocError, Allocator, Global};
 
-// Appends an instance, and its number to the lists of the cells that it reads.
+// Appends an instance, and its number to the lists of the cells that it reads, and to that of the
+// cell that it writes, if that cell has a list of writers.
 pub(crate) fn append_instance<A: Allocator + Copy>(
     instances: &mut Vec<Instance, A>,
-    lists: &mut ReaderLists<A>,
+    readers: &mut InstanceLists<A>,
+    writers: &mut InstanceLists<A>,
     instance: Instance,
 )
     requires room { vec_len instances.old < vec_capacity instances.old }
-    requires list_room { vec_len lists.old.links + 8 ≤ vec_capacity lists.old.links }
+    requires reader_room { vec_len readers.old.links + 8 ≤ vec_capacity readers.old.links }
+    requires writer_room { vec_len writers.old.links < vec_capacity writers.old.links }
     requires few { length instance.inputs.items ≤ 8 }
-    requires here { All (λ cell. cell < vec_len lists.old.ends) instance.inputs.items }
-    requires readers { AreReaders (map link_reading lists.old.links.items)
+    requires here { All (λ cell. cell < vec_len readers.old.ends) instance.inputs.items }
+    requires readers { AreReaders (map listed_by readers.old.links.items)
         (map attachment instances.old.items) }
+    requires writers { AreWriters (vec_len writers.old.ends) (map listed_by
+        writers.old.links.items) (map attachment instances.old.items) }
     ensures items { instances.new.items ≡ instances.old.items ++ instance ∷ [] }
-    ensures readers { AreReaders (map link_reading lists.new.links.items)
+    ensures readers { AreReaders (map listed_by readers.new.links.items)
         (map attachment instances.new.items) }
-    ensures cells { vec_len lists.new.ends ≡ vec_len lists.old.ends }
-    ensures links { vec_len lists.new.links ≤ vec_len lists.old.links + 8 }
-    ensures list_room { vec_capacity lists.old.links ≤ vec_capacity lists.new.links }
+    ensures writers { AreWriters (vec_len writers.new.ends) (map listed_by
+        writers.new.links.items) (map attachment instances.new.items) }
+    ensures cells { vec_len readers.new.ends ≡ vec_len readers.old.ends }
+    ensures writer_cells { vec_len writers.new.ends ≡ vec_len writers.old.ends }
+    ensures reader_links { vec_len readers.new.links ≤ vec_len readers.old.links + 8 }
+    ensures reader_room { vec_capacity readers.old.links ≤ vec_capacity readers.new.links }
+    ensures writer_links { vec_len writers.new.links ≤ vec_len writers.old.links + 1 }
+    ensures writer_room { vec_capacity writers.old.links ≤ vec_capacity writers.new.links }
     ensures len { vec_len instances.new ≡ vec_len instances.old + 1 }
     ensures room { vec_capacity instances.old ≤ vec_capacity instances.new }
 {
-    lists.append(instances.len(), instance.inputs.as_slice());
+    readers.append(instances.len(), instance.inputs.as_slice());
+    writers.append_to(instances.len(), instance.output);
     let _ = instances.push(instance);
 }
 
@@ -74,27 +86,35 @@ pub(crate) fn instances_of<A: Allocator>(
     Ok(made)
 }
 
-// Appends instances, and their numbers to the lists of the cells that they read.
+// Appends instances, and their numbers to the lists of the cells that they read and write.
 pub(crate) fn append_instances<A: Allocator + Copy>(
     instances: &mut Vec<Instance, A>,
-    lists: &mut ReaderLists<A>,
+    readers: &mut InstanceLists<A>,
+    writers: &mut InstanceLists<A>,
     attached: Vec<Instance, A>,
 )
     requires room { vec_len instances.old + vec_len attached ≤ vec_capacity instances.old }
-    requires list_room { vec_len lists.old.links + 8 * vec_len attached
-        ≤ vec_capacity lists.old.links }
+    requires reader_room { vec_len readers.old.links + 8 * vec_len attached
+        ≤ vec_capacity readers.old.links }
+    requires writer_room { vec_len writers.old.links + vec_len attached
+        ≤ vec_capacity writers.old.links }
     requires few { All (λ instance. length instance.inputs.items ≤ 8) attached.items }
-    requires here { All (λ instance. All (λ cell. cell < vec_len lists.old.ends)
+    requires here { All (λ instance. All (λ cell. cell < vec_len readers.old.ends)
         instance.inputs.items) attached.items }
-    requires readers { AreReaders (map link_reading lists.old.links.items)
+    requires readers { AreReaders (map listed_by readers.old.links.items)
         (map attachment instances.old.items) }
+    requires writers { AreWriters (vec_len writers.old.ends) (map listed_by
+        writers.old.links.items) (map attachment instances.old.items) }
     ensures items { instances.new.items ≡ instances.old.items ++ attached.items }
-    ensures readers { AreReaders (map link_reading lists.new.links.items)
+    ensures readers { AreReaders (map listed_by readers.new.links.items)
         (map attachment instances.new.items) }
-    ensures cells { vec_len lists.new.ends ≡ vec_len lists.old.ends }
+    ensures writers { AreWriters (vec_len writers.new.ends) (map listed_by
+        writers.new.links.items) (map attachment instances.new.items) }
+    ensures cells { vec_len readers.new.ends ≡ vec_len readers.old.ends }
+    ensures writer_cells { vec_len writers.new.ends ≡ vec_len writers.old.ends }
 {
     for instance in attached {
-        append_instance(instances, lists, instance);
+        append_instance(instances, readers, writers, instance);
     }
 }
 

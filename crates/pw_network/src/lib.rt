@@ -4,11 +4,11 @@
 
 mod attaching;
 mod instance;
+mod instance_lists;
+mod instance_numbers;
 pub mod laws;
 mod network;
-mod reader_lists;
-mod readers;
 
 pub use instance::Instance;
+pub use instance_numbers::InstanceNumbers;
 pub use network::{Network, NetworkFault};
-pub use readers::Readers;

@@ -15,18 +15,20 @@ ghost use Rattle.pw_network.specs.Network.{bare, cells_in, kind_in, origin_in, w
 ghost use Rattle.pw_network.specs.Network.{AreDeclared, InstancesFit, InstancesStay, LinesInOrder};
 ghost use Rattle.pw_network.specs.Network.{MayAttach, TakesCells};
 ghost use Rattle.pw_network.specs.Readers.{readers_of};
+ghost use Rattle.pw_network.specs.Writers.{writers_of};
 ghost use Rattle.std.proofs.Props.{props};
 ghost use Rattle.std.specs.Prelude.{vec_len};
 ghost use Rattle.pw_decl.specs.inside.Held.{named_prop};
 ghost use Rattle.pw_network.specs.inside.Held.{support_code, wiring_from};
 ghost use Rattle.pw_network.specs.Network.{IsWellNetwork};
-ghost use Rattle.pw_network.specs.Readers.{link_reading};
 ghost use Rattle.pw_network.specs.Readers.{AreReaders};
+ghost use Rattle.pw_network.specs.Writers.{AreWriters};
+ghost use Rattle.pw_network.specs.inside.Lists.{listed_by};
 
 use crate::attaching::{append_inner, append_instance, append_instances, instances_of};
 use crate::instance::{Instance, MOST_INPUTS};
-use crate::reader_lists::ReaderLists;
-use crate::readers::Readers;
+use crate::instance_lists::InstanceLists;
+use crate::instance_numbers::InstanceNumbers;
 use pw_decl::{Callable, Declaration, FlatCall};
 use pw_info::Kind;
 use pw_premises::PremiseSet;
@@ -60,14 +62,18 @@ pub struct Network<'d, 'r, A: Allocator = Global> {
     inner: Vec<InnerCell, A>,
     instances: Vec<Instance, A>,
     // The numbers of the instances that read each cell.
-    lists: ReaderLists<A>,
+    readers: InstanceLists<A>,
+    // The numbers of the instances that write each declared cell. Inner cells have no such list.
+    writers: InstanceLists<A>,
     // The line of the last attachment, 0 before the first.
     last_line: u32,
     ghost well: { IsWellNetwork (wiring_from (declared declaration.now) inner.items instances.items
         last_line) } by { Prim.hlevel (props, named_prop, support_code) },
-    ghost cells: { vec_len lists.ends
+    ghost cells: { vec_len readers.ends
         ≡ cells_in (wiring_from (declared declaration.now) inner.items instances.items last_line) },
-    ghost readers: { AreReaders (map link_reading lists.links.items) (map attachment instances.items) } by { Prim.hlevel props },
+    ghost declared_cells: { vec_len writers.ends ≡ length (declared declaration.now).cells },
+    ghost read: { AreReaders (map listed_by readers.links.items) (map attachment instances.items) } by { Prim.hlevel props },
+    ghost written: { AreWriters (vec_len writers.ends) (map listed_by writers.links.items) (map attachment instances.items) } by { Prim.hlevel props },
 }
 
 impl<'d, 'r, A: Allocator + Copy> Network<'d, 'r, A> {
@@ -85,7 +91,8 @@ impl<'d, 'r, A: Allocator + Copy> Network<'d, 'r, A> {
             declaration,
             inner: Vec::new(alloc),
             instances: Vec::new(alloc),
-            lists: ReaderLists::new(alloc, declaration.cells() as usize)?,
+            readers: InstanceLists::new(alloc, declaration.cells() as usize)?,
+            writers: InstanceLists::new(alloc, declaration.cells() as usize)?,
             last_line: 0,
         })
     }
@@ -151,10 +158,18 @@ impl<'d, 'r, A: Allocator + Copy> Network<'d, 'r, A> {
     }
 
     /// The numbers of the instances that read the cell, in rising order.
-    pub fn readers(&self, cell: u32) -> Readers<'_>
+    pub fn readers(&self, cell: u32) -> InstanceNumbers<'_>
         ensures { result ≡ readers_of (wiring self.now) cell }
     {
-        self.lists.readers(cell)
+        self.readers.numbers(cell)
+    }
+
+    /// The numbers of the instances that write the declared cell, in rising order.
+    pub fn writers(&self, cell: u32) -> InstanceNumbers<'_>
+        requires { cell < length (wiring self.now).declared.cells }
+        ensures { result ≡ writers_of (wiring self.now) cell }
+    {
+        self.writers.numbers(cell)
     }
 
     /// Attaches a callable, which must exist, to declared cells under these premises, at a line
@@ -217,8 +232,14 @@ impl<'d, 'r, A: Allocator + Copy> Network<'d, 'r, A> {
         let global = self.declaration.registry().allocator();
         let instance = Instance::new(global, procedure, cells, &support, line)?;
         self.instances.reserve(1)?;
-        self.lists.reserve(0, MOST_INPUTS)?;
-        append_instance(&mut self.instances, &mut self.lists, instance);
+        self.readers.reserve(0, MOST_INPUTS)?;
+        self.writers.reserve(0, 1)?;
+        append_instance(
+            &mut self.instances,
+            &mut self.readers,
+            &mut self.writers,
+            instance,
+        );
         self.last_line = line;
         Ok(())
     }
@@ -252,9 +273,16 @@ impl<'d, 'r, A: Allocator + Copy> Network<'d, 'r, A> {
         let attached = instances_of(alloc, global, calls, cells.cells(), first, line, &support)?;
         self.inner.reserve(kinds.len())?;
         self.instances.reserve(calls.len())?;
-        self.lists.reserve(kinds.len(), calls.len() * MOST_INPUTS)?;
-        self.lists.add_cells(kinds.len());
-        append_instances(&mut self.instances, &mut self.lists, attached);
+        self.readers
+            .reserve(kinds.len(), calls.len() * MOST_INPUTS)?;
+        self.writers.reserve(0, calls.len())?;
+        self.readers.add_cells(kinds.len());
+        append_instances(
+            &mut self.instances,
+            &mut self.readers,
+            &mut self.writers,
+            attached,
+        );
         append_inner(&mut self.inner, kinds, line);
         self.last_line = line;
         Ok(())

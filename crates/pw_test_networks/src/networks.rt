@@ -185,6 +185,23 @@ fn show_readers<A: Allocator + Copy>(
     text.push('\n')
 }
 
+// Adds a line: the cell, if it is declared, and the numbers of the instances that write it.
+fn show_writers<A: Allocator + Copy>(
+    text: &mut String,
+    network: &Network<'_, '_, A>,
+    cell: u32,
+) -> Result<(), AllocError> {
+    if cell >= network.declaration().cells() {
+        return Ok(());
+    }
+    show_cell(text, network, cell)?;
+    text.push(':')?;
+    for number in network.writers(cell) {
+        write!(text, " {number}")?;
+    }
+    text.push('\n')
+}
+
 // The instances of a network, a line each.
 fn instances_of<A: Allocator + Copy>(
     alloc: Global,
@@ -209,6 +226,18 @@ fn readers_of<A: Allocator + Copy>(
     Ok(text)
 }
 
+// The writers of the declared cells of a network, a line each.
+fn writers_of<A: Allocator + Copy>(
+    alloc: Global,
+    network: &Network<'_, '_, A>,
+) -> Result<String, AllocError> {
+    let mut text = String::new(alloc);
+    for cell in 0..network.cells() {
+        show_writers(&mut text, network, cell)?;
+    }
+    Ok(text)
+}
+
 /// The kinds of all cells of a network.
 pub fn kinds_of<A: Allocator + Copy>(
     alloc: Global,
@@ -228,6 +257,7 @@ pub fn kinds_of<A: Allocator + Copy>(
 pub struct Shown {
     pub instances: String,
     pub readers: String,
+    pub writers: String,
     pub kinds: Vec<Kind>,
     pub last_line: u32,
     // The last refusal, and its line.
@@ -262,6 +292,7 @@ fn attach_all<A: Allocator + Copy>(
     Ok(Shown {
         instances: instances_of(alloc, &network)?,
         readers: readers_of(alloc, &network)?,
+        writers: writers_of(alloc, &network)?,
         kinds: kinds_of(alloc, &network)?,
         last_line: network.last_line(),
         fault,

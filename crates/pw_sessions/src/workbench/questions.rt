@@ -1,10 +1,9 @@
 //! Questions of users: what settles under a user's beliefs, starting from what the user's last
 //! question found.
-ghost use Rattle.std.specs.Prelude.{◌≡◌, ◌<◌, true, length, map, IfNone, IfOk, IfSome, None};
+ghost use Rattle.std.specs.Prelude.{◌≡◌, ◌<◌, true, length, IfNone, IfOk, IfSome, None};
 ghost use Rattle.std.specs.Prelude.{OnErr, Some};
 ghost use Rattle.pw_cells.specs.Cells.{kinds_of};
 ghost use Rattle.pw_network.specs.Wiring.{wiring};
-ghost use Rattle.pw_network.specs.inside.Held.{attachment};
 ghost use Rattle.pw_premises.specs.Premises.{Premises};
 ghost use Rattle.pw_reasons.specs.Combinations.{groups_of, picked_in};
 ghost use Rattle.pw_reasons.specs.Nogood.{covers};
@@ -30,18 +29,33 @@ use super::session::Session;
 use crate::reply::{Refusal, Reply};
 use pw_cells::CellStore;
 use pw_info::Info;
-use pw_network::{Instance, Network};
+use pw_network::Network;
 use pw_premises::PremiseSet;
 use pw_reasons::{Groups, Picks, choose, list_conflicts, reason, worldview_with};
 use pw_settle::{Settled, resettle, settle};
 use std::alloc::{AllocError, Allocator};
 
-// Whether an instance that is visible in the worldview writes the cell.
-fn is_written_by(instances: &[Instance], cell: u32, worldview: &PremiseSet) -> bool
-    ensures { result ≡ is_written (map attachment instances.now) cell worldview.now }
+// Whether an instance that is visible in the worldview writes the declared cell. It looks at the
+// writers of the cell only.
+fn is_written_by<A: Allocator + Copy>(
+    network: &Network<'_, '_, A>,
+    cell: u32,
+    worldview: &PremiseSet,
+) -> bool
+    requires { cell < length (wiring network.now).declared.cells }
+    ensures { result ≡ is_written (wiring network.now).attached cell worldview.now }
 {
-    instances.iter().any(|instance| instance.output == cell
-        && instance.support.is_subset(worldview))
+    let instances = network.instances();
+    // A transcript that only tells and asks attaches nothing.
+    if instances.is_empty() {
+        return false;
+    }
+    for number in network.writers(cell) {
+        if instances[number].support.is_subset(worldview) {
+            return true;
+        }
+    }
+    false
 }
 
 // Settles in a worldview, starting from the values of a session if there is one. The session is
@@ -136,7 +150,7 @@ impl<'d, 'r, A: Allocator + Copy> Workbench<'d, 'r, A> {
             return Reply::Value(info);
         }
         let beliefs = &self.beliefs[usize::from(user)];
-        if !is_written_by(self.network.instances(), cell, beliefs) {
+        if !is_written_by(&self.network, cell, beliefs) {
             return Reply::Value(self.store.recall(user, cell, beliefs));
         }
         self.ask_settled(user, cell)

@@ -128,6 +128,22 @@ fn procedures_and_cells_named_twice(rt: HostRuntime) -> Result<(), Fail> {
 }
 
 #[test]
+fn writers_of_declared_cells(rt: HostRuntime) -> Result<(), Fail> {
+    let attachments = [
+        at_line(1, "adder", &["x", "y", "x"]),
+        at_line(2, "adder", &["x", "x", "t"]),
+        at_line(3, "deep", &["x", "y"]),
+        at_line(4, "copy", &["y", "x"]),
+    ];
+    let shown = attached(rt.alloc(), MANY, &attachments)?;
+    has_lines(
+        &rt,
+        shown.writers.as_str(),
+        &["x: 0 7", "y: 6", "t: 1", "e:", "f:"],
+    )
+}
+
+#[test]
 fn inner_cells_are_met_depth_first(rt: HostRuntime) -> Result<(), Fail> {
     gives(
         &rt,

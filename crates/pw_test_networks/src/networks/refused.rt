@@ -73,8 +73,9 @@ fn is_whole_but_for_a_line<R: Abort + AllocGlobal>(
 fn an_attachment_is_whole_or_memory_is_told(rt: HostRuntime) -> Result<(), Fail> {
     let whole = attached(rt.alloc(), MANY, &attachments())?;
     let mut met = 0u32;
-    // The first growth is that of the lists of readers, while the network is set up.
-    for at in 2..100u64 {
+    // The first two growths are those of the lists of readers and of writers, while the network is
+    // set up.
+    for at in 3..100u64 {
         if !is_whole_but_for_a_line(&rt, whole.instances.as_str(), at)? {
             break;
         }

@@ -15,10 +15,15 @@ append_instance-requires-clause-room g c =
     let turn = YieldsList-turn (YieldsList-from_vec c.args.attached.items (search rules) (search rules)) c.loop-instance.yielded _ c.loop-instance.yielded_by _ c.next.new.self c.in-Some.instance c.in-Some.is c.next.ensures.steps in
     omega (arith, turn.0, c.args.attached.ok.0, c.requires.room, c.loop-instance.invariant.len, c.loop-instance.invariant.room)
 
-pub append_instance-requires-clause-list_room : goal.append_instance-requires-clause-list_room
-append_instance-requires-clause-list_room g c =
+pub append_instance-requires-clause-reader_room : goal.append_instance-requires-clause-reader_room
+append_instance-requires-clause-reader_room g c =
     let turn = YieldsList-turn (YieldsList-from_vec c.args.attached.items (search rules) (search rules)) c.loop-instance.yielded _ c.loop-instance.yielded_by _ c.next.new.self c.in-Some.instance c.in-Some.is c.next.ensures.steps in
-    omega (arith, turn.0, c.args.attached.ok.0, c.requires.list_room, c.loop-instance.invariant.links, c.loop-instance.invariant.list_room)
+    omega (arith, turn.0, c.args.attached.ok.0, c.requires.reader_room, c.loop-instance.invariant.reader_links, c.loop-instance.invariant.reader_room)
+
+pub append_instance-requires-clause-writer_room : goal.append_instance-requires-clause-writer_room
+append_instance-requires-clause-writer_room g c =
+    let turn = YieldsList-turn (YieldsList-from_vec c.args.attached.items (search rules) (search rules)) c.loop-instance.yielded _ c.loop-instance.yielded_by _ c.next.new.self c.in-Some.instance c.in-Some.is c.next.ensures.steps in
+    omega (arith, turn.0, c.args.attached.ok.0, c.requires.writer_room, c.loop-instance.invariant.writer_links, c.loop-instance.invariant.writer_room)
 
 pub append_instance-requires-clause-few : goal.append_instance-requires-clause-few
 append_instance-requires-clause-few g c =
@@ -29,11 +34,14 @@ pub append_instance-requires-clause-here : goal.append_instance-requires-clause-
 append_instance-requires-clause-here g c =
     let turn = YieldsList-turn (YieldsList-from_vec c.args.attached.items (search rules) (search rules)) c.loop-instance.yielded _ c.loop-instance.yielded_by _ c.next.new.self c.in-Some.instance c.in-Some.is c.next.ensures.steps in
     subst (λ n. All (λ cell. cell < n) c.in-Some.instance.inputs.items) (sym c.loop-instance.invariant.cells)
-    (subst (λ (y : InstanceType). All (λ cell. cell < c.args.lists.now.ends.len) y.inputs.items) (sym turn.1)
+    (subst (λ (y : InstanceType). All (λ cell. cell < c.args.readers.now.ends.len) y.inputs.items) (sym turn.1)
     (c.requires.here (length c.loop-instance.yielded) c.in-Some.instance turn.0))
 
 pub append_instance-requires-clause-readers : goal.append_instance-requires-clause-readers
 append_instance-requires-clause-readers g c = c.loop-instance.invariant.readers
+
+pub append_instance-requires-clause-writers : goal.append_instance-requires-clause-writers
+append_instance-requires-clause-writers g c = c.loop-instance.invariant.writers
 
 pub loop-instance-preserved : goal.loop-instance-preserved
 loop-instance-preserved g c =
@@ -45,8 +53,12 @@ loop-instance-preserved g c =
       room = omega (arith, c.loop-instance.invariant.room, c.append_instance.ensures.room);
       readers = c.append_instance.ensures.readers;
       cells = omega (arith, c.loop-instance.invariant.cells, c.append_instance.ensures.cells);
-      links = omega (arith, long, c.loop-instance.invariant.links, c.append_instance.ensures.links);
-      list_room = omega (arith, c.loop-instance.invariant.list_room, c.append_instance.ensures.list_room);
+      writers = c.append_instance.ensures.writers;
+      writer_cells = omega (arith, c.loop-instance.invariant.writer_cells, c.append_instance.ensures.writer_cells);
+      reader_links = omega (arith, long, c.loop-instance.invariant.reader_links, c.append_instance.ensures.reader_links);
+      reader_room = omega (arith, c.loop-instance.invariant.reader_room, c.append_instance.ensures.reader_room);
+      writer_links = omega (arith, long, c.loop-instance.invariant.writer_links, c.append_instance.ensures.writer_links);
+      writer_room = omega (arith, c.loop-instance.invariant.writer_room, c.append_instance.ensures.writer_room);
     }
 
 pub returns-clause-readers : goal.returns-clause-readers
@@ -54,3 +66,9 @@ returns-clause-readers g c = c.loop-instance.invariant.readers
 
 pub returns-clause-cells : goal.returns-clause-cells
 returns-clause-cells g c = c.loop-instance.invariant.cells
+
+pub returns-clause-writers : goal.returns-clause-writers
+returns-clause-writers g c = c.loop-instance.invariant.writers
+
+pub returns-clause-writer_cells : goal.returns-clause-writer_cells
+returns-clause-writer_cells g c = c.loop-instance.invariant.writer_cells

@@ -44,5 +44,7 @@ invariant_of-self-2 g c =
           (well_with_attached network c.args.line (callables.Compound c.args.compound) cells c.args.support c.args.self.now.well c.requires.may
           (let few = c.requires.few in omega (arith, long)));
       cells = omega (arith, here, more, long, c.append_instances.ensures.cells, c.add_cells.ensures.cells, c.reserve-3.ensures.cells, c.args.self.now.cells);
-      readers = c.append_instances.ensures.readers;
+      declared_cells = omega (arith, c.append_instances.ensures.writer_cells, c.reserve-4.ensures.cells, c.args.self.now.declared_cells);
+      read = c.append_instances.ensures.readers;
+      written = c.append_instances.ensures.writers;
     }

@@ -45,7 +45,7 @@ returns-in-Some-clause-grows g c = only_keeps_itself (state c.args.self.now) c.a
 pub returns-then-not-is_written_by-clause-answer : goal.returns-then-not-is_written_by-clause-answer
 returns-then-not-is_written_by-clause-answer g c = λ d before left.
     let believed = beliefs_read (state c.args.self.now) c.args.user c.from.result c.index-beliefs.result.now c.requires.can.exists c.from.ensures c.index-beliefs.ensures in
-    let written = c.is_written_by.ensures ∙ (λ i. is_written (c.instances.ensures.instances i) c.args.cell (believed i)) in
+    let written = c.is_written_by.ensures ∙ ap (is_written (wiring c.args.self.now.network).attached c.args.cell) believed in
     let told = c.recall.ensures.value ∙ ap (told_in c.args.self.now.store c.args.cell) believed in
     told_answers d before (state c.args.self.now) c.args.user c.args.cell c.recall.result c.args.self.now.network.well left c.requires.cell
     (sym written ∙ c.if-not-is_written_by.true) told
@@ -53,7 +53,7 @@ returns-then-not-is_written_by-clause-answer g c = λ d before left.
 pub returns-then-not-is_written_by-clause-asked : goal.returns-then-not-is_written_by-clause-asked
 returns-then-not-is_written_by-clause-asked g c =
     let believed = beliefs_read (state c.args.self.now) c.args.user c.from.result c.index-beliefs.result.now c.requires.can.exists c.from.ensures c.index-beliefs.ensures in
-    let written = c.is_written_by.ensures ∙ (λ i. is_written (c.instances.ensures.instances i) c.args.cell (believed i)) in
+    let written = c.is_written_by.ensures ∙ ap (is_written (wiring c.args.self.now.network).attached c.args.cell) believed in
     let old : Workbench = state c.args.self.now in
     let same : record old { store = c.recall.new.self } ≡ old = ap (λ (s : Store). record old { store = s }) c.recall.ensures.unchanged in
     let Settling : Type 0 = is_written old.network.attached c.args.cell (beliefs_in old c.args.user) ≡ true in
@@ -74,7 +74,7 @@ returns-then-not-is_written_by-clause-grows g c =
 pub ask_settled-requires-clause-written : goal.ask_settled-requires-clause-written
 ask_settled-requires-clause-written g c =
     let believed = beliefs_read (state c.args.self.now) c.args.user c.from.result c.index-beliefs.result.now c.requires.can.exists c.from.ensures c.index-beliefs.ensures in
-    let written = c.is_written_by.ensures ∙ (λ i. is_written (c.instances.ensures.instances i) c.args.cell (believed i)) in
+    let written = c.is_written_by.ensures ∙ ap (is_written (wiring c.args.self.now.network).attached c.args.cell) believed in
     sym written ∙ c.if-not-is_written_by.false
 
 -- ---- what is noted

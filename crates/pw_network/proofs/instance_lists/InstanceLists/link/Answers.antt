@@ -1,7 +1,7 @@
 use Rattle.std.proofs.Common.{◌≡◌, ◌+◌, ◌<◌, ◌≤◌, ◌++◌, ◌∷◌, [], ◌∙◌, length, sym, rules, arith}
-use Rattle.pw_network.specs.Readers.{no_place}
+use Rattle.pw_network.specs.inside.Lists.{no_place}
 use Rattle.pw_network.proofs.LinkLemmas.{linked_after}
-use Rattle.pw_network.proofs.reader_lists.ReaderLists.link.Goals as goal
+use Rattle.pw_network.proofs.instance_lists.InstanceLists.link.Goals as goal
 
 pub invariant_of-self : goal.invariant_of-self
 invariant_of-self g c =
@@ -13,5 +13,5 @@ invariant_of-self g c =
       linked = linked_after c.args.self.now.links.items c.lead.new.links.items c.push.new.self.items c.args.self.now.ends.items c.index-ends.result.now
           (record { cell = c.args.cell; number = c.args.number }) c.len-at.result c.min.result few
           (sym c.args.self.now.links.ok.0 ∙ sym c.len-at.ensures) (omega (arith, c.requires.here)) c.index-ends.ensures
-          c.lead.ensures.readings c.lead.ensures.nexts pushed c.min.ensures c.args.self.now.linked;
+          c.lead.ensures.listed c.lead.ensures.nexts pushed c.min.ensures c.args.self.now.linked;
     }

@@ -1,15 +1,15 @@
 use Rattle.std.proofs.Common.{◌<◌, length, map, arith}
 use Rattle.std.proofs.lemmas.List.{length-map}
-use Rattle.pw_network.specs.Readers.{next_of, no_place, link_reading}
+use Rattle.pw_network.specs.inside.Lists.{next_of, no_place, listed_by}
 use Rattle.pw_network.proofs.WalkLemmas.{first_all, first_walk, past_all}
-use Rattle.pw_network.proofs.reader_lists.ReaderLists.first.Goals as goal
+use Rattle.pw_network.proofs.instance_lists.InstanceLists.first.Goals as goal
 
 pub returns-then-cell-len-clause-all : goal.returns-then-cell-len-clause-all
 returns-then-cell-len-clause-all g c =
     let links = c.args.self.now.links.items in
     let small : c.args.self.now.links.cap < 9223372036854775808 = c.args.self.now.links.small in
-    past_all (map link_reading links) (map next_of links) c.args.self.now.ends.items c.args.self.now.linked c.args.cell no_place
-    (omega (arith, length-map links link_reading, c.args.self.now.links.ok.0, c.args.self.now.links.ok.1))
+    past_all (map listed_by links) (map next_of links) c.args.self.now.ends.items c.args.self.now.linked c.args.cell no_place
+    (omega (arith, length-map links listed_by, c.args.self.now.links.ok.0, c.args.self.now.links.ok.1))
     (omega (arith, c.if-cell-len.true, c.len.ensures, c.args.self.now.ends.ok.0))
 
 pub returns : goal.returns
@@ -20,6 +20,6 @@ returns g c =
     let there : c.args.cell < length ends = omega (arith, c.if-cell-len.false, c.len.ensures, c.args.self.now.ends.ok.0) in
     let linked = c.args.self.now.linked in
     record {
-      walk = first_walk (map link_reading links) (map next_of links) ends linked c.args.cell e there c.index.ensures;
-      all = first_all (map link_reading links) (map next_of links) ends linked c.args.cell e there c.index.ensures;
+      walk = first_walk (map listed_by links) (map next_of links) ends linked c.args.cell e there c.index.ensures;
+      all = first_all (map listed_by links) (map next_of links) ends linked c.args.cell e there c.index.ensures;
     }

@@ -1,8 +1,8 @@
 use Rattle.std.proofs.Common.{◌+◌, ◌<◌, refl, arith}
-use Rattle.pw_network.specs.declared.reader_lists.Ends.{Ends}
-use Rattle.pw_network.specs.Readers.{no_place}
+use Rattle.pw_network.specs.declared.instance_lists.Ends.{Ends}
+use Rattle.pw_network.specs.inside.Lists.{no_place}
 use Rattle.pw_network.proofs.LinkLemmas.{linked_resized}
-use Rattle.pw_network.proofs.reader_lists.ReaderLists.add_cells.Goals as goal
+use Rattle.pw_network.proofs.instance_lists.InstanceLists.add_cells.Goals as goal
 
 pub invariant_of-self : goal.invariant_of-self
 invariant_of-self g c =

@@ -1,14 +1,13 @@
-//! The readers of each cell, listed as instances are attached.
+//! For each cell a list of instances: those that read it, or those that write it.
 ghost use Rattle.std.proofs.Props.{props};
 ghost use Rattle.std.specs.Prelude.{◌≡◌, ◌+◌, ◌<◌, ◌≤◌, ◌++◌, ◌∷◌, [], All, drop, length, map};
 ghost use Rattle.std.specs.Prelude.{slice_set};
 ghost use Rattle.std.specs.Prelude.{IfOk, OnOk, nat_eq, vec_len, vec_capacity};
 ghost use Rattle.std.specs.List.{list_any};
-ghost use Rattle.pw_network.specs.Readers.{AreLinked, IsWalk, next_of, reader_numbers};
-ghost use Rattle.pw_network.specs.Readers.{link_reading};
-ghost use Rattle.pw_network.specs.Readers.{AddsReader};
+ghost use Rattle.pw_network.specs.inside.Lists.{AddsNumber, AddsNumberTo, AreLinked, IsWalk};
+ghost use Rattle.pw_network.specs.inside.Lists.{listed_by, next_of, numbers_for};
 
-use crate::readers::Readers;
+use crate::instance_numbers::InstanceNumbers;
 use std::alloc::{AllocError, Allocator, Global};
 
 #[derive(Clone, Copy, Debug)]
@@ -19,8 +18,7 @@ pub(crate) struct Link {
     pub(crate) next: usize,
 }
 
-// The places of the first and the last reader of a cell among the links. They are past the end if
-// the cell has no readers.
+// The places of the first and the last link of a cell. They are past the end if its list is empty.
 #[derive(Clone, Copy, Debug)]
 pub(crate) struct Ends {
     pub(crate) first: usize,
@@ -30,18 +28,18 @@ pub(crate) struct Ends {
 // Means no link: no table is this long.
 const NONE: usize = usize::MAX;
 
-// A list of readers for each cell, in the order in which they were appended. All lists are in one
+// A list of instances for each cell, in the order in which they were appended. All lists are in one
 // table, so room in the table is room for any of them.
 #[derive(Drop)]
-pub(crate) struct ReaderLists<A: Allocator = Global> {
+pub(crate) struct InstanceLists<A: Allocator = Global> {
     links: Vec<Link, A>,
     ends: Vec<Ends, A>,
-    ghost linked: { AreLinked (map link_reading links.items) (map next_of links.items) ends.items } by { Prim.hlevel props },
+    ghost linked: { AreLinked (map listed_by links.items) (map next_of links.items) ends.items } by { Prim.hlevel props },
 }
 
-impl<A: Allocator + Copy> ReaderLists<A> {
+impl<A: Allocator + Copy> InstanceLists<A> {
     // This many cells, with empty lists. Fails only when out of memory.
-    pub(crate) fn new(alloc: A, cells: usize) -> Result<ReaderLists<A>, AllocError>
+    pub(crate) fn new(alloc: A, cells: usize) -> Result<InstanceLists<A>, AllocError>
         ensures links { IfOk result (λ lists. lists.links.items ≡ []) }
         ensures cells { IfOk result (λ lists. vec_len lists.ends ≡ cells) }
     {
@@ -49,28 +47,28 @@ impl<A: Allocator + Copy> ReaderLists<A> {
             first: NONE,
             last: NONE,
         };
-        Ok(ReaderLists {
+        Ok(InstanceLists {
             links: Vec::new(alloc),
             ends: vec![in alloc; none; cells]?,
         })
     }
 
-    // Makes room for this many more cells and this many more readers. Fails only when out of
-    // memory. The lists are unchanged.
-    pub(crate) fn reserve(&mut self, cells: usize, readers: usize) -> Result<(), AllocError>
+    // Makes room for this many more cells and this many more links. Fails only when out of memory.
+    // The lists are unchanged.
+    pub(crate) fn reserve(&mut self, cells: usize, links: usize) -> Result<(), AllocError>
         ensures links { self.new.links.items ≡ self.old.links.items }
         ensures cells { vec_len self.new.ends ≡ vec_len self.old.ends }
-        ensures room_for_links { OnOk result (vec_len self.new.links + readers ≤ vec_capacity
+        ensures room_for_links { OnOk result (vec_len self.new.links + links ≤ vec_capacity
             self.new.links) }
         ensures room_for_cells { OnOk result (vec_len self.new.ends + cells ≤ vec_capacity
             self.new.ends) }
     {
-        self.links.reserve(readers)?;
+        self.links.reserve(links)?;
         self.ends.reserve(cells)?;
         Ok(())
     }
 
-    // Adds `count` cells that nothing reads yet.
+    // Adds `count` cells, with empty lists.
     pub(crate) fn add_cells(&mut self, count: usize)
         requires room { vec_len self.old.ends + count ≤ vec_capacity self.old.ends }
         ensures links { self.new.links ≡ self.old.links }
@@ -83,12 +81,12 @@ impl<A: Allocator + Copy> ReaderLists<A> {
         let _ = self.ends.resize(self.ends.len() + count, none);
     }
 
-    // Appends a reader to the list of each of these cells, only once if a cell is named twice.
+    // Appends an instance to the list of each of these cells, only once if a cell is named twice.
     pub(crate) fn append(&mut self, number: usize, cells: &[u32])
         requires here { All (λ cell. cell < vec_len self.old.ends) cells.now }
         requires room { vec_len self.old.links + length cells.now ≤ vec_capacity self.old.links }
-        ensures lists { AddsReader cells.now number (map link_reading self.old.links.items) (map
-            link_reading self.new.links.items) }
+        ensures lists { AddsNumber cells.now number (map listed_by self.old.links.items) (map
+            listed_by self.new.links.items) }
         ensures cells { vec_len self.new.ends ≡ vec_len self.old.ends }
         ensures ends_room { vec_capacity self.old.ends ≤ vec_capacity self.new.ends }
         ensures links { vec_len self.new.links ≤ vec_len self.old.links + length cells.now }
@@ -103,11 +101,25 @@ impl<A: Allocator + Copy> ReaderLists<A> {
         }
     }
 
-    // Appends a reader to the list of a cell.
+    // Appends an instance to the list of a cell, if the cell has one.
+    pub(crate) fn append_to(&mut self, number: usize, cell: u32)
+        requires room { vec_len self.old.links < vec_capacity self.old.links }
+        ensures lists { AddsNumberTo (vec_len self.old.ends) cell number (map listed_by
+            self.old.links.items) (map listed_by self.new.links.items) }
+        ensures cells { vec_len self.new.ends ≡ vec_len self.old.ends }
+        ensures links { vec_len self.new.links ≤ vec_len self.old.links + 1 }
+        ensures room { vec_capacity self.old.links ≤ vec_capacity self.new.links }
+    {
+        if (cell as usize) < self.ends.len() {
+            self.link(number, cell);
+        }
+    }
+
+    // Appends an instance to the list of a cell.
     fn link(&mut self, number: usize, cell: u32)
         requires here { cell < vec_len self.old.ends }
         requires room { vec_len self.old.links < vec_capacity self.old.links }
-        ensures readings { map link_reading self.new.links.items ≡ map link_reading
+        ensures listed { map listed_by self.new.links.items ≡ map listed_by
             self.old.links.items ++ record { cell = cell; number = number } ∷ [] }
         ensures cells { vec_len self.new.ends ≡ vec_len self.old.ends }
         ensures ends_room { vec_capacity self.old.ends ≤ vec_capacity self.new.ends }
@@ -128,20 +140,21 @@ impl<A: Allocator + Copy> ReaderLists<A> {
         });
     }
 
-    // The readers of a cell, in the order in which they were appended.
-    pub(crate) fn readers(&self, cell: u32) -> Readers<'_>
-        ensures { result ≡ reader_numbers cell (map link_reading self.now.links.items) }
+    // The instances of a cell, in the order in which they were appended. None for a cell without a
+    // list.
+    pub(crate) fn numbers(&self, cell: u32) -> InstanceNumbers<'_>
+        ensures { result ≡ numbers_for cell (map listed_by self.now.links.items) }
     {
         let first = self.first(cell);
-        Readers::new(&self.links, cell, first)
+        InstanceNumbers::new(&self.links, cell, first)
     }
 
-    // The place of the first reader of a cell among the links.
+    // The place of the first link of a cell.
     fn first(&self, cell: u32) -> usize
-        ensures walk { IsWalk (map link_reading self.now.links.items) (map next_of
+        ensures walk { IsWalk (map listed_by self.now.links.items) (map next_of
             self.now.links.items) cell result }
-        ensures all { reader_numbers cell (drop result (map link_reading self.now.links.items))
-            ≡ reader_numbers cell (map link_reading self.now.links.items) }
+        ensures all { numbers_for cell (drop result (map listed_by self.now.links.items))
+            ≡ numbers_for cell (map listed_by self.now.links.items) }
     {
         if cell as usize >= self.ends.len() {
             return NONE;
@@ -159,7 +172,7 @@ fn has(cells: &[u32], cell: u32) -> bool
 
 // Sets the next place of the link at a place, if there is a link at that place.
 fn lead<A: Allocator>(links: &mut Vec<Link, A>, place: usize, next: usize)
-    ensures readings { map link_reading links.new.items ≡ map link_reading links.old.items }
+    ensures listed { map listed_by links.new.items ≡ map listed_by links.old.items }
     ensures nexts { map next_of links.new.items ≡ slice_set (map next_of links.old.items) place next }
     ensures len { vec_len links.new ≡ vec_len links.old }
     ensures room { vec_capacity links.new ≡ vec_capacity links.old }

@@ -1,7 +1,7 @@
 use Rattle.std.proofs.Common.{sym, ◌∙◌, arith}
-use Rattle.pw_network.specs.declared.reader_lists.Link.{Link}
+use Rattle.pw_network.specs.declared.instance_lists.Link.{Link}
 use Rattle.pw_network.proofs.WalkLemmas.{walk_on, walk_steps}
-use Rattle.pw_network.proofs.readers.ReadersIterator.next.Goals as goal
+use Rattle.pw_network.proofs.instance_numbers.InstanceNumbersIterator.next.Goals as goal
 
 abbrev no_link : Link
 no_link = record { cell = 0; number = 0; next = 0 }

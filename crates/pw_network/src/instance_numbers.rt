@@ -1,0 +1,57 @@
+//! The instances that read a cell, or that write it, one after another.
+ghost use Rattle.std.specs.Prelude.{◌≡◌, drop, map};
+ghost use Rattle.std.specs.Iterator.{YieldsFirst, item_count};
+ghost use Rattle.pw_network.specs.inside.Lists.{IsWalk, next_of, numbers_for, listed_by};
+
+use crate::instance_lists::Link;
+use std::marker::Model;
+
+/// The remaining numbers of the instances that read a cell, or that write it, in rising order.
+#[derive(Drop)]
+pub struct InstanceNumbers<'n> {
+    links: &'n [Link],
+    cell: u32,
+    // The place of the next link of the cell: past their end if none is left.
+    at: usize,
+}
+
+impl<'n> Model for InstanceNumbers<'n> {
+    ghost use Rattle.std.specs.Prelude.{ℕ, List, drop, map};
+
+    ghost Value = { List ℕ };
+
+    ghost use Rattle.pw_network.specs.inside.Lists.{IsWalk, next_of, numbers_for, listed_by};
+
+    ghost view = { λ a. numbers_for a.cell (drop a.at (map listed_by a.links.now)) };
+
+    ghost invariant = { λ a. IsWalk (map listed_by a.links.now) (map next_of a.links.now) a.cell a.at };
+}
+
+impl<'n> InstanceNumbers<'n> {
+    // The numbers of the instances that are listed for the cell, from this place on. It is the
+    // place of one of them, if any is left.
+    pub(crate) fn new(links: &'n [Link], cell: u32, at: usize) -> InstanceNumbers<'n>
+        requires { IsWalk (map listed_by links.now) (map next_of links.now) cell at }
+        ensures { result ≡ numbers_for cell (drop at (map listed_by links.now)) }
+    {
+        InstanceNumbers { links, cell, at }
+    }
+}
+
+impl Iterator for InstanceNumbers<'_> {
+    type Item = usize;
+
+    ghost next_gives = { YieldsFirst (λ left. left) };
+
+    ghost remaining = { item_count (λ left. left) };
+
+    fn next(&mut self) -> Option<usize> {
+        if self.at < self.links.len() {
+            let link = self.links[self.at];
+            self.at = link.next;
+            Some(link.number)
+        } else {
+            None
+        }
+    }
+}
