@@ -1,7 +1,6 @@
 use Rattle.std.proofs.Common.{◌≡◌, ◌+◌, ◌&&◌, ℕ, List, take, sym, ap, ◌∙◌, arith}
 use Rattle.std.specs.Prelude.{slice_index_or}
 use Rattle.std.specs.FinSet.{contains, from_list, is_subset, union}
-use Rattle.pw_premises.specs.Premises.{Premises}
 use Rattle.pw_reasons.specs.Combinations.{picked_in}
 use Rattle.pw_reasons.proofs.NogoodLemmas.{found_covers}
 use Rattle.pw_reasons.proofs.SetLemmas.{one_inserted}
