@@ -107,28 +107,28 @@ pub covering_not_found : (nogoods : List Premises) (w : Premises) → find (λ n
 covering_not_found nogoods w none covered =
     let found = covering_found nogoods w covered in none_is_not_some found.0 (sym none ∙ found.1)
 
--- what is found lies within them
-pub covering_is_part : (nogoods : List Premises) (w nogood : Premises) → find (λ noted. is_subset noted w) nogoods ≡ Some nogood → is_subset nogood w ≡ true
-covering_is_part [] w nogood found = absurd (none_is_not_some nogood found)
-covering_is_part (noted ∷ nogoods) w nogood found = by_test (is_subset noted w) refl (covering_is_part nogoods w nogood) found
+-- what a test finds passes it
+pub found_passes : (test : Premises → Bool) (nogoods : List Premises) (nogood : Premises) → find test nogoods ≡ Some nogood → test nogood ≡ true
+found_passes test [] nogood found = absurd (none_is_not_some nogood found)
+found_passes test (noted ∷ nogoods) nogood found = by_test (test noted) refl (found_passes test nogoods nogood) found
   where
-    by_test : (b : Bool) → is_subset noted w ≡ b → (find (λ other. is_subset other w) nogoods ≡ Some nogood → is_subset nogood w ≡ true) →
-        cond b (Some noted) (find (λ other. is_subset other w) nogoods) ≡ Some nogood → is_subset nogood w ≡ true
-    by_test true part later same = let one : noted ≡ nogood = cc in subst (λ (set : Premises). is_subset set w ≡ true) one part
-    by_test false part later same = later same
+    by_test : (b : Bool) → test noted ≡ b → (find test nogoods ≡ Some nogood → test nogood ≡ true) →
+        cond b (Some noted) (find test nogoods) ≡ Some nogood → test nogood ≡ true
+    by_test true passes later same = let one : noted ≡ nogood = cc in subst (λ (set : Premises). test set ≡ true) one passes
+    by_test false passes later same = later same
 
 -- and covers each that includes it
-pub covering_covers : (nogoods : List Premises) (w nogood : Premises) → find (λ noted. is_subset noted w) nogoods ≡ Some nogood → (more : Premises) →
+pub found_covers : (test : Premises → Bool) (nogoods : List Premises) (nogood : Premises) → find test nogoods ≡ Some nogood → (more : Premises) →
     is_subset nogood more ≡ true → covers nogoods more ≡ true
-covering_covers [] w nogood found more part = absurd (none_is_not_some nogood found)
-covering_covers (noted ∷ nogoods) w nogood found more part = by_test (is_subset noted w) (λ same. covering_covers nogoods w nogood same more part) found
+found_covers test [] nogood found more part = absurd (none_is_not_some nogood found)
+found_covers test (noted ∷ nogoods) nogood found more part = by_test (test noted) (λ same. found_covers test nogoods nogood same more part) found
   where
     or_true : (a : Bool) → (a || true) ≡ true
     or_true true = refl
     or_true false = refl
 
-    by_test : (b : Bool) → (find (λ other. is_subset other w) nogoods ≡ Some nogood → covers nogoods more ≡ true) →
-        cond b (Some noted) (find (λ other. is_subset other w) nogoods) ≡ Some nogood → (is_subset noted more || covers nogoods more) ≡ true
+    by_test : (b : Bool) → (find test nogoods ≡ Some nogood → covers nogoods more ≡ true) →
+        cond b (Some noted) (find test nogoods) ≡ Some nogood → (is_subset noted more || covers nogoods more) ≡ true
     by_test true later same =
         let one : noted ≡ nogood = cc in
         ap (λ (set : Premises). is_subset set more || covers nogoods more) one ∙ ap (λ b. b || covers nogoods more) part

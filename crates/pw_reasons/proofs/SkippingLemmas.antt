@@ -1,9 +1,9 @@
 -- Which combinations begin with the same premises, and what lies within all of their worldviews.
-use Rattle.std.proofs.Common.{◌≡◌, ℕ, zero, suc, ◌+◌, ◌-◌, ◌*◌, ◌/◌, ◌%◌, ◌<◌, ◌≤◌, Bool, true, false, ◌||◌, nat_eq, inl, inr, List, [], ◌∷◌, ◌++◌, All, length, map, take, drop, refl, sym, ap, ◌∙◌, subst, arith, append-nil}
+use Rattle.std.proofs.Common.{◌≡◌, ℕ, zero, suc, ◌+◌, ◌-◌, ◌*◌, ◌/◌, ◌%◌, ◌<◌, ◌≤◌, Bool, true, false, ◌&&◌, ◌||◌, Some, nat_eq, inl, inr, List, [], ◌∷◌, ◌++◌, All, length, map, take, drop, refl, sym, ap, ◌∙◌, subst, arith, append-nil}
 use Rattle.std.specs.Prelude.{slice_index_or}
 use Rattle.std.specs.Cmp.{nat_cmp_total}
 use Rattle.std.specs.FinSet.{contains, contains-from_list_nat, contains-is_subset, contains-union, from_list, is_subset, is_subset-contains, union}
-use Rattle.std.specs.List.{flat_map, list_any}
+use Rattle.std.specs.List.{find, flat_map, list_any}
 use Rattle.std.proofs.Math.Nat.{add-mul, mul_comm, div-add-mod', div-eq_of_lt-le}
 use Rattle.std.proofs.lemmas.Bool.{cases_Bool, eqb-true, false≢true}
 use Rattle.std.proofs.lemmas.Nat.{div_below, mod_below}
@@ -17,6 +17,7 @@ use Rattle.pw_reasons.specs.Groups.{AreGroups, IsGroup}
 use Rattle.pw_reasons.specs.Combinations.{combinations_of}
 use Rattle.pw_reasons.specs.inside.Skipping.{IsIncludedUntil}
 use Rattle.pw_reasons.proofs.CombinationLemmas.{count_of, in_pieces, left_of, length_of_pieces, most_of, number_of, some_of}
+use Rattle.pw_reasons.proofs.NogoodLemmas.{found_passes}
 
 -- ---- the combinations of groups and further groups
 
@@ -128,6 +129,26 @@ within_others part others front rest new apart within =
     still true b c d none some = refl
     still false true c d none some = refl
     still false false c d none some = absurd (false≢true (sym none ∙ some))
+
+-- what lies within the first of the premises taken lies within all
+pub within_more : (part others : Premises) (place : ℕ) (taken : List ℕ) → is_subset part (union others (from_list (take place taken))) ≡ true →
+    is_subset part (union others (from_list taken)) ≡ true
+within_more part others place taken within =
+    subst (λ (xs : List ℕ). is_subset part (union others (from_list xs)) ≡ true) (take-append-drop place taken)
+    (within_others part others (take place taken) [] (drop place taken) (All-nil (λ premise. contains part premise ≡ false))
+    (subst (λ (xs : List ℕ). is_subset part (union others (from_list xs)) ≡ true) (sym (append-nil (take place taken))) within))
+
+-- so does a set that is found within them
+pub found_within : (nogoods : List Premises) (nogood others tried : Premises) (premise place : ℕ) (taken : List ℕ) →
+    find (λ noted. contains noted premise && is_subset noted tried) nogoods ≡ Some nogood → tried ≡ union others (from_list (take place taken)) →
+    is_subset nogood (union others (from_list taken)) ≡ true
+found_within nogoods nogood others tried premise place taken found is =
+    within_more nogood others place taken (subst (λ (set : Premises). is_subset nogood set ≡ true) is
+    (both (contains nogood premise) (is_subset nogood tried) (found_passes (λ noted. contains noted premise && is_subset noted tried) nogoods nogood found)))
+  where
+    both : (a b : Bool) → (a && b) ≡ true → b ≡ true
+    both true b are = are
+    both false b are = absurd (false≢true are)
 
 -- ---- up to which number a set lies within the worldviews
 

@@ -1,7 +1,7 @@
 //! The first consistent combination of groups of premises.
 
 ghost use Rattle.std.specs.Prelude.{◌≡◌, ◌<◌, ℕ, true, All, Ok, None, Some, IfOk, IfNone, IfSome, length};
-ghost use Rattle.std.specs.FinSet.{is_subset};
+ghost use Rattle.std.specs.FinSet.{from_list, is_subset, union};
 ghost use Rattle.pw_cells.specs.Cells.{kinds_of};
 ghost use Rattle.pw_info.specs.Information.{IsContradiction};
 ghost use Rattle.pw_network.specs.Wiring.{wiring};
@@ -46,38 +46,78 @@ fn contradictory_cell<A: Allocator + Copy>(
     None
 }
 
-// A set of these premises that contradicts itself, if something is contradictory when exactly these
-// are believed: then a noted set covers each worldview that includes it. If a noted set covers the
-// premises, it is that set, and nothing is settled. Otherwise the network is settled, and the
-// support of a contradiction is noted. Fails only when out of memory.
+// A noted set within these premises and those taken, if one is found. The premises taken come one
+// after the other, and a set is looked for that has the last one: so of two sets it is the one
+// whose last premise comes first. The first picks that both have were looked at before.
+fn refuting<A: Allocator + Copy>(
+    nogoods: &Nogoods<A>,
+    others: &PremiseSet,
+    before: &Picks,
+    picks: &Picks,
+) -> Option<PremiseSet>
+    requires { All (λ premise. premise < most_premises) (picked_in picks.now) }
+    ensures part { IfSome result (λ nogood.
+        is_subset nogood (union others.now (from_list (picked_in picks.now))) ≡ true) }
+    ensures covered { IfSome result (λ nogood. (w : Premises)
+        → is_subset nogood w ≡ true → covers nogoods.now w ≡ true) }
+{
+    let seen = before.premises();
+    let taken = picks.premises();
+    let mut same = true;
+    let mut set = PremiseSet::empty();
+    for place in 0..taken.len() {
+        let premise = taken[place];
+        set.insert(premise);
+        same = same && place < seen.len() && seen[place] == premise;
+        if same {
+            continue;
+        }
+        if let Some(nogood) = nogoods.covering_with(&others.join(set), premise) {
+            return Some(nogood);
+        }
+    }
+    None
+}
+
+// A set of these premises and those taken that contradicts itself, if something is contradictory
+// when exactly these are believed: then a noted set covers each worldview that includes it. If a
+// noted set covers the premises, it is one that does, and nothing is settled. Otherwise the network
+// is settled, and the support of a contradiction is noted. Fails only when out of memory.
 fn contradict<A: Allocator + Copy>(
     alloc: A,
     network: &Network<'_, '_, A>,
     store: &mut CellStore<A>,
     nogoods: &mut Nogoods<A>,
-    premises: &PremiseSet,
+    others: &PremiseSet,
+    before: &Picks,
+    picks: &Picks,
 ) -> Result<Option<PremiseSet>, AllocError>
     requires kinds { kinds_of store.old ≡ kinds_in (wiring network.now) }
     requires sound { IsSound (wiring network.now) store.old }
     requires nogoods { AreNogoods (wiring network.now) store.old nogoods.old }
-    ensures known { covers nogoods.old premises.now ≡ true
+    requires picks { All (λ premise. premise < most_premises) (picked_in picks.now) }
+    ensures known { covers nogoods.old (union others.now (from_list (picked_in picks.now))) ≡ true
         → ((nogood : Premises) × (result ≡ Ok (Some nogood)))
         × (store.new ≡ store.old) × (nogoods.new ≡ nogoods.old) }
     ensures part { IfOk result (λ found. IfSome found (λ nogood.
-        is_subset nogood premises.now ≡ true)) }
+        is_subset nogood (union others.now (from_list (picked_in picks.now))) ≡ true)) }
     ensures covered { IfOk result (λ found. IfSome found (λ nogood. (w : Premises)
         → is_subset nogood w ≡ true → covers nogoods.new w ≡ true)) }
-    ensures consistent { IfOk result (λ found. IfNone found
-        (IsConsistent (wiring network.now) store.old premises.now)) }
+    ensures consistent { IfOk result (λ found. IfNone found (IsConsistent (wiring network.now)
+        store.old (union others.now (from_list (picked_in picks.now))))) }
     ensures nogoods { AreNogoods (wiring network.now) store.old nogoods.new }
     ensures covers { (w : Premises) → covers nogoods.old w ≡ true → covers nogoods.new w ≡ true }
     ensures grows { KeepsMore (wiring network.now) store.old store.new }
     ensures upstream { StaysUpstream (wiring network.now) store.old store.new }
 {
-    if let Some(noted) = nogoods.covering(premises) {
+    if let Some(noted) = refuting(nogoods, others, before, picks) {
         return Ok(Some(noted));
     }
-    let settled = settle(alloc, network, store, premises)?;
+    let premises = with_taken(others, picks);
+    if let Some(covering) = nogoods.covering(&premises) {
+        return Ok(Some(covering));
+    }
+    let settled = settle(alloc, network, store, &premises)?;
     match contradictory_cell(network, &settled) {
         Some(cell) => {
             let support = settled.value(cell).support;
@@ -131,14 +171,15 @@ pub fn choose<A: Allocator + Copy>(
     let others = believed_beside(worldview, groups);
     let count = count_combinations(groups);
     let mut number = 0;
+    let mut before = Picks::none();
     while number < count {
         let picks = combination(groups, number);
-        let tried = with_taken(&others, &picks);
-        let found = contradict(alloc, network, store, nogoods, &tried)?;
+        let found = contradict(alloc, network, store, nogoods, &others, &before, &picks)?;
         let Some(nogood) = found else {
             return Ok(Some(picks));
         };
         number = next_number(groups, &picks, number, &nogood);
+        before = picks;
     }
     Ok(None)
 }

@@ -1,7 +1,7 @@
 //! Nogoods: noted sets of premises that contradict themselves.
 ghost use Rattle.std.specs.Prelude.{◌≡◌, ◌↔◌, ◌⊎◌, ◌||◌, [], true, false, not, filter, vec_len};
-ghost use Rattle.std.specs.Prelude.{vec_capacity, ◌≤◌, Contains, OnErr, OnOk};
-ghost use Rattle.std.specs.FinSet.{is_subset};
+ghost use Rattle.std.specs.Prelude.{vec_capacity, ◌≤◌, ◌&&◌, Contains, OnErr, OnOk};
+ghost use Rattle.std.specs.FinSet.{contains, is_subset};
 ghost use Rattle.std.specs.List.{find};
 ghost use Rattle.pw_premises.specs.Premises.{Premises};
 ghost use Rattle.pw_reasons.specs.Nogood.{covers};
@@ -79,6 +79,18 @@ impl<A: Allocator + Copy> Nogoods<A> {
         self.sets
             .iter()
             .find(|noted| noted.is_subset(premises))
+            .copied()
+    }
+
+    // The first noted set with this premise that is a subset of these premises, if there is one.
+    // Most sets lack the premise, which is quickly seen.
+    pub(crate) fn covering_with(&self, premises: &PremiseSet, premise: u16) -> Option<PremiseSet>
+        ensures { result ≡ find (λ noted. contains noted premise
+            && is_subset noted premises.now) self.now }
+    {
+        self.sets
+            .iter()
+            .find(|noted| noted.contains(premise) && noted.is_subset(premises))
             .copied()
     }
 }

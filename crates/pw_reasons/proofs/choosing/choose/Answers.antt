@@ -1,5 +1,5 @@
-use Rattle.std.proofs.Common.{◌≡◌, ◌<◌, ◌≤◌, ℕ, true, List, [], Some, All, length, take, sym, ◌∙◌, subst, arith}
-use Rattle.std.specs.FinSet.{is_subset}
+use Rattle.std.proofs.Common.{◌≡◌, ◌<◌, ◌≤◌, ℕ, true, List, [], Some, All, length, take, refl, sym, ◌∙◌, subst, arith}
+use Rattle.std.specs.FinSet.{from_list, is_subset, union}
 use Rattle.pw_cells.specs.Cells.{Store}
 use Rattle.pw_network.specs.Network.{Network}
 use Rattle.pw_network.specs.Wiring.{wiring}
@@ -12,8 +12,8 @@ use Rattle.pw_reasons.proofs.ChoiceLemmas.{all_hold, consistent_then, covered_no
 use Rattle.pw_reasons.proofs.CombinationLemmas.{taken_from}
 use Rattle.pw_reasons.proofs.choosing.choose.Goals as goal
 
-pub with_taken-tried-requires : goal.with_taken-tried-requires
-with_taken-tried-requires g c =
+pub contradict-requires-clause-picks : goal.contradict-requires-clause-picks
+contradict-requires-clause-picks g c =
     let groups : List (List ℕ) = groups_of c.args.groups.now in
     let within : c.loop-number.number < length (combinations_of groups) =
     omega (arith, c.count_combinations-count.ensures.count, c.loop-number-test.true) in
@@ -29,13 +29,14 @@ pub returns-in_err-found-clause-known : goal.returns-in_err-found-clause-known
 returns-in_err-found-clause-known g c all =
     let groups : List (List ℕ) = groups_of c.args.groups.now in
     let taken : List ℕ = picked_in c.combination-picks.result in
+    let tried : Premises = union c.believed_beside-others.result (from_list taken) in
     let before = c.loop-number.invariant.known all in
     let within : c.loop-number.number < length (combinations_of groups) =
     omega (arith, c.count_combinations-count.ensures.count, c.loop-number-test.true) in
-    let made : c.with_taken-tried.result ≡ worldview_of c.args.worldview.now groups taken =
-    tried_is c.args.worldview.now groups c.believed_beside-others.result c.with_taken-tried.result taken c.believed_beside-others.ensures c.with_taken-tried.ensures in
+    let made : tried ≡ worldview_of c.args.worldview.now groups taken =
+    tried_is c.args.worldview.now groups c.believed_beside-others.result tried taken c.believed_beside-others.ensures refl in
     let same = c.contradict.ensures.known (still_covered c.args.worldview.now groups c.args.nogoods.now c.loop-number.nogoods c.loop-number.number taken
-    c.with_taken-tried.result before.1 within c.combination-picks.ensures made all) in
+    tried before.1 within c.combination-picks.ensures made all) in
     absurd (not_refused c.contradict.result (Some same.0.0) c.in_err-found.field-0.0 same.0.1 c.in_err-found.was)
 
 pub returns-in_default-clause-some : goal.returns-in_default-clause-some
@@ -44,12 +45,13 @@ returns-in_default-clause-some g c =
     let old : Store = c.args.store.now in
     let groups : List (List ℕ) = groups_of c.args.groups.now in
     let taken : List ℕ = picked_in c.combination-picks.result in
+    let tried : Premises = union c.believed_beside-others.result (from_list taken) in
     let within : c.loop-number.number < length (combinations_of groups) =
     omega (arith, c.count_combinations-count.ensures.count, c.loop-number-test.true) in
-    let made : c.with_taken-tried.result ≡ worldview_of c.args.worldview.now groups taken =
-    tried_is c.args.worldview.now groups c.believed_beside-others.result c.with_taken-tried.result taken c.believed_beside-others.ensures c.with_taken-tried.ensures in
-    let consistent : IsConsistent network c.loop-number.store c.with_taken-tried.result =
-    if_none (IsConsistent network c.loop-number.store c.with_taken-tried.result) c.in_ok-found.found c.in_default.is c.in_ok-found.ensures.consistent in
+    let made : tried ≡ worldview_of c.args.worldview.now groups taken =
+    tried_is c.args.worldview.now groups c.believed_beside-others.result tried taken c.believed_beside-others.ensures refl in
+    let consistent : IsConsistent network c.loop-number.store tried =
+    if_none (IsConsistent network c.loop-number.store tried) c.in_ok-found.found c.in_default.is c.in_ok-found.ensures.consistent in
     first_consistent c.args.worldview.now groups network old c.loop-number.number taken within c.combination-picks.ensures
     (covered_nogoods network old c.args.network.now.well c.requires.kinds c.loop-number.nogoods c.loop-number.invariant.nogoods
     (take c.loop-number.number (worldviews_of c.args.worldview.now groups)) c.loop-number.invariant.covered)
@@ -60,13 +62,14 @@ pub returns-in_default-clause-known : goal.returns-in_default-clause-known
 returns-in_default-clause-known g c all =
     let groups : List (List ℕ) = groups_of c.args.groups.now in
     let taken : List ℕ = picked_in c.combination-picks.result in
+    let tried : Premises = union c.believed_beside-others.result (from_list taken) in
     let before = c.loop-number.invariant.known all in
     let within : c.loop-number.number < length (combinations_of groups) =
     omega (arith, c.count_combinations-count.ensures.count, c.loop-number-test.true) in
-    let made : c.with_taken-tried.result ≡ worldview_of c.args.worldview.now groups taken =
-    tried_is c.args.worldview.now groups c.believed_beside-others.result c.with_taken-tried.result taken c.believed_beside-others.ensures c.with_taken-tried.ensures in
+    let made : tried ≡ worldview_of c.args.worldview.now groups taken =
+    tried_is c.args.worldview.now groups c.believed_beside-others.result tried taken c.believed_beside-others.ensures refl in
     let same = c.contradict.ensures.known (still_covered c.args.worldview.now groups c.args.nogoods.now c.loop-number.nogoods c.loop-number.number taken
-    c.with_taken-tried.result before.1 within c.combination-picks.ensures made all) in
+    tried before.1 within c.combination-picks.ensures made all) in
     absurd (not_both c.contradict.result c.in_ok-found.found same.0.0 same.0.1 c.in_ok-found.was c.in_default.is)
 
 pub returns-in_err-found-clause-nogoods : goal.returns-in_err-found-clause-nogoods
@@ -101,23 +104,24 @@ loop-number-preserved g c =
     let old : Store = c.args.store.now in
     let groups : List (List ℕ) = groups_of c.args.groups.now in
     let taken : List ℕ = picked_in c.combination-picks.result in
+    let tried : Premises = union c.believed_beside-others.result (from_list taken) in
     let within : c.loop-number.number < length (combinations_of groups) =
     omega (arith, c.count_combinations-count.ensures.count, c.loop-number-test.true) in
-    let made : c.with_taken-tried.result ≡ worldview_of c.args.worldview.now groups taken =
-    tried_is c.args.worldview.now groups c.believed_beside-others.result c.with_taken-tried.result taken c.believed_beside-others.ensures c.with_taken-tried.ensures in
-    let part : is_subset c.in-Some.nogood c.with_taken-tried.result ≡ true =
-    if_some (λ nogood. is_subset nogood c.with_taken-tried.result ≡ true) c.in_ok-found.found c.in-Some.nogood c.in-Some.is c.in_ok-found.ensures.part in
+    let made : tried ≡ worldview_of c.args.worldview.now groups taken =
+    tried_is c.args.worldview.now groups c.believed_beside-others.result tried taken c.believed_beside-others.ensures refl in
+    let part : is_subset c.in-Some.nogood tried ≡ true =
+    if_some (λ nogood. is_subset nogood tried ≡ true) c.in_ok-found.found c.in-Some.nogood c.in-Some.is c.in_ok-found.ensures.part in
     let covered : (w : Premises) → is_subset c.in-Some.nogood w ≡ true → covers c.contradict.new.nogoods w ≡ true =
     if_some (λ nogood. (w : Premises) → is_subset nogood w ≡ true → covers c.contradict.new.nogoods w ≡ true) c.in_ok-found.found c.in-Some.nogood c.in-Some.is
     c.in_ok-found.ensures.covered in
     record {
-      covered = more_covered c.args.worldview.now groups c.loop-number.nogoods c.contradict.new.nogoods c.in-Some.nogood c.with_taken-tried.result
+      covered = more_covered c.args.worldview.now groups c.loop-number.nogoods c.contradict.new.nogoods c.in-Some.nogood tried
           c.loop-number.number c.next_number-number.result taken c.combination-picks.ensures made c.loop-number.invariant.covered c.contradict.ensures.covers
           part covered c.next_number-number.ensures.included;
       known = λ all.
           let before = c.loop-number.invariant.known all in
           let same = c.contradict.ensures.known (still_covered c.args.worldview.now groups c.args.nogoods.now c.loop-number.nogoods c.loop-number.number taken
-          c.with_taken-tried.result before.1 within c.combination-picks.ensures made all) in
+          tried before.1 within c.combination-picks.ensures made all) in
           (same.1 ∙ before.0, same.2 ∙ before.1);
       nogoods = nogoods_then network old c.loop-number.store c.loop-number.invariant.grows c.contradict.new.nogoods c.contradict.ensures.nogoods;
       covers = λ w before. c.contradict.ensures.covers w (c.loop-number.invariant.covers w before);
