@@ -10,6 +10,6 @@ mod settled;
 mod settling;
 mod support_list;
 
-pub use resettling::resettle;
+pub use resettling::{resettle, resettle_from};
 pub use settled::Settled;
 pub use settling::settle;

@@ -142,10 +142,41 @@ fn due_instances<A: Allocator + Copy>(
 /// The values of the cells of a network in a worldview, as `settle` answers them, found from the
 /// values of an earlier settling that still fit. All that `settle` promises holds.
 ///
+/// The earlier values stay with the caller, after a failure too.
+///
 /// If the earlier worldview is within this one, the instances called at first are only the visible
 /// instances that came since or were not visible then, and the readers of cells of which more is
 /// kept now than was found then. Otherwise all visible instances are called at first, as in
 /// `settle`.
+pub fn resettle_from<A: Allocator + Copy>(
+    alloc: A,
+    before: &Settled<A>,
+    network: &Network<'_, '_, A>,
+    store: &mut CellStore<A>,
+    worldview: &PremiseSet,
+) -> Result<Settled<A>, AllocError>
+    requires kinds { kinds_of store.old ≡ kinds_in (wiring network.now) }
+    requires fits { IsFitting (wiring network.now) store.old before.now }
+    ensures found { IfOk result (HasValues (wiring network.now) store.old store.new worldview.now) }
+    ensures kept { OnOk result (KeepsIfSound (wiring network.now) store.old store.new
+        worldview.now) }
+    ensures grows { KeepsMore (wiring network.now) store.old store.new }
+    ensures upstream { StaysUpstream (wiring network.now) store.old store.new }
+    ensures due { IfOk result (CallsWhatIsDue (wiring network.now) store.old store.new
+        worldview.now before.now) }
+    ensures least { IfOk result (CallsEachAtLeast (wiring network.now) worldview.now before.now) }
+    ensures most { IfOk result (CallsEachAtMost (wiring network.now) store.old store.new
+        worldview.now before.now) }
+{
+    if !before.worldview.is_subset(worldview) {
+        return settle(alloc, network, store, worldview);
+    }
+    let visible = seen(alloc, network.instances(), worldview)?;
+    let (known, agenda) = due_instances(alloc, before, network, store, worldview, &visible)?;
+    settle_from(network, store, worldview, known, &visible, agenda)
+}
+
+/// The values as `resettle_from` answers them, from earlier values that the call takes.
 pub fn resettle<A: Allocator + Copy>(
     alloc: A,
     before: Settled<A>,
@@ -166,10 +197,5 @@ pub fn resettle<A: Allocator + Copy>(
     ensures most { IfOk result (CallsEachAtMost (wiring network.now) store.old store.new
         worldview.now before) }
 {
-    if !before.worldview.is_subset(worldview) {
-        return settle(alloc, network, store, worldview);
-    }
-    let visible = seen(alloc, network.instances(), worldview)?;
-    let (known, agenda) = due_instances(alloc, &before, network, store, worldview, &visible)?;
-    settle_from(network, store, worldview, known, &visible, agenda)
+    resettle_from(alloc, &before, network, store, worldview)
 }

@@ -52,6 +52,13 @@ impl<A: Allocator> Settled<A> {
         }
     }
 
+    /// The number of cells that have a value: those that the network had.
+    pub fn cells(&self) -> usize
+        ensures { result ≡ length self.now.infos }
+    {
+        self.known.infos.len()
+    }
+
     /// The worldview in which these are the values.
     pub fn worldview(&self) -> &PremiseSet
         ensures { result.now ≡ self.now.worldview }

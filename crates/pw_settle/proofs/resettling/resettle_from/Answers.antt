@@ -13,7 +13,7 @@ use Rattle.pw_settle.specs.Values.{value_in}
 use Rattle.pw_settle.proofs.FittingValues.{satisfied_but_due}
 use Rattle.pw_settle.proofs.NewInstances.{both_ok}
 use Rattle.pw_settle.proofs.SeenLines.{lines_of_items, supports_of_items}
-use Rattle.pw_settle.proofs.resettling.resettle.Goals as goal
+use Rattle.pw_settle.proofs.resettling.resettle_from.Goals as goal
 
 pub seen-requires-clause-lines : goal.seen-requires-clause-lines
 seen-requires-clause-lines g c = lines_of_items (wiring c.args.network.now) c.args.network.now.well c.instances.result.now c.instances.ensures.instances
@@ -29,7 +29,7 @@ pub settle_from-requires-clause-satisfied : goal.settle_from-requires-clause-sat
 settle_from-requires-clause-satisfied g c =
     subst (λ (s : Store). AreSatisfied (wiring c.args.network.now) c.args.worldview.now (λ cell. kept_in s cell c.args.worldview.now) c.in_ok-known.agenda)
     (sym {A = Store} c.due_instances.ensures.unchanged)
-    (satisfied_but_due (wiring c.args.network.now) c.args.network.now.well c.args.store.now c.args.worldview.now c.requires.kinds c.args.before c.requires.fits
+    (satisfied_but_due (wiring c.args.network.now) c.args.network.now.well c.args.store.now c.args.worldview.now c.requires.kinds c.args.before.now c.requires.fits
     (ap (λ (s : Settled). is_subset s.worldview c.args.worldview.now) (sym c.before-2.view_is) ∙ sym c.is_subset.ensures.subset ∙ c.if-not-is_subset.false)
     c.in_ok-known.agenda c.in_ok-known.ensures.due)
 
