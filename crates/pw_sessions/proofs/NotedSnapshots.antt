@@ -11,21 +11,21 @@ pub record AreNotedBelow (From : Snapshot → Snapshot → Type 0) (old now : Li
   pub rest : (k : ℕ) (d : Snapshot) → count ≤ k → get_or now k d ≡ get_or old k d
 
 -- one more noted it
-pub noted_next : (From : Snapshot → Snapshot → Type 0) (old now next : List Snapshot) (place : ℕ) (was is : Snapshot) → AreNotedBelow From old now place →
-    place < length now → get_or now place was ≡ was → next ≡ set now place is → From was is → AreNotedBelow From old next (place + 1)
-noted_next From old now next place was is so_far there had set_to told = record {
-  done = λ k d below.
-      by_cell (λ k. k < place + 1 → From (get_or old k d) (get_or next k d)) place
-      (λ here. subst (λ (s : Snapshot). From s (get_or next place d)) (sym (own d))
-      (subst (From was) (sym (ap (λ l. get_or l place d) set_to ∙ get_or-set_same now place is d there)) told))
-      (λ k other here. subst (From (get_or old k d)) (sym (others k d other)) (so_far.done k d (before k other here))) k below;
-  rest = λ k d past. others k d (λ same. is_past k same past) ∙ so_far.rest k d (omega (arith, past));
+pub noted_next : (From : Snapshot → Snapshot → Type 0) (old now next : List Snapshot) (place : ℕ) (d is : Snapshot) → AreNotedBelow From old now place →
+    place < length now → next ≡ set now place is → From (get_or now place d) is → AreNotedBelow From old next (place + 1)
+noted_next From old now next place d is so_far there set_to told = record {
+  done = λ k e below.
+      by_cell (λ k. k < place + 1 → From (get_or old k e) (get_or next k e)) place
+      (λ here. subst (λ (s : Snapshot). From s (get_or next place e)) (sym (own e))
+      (subst (From (get_or now place d)) (sym (ap (λ l. get_or l place e) set_to ∙ get_or-set_same now place is e there)) told))
+      (λ k other here. subst (From (get_or old k e)) (sym (others k e other)) (so_far.done k e (before k other here))) k below;
+  rest = λ k e past. others k e (λ same. is_past k same past) ∙ so_far.rest k e (omega (arith, past));
 } where
-  own : (d : Snapshot) → get_or old place d ≡ was
-  own d = sym (so_far.rest place d (omega arith)) ∙ get_or_default now place d was there ∙ had
+  own : (e : Snapshot) → get_or old place e ≡ get_or now place d
+  own e = sym (so_far.rest place e (omega arith)) ∙ get_or_default now place e d there
 
-  others : (k : ℕ) (d : Snapshot) → k ≢ place → get_or next k d ≡ get_or now k d
-  others k d other = ap (λ l. get_or l k d) set_to ∙ get_or-set_other now place k is d other
+  others : (k : ℕ) (e : Snapshot) → k ≢ place → get_or next k e ≡ get_or now k e
+  others k e other = ap (λ l. get_or l k e) set_to ∙ get_or-set_other now place k is e other
 
   before : (k : ℕ) → k ≢ place → k < place + 1 → k < place
   before k other here = omega (arith, other, here)

@@ -85,7 +85,8 @@ impl<'d, 'r, A: Allocator + Copy> Workbench<'d, 'r, A> {
         ensures due { IfOk result (λ settled.
             CallsDueFor (state self.old) user (state self.new)) }
         ensures refused { OnErr result ((state self.new).calls ≡ 0) }
-        ensures same { (state self.new) ≡ record (state self.old) {
+        ensures nogoods { (state self.new).nogoods ≡ (state self.old).nogoods }
+        ensures same { state self.new ≡ record (state self.old) {
           store = (state self.new).store;
           calls = (state self.new).calls;
         } }
