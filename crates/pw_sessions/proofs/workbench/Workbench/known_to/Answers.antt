@@ -1,7 +1,6 @@
-use Rattle.std.proofs.Common.{◌≡◌, ◌<◌, ℕ, List, Some, length, get_or, sym, ap, ◌∙◌, subst, arith}
+use Rattle.std.proofs.Common.{◌≡◌, ℕ, List, Some, get_or, sym, ap, ◌∙◌, arith}
 use Rattle.std.specs.Prelude.{position}
 use Rattle.pw_premises.specs.Premises.{Premises}
-use Rattle.pw_settle.specs.Settled.{info_at}
 use Rattle.pw_sessions.specs.inside.Fields.{state}
 use Rattle.pw_sessions.specs.Snapshot.{Snapshot, is_of, snapshot_in}
 use Rattle.pw_sessions.specs.Workbench.{beliefs_in}
