@@ -1,11 +1,9 @@
--- The result of a settling that starts from the last session of a user.
-use Rattle.std.proofs.Common.{◌≡◌, ℕ, ◌+◌, ◌≤◌, Bool, true, false, List, Option, Some, None, Result, Ok, Err, sym, ap, ◌∙◌, subst, inl, inr, arith}
+-- The result of a settling that goes on from a snapshot, or starts anew.
+use Rattle.std.proofs.Common.{◌≡◌, ℕ, ◌+◌, ◌≤◌, Bool, true, List, Option, Some, None, Result, Ok, Err, sym, ap, ◌∙◌, subst, arith}
 use Rattle.std.specs.Prelude.{IfOk, OnOk}
 use Rattle.std.specs.FinSet.{is_subset}
-use Rattle.std.proofs.lemmas.Bool.{cases_Bool}
 use Rattle.std.proofs.lemmas.Option.{none-some, same_Some}
 use Rattle.pw_premises.specs.Premises.{Premises}
-use Rattle.pw_premises.specs.PremiseSubsets.{is_subset_refl}
 use Rattle.pw_cells.specs.Cells.{Store, kept_in, kinds_of}
 use Rattle.pw_network.specs.Network.{Network, IsWellNetwork}
 use Rattle.pw_settle.specs.inside.Progress.{tally}
@@ -17,11 +15,12 @@ use Rattle.pw_settle.specs.Sound.{IsSound}
 use Rattle.pw_settle.specs.Growth.{HasValues}
 use Rattle.pw_settle.specs.Values.{kinds_in, value_in}
 use Rattle.pw_settle.proofs.GrowingGains.{gains_more}
-use Rattle.pw_sessions.specs.Freshness.{AreCalls, CallsDue, CallsDueFor}
-use Rattle.pw_sessions.specs.Session.{IsCurrent, KeepsValues, Session}
-use Rattle.pw_sessions.specs.Workbench.{Workbench, beliefs_in, session_in}
+use Rattle.pw_sessions.specs.Freshness.{AreCalls, CallsDue, CallsDueFor, CallsNoneAgain}
+use Rattle.pw_sessions.specs.Snapshot.{IsCurrent, KeepsValues, Snapshot, start_for}
+use Rattle.pw_sessions.specs.Workbench.{Workbench, beliefs_in}
 use Rattle.pw_sessions.proofs.CurrentValues.{current_settled}
-use Rattle.pw_sessions.proofs.FewCalls.{due_most, due_none, no_gains}
+use Rattle.pw_sessions.proofs.FewCalls.{due_none, no_gains}
+use Rattle.pw_sessions.proofs.SnapshotLists.{its_worldview, starts_there, starts_within}
 
 module _ (network : Network) (well : IsWellNetwork network) (old new : Store) (w : Premises) (same : kinds_of old ≡ kinds_in network)
     (sound : IsSound network old) where
@@ -44,92 +43,61 @@ module _ (network : Network) (well : IsWellNetwork network) (old new : Store) (w
 
   -- ---- the number of calls, anew
 
-  pub once_anew : {E : Type 0} (r : Result Settled E) → OnOk r Kept →
-      IfOk r (λ settled. settled.calls ≤ visible_count network w + gains network old new w) →
-      IfOk r (λ settled. KeepsValues network old w → settled.calls ≤ visible_count network w)
-  once_anew (Ok settled) kept most = λ full. let none = no_gains network old new w full (kept sound) in omega (arith, most, none)
-  once_anew (Err e) kept most = most
-
-  pub due_anew : {E : Type 0} (r : Result Settled E) (last : Option Session) → last ≡ None →
+  pub due_anew : {E : Type 0} (r : Result Settled E) (last : Option Snapshot) → last ≡ None →
       IfOk r (λ settled. visible_count network w ≤ settled.calls) →
       IfOk r (λ settled. settled.calls ≤ visible_count network w + gains network old new w) →
       IfOk r (λ settled. CallsDue network old new w last settled.calls)
   due_anew (Ok settled) last none least most = record {
     anew = λ so. record { least = least; most = most };
-    other = λ session has. absurd (none-some session (sym none ∙ has));
-    further = λ session has. absurd (none-some session (sym none ∙ has));
+    further = λ snapshot has. absurd (none-some snapshot (sym none ∙ has));
   }
   due_anew (Err e) last none least most = least
 
-  pub none_anew : {E : Type 0} (r : Result Settled E) (last : Option Session) → last ≡ None →
-      IfOk r (λ settled. visible_count network w ≤ settled.calls) → IfOk r (λ settled. (session : Session) → last ≡ Some session →
-      session.values.worldview ≡ w → IsCurrent network old session.values → settled.calls ≡ 0)
-  none_anew (Ok settled) last none least = λ session has. absurd (none-some session (sym none ∙ has))
-  none_anew (Err e) last none least = least
+  pub none_anew : {E : Type 0} (r : Result Settled E) (snapshots : List Snapshot) → start_for snapshots w ≡ None →
+      IfOk r (λ settled. visible_count network w ≤ settled.calls) → IfOk r (CallsNoneAgain network old w snapshots)
+  none_anew (Ok settled) snapshots none least = λ snapshot has. absurd (none-some snapshot (sym none ∙ starts_there snapshots w snapshot has))
+  none_anew (Err e) snapshots none least = least
 
   -- ---- the number of calls from earlier values
 
-  module _ (before : Session) (last : Option Session) (had : last ≡ Some before) where
+  module _ (before : Snapshot) (snapshots : List Snapshot) (starts : start_for snapshots w ≡ Some before) where
     -- at least once for each instance that is due, and at most as many times more as is gained
     abbrev Due : Settled → Type 0
     Due settled = is_subset before.values.worldview w ≡ true → (due : List Bool)
         × AreDue network old w before.values due × (tally due ≤ settled.calls) × (settled.calls ≤ tally due + gains network old new w)
 
-    abbrev Least : Settled → Type 0
-    Least settled = is_subset before.values.worldview w ≡ false → visible_count network w ≤ settled.calls
+    its : (snapshot : Snapshot) → start_for snapshots w ≡ Some snapshot → before ≡ snapshot
+    its snapshot has = same_Some before snapshot (sym starts ∙ has)
 
-    abbrev Most : Settled → Type 0
-    Most settled = is_subset before.values.worldview w ≡ false → settled.calls ≤ visible_count network w + gains network old new w
-
-    its : (session : Session) → last ≡ Some session → before ≡ session
-    its session has = same_Some before session (sym had ∙ has)
-
-    pub once_again : {E : Type 0} (r : Result Settled E) → OnOk r Kept → IfOk r Due → IfOk r Most →
-        IfOk r (λ settled. KeepsValues network old w → settled.calls ≤ visible_count network w)
-    once_again (Ok settled) kept due most = λ full.
-        let none = no_gains network old new w full (kept sound) in
-        elim (cases_Bool (is_subset before.values.worldview w)) [
-          | inl inside ↦
-              let (flags, are, least, up) = due inside in
-              let few = due_most network old w before.values flags are in
-              omega (arith, up, few, none)
-          | inr outside ↦ let up = most outside in omega (arith, up, none)
-        ]
-    once_again (Err e) kept due most = most
-
-    pub none_again : {E : Type 0} (r : Result Settled E) → OnOk r Kept → IfOk r Due → IfOk r (λ settled. (session : Session) → last ≡ Some session →
-        session.values.worldview ≡ w → IsCurrent network old session.values → settled.calls ≡ 0)
-    none_again (Ok settled) kept due = λ session has worldview current.
-        let own : before.values.worldview ≡ w = ap (λ (s : Session). s.values.worldview) (its session has) ∙ worldview in
-        let here : IsCurrent network old before.values = subst (λ (s : Session). IsCurrent network old s.values) (sym (its session has)) current in
+    pub none_again : {E : Type 0} (r : Result Settled E) → OnOk r Kept → IfOk r Due → IfOk r (CallsNoneAgain network old w snapshots)
+    none_again (Ok settled) kept due = λ snapshot has current.
+        let same : before ≡ snapshot = its snapshot (starts_there snapshots w snapshot has) in
+        let own : before.values.worldview ≡ w = ap (λ (s : Snapshot). s.values.worldview) same ∙ its_worldview snapshots w snapshot has in
+        let here : IsCurrent network old before.values = subst (λ (s : Snapshot). IsCurrent network old s.values) (sym same) current in
         let full : KeepsValues network old w = subst (KeepsValues network old) own here.kept in
         let none = no_gains network old new w full (kept sound) in
-        let (flags, are, least, up) = due (subst (λ (u : Premises). is_subset u w ≡ true) (sym own) (is_subset_refl w)) in
+        let (flags, are, least, up) = due (starts_within snapshots w before starts) in
         let zero = due_none network old w before.values flags own here are in
         omega (arith, up, zero, none)
     none_again (Err e) kept due = due
 
-    pub due_again : {E : Type 0} (r : Result Settled E) → IfOk r Due → IfOk r Least → IfOk r Most →
-        IfOk r (λ settled. CallsDue network old new w last settled.calls)
-    due_again (Ok settled) due least most = record {
-      anew = λ none. absurd (none-some before (sym none ∙ had));
-      other = λ session has outside.
-          let out = subst (λ (s : Session). is_subset s.values.worldview w ≡ false) (sym (its session has)) outside in
-          record { least = least out; most = most out };
-      further = λ session has inside.
-          let (flags, are, first, up) = due (subst (λ (s : Session). is_subset s.values.worldview w ≡ true) (sym (its session has)) inside) in
-          (flags, subst (λ (s : Session). AreDue network old w s.values flags) (its session has) are, record { least = first; most = up });
+    pub due_again : {E : Type 0} (r : Result Settled E) → IfOk r Due →
+        IfOk r (λ settled. CallsDue network old new w (start_for snapshots w) settled.calls)
+    due_again (Ok settled) due = record {
+      anew = λ none. absurd (none-some before (sym none ∙ starts));
+      further = λ snapshot has.
+          let (flags, are, first, up) = due (starts_within snapshots w before starts) in
+          (flags, subst (λ (s : Snapshot). AreDue network old w s.values flags) (its snapshot has) are, record { least = first; most = up });
     }
-    due_again (Err e) due least most = least
+    due_again (Err e) due = due
 
 -- so it is if still more is kept afterwards
-pub due_still : (network : Network) (old found new : Store) (w : Premises) (last : Option Session) (calls : ℕ) → KeepsMore network found new →
+pub due_still : (network : Network) (old found new : Store) (w : Premises) (last : Option Snapshot) (calls : ℕ) → KeepsMore network found new →
     CallsDue network old found w last calls → CallsDue network old new w last calls
 due_still network old found new w last calls more due = record {
   anew = λ none. wider (due.anew none);
-  other = λ session has outside. wider (due.other session has outside);
-  further = λ session has inside.
-      let (flags, are, count) = due.further session has inside in
+  further = λ snapshot has.
+      let (flags, are, count) = due.further snapshot has in
       (flags, are, wider count);
 } where
   wider : {first : ℕ} → AreCalls first (gains network old found w) calls → AreCalls first (gains network old new w) calls
@@ -139,6 +107,6 @@ due_still network old found new w last calls more due = record {
 pub due_for_still : (old found new : Workbench) (user : ℕ) → found.network ≡ old.network → KeepsMore found.network found.store new.store →
     new.calls ≡ found.calls → CallsDueFor old user found → CallsDueFor old user new
 due_for_still old found new user network more calls due =
-    subst (CallsDue old.network old.store new.store (beliefs_in old user) (session_in old user)) (sym calls)
-    (due_still old.network old.store found.store new.store (beliefs_in old user) (session_in old user) found.calls
+    subst (CallsDue old.network old.store new.store (beliefs_in old user) (start_for old.snapshots (beliefs_in old user))) (sym calls)
+    (due_still old.network old.store found.store new.store (beliefs_in old user) (start_for old.snapshots (beliefs_in old user)) found.calls
     (subst (λ (n : Network). KeepsMore n found.store new.store) network more) due)

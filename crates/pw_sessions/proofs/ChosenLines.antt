@@ -3,6 +3,7 @@ use Rattle.std.proofs.Common.{◌≡◌, ◌<◌, ℕ, eqb, Bool, true, false, L
 use Rattle.std.specs.Prelude.{◌⊎◌, if◌then◌else◌, slice_index_or}
 use Rattle.std.specs.FinSet.{empty}
 use Rattle.std.proofs.lemmas.Bool.{eqb-true}
+use Rattle.std.proofs.lemmas.List.{length-set}
 use Rattle.std.proofs.lemmas.List.Elements.{All-contains, All-weaker, Contains-append_right}
 use Rattle.pw_premises.specs.Premises.{Premises, most_premises}
 use Rattle.pw_cells.specs.Cells.{Store}
@@ -54,16 +55,16 @@ taken_fit network store beliefs groups taken fit first =
 
 -- a choice that found premises, which the user then believes
 pub chosen_some : (old found new : Workbench) (user : ℕ) (groups : List (List ℕ)) (taken : List ℕ) (believed worldview : Premises) →
-    OnlyKeepsMore old user found → found.sessions ≡ old.sessions → found.calls ≡ old.calls → IsFirstChoice old user groups taken →
+    OnlyKeepsMore old user found → found.snapshots ≡ old.snapshots → found.calls ≡ old.calls → IsFirstChoice old user groups taken →
     believed ≡ beliefs_in found user → worldview ≡ worldview_of believed groups taken → new ≡ believing found user worldview →
     IsChosen old user groups new (reply.Chose (Some taken))
-chosen_some old found new user groups taken believed worldview grows sessions calls first its made became =
+chosen_some old found new user groups taken believed worldview grows snapshots calls first its made became =
     let own : believed ≡ beliefs_in old user = its ∙ ap (λ (bs : List Premises). slice_index_or bs user empty) grows.beliefs in
     let same : worldview ≡ worldview_of (beliefs_in old user) groups taken = made ∙ ap (λ (b : Premises). worldview_of b groups taken) own in
     record {
       found = found;
       grows = grows;
-      sessions = sessions;
+      snapshots = snapshots;
       calls = calls;
       answers = inl (taken, refl, first, became ∙ ap (λ (b : Premises). believing found user b) same);
     }
@@ -158,11 +159,11 @@ module _ (old : Workbench) (user : ℕ) (groups : List (List ℕ)) (new : Workbe
   pub chosen_fresh : (command : Command) → StoreFits old → (other : ℕ) → IsFresh old other → MayEndFreshness old other command new answer ⊎ IsFresh new other
   chosen_fresh command fits other is =
       let found : Workbench = chosen.found in
-      let still : IsFresh found other = fresh_keeping old user found fits chosen.grows chosen.sessions other is in
+      let still : IsFresh found other = fresh_keeping old user found fits chosen.grows chosen.snapshots other is in
       elim chosen.answers [
         | inl (taken, told, first, after) ↦
             let beliefs : List Premises = set found.beliefs user (worldview_of (beliefs_in old user) groups taken) in
-            elim (fresh_believed found beliefs other still) [
+            elim (fresh_believed found beliefs (length-set found.beliefs user (worldview_of (beliefs_in old user) groups taken)) other still) [
               | inl differs ↦
                   inl (inl (λ same. differs (ap (λ (b : Workbench). beliefs_in b other) (sym after) ∙ same
                   ∙ ap (λ (bs : List Premises). slice_index_or bs other empty) (sym chosen.grows.beliefs))))

@@ -35,7 +35,7 @@ use Rattle.pw_settle.proofs.KeptFacts.{also_implies, by_cell, implies_also, impl
 use Rattle.pw_settle.proofs.KeptProgress.{visible_no}
 use Rattle.pw_settle.proofs.SettledStores.{kept_settled}
 use Rattle.pw_settle.proofs.SettledValues.{kinds_many}
-use Rattle.pw_sessions.specs.Session.{IsCurrent, KeepsValues, SayAlready}
+use Rattle.pw_sessions.specs.Snapshot.{IsCurrent, KeepsValues, SayAlready}
 use Rattle.pw_sessions.specs.inside.Steps.{TakesFact}
 use Rattle.pw_settle.proofs.SoundStores.{cell_added, cell_stays, more_kept, sound_attached, sound_told}
 use Rattle.pw_settle.proofs.WiderNetworks.{value_says_told}

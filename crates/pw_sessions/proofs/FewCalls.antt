@@ -15,7 +15,7 @@ use Rattle.pw_settle.specs.Settled.{Settled}
 use Rattle.pw_settle.specs.Values.{value_in}
 use Rattle.pw_settle.proofs.SettledStores.{tally_visible}
 use Rattle.pw_settle.proofs.SumsBelow.{sum_bound}
-use Rattle.pw_sessions.specs.Session.{IsCurrent, KeepsValues}
+use Rattle.pw_sessions.specs.Snapshot.{IsCurrent, KeepsValues}
 
 -- if the same is kept, nothing is gained
 none_gained : (n reads : ℕ) → (n - n) * reads ≤ 0

@@ -38,7 +38,7 @@ store_fits bench can = record {
   kinds = can.set_up.kinds;
   sound = can.set_up.sound;
   nogoods = can.set_up.nogoods;
-  sessions = can.set_up.fit;
+  snapshots = can.set_up.fit;
 }
 
 -- a declared user can ask
@@ -47,7 +47,6 @@ pub can_answer : (bench : Workbench) {line : ℕ} {command : Command} → CanCar
 can_answer bench can user there = record {
   fits = store_fits bench can;
   exists = omega (arith, there, can.set_up.users);
-  session = omega (arith, there, can.set_up.sessions);
 }
 
 -- a told fact is of the kind of its cell

@@ -1,16 +1,14 @@
 -- Fresh users stay fresh, line after line, except after lines that may end it.
-use Rattle.std.proofs.Common.{◌≡◌, ℕ, ◌<◌, ◌≤◌, eqb, true, false, zero, suc, List, All, replicate, length, map, get_or, set, Option, None, Some, refl, sym, ap, ◌∙◌, subst, inl, inr, arith, get_or-set_same}
-use Rattle.std.specs.Prelude.{◌≢◌, ◌⊎◌, IfSome, nat_lt}
+use Rattle.std.proofs.Common.{◌≡◌, ℕ, ◌<◌, true, false, zero, suc, List, All, cond, replicate, length, map, get_or, Some, refl, sym, ap, ◌∙◌, subst, inl, inr, arith}
+use Rattle.std.specs.Prelude.{◌≢◌, ◌⊎◌}
 use Rattle.std.specs.FinSet.{empty, is_subset}
-use Rattle.std.specs.Option.{option_map}
-use Rattle.std.proofs.Math.ListN.{get_or-map}
-use Rattle.std.proofs.lemmas.Bool.{both_ways, cases_Bool, eqb-true, eqb-false, ltb-false, ltb-true}
-use Rattle.std.proofs.lemmas.List.{get_or_past, length-replicate}
+use Rattle.std.proofs.lemmas.Bool.{both_ways, cases_Bool}
+use Rattle.std.proofs.lemmas.List.{length-replicate}
 use Rattle.std.proofs.lemmas.Option.{none-some, same_Some}
 use Rattle.pw_info.specs.declared.info.Info.{Info}
 use Rattle.pw_info.specs.Information.{Implies, kind_of}
 use Rattle.pw_premises.specs.Premises.{Premises}
-use Rattle.pw_premises.specs.PremiseSubsets.{has_same_numbers, is_subset_refl, same_numbers_equal}
+use Rattle.pw_premises.specs.PremiseSubsets.{has_same_numbers, same_numbers_equal}
 use Rattle.pw_facts.specs.declared.fact.Fact.{Fact}
 use Rattle.pw_facts.specs.Facts.{shows}
 use Rattle.pw_cells.specs.Cells.{kind_in_store, kinds_of}
@@ -19,7 +17,6 @@ use Rattle.pw_decl.specs.Declaration.{Declared}
 use Rattle.pw_decl.specs.Expansion.{inner_kinds_of}
 use Rattle.pw_network.specs.Network.{Attached, Network, IsWellNetwork}
 use Rattle.pw_settle.specs.inside.Progress.{is_set}
-use Rattle.pw_settle.specs.Calls.{visible_count}
 use Rattle.pw_settle.specs.Settled.{Settled, info_at}
 use Rattle.pw_settle.specs.Values.{kinds_in, value_in}
 use Rattle.pw_settle.specs.Growth.{IsWider}
@@ -31,89 +28,91 @@ use Rattle.pw_sessions.specs.Freshness.{CallsDueFor, CallsFew, CountsCalls, Coun
 use Rattle.pw_sessions.specs.Reply.{LineReading}
 use Rattle.pw_sessions.specs.Reply.{Reply}
 use Rattle.pw_sessions.specs.Reply as reply
-use Rattle.pw_sessions.specs.Session.{Becomes, IsAfterTell, IsCurrent, IsSessionOf, KeepsValues, Session, after_entry}
-use Rattle.pw_sessions.specs.inside.Steps.{IsAsBefore, IsAttached, IsTold, OnlyKeepsMore, StoreFits}
-use Rattle.pw_sessions.specs.Workbench.{IsLeftBy, Workbench, beliefs_in, session_in}
+use Rattle.pw_sessions.specs.Snapshot.{IsAfterTell, IsCurrent, Snapshot, after_entry, snapshot_in, start_for}
+use Rattle.pw_sessions.specs.inside.Steps.{CanAnswer, IsAsBefore, IsAttached, IsRemembered, IsTold, OnlyKeepsMore, StoreFits}
+use Rattle.pw_sessions.specs.Workbench.{IsLeftBy, Workbench, beliefs_in}
 use Rattle.pw_sessions.proofs.CurrentValues.{current_attached, current_keeping, current_told, hidden_after, said_at}
 use Rattle.pw_sessions.proofs.FewCalls.{no_flags, none_due}
 use Rattle.pw_sessions.proofs.LastValues.{keeps_more_alike}
+use Rattle.pw_sessions.proofs.SnapshotLists.{becomes_in, its_fit, its_worldview, made_in, starts_there}
 
 -- ---- users that stay fresh
 
--- with the same session and beliefs, if what was current still is
-stays_fresh : (old new : Workbench) (user : ℕ) → session_in new user ≡ session_in old user → beliefs_in new user ≡ beliefs_in old user →
+-- with the same snapshot and beliefs, if what was current still is
+stays_fresh : (old new : Workbench) (user : ℕ) → new.beliefs ≡ old.beliefs →
+    (user < length old.beliefs → snapshot_in new.snapshots (beliefs_in old user) ≡ snapshot_in old.snapshots (beliefs_in old user)) →
     ((settled : Settled) → IsCurrent old.network old.store settled → IsCurrent new.network new.store settled) → IsFresh old user → IsFresh new user
-stays_fresh old new user session beliefs still is = record {
-  session = is.session;
-  has = session ∙ is.has;
-  worldview = is.worldview ∙ sym beliefs;
-  current = still is.session.values is.current;
+stays_fresh old new user beliefs same still is = record {
+  exists = omega (arith, is.exists, ap length beliefs);
+  snapshot = is.snapshot;
+  has = subst (λ (bs : List Premises). snapshot_in new.snapshots (get_or bs user empty) ≡ Some is.snapshot) (sym beliefs) (same is.exists ∙ is.has);
+  current = still is.snapshot.values is.current;
 }
 
--- a user other than the asker
-pub fresh_beside : (old : Workbench) (user : ℕ) (new : Workbench) → StoreFits old → OnlyKeepsMore old user new → (other : ℕ) → (other ≡ user → ⊥) →
-    IsFresh old other → IsFresh new other
-fresh_beside old user new fits keeps other differs =
-    stays_fresh old new other (keeps.others other differs) (ap (λ (bs : List Premises). get_or bs other empty) keeps.beliefs)
-    (λ settled is. subst (λ (n : Network). IsCurrent n new.store settled) (sym keeps.network)
-    (current_keeping old.network old.store new.store settled fits.kinds fits.sound keeps.grows is))
+-- what was current still is, if only more is kept
+current_still : (old : Workbench) (user : ℕ) (new : Workbench) → StoreFits old → OnlyKeepsMore old user new → (settled : Settled) →
+    IsCurrent old.network old.store settled → IsCurrent new.network new.store settled
+current_still old user new fits keeps settled is =
+    subst (λ (n : Network). IsCurrent n new.store settled) (sym keeps.network)
+    (current_keeping old.network old.store new.store settled fits.kinds fits.sound keeps.grows is)
 
--- all users, if their sessions stay
-pub fresh_keeping : (old : Workbench) (user : ℕ) (new : Workbench) → StoreFits old → OnlyKeepsMore old user new → new.sessions ≡ old.sessions →
+-- a user who believes something else than the asker
+pub fresh_beside : (old : Workbench) (user : ℕ) (new : Workbench) → StoreFits old → OnlyKeepsMore old user new → (other : ℕ) →
+    beliefs_in old other ≢ beliefs_in old user → IsFresh old other → IsFresh new other
+fresh_beside old user new fits keeps other differs =
+    stays_fresh old new other keeps.beliefs (λ there. keeps.others other there differs) (current_still old user new fits keeps)
+
+-- all users, if the snapshots stay
+pub fresh_keeping : (old : Workbench) (user : ℕ) (new : Workbench) → StoreFits old → OnlyKeepsMore old user new → new.snapshots ≡ old.snapshots →
     (other : ℕ) → IsFresh old other → IsFresh new other
-fresh_keeping old user new fits keeps sessions other =
-    stays_fresh old new other (ap (λ (ss : List (Option Session)). get_or ss other None) sessions)
-    (ap (λ (bs : List Premises). get_or bs other empty) keeps.beliefs)
-    (λ settled is. subst (λ (n : Network). IsCurrent n new.store settled) (sym keeps.network)
-    (current_keeping old.network old.store new.store settled fits.kinds fits.sound keeps.grows is))
+fresh_keeping old user new fits keeps snapshots other =
+    stays_fresh old new other keeps.beliefs (λ there. ap (λ (l : List Snapshot). snapshot_in l (beliefs_in old other)) snapshots)
+    (current_still old user new fits keeps)
+
+-- a user who believes the same as a fresh one
+pub fresh_alike : (bench : Workbench) (user other : ℕ) → user < length bench.beliefs → beliefs_in bench other ≡ beliefs_in bench user →
+    IsFresh bench other → IsFresh bench user
+fresh_alike bench user other there same is = record {
+  exists = there;
+  snapshot = is.snapshot;
+  has = subst (λ (w : Premises). snapshot_in bench.snapshots w ≡ Some is.snapshot) same is.has;
+  current = is.current;
+}
 
 -- all users, if only the room for cells changes
 fresh_as_before : (old new : Workbench) → StoreFits old → IsAsBefore old new → (user : ℕ) → IsFresh old user → IsFresh new user
 fresh_as_before old new fits still user =
-    stays_fresh old new user (ap (λ (ss : List (Option Session)). get_or ss user None) still.sessions)
-    (ap (λ (bs : List Premises). get_or bs user empty) still.beliefs)
+    stays_fresh old new user still.beliefs (λ there. ap (λ (l : List Snapshot). snapshot_in l (beliefs_in old user)) still.snapshots)
     (λ settled is. subst (λ (n : Network). IsCurrent n new.store settled) (sym still.network)
     (current_keeping old.network old.store new.store settled fits.kinds fits.sound
     (keeps_more_alike old.network old.store new.store still.cells_are) is))
 
 -- ---- what is attached under premises
 
--- a user to whom it is not visible keeps the session, and stays fresh if its values stay current
-after_hidden : (old new : Workbench) (support : Premises) → new.beliefs ≡ old.beliefs → new.sessions ≡ map (option_map (after_entry support)) old.sessions →
+-- a user to whom it is not visible keeps the snapshot, and stays fresh if its values stay current
+after_hidden : (old new : Workbench) (support : Premises) → new.beliefs ≡ old.beliefs → new.snapshots ≡ map (after_entry support) old.snapshots →
     ((settled : Settled) → is_subset support settled.worldview ≡ false → IsCurrent old.network old.store settled → IsCurrent new.network new.store settled) →
     (user : ℕ) → is_subset support (beliefs_in old user) ≡ false → IsFresh old user → IsFresh new user
-after_hidden old new support beliefs sessions still user hidden is = record {
-  session = after_entry support is.session;
+after_hidden old new support beliefs snapshots still user hidden is = record {
+  exists = omega (arith, is.exists, ap length beliefs);
+  snapshot = after_entry support is.snapshot;
   has =
-      ap (λ (ss : List (Option Session)). get_or ss user None) sessions ∙ get_or-map (option_map (after_entry support)) old.sessions user None
-      ∙ ap (option_map (after_entry support)) is.has;
-  worldview = is.worldview ∙ sym (ap (λ (bs : List Premises). get_or bs user empty) beliefs);
-  current = still is.session.values (ap (is_subset support) is.worldview ∙ hidden) is.current;
+      subst (λ (bs : List Premises). snapshot_in new.snapshots (get_or bs user empty) ≡ Some (after_entry support is.snapshot)) (sym beliefs)
+      (ap (λ (l : List Snapshot). snapshot_in l (beliefs_in old user)) snapshots
+      ∙ made_in (after_entry support) (λ x. refl) old.snapshots (beliefs_in old user) is.snapshot is.has);
+  current =
+      still is.snapshot.values (ap (is_subset support) (its_worldview old.snapshots (beliefs_in old user) is.snapshot is.has) ∙ hidden) is.current;
 }
 
 -- so a fresh user stays fresh, or sees it
-seen_or_fresh : (old new : Workbench) (support : Premises) → new.beliefs ≡ old.beliefs → new.sessions ≡ map (option_map (after_entry support)) old.sessions →
+seen_or_fresh : (old new : Workbench) (support : Premises) → new.beliefs ≡ old.beliefs → new.snapshots ≡ map (after_entry support) old.snapshots →
     ((settled : Settled) → is_subset support settled.worldview ≡ false → IsCurrent old.network old.store settled → IsCurrent new.network new.store settled) →
     (user : ℕ) → IsFresh old user → (is_subset support (beliefs_in old user) ≡ true) ⊎ IsFresh new user
-seen_or_fresh old new support beliefs sessions still user is =
+seen_or_fresh old new support beliefs snapshots still user is =
     elim (cases_Bool (is_subset support (beliefs_in old user))) [
       | inl seen ↦ inl seen
-      | inr hidden ↦ inr (after_hidden old new support beliefs sessions still user hidden is)
+      | inr hidden ↦ inr (after_hidden old new support beliefs snapshots still user hidden is)
     ]
-
--- a user who has a session exists, and the session fits
-session_there : (bench : Workbench) (user : ℕ) (session : Session) → session_in bench user ≡ Some session → user < length bench.sessions
-session_there bench user session has = elim (cases_Bool (nat_lt user (length bench.sessions))) [
-  | inl is ↦ ltb-true user (length bench.sessions) is
-  | inr not ↦ absurd (none-some session
-      (sym (get_or_past bench.sessions user None (ltb-false user (length bench.sessions) not)) ∙ has))
-]
-
-its_session : (bench : Workbench) (user : ℕ) (session : Session) → session_in bench user ≡ Some session → StoreFits bench →
-    IsSessionOf bench.network bench.store session
-its_session bench user session has fits =
-    subst (λ (o : Option Session). IfSome o (IsSessionOf bench.network bench.store)) has
-    (fits.sessions user None (session_there bench user session has))
 
 -- if a fact is told, a fresh user stays fresh, or it says something that does not follow there
 pub fresh_told : (old new : Workbench) (cell : ℕ) (fact : Fact) → IsWellNetwork old.network → StoreFits old → cell < length old.network.declared.cells →
@@ -121,11 +120,9 @@ pub fresh_told : (old new : Workbench) (cell : ℕ) (fact : Fact) → IsWellNetw
     (Implies (value_in old.network old.store (beliefs_in old user) cell) (shows (beliefs_in old user) fact) → ⊥) ⊎ IsFresh new user
 fresh_told old new cell fact well fits declared kind told user is = elim came.2.current [
   | inl says ↦ inr (record {
-    session = came.0;
-    has = came.1;
-    worldview =
-        ap (λ (v : Settled). v.worldview) came.2.values ∙ is.worldview
-        ∙ sym (ap (λ (bs : List Premises). get_or bs user empty) told.beliefs);
+    exists = omega (arith, is.exists, ap length told.beliefs);
+    snapshot = came.0;
+    has = subst (λ (bs : List Premises). snapshot_in new.snapshots (get_or bs user empty) ≡ Some came.0) (sym told.beliefs) came.1;
     current = subst (λ (n : Network). IsCurrent n new.store came.0.values) (sym told.network)
         (subst (IsCurrent old.network new.store) (sym came.2.values)
         (current_told old.network well old.store new.store cell fact fits.kinds kind told.store fits.sound values there says.0 is.current));
@@ -133,23 +130,27 @@ fresh_told old new cell fact well fits declared kind told user is = elim came.2.
   | inr news ↦ inl (λ follows. news.0
       (also_implies (shows values.worldview fact) (value_in old.network old.store values.worldview cell) (info_at values.infos cell)
       (sym (is.current.said cell) ∙ said_at old.network values cell there)
-      (subst (λ (w : Premises). Implies (value_in old.network old.store w cell) (shows w fact)) (sym is.worldview) follows)))
+      (subst (λ (w : Premises). Implies (value_in old.network old.store w cell) (shows w fact)) (sym worldview) follows)))
 ] where
   values : Settled
-  values = is.session.values
+  values = is.snapshot.values
+
+  worldview : values.worldview ≡ beliefs_in old user
+  worldview = its_worldview old.snapshots (beliefs_in old user) is.snapshot is.has
 
   there : cell < length values.infos
-  there = omega (arith, declared, (its_session old user is.session is.has fits).declared)
+  there = omega (arith, declared, (its_fit old.network old.store old.snapshots (beliefs_in old user) is.snapshot fits.snapshots is.has).declared)
 
-  came : (after : Session) × (session_in new user ≡ Some after) × IsAfterTell cell fact is.session after
-  came = subst (λ (o : Option Session). Becomes (IsAfterTell cell fact) o (session_in new user)) is.has (told.sessions.each user)
+  came : (after : Snapshot) × (snapshot_in new.snapshots (beliefs_in old user) ≡ Some after) × IsAfterTell cell fact is.snapshot after
+  came =
+      becomes_in (IsAfterTell cell fact) (λ x y after. after.values) old.snapshots new.snapshots told.snapshots (beliefs_in old user) is.snapshot is.has
 
 pub fresh_attached : (old new : Workbench) (line : ℕ) (callable : Callable) (cells : List ℕ) (support : Premises) → IsWellNetwork old.network →
     IsWellNetwork new.network → StoreFits old → kinds_of new.store ≡ kinds_in new.network → (wide : IsWider old.network new.network) →
     All (λ (a : Attached). a.support ≡ support) wide.more → IsAttached old line callable cells support new →
     (user : ℕ) → IsFresh old user → (is_subset support (beliefs_in old user) ≡ true) ⊎ IsFresh new user
 fresh_attached old new line callable cells support well also fits kinds wide all attached =
-    seen_or_fresh old new support attached.beliefs attached.sessions
+    seen_or_fresh old new support attached.beliefs attached.snapshots
     (λ settled hidden is.
     current_attached old.network new.network wide well also old.store new.store (inner_kinds_of old.network.declared.compounds callable) fits.kinds kinds
     attached.cells_are fits.sound settled is (hidden_after old.network new.network wide support settled.worldview all hidden))
@@ -180,17 +181,17 @@ module _ (old new : Workbench) (command : Command) (answer : Reply)
   }
 
 -- a change of beliefs: a user who was fresh still is, or believes something else
-pub fresh_believed : (old : Workbench) (beliefs : List Premises) (user : ℕ) → IsFresh old user →
+pub fresh_believed : (old : Workbench) (beliefs : List Premises) → length beliefs ≡ length old.beliefs → (user : ℕ) → IsFresh old user →
     (beliefs_in (record old { beliefs = beliefs }) user ≢ beliefs_in old user) ⊎ IsFresh (record old { beliefs = beliefs }) user
-fresh_believed old beliefs user is =
+fresh_believed old beliefs many user is =
     let now : Premises = get_or beliefs user empty in
     let decides = same_numbers_equal now (beliefs_in old user) in
     elim (cases_Bool (has_same_numbers now (beliefs_in old user))) [
       | inl same ↦
           inr (record {
-            session = is.session;
-            has = is.has;
-            worldview = is.worldview ∙ sym (decides.0 same);
+            exists = omega (arith, is.exists, many);
+            snapshot = is.snapshot;
+            has = subst (λ (w : Premises). snapshot_in old.snapshots w ≡ Some is.snapshot) (sym (decides.0 same)) is.has;
             current = is.current;
           })
       | inr other ↦ inl (λ same. both_ways (has_same_numbers now (beliefs_in old user)) other (decides.1 same))
@@ -202,22 +203,26 @@ fresh_refused old new fits still user command answer is = inr (fresh_as_before o
 
 -- ---- questions
 
-module _ (old : Workbench) (command : Command) (Settling : Type 0) (new : Workbench) (answer : Reply) (fits : StoreFits old)
+module _ (old : Workbench) (command : Command) (Settling : Type 0) (new : Workbench) (answer : Reply)
+    (can : CanAnswer old (user_of command))
     (keeps : OnlyKeepsMore old (user_of command) new) (asked : IsAsked old (user_of command) Settling new answer) where
   pub question_keeps : ((d : Declared) (before : List LineReading) → IsLeftBy d before old → Settles d before command → Settling) →
       KeepsFresh old command new answer
   question_keeps settling = record {
     becomes = λ d before left settles. asked.becomes (settling d before left settles);
-    stays = λ other is. elim (cases_Bool (eqb other (user_of command))) [
-      | inl same ↦
-          let own : other ≡ user_of command = eqb-true other (user_of command) same in
-          elim (asked.stays (subst (IsFresh old) own is)) [
-            | inl refused ↦ inl (inr (inl (sym own, refused)))
-            | inr fresh ↦ inr (subst (IsFresh new) (sym own) fresh)
-          ]
-      | inr differs ↦ inr (fresh_beside old (user_of command) new fits keeps other (eqb-false other (user_of command) differs) is)
-    ];
-  }
+    stays = λ other is.
+        let same = same_numbers_equal (beliefs_in old other) (beliefs_in old (user_of command)) in
+        elim (cases_Bool (has_same_numbers (beliefs_in old other) (beliefs_in old (user_of command)))) [
+          | inl alike ↦
+              inr (fresh_alike new other (user_of command) (omega (arith, is.exists, ap length keeps.beliefs))
+              (now (user_of command) ∙ sym (same.0 alike) ∙ sym (now other)) (asked.stays (fresh_alike old (user_of command) other can.exists (same.0 alike) is)))
+          | inr differs ↦
+              inr (fresh_beside old (user_of command) new can.fits keeps other
+              (λ alike. both_ways (has_same_numbers (beliefs_in old other) (beliefs_in old (user_of command))) differs (same.1 alike)) is)
+        ];
+  } where
+    now : (user : ℕ) → beliefs_in new user ≡ beliefs_in old user
+    now user = ap (λ (bs : List Premises). get_or bs user empty) keeps.beliefs
 
   pub question_counts : ((d : Declared) (before : List LineReading) → IsLeftBy d before old → Settles d before command → Settling) →
       ((d : Declared) (before : List LineReading) → IsLeftBy d before old → Settling → Settles d before command) →
@@ -228,45 +233,50 @@ module _ (old : Workbench) (command : Command) (Settling : Type 0) (new : Workbe
     none = λ d before left not. asked.none (λ settling. not (settles d before left settling));
   }
 
--- ---- the session that is remembered
+-- ---- the snapshot that is remembered
 
 -- its user is fresh
-pub fresh_remembered : (old : Workbench) (user : ℕ) (settled : Settled) → user < length old.sessions → settled.worldview ≡ beliefs_in old user →
-    IsCurrent old.network old.store settled →
-    IsFresh (record old { sessions = set old.sessions user (Some (record { values = settled; is_current = true })) }) user
-fresh_remembered old user settled there worldview current = record {
-  session = record { values = settled; is_current = true };
-  has = get_or-set_same old.sessions user (Some (record { values = settled; is_current = true })) None there;
-  worldview = worldview;
-  current = current;
-}
+pub fresh_remembered : (old : Workbench) (user : ℕ) (values : Settled) (new : Workbench) → IsRemembered old values new → user < length old.beliefs →
+    values.worldview ≡ beliefs_in old user → IsCurrent old.network old.store values → IsFresh new user
+fresh_remembered old user values new remembered there worldview current =
+    subst (λ (bench : Workbench). IsFresh bench user) (sym {A = Workbench} remembered.rest) (record {
+      exists = there;
+      snapshot = first;
+      has =
+          ap (λ (l : List Snapshot). snapshot_in l (beliefs_in old user)) remembered.latest.latest
+          ∙ ap (λ b. cond b (Some first) (snapshot_in remembered.latest.earlier (beliefs_in old user)))
+          ((same_numbers_equal values.worldview (beliefs_in old user)).1 worldview);
+      current = current;
+    })
+  where
+    first : Snapshot
+    first = record { values = values; is_current = true }
 
 -- ---- a settling of the user
 
--- it made few calls, if it makes none from current values, and few if what is kept is the value
-pub calls_few : (old : Workbench) (user calls : ℕ) → ((session : Session) → session_in old user ≡ Some session →
-    session.values.worldview ≡ beliefs_in old user → IsCurrent old.network old.store session.values → calls ≡ 0) →
-    (KeepsValues old.network old.store (beliefs_in old user) → calls ≤ visible_count old.network (beliefs_in old user)) → CallsFew old user calls
-calls_few old user calls none once = record {
-  none = λ is. none is.session is.has is.worldview is.current;
-  once = λ other is same. once (subst (KeepsValues old.network old.store) (is.worldview ∙ same) is.current.kept);
+-- it made few calls, if it makes none from current values
+pub calls_few : (old : Workbench) (user calls : ℕ) → user < length old.beliefs →
+    ((snapshot : Snapshot) → snapshot_in old.snapshots (beliefs_in old user) ≡ Some snapshot → IsCurrent old.network old.store snapshot.values →
+    calls ≡ 0) → CallsFew old user calls
+calls_few old user calls there none = record {
+  none = λ is. none is.snapshot is.has is.current;
+  once = λ other is same.
+      let own = fresh_alike old user other there same is in
+      omega (arith, none own.snapshot own.has own.current);
 }
 
 -- a user who is fresh has nothing due
 pub due_fresh : (old : Workbench) (user : ℕ) → IsFresh old user → old.calls ≡ 0 → CallsDueFor old user old
 due_fresh old user is uncounted = record {
-  anew = λ none. absurd (none-some is.session (sym none ∙ is.has));
-  other = λ session has hidden.
-      absurd (both_ways (is_subset session.values.worldview w) hidden
-      (subst (λ (u : Premises). is_subset u w ≡ true) (sym (worldview session has)) (is_subset_refl w)));
-  further = λ session has inside. (
+  anew = λ none. absurd (none-some is.snapshot (sym none ∙ starts));
+  further = λ snapshot has. (
     replicate (length old.network.attached) false,
     record {
       many = length-replicate (length old.network.attached) false;
       are = λ n. (
         λ flag. absurd (both_ways (is_set (replicate (length old.network.attached) false) n) (get_or-replicate_same (length old.network.attached) n) flag),
-        λ due. absurd (none_due old.network old.store w session.values (worldview session has)
-            (subst (λ (s : Session). IsCurrent old.network old.store s.values) (sym (own session has)) is.current) n due),
+        λ due. absurd (none_due old.network old.store w snapshot.values (worldview snapshot has)
+            (subst (λ (s : Snapshot). IsCurrent old.network old.store s.values) (sym (own snapshot has)) is.current) n due),
       );
     },
     record {
@@ -281,11 +291,14 @@ due_fresh old user is uncounted = record {
   w : Premises
   w = beliefs_in old user
 
-  own : (session : Session) → session_in old user ≡ Some session → session ≡ is.session
-  own session has = same_Some session is.session (sym has ∙ is.has)
+  starts : start_for old.snapshots w ≡ Some is.snapshot
+  starts = starts_there old.snapshots w is.snapshot is.has
 
-  worldview : (session : Session) → session_in old user ≡ Some session → session.values.worldview ≡ w
-  worldview session has = ap (λ (s : Session). s.values.worldview) (own session has) ∙ is.worldview
+  own : (snapshot : Snapshot) → start_for old.snapshots w ≡ Some snapshot → snapshot ≡ is.snapshot
+  own snapshot has = same_Some snapshot is.snapshot (sym has ∙ starts)
+
+  worldview : (snapshot : Snapshot) → start_for old.snapshots w ≡ Some snapshot → snapshot.values.worldview ≡ w
+  worldview snapshot has = ap (λ (s : Snapshot). s.values.worldview) (own snapshot has) ∙ its_worldview old.snapshots w is.snapshot is.has
 
   -- no flag of `count` flags is set
   get_or-replicate_same : (count n : ℕ) → get_or (replicate count false) n false ≡ false
@@ -296,26 +309,28 @@ due_fresh old user is uncounted = record {
 -- ---- how a question ended
 
 -- with values that are remembered
-pub asked_remembered : (old found : Workbench) (user : ℕ) (settled : Settled) (Settling : Type 0) (answer : Reply) → Settling →
-    user < length found.sessions → found.beliefs ≡ old.beliefs → settled.worldview ≡ beliefs_in old user → IsCurrent found.network found.store settled →
-    CallsFew old user found.calls → CallsDueFor old user found →
-    IsAsked old user Settling (record found { sessions = set found.sessions user (Some (record { values = settled; is_current = true })) }) answer
-asked_remembered old found user settled Settling answer settling there beliefs worldview current few due =
-    let fresh = fresh_remembered found user settled there (worldview ∙ sym (ap (λ (bs : List Premises). get_or bs user empty) beliefs)) current in
+pub asked_remembered : (old found : Workbench) (user : ℕ) (values : Settled) (new : Workbench) (Settling : Type 0) (answer : Reply) → Settling →
+    IsRemembered found values new → user < length old.beliefs → found.beliefs ≡ old.beliefs → values.worldview ≡ beliefs_in old user →
+    IsCurrent found.network found.store values → CallsFew old user found.calls → CallsDueFor old user found → IsAsked old user Settling new answer
+asked_remembered old found user values new Settling answer settling remembered there beliefs worldview current few due =
+    let fresh : IsFresh new user =
+    fresh_remembered found user values new remembered (omega (arith, there, ap length beliefs))
+    (worldview ∙ sym (ap (λ (bs : List Premises). get_or bs user empty) beliefs)) current in
     record {
       becomes = λ so. inr fresh;
-      stays = λ is. inr fresh;
-      few = few;
-      due = λ so. inr due;
+      stays = λ is. fresh;
+      few = subst (λ (bench : Workbench). CallsFew old user bench.calls) (sym {A = Workbench} remembered.rest) few;
+      due = λ so. inr (subst (λ (bench : Workbench). CallsDueFor old user bench) (sym {A = Workbench} remembered.rest) due);
       none = λ not. absurd (not settling);
     }
 
--- out of memory
-pub asked_refused : (old found : Workbench) (user : ℕ) (Settling : Type 0) → Settling → CallsFew old user found.calls →
-    CountsSettling old user found (reply.Refused refusal.Memory) → IsAsked old user Settling found (reply.Refused refusal.Memory)
-asked_refused old found user Settling settling few due = record {
+-- out of memory; the snapshots stay
+pub asked_refused : (old found : Workbench) (user : ℕ) (Settling : Type 0) → Settling → StoreFits old → OnlyKeepsMore old user found →
+    found.snapshots ≡ old.snapshots → CallsFew old user found.calls → CountsSettling old user found (reply.Refused refusal.Memory) →
+    IsAsked old user Settling found (reply.Refused refusal.Memory)
+asked_refused old found user Settling settling fits keeps snapshots few due = record {
   becomes = λ so. inl refl;
-  stays = λ is. inl refl;
+  stays = fresh_keeping old user found fits keeps snapshots user;
   few = few;
   due = λ so. due;
   none = λ not. absurd (not settling);
@@ -326,7 +341,7 @@ pub asked_quiet : (old : Workbench) (user : ℕ) (Settling : Type 0) (answer : R
     IsAsked old user Settling old answer
 asked_quiet old user Settling answer quiet none = record {
   becomes = λ so. absurd (quiet so);
-  stays = λ is. inr is;
+  stays = λ is. is;
   few = calls_none old user old.calls none;
   due = λ so. absurd (quiet so);
   none = λ not. none;
@@ -337,7 +352,7 @@ pub asked_known : (old : Workbench) (user : ℕ) (Settling : Type 0) (answer : R
     IsAsked old user Settling old answer
 asked_known old user Settling answer fresh none = record {
   becomes = λ so. inr fresh;
-  stays = λ is. inr is;
+  stays = λ is. is;
   few = calls_none old user old.calls none;
   due = λ so. inr (due_fresh old user fresh none);
   none = λ not. none;
@@ -345,23 +360,24 @@ asked_known old user Settling answer fresh none = record {
 
 -- ---- what a user knows
 
--- a user whose session is known to be current is fresh, if its values were found under what the
--- user believes
-pub known_fresh : (bench : Workbench) (user : ℕ) (session : Session) → session_in bench user ≡ Some session → StoreFits bench →
-    session.is_current ≡ true → session.values.worldview ≡ beliefs_in bench user → IsFresh bench user
-known_fresh bench user session has fits known worldview = record {
-  session = session;
+-- a user is fresh if the snapshot of what the user believes is known to be current
+pub known_fresh : (bench : Workbench) (user : ℕ) (snapshot : Snapshot) → user < length bench.beliefs →
+    snapshot_in bench.snapshots (beliefs_in bench user) ≡ Some snapshot → StoreFits bench → snapshot.is_current ≡ true → IsFresh bench user
+known_fresh bench user snapshot there has fits known = record {
+  exists = there;
+  snapshot = snapshot;
   has = has;
-  worldview = worldview;
-  current = (its_session bench user session has fits).current known;
+  current = (its_fit bench.network bench.store bench.snapshots (beliefs_in bench user) snapshot fits.snapshots has).current known;
 }
 
 -- and a declared cell has its value there
-pub known_value : (bench : Workbench) (user cell : ℕ) (session : Session) (info : Info) → session_in bench user ≡ Some session →
-    StoreFits bench → session.is_current ≡ true → session.values.worldview ≡ beliefs_in bench user → cell < length bench.network.declared.cells →
-    info ≡ info_at session.values.infos cell → info ≡ value_in bench.network bench.store (beliefs_in bench user) cell
-known_value bench user cell session info has fits known worldview here is =
-    let its = its_session bench user session has fits in
+pub known_value : (bench : Workbench) (user cell : ℕ) (snapshot : Snapshot) (info : Info) →
+    snapshot_in bench.snapshots (beliefs_in bench user) ≡ Some snapshot → StoreFits bench → snapshot.is_current ≡ true →
+    cell < length bench.network.declared.cells → info ≡ info_at snapshot.values.infos cell →
+    info ≡ value_in bench.network bench.store (beliefs_in bench user) cell
+known_value bench user cell snapshot info has fits known here is =
+    let its = its_fit bench.network bench.store bench.snapshots (beliefs_in bench user) snapshot fits.snapshots has in
     is
-    ∙ sym (said_at bench.network session.values cell (omega (arith, here, its.declared)))
-    ∙ (its.current known).said cell ∙ ap (λ (w : Premises). value_in bench.network bench.store w cell) worldview
+    ∙ sym (said_at bench.network snapshot.values cell (omega (arith, here, its.declared)))
+    ∙ (its.current known).said cell
+    ∙ ap (λ (w : Premises). value_in bench.network bench.store w cell) (its_worldview bench.snapshots (beliefs_in bench user) snapshot has)

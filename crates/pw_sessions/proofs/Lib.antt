@@ -25,7 +25,8 @@ pub mod NetworkKinds
 pub mod NetworkNames
 pub mod NextLines
 pub mod NotedPremises
-pub mod NotedSessions
+pub mod NotedSnapshots
+pub mod SnapshotLists
 pub mod StoreLemmas
 pub mod Uncounted
 pub mod VisibleEntries

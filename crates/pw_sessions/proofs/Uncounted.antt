@@ -20,7 +20,7 @@ pub left_uncounted : (d : Declared) (before : List LineReading) (bench : Workben
     IsLeftBy d before (uncounted bench)
 left_uncounted d before bench network left =
     left_as_before d (well_left d before bench network left).kinds before bench (uncounted bench)
-    (record { network = refl; cells_are = refl; nogoods = refl; beliefs = refl; sessions = refl }) left
+    (record { network = refl; cells_are = refl; nogoods = refl; beliefs = refl; snapshots = refl }) left
 
 pub can_uncounted : (bench : Workbench) → IsWellNetwork bench.network → (line : ℕ) (command : Command) → CanBeCarriedOut bench line command →
     CanBeCarriedOut (uncounted bench) line command
@@ -35,7 +35,7 @@ can_uncounted bench network line command can = record {
 
 -- a fresh user is fresh without the count too
 fresh_uncounted : (bench : Workbench) (user : ℕ) → IsFresh bench user → IsFresh (uncounted bench) user
-fresh_uncounted bench user is = record { session = is.session; has = is.has; worldview = is.worldview; current = is.current }
+fresh_uncounted bench user is = record { exists = is.exists; snapshot = is.snapshot; has = is.has; current = is.current }
 
 pub fresh_from_uncounted : (bench : Workbench) → IsWellNetwork bench.network → (command : Command) (new : Workbench) (answer : Reply) →
     KeepsFresh (uncounted bench) command new answer → KeepsFresh bench command new answer

@@ -1,10 +1,9 @@
 -- What a workbench holds is what the lines leave from scratch, line after line.
 use Rattle.std.proofs.Common.{◌≡◌, ◌≢◌, ℕ, ◌+◌, ◌<◌, eqb, Bool, true, false, List, [], ◌∷◌, ◌++◌, length, get_or, set, map, replicate, refl, sym, ap, ◌∙◌, subst, inl, inr, append-nil, arith}
-use Rattle.std.specs.Prelude.{All, None, ◌||◌, if◌then◌else◌, nat_eq}
+use Rattle.std.specs.Prelude.{All, ◌||◌, if◌then◌else◌, nat_eq}
 use Rattle.std.specs.FinSet.{contains, empty}
-use Rattle.std.specs.Option.{option_map}
 use Rattle.std.proofs.lemmas.Bool.{cases_Bool, eqb-true, eqb-false, or_left}
-use Rattle.std.proofs.lemmas.List.{length-map, length-set, get_or-replicate, length-replicate, get_or-set_same, get_or-set_other, get_or_append_left}
+use Rattle.std.proofs.lemmas.List.{length-set, get_or-replicate, length-replicate, get_or-set_same, get_or-set_other, get_or_append_left}
 use Rattle.std.proofs.lemmas.List.Elements.{All-nil, All-push}
 use Rattle.std.proofs.lemmas.List.Folds.{list_any-append}
 use Rattle.std.proofs.lemmas.List.Sums.{fold_push}
@@ -32,13 +31,12 @@ use Rattle.pw_sessions.specs.Entries.{Entry, Told, Attached, FitsDeclared, entri
 use Rattle.pw_sessions.specs.Reply.{LineReading, Says}
 use Rattle.pw_sessions.specs.Command.{IsDeclared}
 use Rattle.pw_sessions.specs.inside.Steps.{TakesFact, IsAsBefore, IsAttached, IsTold, OnlyKeepsMore}
-use Rattle.pw_sessions.specs.Workbench.{Workbench, IsLeftBy, IsSetUpFor, SessionsFit, WasTold, beliefs_in, is_told_on, network_after, tells_on, with_entry}
+use Rattle.pw_sessions.specs.Workbench.{Workbench, IsLeftBy, IsSetUpFor, SnapshotsFit, WasTold, beliefs_in, is_told_on, network_after, tells_on, with_entry}
 use Rattle.pw_sessions.proofs.EntriesRise.{rise_before}
 use Rattle.pw_sessions.proofs.FurtherLines.{entries_before-snoc, beliefs_at-snoc}
-use Rattle.pw_sessions.proofs.LastValues.{no_sessions, sessions_attached, sessions_same, sessions_told}
+use Rattle.pw_sessions.proofs.LastValues.{no_snapshots, snapshots_attached, snapshots_same, snapshots_told}
 use Rattle.pw_sessions.proofs.NotedPremises.{nogoods_attached, nogoods_kept, nogoods_told}
 use Rattle.pw_settle.proofs.SoundStores.{rests_attached, rests_new, rests_same, rests_told, sound_attached, sound_new, sound_same, sound_told}
-use Rattle.pw_sessions.specs.Session.{after_entry}
 use Rattle.pw_settle.proofs.WiderNetworks.{kinds_with_attached, widened_under}
 use Rattle.pw_settle.proofs.StoreCells.{kinds_added}
 use Rattle.pw_sessions.proofs.StoreLemmas.{TellsEntries, WasTold-from_tells, kind_found, tells_attached, tells_from_WasTold, tells_more, tells_of_new}
@@ -68,7 +66,7 @@ module _ (d : Declared) (many : length d.kinds ≡ length d.cells) where
 
   -- the store has as many kinds as cells are declared, and is set up for them
   IsSetUpFor-new : (bench : Workbench) (users premises : ℕ) → bench.network ≡ bare d → bench.store.cells ≡ map new_cell d.kinds →
-      bench.nogoods ≡ [] → bench.beliefs ≡ replicate users (premises_below premises) → bench.sessions ≡ replicate users None → users ≡ length d.users →
+      bench.nogoods ≡ [] → bench.beliefs ≡ replicate users (premises_below premises) → bench.snapshots ≡ [] → users ≡ length d.users →
       IsSetUpFor d bench
   IsSetUpFor-new bench users premises is new unnoted believed none all =
       record {
@@ -77,8 +75,7 @@ module _ (d : Declared) (many : length d.kinds ≡ length d.cells) where
         kinds = kinds;
         sound = sound_new bench.network bench.store d.kinds kinds new;
         nogoods = subst (AreNogoods bench.network bench.store) (sym unnoted) (All-nil (IsNogood bench.network bench.store));
-        sessions = ap length none ∙ length-replicate users None ∙ all;
-        fit = subst (SessionsFit bench.network bench.store) (sym none) (no_sessions bench.network bench.store users);
+        fit = subst (SnapshotsFit bench.network bench.store) (sym none) (no_snapshots bench.network bench.store);
       }
     where
       kinds : kinds_of bench.store ≡ kinds_in bench.network
@@ -86,7 +83,7 @@ module _ (d : Declared) (many : length d.kinds ≡ length d.cells) where
 
   -- if nothing was attached, nothing told, and each user believes every premise
   pub IsLeftBy-new : (bench : Workbench) (users premises : ℕ) → bench.network ≡ bare d → bench.store.cells ≡ map new_cell d.kinds →
-      bench.nogoods ≡ [] → bench.beliefs ≡ replicate users (premises_below premises) → bench.sessions ≡ replicate users None → users ≡ length d.users →
+      bench.nogoods ≡ [] → bench.beliefs ≡ replicate users (premises_below premises) → bench.snapshots ≡ [] → users ≡ length d.users →
       premises ≡ length d.premises → IsLeftBy d [] bench
   IsLeftBy-new bench users premises is new unnoted believed none all each =
       let fits : IsSetUpFor d bench = IsSetUpFor-new bench users premises is new unnoted believed none all in
@@ -149,7 +146,6 @@ module _ (d : Declared) (many : length d.kinds ≡ length d.cells) where
         kinds = left.set_up.kinds;
         sound = left.set_up.sound;
         nogoods = left.set_up.nogoods;
-        sessions = left.set_up.sessions;
         fit = left.set_up.fit;
       })
       (subst (All (FitsDeclared d)) same left.fit) (left.network ∙ ap (network_after d) same)
@@ -177,10 +173,9 @@ module _ (d : Declared) (many : length d.kinds ≡ length d.cells) where
           nogoods = subst (λ (n : Network). AreNogoods n new.store new.nogoods) (sym still.network)
               (subst (AreNogoods old.network new.store) (sym still.nogoods)
               (nogoods_kept old.network old.store new.store still.cells_are old.nogoods left.set_up.nogoods));
-          sessions = ap length still.sessions ∙ left.set_up.sessions;
-          fit = subst (λ (n : Network). SessionsFit n new.store new.sessions) (sym still.network)
-              (subst (SessionsFit old.network new.store) (sym still.sessions)
-              (sessions_same old.network old.store new.store old.sessions left.set_up.kinds left.set_up.sound still.cells_are left.set_up.fit));
+          fit = subst (λ (n : Network). SnapshotsFit n new.store new.snapshots) (sym still.network)
+              (subst (SnapshotsFit old.network new.store) (sym still.snapshots)
+              (snapshots_same old.network old.store new.store old.snapshots left.set_up.kinds left.set_up.sound still.cells_are left.set_up.fit));
         };
         fit = left.fit;
         network = still.network ∙ left.network;
@@ -203,12 +198,11 @@ module _ (d : Declared) (many : length d.kinds ≡ length d.cells) where
           kinds = keeps.grows.kinds ∙ left.set_up.kinds ∙ ap kinds_in (sym keeps.network);
           sound = subst (λ (n : Network). IsSound n new.store) (sym keeps.network) (keeps.grows.sound left.set_up.sound);
           nogoods = subst (λ (n : Network). AreNogoods n new.store new.nogoods) (sym keeps.network) (keeps.nogoods left.set_up.nogoods);
-          sessions = keeps.users ∙ left.set_up.sessions;
-          fit = subst (λ (n : Network). SessionsFit n new.store new.sessions) (sym keeps.network) (keeps.sessions (record {
+          fit = subst (λ (n : Network). SnapshotsFit n new.store new.snapshots) (sym keeps.network) (keeps.snapshots (record {
             kinds = left.set_up.kinds;
             sound = left.set_up.sound;
             nogoods = left.set_up.nogoods;
-            sessions = left.set_up.fit;
+            snapshots = left.set_up.fit;
           }));
         };
         fit = left.fit;
@@ -249,11 +243,10 @@ module _ (d : Declared) (many : length d.kinds ≡ length d.cells) where
         nogoods = subst (λ (n : Network). AreNogoods n new.store new.nogoods) (sym told.network)
             (subst (AreNogoods old.network new.store) (sym told.nogoods)
             (nogoods_told old.network network old.store new.store cell fact left.set_up.kinds kind takes old.nogoods left.set_up.nogoods));
-        sessions = told.sessions.many ∙ left.set_up.sessions;
-        fit = subst (λ (n : Network). SessionsFit n new.store new.sessions) (sym told.network)
-            (sessions_told old.network old.store cell fact left.set_up.kinds kind
-            (omega (arith, named.0, ap (λ (e : Declared). length e.cells) left.set_up.declared)) network new.store takes left.set_up.sound old.sessions
-            new.sessions told.sessions left.set_up.fit);
+        fit = subst (λ (n : Network). SnapshotsFit n new.store new.snapshots) (sym told.network)
+            (snapshots_told old.network old.store cell fact left.set_up.kinds kind
+            (omega (arith, named.0, ap (λ (e : Declared). length e.cells) left.set_up.declared)) network new.store takes left.set_up.sound old.snapshots
+            new.snapshots told.snapshots left.set_up.fit);
       })
       (All-push (FitsDeclared d) es entry left.fit named)
       (told.network ∙ left.network ∙ sym (fold_push with_entry (bare d) es entry))
@@ -298,10 +291,9 @@ module _ (d : Declared) (many : length d.kinds ≡ length d.cells) where
         nogoods = subst (AreNogoods new.network new.store) (sym attached.nogoods)
             (nogoods_attached old.network new.network wide network wider old.store new.store own left.set_up.kinds fits attached.cells_are old.nogoods
             left.set_up.nogoods);
-        sessions = ap length attached.sessions ∙ length-map old.sessions (option_map (after_entry support)) ∙ left.set_up.sessions;
-        fit = subst (SessionsFit new.network new.store) (sym attached.sessions)
-            (sessions_attached old.network new.network wide network wider old.store new.store own left.set_up.kinds fits attached.cells_are left.set_up.sound
-            support widened.1 old.sessions left.set_up.fit);
+        fit = subst (SnapshotsFit new.network new.store) (sym attached.snapshots)
+            (snapshots_attached old.network new.network wide network wider old.store new.store own left.set_up.kinds fits attached.cells_are left.set_up.sound
+            support widened.1 old.snapshots left.set_up.fit);
       })
       (All-push (FitsDeclared d) es entry left.fit named.1)
       (attached.network ∙ ap (λ (n : Network). with_entry n entry) left.network ∙ sym (fold_push with_entry (bare d) es entry))

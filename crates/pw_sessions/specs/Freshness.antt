@@ -1,7 +1,7 @@
--- When a user's next question is answered from the results of the last one, and how many procedure
--- calls it takes.
-use Rattle.std.specs.Prelude.{◌≡◌, ◌≢◌, ◌⊎◌, ℕ, ◌+◌, ◌≤◌, Bool, true, false, List, Option, None}
-use Rattle.std.specs.Prelude.{Some}
+-- When a user's next question is answered from the results of an earlier one, and how many
+-- procedure calls it takes.
+use Rattle.std.specs.Prelude.{◌≡◌, ◌≢◌, ◌⊎◌, ℕ, ◌+◌, ◌<◌, ◌≤◌, Bool, true, List, length, Option}
+use Rattle.std.specs.Prelude.{None, Some}
 use Rattle.std.specs.FinSet.{is_subset}
 use Rattle.pw_info.specs.Information.{Implies}
 use Rattle.pw_premises.specs.Premises.{Premises}
@@ -23,21 +23,20 @@ use Rattle.pw_sessions.specs.Entries.{entries_before}
 use Rattle.pw_sessions.specs.Reply.{LineReading}
 use Rattle.pw_sessions.specs.Reply.{Reply}
 use Rattle.pw_sessions.specs.Reply as reply
-use Rattle.pw_sessions.specs.Session.{Session, IsCurrent, KeepsValues}
-use Rattle.pw_sessions.specs.Workbench.{Workbench, IsLeftBy, beliefs_in, session_in}
+use Rattle.pw_sessions.specs.Snapshot.{Snapshot, IsCurrent, snapshot_in, start_for}
+use Rattle.pw_sessions.specs.Workbench.{Workbench, IsLeftBy, beliefs_in}
 use Rattle.pw_settle.specs.Settled.{Settled, IsSettled}
 use Rattle.pw_info.specs.declared.info.Info.{Info}
 
--- a user is fresh: the values of the last session were found under the user's current beliefs, and
--- they are current
+-- a user is fresh: there is a snapshot of the user's current beliefs, and its values are current
 pub record IsFresh (workbench : Workbench) (user : ℕ) : Type 0 where
-  pub session : Session
-  pub has : session_in workbench user ≡ Some session
-  pub worldview : session.values.worldview ≡ beliefs_in workbench user
-  pub current : IsCurrent workbench.network workbench.store session.values
+  pub exists : user < length workbench.beliefs
+  pub snapshot : Snapshot
+  pub has : snapshot_in workbench.snapshots (beliefs_in workbench user) ≡ Some snapshot
+  pub current : IsCurrent workbench.network workbench.store snapshot.values
 
 -- after lines with these readings, the command settles: it asks why or for conflicts, or for a cell
--- that a visible instance writes. What a choice settles is no session, and is not counted
+-- that a visible instance writes. What a choice settles is not kept, and is not counted
 abbrev pub Settles : Declared → List LineReading → Command → Type 0
 Settles d before (commands.Ask user cell) = IsWritten d
     (visible_in (entries_before before) (beliefs_at d user before)) cell
@@ -85,25 +84,21 @@ pub record AreCalls (first gained calls : ℕ) : Type 0 where
   pub least : first ≤ calls
   pub most : calls ≤ first + gained
 
--- the number of procedure calls of a settling in the worldview, after this session if there is one:
--- one for each instance that is due; or, if there are no values, or only those of a worldview that
--- is not within this one, one for each visible instance; and at most as many more as the kept
--- information about cells gained, for each visible reader
-pub record CallsDue (network : Network) (old new : Store) (w : Premises) (last : Option Session)
+-- the number of procedure calls of a settling in the worldview that goes on from this snapshot, if
+-- there is one: one for each instance that is due; or, if there is none, one for each visible
+-- instance; and at most as many more as the kept information about cells gained, for each visible
+-- reader
+pub record CallsDue (network : Network) (old new : Store) (w : Premises) (start : Option Snapshot)
     (calls : ℕ) : Type 0 where
-  pub anew : last ≡ None → AreCalls (visible_count network w) (gains network old new w) calls
-  pub other : (session : Session) → last ≡ Some session → is_subset session.values.worldview w
-      ≡ false →
-      AreCalls (visible_count network w) (gains network old new w) calls
-  pub further : (session : Session) → last ≡ Some session → is_subset session.values.worldview w
-      ≡ true →
-      (due : List Bool) × AreDue network old w session.values due
+  pub anew : start ≡ None → AreCalls (visible_count network w) (gains network old new w) calls
+  pub further : (snapshot : Snapshot) → start ≡ Some snapshot →
+      (due : List Bool) × AreDue network old w snapshot.values due
       × AreCalls (tally due) (gains network old new w) calls
 
 -- the same for a user, from one workbench to another
 abbrev pub CallsDueFor : Workbench → ℕ → Workbench → Type 0
 CallsDueFor old user new = CallsDue old.network old.store new.store (beliefs_in old user)
-    (session_in old user) new.calls
+    (start_for old.snapshots (beliefs_in old user)) new.calls
 
 -- a question was refused before it had settled, and no call is counted; or it settled, and this is
 -- the number of its calls
@@ -112,11 +107,11 @@ CountsSettling old user new answer =
     ((answer ≡ reply.Refused refusal.Memory) × (new.calls ≡ 0)) ⊎ CallsDueFor old user new
 
 -- a question of the user was answered, which settles if this holds: then its user is fresh after
--- it, and a user who was fresh still is, unless it was refused
+-- it, unless it was refused; and a user who was fresh still is
 pub record IsAsked (old : Workbench) (user : ℕ) (Settling : Type 0) (new : Workbench)
     (answer : Reply) : Type 0 where
   pub becomes : Settling → (answer ≡ reply.Refused refusal.Memory) ⊎ IsFresh new user
-  pub stays : IsFresh old user → (answer ≡ reply.Refused refusal.Memory) ⊎ IsFresh new user
+  pub stays : IsFresh old user → IsFresh new user
   pub few : CallsFew old user new.calls
   pub due : Settling → CountsSettling old user new answer
   pub none : (Settling → ⊥) → new.calls ≡ 0
@@ -131,16 +126,11 @@ pub record CountsCalls (old : Workbench) (command : Command) (new : Workbench) (
   pub none : (d : Declared) (before : List LineReading) → IsLeftBy d before old →
       (Settles d before command → ⊥) → new.calls ≡ 0
 
--- the values of the last session are found again without a call, where they are current
-abbrev pub CallsNoneAgain : Network → Store → Premises → Option Session → Settled → Type 0
-CallsNoneAgain network store w last settled =
-    (session : Session) → last ≡ Some session → session.values.worldview ≡ w →
-    IsCurrent network store session.values → settled.calls ≡ 0
-
--- where what is kept is the value of each cell, each visible instance is called once at most
-abbrev pub CallsOnceIfKept : Network → Store → Premises → Settled → Type 0
-CallsOnceIfKept network store w settled =
-    KeepsValues network store w → settled.calls ≤ visible_count network w
+-- the values of the snapshot of the worldview are found again without a call, where they are current
+abbrev pub CallsNoneAgain : Network → Store → Premises → List Snapshot → Settled → Type 0
+CallsNoneAgain network store w snapshots settled =
+    (snapshot : Snapshot) → snapshot_in snapshots w ≡ Some snapshot →
+    IsCurrent network store snapshot.values → settled.calls ≡ 0
 
 -- the value of a cell under what the user believes
 abbrev pub value_for : Workbench → ℕ → ℕ → Info

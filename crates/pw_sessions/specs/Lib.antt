@@ -8,7 +8,7 @@ pub mod Command
 pub mod Entries
 pub mod Freshness
 pub mod Reply
-pub mod Session
+pub mod Snapshot
 pub mod Values
 pub mod Workbench
 pub mod Laws

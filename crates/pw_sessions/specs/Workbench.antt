@@ -1,8 +1,8 @@
 -- The state between two lines: the network, the told and the kept information about each of its
--- cells, the premises that were found to contradict themselves, the current beliefs and the last
--- session of each user, and the number of procedure calls of the last command.
+-- cells, the premises that were found to contradict themselves, the current beliefs of each user, the
+-- snapshots of what questions settled, and the number of procedure calls of the last command.
 use Rattle.std.specs.Prelude.{◌≡◌, ℕ, ◌<◌, Bool, false, ◌&&◌, List, [], ◌∷◌, ◌++◌, All, fold}
-use Rattle.std.specs.Prelude.{length, nat_eq, IfSome, Option, Some, None, slice_index_or}
+use Rattle.std.specs.Prelude.{length, nat_eq, Some, slice_index_or}
 use Rattle.std.specs.FinSet.{contains, empty}
 use Rattle.std.specs.List.{list_any}
 use Rattle.pw_premises.specs.Premises.{Premises}
@@ -22,7 +22,7 @@ use Rattle.pw_sessions.specs.Beliefs.{beliefs_at}
 use Rattle.pw_sessions.specs.CellNames.{named_cells}
 use Rattle.pw_sessions.specs.Entries.{Entry, Told, Attached, FitsDeclared, entries_before}
 use Rattle.pw_sessions.specs.Reply.{LineReading}
-use Rattle.pw_sessions.specs.Session.{Session, IsSessionOf}
+use Rattle.pw_sessions.specs.Snapshot.{Snapshot, IsSnapshotOf}
 use Rattle.pw_sessions.specs.Command.{MayBecome}
 
 pub record Workbench : Type 0 where
@@ -33,19 +33,14 @@ pub record Workbench : Type 0 where
   pub nogoods : List Premises
   -- the beliefs of each user, by number
   pub beliefs : List Premises
-  -- the last session of each user, if there is one
-  pub sessions : List (Option Session)
+  -- what questions settled, by worldview, for all users; the latest used first
+  pub snapshots : List Snapshot
   -- the procedure calls made by the settling of the last command; none if it did not settle
   pub calls : ℕ
 
--- the last session of each user fits the network and the store
-abbrev pub SessionsFit : Network → Store → List (Option Session) → Type 0
-SessionsFit network store sessions = All (λ session.
-    IfSome session (IsSessionOf network store)) sessions
-
--- the last session of the user
-abbrev pub session_in : Workbench → ℕ → Option Session
-session_in workbench user = slice_index_or workbench.sessions user None
+-- each snapshot fits the network and the store
+abbrev pub SnapshotsFit : Network → Store → List Snapshot → Type 0
+SnapshotsFit network store snapshots = All (IsSnapshotOf network store) snapshots
 
 abbrev pub beliefs_in : Workbench → ℕ → Premises
 beliefs_in workbench user = slice_index_or workbench.beliefs user empty
@@ -77,17 +72,16 @@ tells_on cell premise (Attached line callable cells support) = false
 abbrev pub is_told_on : List Entry → ℕ → ℕ → Bool
 is_told_on entries cell premise = list_any (tells_on cell premise) entries
 
--- it is set up for the declaration: each user has beliefs and perhaps a last session, which fits;
--- the store has the cells of the network, with their kinds, and keeps only what follows; and the
--- noted sets contradict themselves
+-- it is set up for the declaration: each user has beliefs; the store has the cells of the network,
+-- with their kinds, and keeps only what follows; the noted sets contradict themselves; and each
+-- snapshot fits
 pub record IsSetUpFor (d : Declared) (workbench : Workbench) : Type 0 where
   pub users : length workbench.beliefs ≡ length d.users
   pub declared : workbench.network.declared ≡ d
   pub kinds : kinds_of workbench.store ≡ kinds_in workbench.network
   pub sound : IsSound workbench.network workbench.store
   pub nogoods : AreNogoods workbench.network workbench.store workbench.nogoods
-  pub sessions : length workbench.sessions ≡ length d.users
-  pub fit : SessionsFit workbench.network workbench.store workbench.sessions
+  pub fit : SnapshotsFit workbench.network workbench.store workbench.snapshots
 
 -- it is what lines with these readings leave: the network is what their entries attach, the store
 -- was told what they tell, and each user's beliefs are those that the user's own lines made

@@ -1,10 +1,8 @@
 //! What the lines so far left: the network, what they told about each of its cells, what was
 //! derived from it so far, which premises were found to contradict themselves, what each user
-//! believes, and what each user's last question found.
+//! believes, and what questions found in each worldview.
 
-ghost use Rattle.std.specs.Prelude.{◌≡◌, ◌<◌, [], List, length, map, replicate, IfOk, None, OnOk};
-ghost use Rattle.std.specs.Prelude.{OnErr, Some};
-ghost use Rattle.std.specs.Option.{option_map};
+ghost use Rattle.std.specs.Prelude.{◌≡◌, ◌<◌, [], List, length, map, IfOk, OnErr, OnOk};
 ghost use Rattle.pw_info.specs.Information.{kind_of};
 ghost use Rattle.pw_cells.specs.Cells.{kind_in_store};
 ghost use Rattle.pw_decl.specs.Declaration.{Declared};
@@ -18,7 +16,7 @@ ghost use Rattle.pw_sessions.specs.inside.Fields.{state};
 ghost use Rattle.pw_sessions.specs.Freshness.{CountsCalls, KeepsFresh};
 ghost use Rattle.pw_sessions.specs.Reply.{LineReading};
 ghost use Rattle.pw_sessions.specs.Reply.{reply_by};
-ghost use Rattle.pw_sessions.specs.Session.{EachBecomes, HaveValues, IsAfterTell, after_entry};
+ghost use Rattle.pw_sessions.specs.Snapshot.{after_entry};
 ghost use Rattle.pw_sessions.specs.inside.Steps.{CanCarryOut, CarriesOutNext, IsAsBefore};
 ghost use Rattle.pw_sessions.specs.inside.Steps.{IsAttached, IsTold};
 ghost use Rattle.pw_sessions.specs.inside.Steps.{StoreFits};
@@ -41,9 +39,11 @@ use std::alloc::{AllocError, Allocator, Global};
 const MOST_INNER_CELLS: u32 = 256;
 
 mod questions;
-mod session;
+mod snapshot;
+mod snapshots;
 
-use session::Session;
+use snapshot::Snapshot;
+use snapshots::{note_entry, note_tell, room_for};
 
 /// What earlier lines left: the network, the facts told about its cells with the facts derived from
 /// them, and what each user believes now. Users and cells are given by their numbers, from 0.
@@ -56,50 +56,11 @@ pub struct Workbench<'d, 'r, A: Allocator = Global> {
     nogoods: Nogoods<A>,
     // The beliefs of each user, by number.
     beliefs: Vec<PremiseSet, A>,
-    // What the last question of each user found, by number; none before the first question, and
-    // after a refusal. Its values still fit.
-    sessions: Vec<Option<Session<A>>, A>,
+    // What questions found, one snapshot a worldview, in the order of their last use, the latest
+    // first. They are shared by all users, and their values still fit.
+    snapshots: Vec<Snapshot<A>, A>,
     // The number of procedure calls made by the last command's own settling.
     calls: u128,
-}
-
-// No user has a session yet. Fails only when out of memory.
-fn no_sessions<A: Allocator + Copy>(
-    alloc: A,
-    users: u8,
-) -> Result<Vec<Option<Session<A>>, A>, AllocError>
-    ensures { IfOk result (λ sessions. sessions.items ≡ replicate users None) }
-{
-    let mut sessions = Vec::with_capacity(alloc, usize::from(users))?;
-    for _ in 0..users {
-        let _ = sessions.push(None);
-    }
-    Ok(sessions)
-}
-
-// Something was attached under these premises: the sessions that see it are no longer known to be
-// current.
-fn note_in_each<A: Allocator>(sessions: &mut [Option<Session<A>>], support: &PremiseSet)
-    ensures { sessions.new ≡ map (option_map (after_entry support.now)) sessions.old }
-{
-    for session in sessions.iter_mut() {
-        if let Some(session) = session {
-            session.note_entry(support);
-        }
-    }
-}
-
-// A fact was told about the cell, and each session has a value of the fact's kind for the cell: the
-// sessions to which the fact is news are no longer known to be current.
-fn note_tell_in_each<A: Allocator>(sessions: &mut [Option<Session<A>>], cell: u32, fact: &Fact)
-    requires { HaveValues cell (kind_of fact.now.info) sessions.old }
-    ensures { EachBecomes (IsAfterTell cell fact.now) sessions.old sessions.new }
-{
-    for session in sessions.iter_mut() {
-        if let Some(session) = session {
-            session.note_tell(cell, fact);
-        }
-    }
 }
 
 impl<'d, 'r, A: Allocator + Copy> Workbench<'d, 'r, A> {
@@ -120,13 +81,13 @@ impl<'d, 'r, A: Allocator + Copy> Workbench<'d, 'r, A> {
         let premises = PremiseSet::first(declaration.premises());
         let users = declaration.users();
         let beliefs = Vec::from_elem(alloc, premises, usize::from(users))?;
-        let sessions = no_sessions(alloc, users)?;
+        let snapshots = Vec::with_capacity(alloc, room_for(usize::from(users)))?;
         Ok(Workbench {
             network,
             store,
             nogoods: Nogoods::new(alloc),
             beliefs,
-            sessions,
+            snapshots,
             calls: 0,
         })
     }
@@ -147,14 +108,14 @@ impl<'d, 'r, A: Allocator + Copy> Workbench<'d, 'r, A> {
         self.beliefs[usize::from(user)] = premises;
     }
 
-    // Something was attached under these premises: the sessions that see it are no longer known to
+    // Something was attached under these premises: the snapshots that see it are no longer known to
     // be current.
     fn note_entry(&mut self, support: &PremiseSet)
         ensures { state self.new ≡ record (state self.old) {
-          sessions = map (option_map (after_entry support.now)) (state self.old).sessions;
+          snapshots = map (after_entry support.now) (state self.old).snapshots;
         } }
     {
-        note_in_each(&mut self.sessions, support);
+        note_entry(&mut self.snapshots, support);
     }
 
     // Tells a fact about a declared cell, of the cell's kind. Fails only when out of memory; then
@@ -168,7 +129,7 @@ impl<'d, 'r, A: Allocator + Copy> Workbench<'d, 'r, A> {
         ensures err { OnErr result (state self.new ≡ state self.old) }
     {
         self.store.tell(cell, fact)?;
-        note_tell_in_each(&mut self.sessions, cell, &fact);
+        note_tell(&mut self.snapshots, cell, &fact);
         Ok(())
     }
 
@@ -246,7 +207,7 @@ impl<'d, 'r, A: Allocator + Copy> Workbench<'d, 'r, A> {
             Command::Ask { user, cell } => self.ask(user, cell),
             Command::Why { user, cell } => self.why(user, cell),
             Command::Conflicts { user } => self.conflicts(user),
-            Command::Choose { user, groups } => self.choose(user, &groups),
+            Command::Choose { user, groups } => self.choose(user, groups),
         }
     }
 
@@ -267,8 +228,8 @@ impl<'d, 'r, A: Allocator + Copy> Workbench<'d, 'r, A> {
     /// changes a reply: each is what it would be from scratch.
     ///
     /// After an answered why or conflicts, or an answered ask of a cell that is written by an
-    /// instance whose premises are all believed, its user is fresh: nothing is left to derive. A
-    /// fresh user stays fresh until the user believes something else, or a line of this user is
+    /// instance whose premises are all believed, its user is fresh: nothing is left to derive, for
+    /// any user of the same beliefs. A fresh user stays fresh until the user believes something else, or a line of this user is
     /// refused, or a line attaches something under premises that this user believes, or tells
     /// something that does not follow already under this user's beliefs. `last_calls` says what
     /// that saves.
@@ -291,7 +252,7 @@ impl<'d, 'r, A: Allocator + Copy> Workbench<'d, 'r, A> {
     }
 
     /// The number of procedure calls made by the last command to settle: 0 if its user was fresh,
-    /// and at most one for each visible instance if a user of the same beliefs was fresh. It is 0
+    /// and so if another user of the same beliefs was. It is 0
     /// before the first command, and after a command that settled nothing or was refused while
     /// settling. A why or conflicts that was refused after it had settled counts these calls. Calls
     /// made to find a reason or a choice do not count.

@@ -107,14 +107,60 @@ fn who_is_fresh_calls_nothing(rt: HostRuntime) -> Result<(), Fail> {
     );
     // Nothing was settled before: each of the three instances is called.
     assert!(rt; calls[3] >= 3);
-    // The same again; the other user, for whom all is kept already.
-    assert_eq!(rt; [calls[4], calls[5]], [0, 3]);
+    // The same again; the other user, who believes the same.
+    assert_eq!(rt; [calls[4], calls[5]], [0, 0]);
     // Two instances read x; t loses one value, and has two readers.
     assert!(rt; 2 <= calls[7] && calls[7] <= 4);
     // What was told of t last follows already: it is no news.
     assert_eq!(rt; calls[9], 0);
     // Beliefs that were doubted: a smaller worldview settles anew. Then all is known.
     assert_eq!(rt; [calls[11], calls[12]], [3, 0]);
+    Ok(())
+}
+
+// Ann goes to other worldviews and back, and bob into one where she was.
+const RETURNING: &[&str] = &[
+    "ann attach sum x y t",
+    "ann tell x 1..2",
+    "ann tell y 10",
+    "ann ask t",
+    "ann doubt a",
+    "ann ask t",
+    "ann believe a",
+    "ann ask t",
+    "bob doubt a",
+    "bob ask t",
+    "bob tell x 1",
+    "bob ask t",
+    "ann ask t",
+    "bob doubt b",
+    "bob ask t",
+    "bob believe b",
+    "bob ask t",
+    "ann ask t",
+];
+
+#[test]
+fn who_returns_goes_on_from_there(rt: HostRuntime) -> Result<(), Fail> {
+    let counting = Counting {
+        alloc: rt.alloc(),
+        lines: RETURNING,
+    };
+    let calls = over_text(rt.alloc(), rt.alloc(), GENERAL, counting)??;
+    let Some(calls) = calls.get(..18) else {
+        return Err("a line is missing".into());
+    };
+    // Nothing was settled before. Then the worldview is a smaller one, and all is kept already.
+    assert!(rt; calls[3] >= 3);
+    assert_eq!(rt; calls[5], 3);
+    // Back where all is known, and the other user where ann was.
+    assert_eq!(rt; [calls[7], calls[9]], [0, 0]);
+    // Two instances read x; t loses one value, and has two readers.
+    assert!(rt; 2 <= calls[11] && calls[11] <= 4);
+    // In ann's worldview x and t have changed; nothing more is found.
+    assert_eq!(rt; calls[12], 3);
+    // A smaller worldview; and back in each.
+    assert_eq!(rt; [calls[14], calls[16], calls[17]], [3, 0, 0]);
     Ok(())
 }
 

@@ -11,6 +11,7 @@ mod putting;
 mod refused;
 mod taking;
 mod worked;
+mod worldviews;
 
 #[test]
 fn memory_is_not_an_answer(rt: HostRuntime) -> Result<(), Fail> {

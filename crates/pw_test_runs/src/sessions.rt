@@ -109,8 +109,8 @@ pub fn answered(alloc: Global, rows: &[(&str, &str)]) -> Result<String, AllocErr
     Ok(text)
 }
 
-// Checks that a run over the declaration answers the transcript by these replies.
-fn answers_text<R: Abort + AllocGlobal>(
+/// Checks that a run over the declaration answers the transcript by these replies.
+pub fn answers_text<R: Abort + AllocGlobal>(
     rt: &R,
     declaration: &str,
     transcript: &str,

@@ -1,9 +1,9 @@
 -- What a workbench in the code is.
 --
 -- Contracts speak of the state of a workbench before and after a call, and never of its fields, so
--- that they do not depend on how a field holds what it holds: beliefs and sessions are lists here,
--- one entry a user, in the order of the users' numbers. The network is seen as its wiring: what is
--- declared, and what was attached at which line. The store and the noted sets are seen as they are,
+-- that they do not depend on how a field holds what it holds: beliefs are a list here, one entry a
+-- user, in the order of the users' numbers, and snapshots are one in the order of their last use. The
+-- network is seen as its wiring: what is declared, and what was attached at which line. The store and the noted sets are seen as they are,
 -- since their types have views of their own. What a workbench allocates for itself is no part of
 -- its state, and neither is the allocator. `calls` counts what the last command called for a
 -- settling.
@@ -11,8 +11,8 @@ use Rattle.pw_network.specs.Wiring.{wiring}
 use Rattle.pw_sessions.specs.declared.workbench.Workbench.{Workbench as WorkbenchType}
 use Rattle.pw_sessions.specs.Workbench.{Workbench}
 
--- its network, its store, the noted sets, the beliefs and the last sessions of its users, and the
--- calls of the last command
+-- its network, its store, the noted sets, the beliefs of its users, the snapshots, and the calls of
+-- the last command
 abbrev pub state : {A : _} {X : Type 0} {F : X → Type 0} {C : _} → WorkbenchType A X F C → Workbench
 state workbench =
     record {
@@ -20,6 +20,6 @@ state workbench =
       store = workbench.store;
       nogoods = workbench.nogoods;
       beliefs = workbench.beliefs.items;
-      sessions = workbench.sessions.items;
+      snapshots = workbench.snapshots.items;
       calls = workbench.calls;
     }

@@ -1,10 +1,11 @@
 -- The conditions that the steps of a command put on a workbench, and their results.
-use Rattle.std.specs.Prelude.{◌≡◌, ◌⊎◌, ℕ, ◌+◌, ◌<◌, ◌≤◌, Bool, true, ◌&&◌, List, ◌++◌, length, map}
-use Rattle.std.specs.Prelude.{nat_eq, All, None, Some, slice_set}
-use Rattle.std.specs.Option.{option_map}
+use Rattle.std.specs.Prelude.{◌≡◌, ◌≢◌, ◌⊎◌, ℕ, ◌+◌, ◌<◌, ◌≤◌, Bool, true, ◌&&◌, List, ◌∷◌, ◌++◌, length}
+use Rattle.std.specs.Prelude.{map, nat_eq, All, None, Some, false, slice_index_or, slice_set}
 use Rattle.std.specs.List.{list_any}
 use Rattle.std.specs.FinSet.{is_subset}
+use Rattle.pw_network.specs.Network.{Network}
 use Rattle.pw_premises.specs.Premises.{Premises, most_premises}
+use Rattle.pw_premises.specs.PremiseSubsets.{has_same_numbers}
 use Rattle.pw_facts.specs.declared.fact.Fact.{Fact}
 use Rattle.pw_cells.specs.Cells.{Store, kinds_of, new_cell}
 use Rattle.pw_cells.specs.Changes.{AssimilatesAt, GainsKept, GainsTold, LeavesOthers}
@@ -27,9 +28,9 @@ use Rattle.pw_sessions.specs.Reply as reply
 use Rattle.pw_sessions.specs.declared.reply.Refusal.TheVariants as refusal
 use Rattle.pw_sessions.specs.Reply.{LineReading, Says}
 use Rattle.pw_sessions.specs.Command.{IsDeclared}
-use Rattle.pw_sessions.specs.Session.{EachBecomes, IsAfterTell, after_entry}
-use Rattle.pw_sessions.specs.Workbench.{Workbench, IsLeftBy, IsSetUpFor, IsCarriedOut, SessionsFit}
-use Rattle.pw_sessions.specs.Workbench.{beliefs_in, session_in}
+use Rattle.pw_sessions.specs.Snapshot.{EachBecomes, IsAfterTell, Snapshot, after_entry, snapshot_in}
+use Rattle.pw_sessions.specs.Workbench.{Workbench, IsLeftBy, IsSetUpFor, IsCarriedOut, SnapshotsFit}
+use Rattle.pw_sessions.specs.Workbench.{beliefs_in}
 use Rattle.pw_settle.specs.Settled.{Settled}
 
 -- the workbench can carry out the command: what it names is declared, and the line comes after
@@ -49,19 +50,17 @@ CarriesOutNext old line command new reply =
     → IsCarriedOut d before command new reply
 
 -- the store has the cells of the network, with their kinds, and keeps only what follows; the noted
--- sets contradict themselves; and the last session of each user fits
+-- sets contradict themselves; and each snapshot fits
 pub record StoreFits (workbench : Workbench) : Type 0 where
   pub kinds : kinds_of workbench.store ≡ kinds_in workbench.network
   pub sound : IsSound workbench.network workbench.store
   pub nogoods : AreNogoods workbench.network workbench.store workbench.nogoods
-  pub sessions : SessionsFit workbench.network workbench.store workbench.sessions
+  pub snapshots : SnapshotsFit workbench.network workbench.store workbench.snapshots
 
--- a question of this user can be answered: the store and the sessions fit, and the user has beliefs
--- and a last session, or none yet
+-- a question of this user can be answered: the store and the snapshots fit, and the user has beliefs
 pub record CanAnswer (workbench : Workbench) (user : ℕ) : Type 0 where
   pub fits : StoreFits workbench
   pub exists : user < length workbench.beliefs
-  pub session : user < length workbench.sessions
 
 -- an instance that is visible in the worldview writes the cell
 abbrev pub is_written : List Attached → ℕ → Premises → Bool
@@ -77,16 +76,16 @@ pub record TakesFact (cell : ℕ) (fact : Fact) (old new : Store) : Type 0 where
   pub others : LeavesOthers cell old new
   pub kinds : kinds_of new ≡ kinds_of old
 
--- a fact was told about the cell: the store took it, and each session knows whether it is news
+-- a fact was told about the cell: the store took it, and each snapshot knows whether it is news
 pub record IsTold (old : Workbench) (cell : ℕ) (fact : Fact) (new : Workbench) : Type 0 where
   pub network : new.network ≡ old.network
   pub store : TakesFact cell fact old.store new.store
   pub nogoods : new.nogoods ≡ old.nogoods
   pub beliefs : new.beliefs ≡ old.beliefs
-  pub sessions : EachBecomes (IsAfterTell cell fact) old.sessions new.sessions
+  pub snapshots : EachBecomes (IsAfterTell cell fact) old.snapshots new.snapshots
   pub calls : new.calls ≡ old.calls
 
--- a callable was attached, and its inner cells added, about which nothing was told; and sessions
+-- a callable was attached, and its inner cells added, about which nothing was told; and snapshots
 -- know that it came
 pub record IsAttached (old : Workbench) (line : ℕ) (callable : Callable) (cells : List ℕ)
     (support : Premises) (new : Workbench) : Type 0 where
@@ -95,29 +94,64 @@ pub record IsAttached (old : Workbench) (line : ℕ) (callable : Callable) (cell
       ++ map new_cell (inner_kinds_of old.network.declared.compounds callable)
   pub nogoods : new.nogoods ≡ old.nogoods
   pub beliefs : new.beliefs ≡ old.beliefs
-  pub sessions : new.sessions ≡ map (option_map (after_entry support)) old.sessions
+  pub snapshots : new.snapshots ≡ map (after_entry support) old.snapshots
 
--- the same network, facts, nogoods, beliefs and sessions; only the room for cells and the number of
+-- the same network, facts, nogoods, beliefs and snapshots; only the room for cells and the number of
 -- procedure calls may differ
 pub record IsAsBefore (old new : Workbench) : Type 0 where
   pub network : new.network ≡ old.network
   pub cells_are : new.store.cells ≡ old.store.cells
   pub nogoods : new.nogoods ≡ old.nogoods
   pub beliefs : new.beliefs ≡ old.beliefs
-  pub sessions : new.sessions ≡ old.sessions
+  pub snapshots : new.snapshots ≡ old.snapshots
 
 -- the same network, beliefs and told facts; more may be kept, other sets may be noted, which
--- contradict themselves as before, and the user may have another last session, which fits
+-- contradict themselves as before, and there may be other snapshots, which fit; but the snapshots of
+-- what other users believe stay
 pub record OnlyKeepsMore (old : Workbench) (user : ℕ) (new : Workbench) : Type 0 where
   pub network : new.network ≡ old.network
   pub beliefs : new.beliefs ≡ old.beliefs
-  pub users : length new.sessions ≡ length old.sessions
-  pub others : (other : ℕ) → (other ≡ user → ⊥) → session_in new other ≡ session_in old other
-  pub sessions : StoreFits old → SessionsFit old.network new.store new.sessions
+  pub others : (other : ℕ) → other < length old.beliefs →
+      beliefs_in old other ≢ beliefs_in old user →
+      snapshot_in new.snapshots (beliefs_in old other)
+      ≡ snapshot_in old.snapshots (beliefs_in old other)
+  pub snapshots : StoreFits old → SnapshotsFit old.network new.store new.snapshots
   pub nogoods : AreNogoods old.network old.store old.nogoods →
       AreNogoods old.network new.store new.nogoods
   pub grows : KeepsMore old.network old.store new.store
   pub upstream : StaysUpstream old.network old.store new.store
+
+-- one of the beliefs is exactly this worldview
+abbrev pub is_believed : List Premises → Premises → Bool
+is_believed beliefs w = list_any (has_same_numbers w) beliefs
+
+-- the snapshot at this place is of a worldview that is none of these beliefs
+abbrev pub CanBeSpared : List Premises → List Snapshot → ℕ → Type 0
+CanBeSpared beliefs snapshots place =
+    (place < length snapshots) × ((d : Snapshot) →
+    is_believed beliefs (slice_index_or snapshots place d).values.worldview ≡ false)
+
+-- some snapshots were given up, but none of these beliefs
+pub record OnlySpares (beliefs : List Premises) (old new : List Snapshot) : Type 0 where
+  pub fit : (network : Network) (store : Store) → SnapshotsFit network store old →
+      SnapshotsFit network store new
+  pub stay : (w : Premises) → is_believed beliefs w ≡ true → snapshot_in new w ≡ snapshot_in old w
+
+-- these values are the latest snapshot, and current; of the earlier ones some were given up, but
+-- none of another worldview that is one of these beliefs
+pub record IsLatest (beliefs : List Premises) (old : List Snapshot) (values : Settled)
+    (new : List Snapshot) : Type 0 where
+  pub earlier : List Snapshot
+  pub latest : new ≡ record { values = values; is_current = true } ∷ earlier
+  pub fit : (network : Network) (store : Store) → SnapshotsFit network store old →
+      SnapshotsFit network store earlier
+  pub stay : (w : Premises) → is_believed beliefs w ≡ true → w ≢ values.worldview →
+      snapshot_in earlier w ≡ snapshot_in old w
+
+-- the same in a workbench, of which only the snapshots are other ones
+pub record IsRemembered (old : Workbench) (values : Settled) (new : Workbench) : Type 0 where
+  pub latest : IsLatest old.beliefs old.snapshots values new.snapshots
+  pub rest : new ≡ record old { snapshots = new.snapshots }
 
 -- an ask of the cell by the user was answered: with what settles in the network under the user's
 -- beliefs; or, if a visible instance writes the cell, with out of memory
@@ -158,17 +192,6 @@ abbrev pub SeesWriter : Workbench → ℕ → ℕ → Type 0
 SeesWriter workbench user cell = is_written workbench.network.attached cell
     (beliefs_in workbench user) ≡ true
 
--- the workbench with these as the last values of the user, which are current
-abbrev pub remembering : Workbench → ℕ → Settled → Workbench
-remembering workbench user settled =
-    record workbench {
-      sessions = slice_set workbench.sessions user (Some (record {
-        values =
-            settled;
-        is_current = true;
-      }));
-    }
-
 -- the workbench where the user believes these premises
 abbrev pub believing : Workbench → ℕ → Premises → Workbench
 believing workbench user premises = record workbench {
@@ -201,12 +224,12 @@ AnswersChoose old user groups found new answer =
     ⊎ (((answer ≡ reply.Chose None) × AllContradict old user groups × (new ≡ found))
     ⊎ ((answer ≡ reply.Refused refusal.Memory) × (new ≡ found)))
 
--- the user chose among the groups: more may be kept and noted, and all sessions stay; and the
+-- the user chose among the groups: more may be kept and noted, and all snapshots stay; and the
 -- choice was answered
 pub record IsChosen (old : Workbench) (user : ℕ) (groups : List (List ℕ)) (new : Workbench)
     (answer : Reply) : Type 0 where
   pub found : Workbench
   pub grows : OnlyKeepsMore old user found
-  pub sessions : found.sessions ≡ old.sessions
+  pub snapshots : found.snapshots ≡ old.snapshots
   pub calls : found.calls ≡ old.calls
   pub answers : AnswersChoose old user groups found new answer

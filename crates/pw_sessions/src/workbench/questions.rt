@@ -1,13 +1,12 @@
-//! Questions of users: what settles under a user's beliefs, starting from what the user's last
-//! question found.
+//! Questions of users: what settles under a user's beliefs, starting from what an earlier question
+//! found in the same worldview, or in one within it.
 ghost use Rattle.std.specs.Prelude.{◌≡◌, ◌<◌, true, length, IfNone, IfOk, IfSome, None};
-ghost use Rattle.std.specs.Prelude.{OnErr, Some};
+ghost use Rattle.std.specs.Prelude.{OnErr, OnOk, Some};
 ghost use Rattle.pw_cells.specs.Cells.{kinds_of};
 ghost use Rattle.pw_network.specs.Wiring.{wiring};
 ghost use Rattle.pw_premises.specs.Premises.{Premises};
 ghost use Rattle.pw_reasons.specs.Combinations.{groups_of, picked_in};
 ghost use Rattle.pw_reasons.specs.Nogood.{covers};
-ghost use Rattle.pw_settle.specs.Growth.{IsFitting};
 ghost use Rattle.pw_settle.specs.Growth.{KeepsMore, StaysUpstream};
 ghost use Rattle.pw_settle.specs.Settled.{IsSettled};
 ghost use Rattle.pw_settle.specs.Sound.{IsSound};
@@ -15,24 +14,26 @@ ghost use Rattle.pw_settle.specs.Values.{kinds_in};
 ghost use Rattle.pw_sessions.specs.inside.Fields.{state};
 ghost use Rattle.pw_sessions.specs.Freshness.{CallsDue, CallsDueFor, CallsFew, IsAsked, IsFresh};
 ghost use Rattle.pw_sessions.specs.Reply.{reply_by};
-ghost use Rattle.pw_sessions.specs.Session.{IsCurrent};
+ghost use Rattle.pw_sessions.specs.Snapshot.{IsCurrent, start_for};
+ghost use Rattle.pw_sessions.specs.Workbench.{SnapshotsFit};
 ghost use Rattle.pw_sessions.specs.inside.Steps.{AllContradict, AreOfPremises, IsChosen};
 ghost use Rattle.pw_sessions.specs.inside.Steps.{AnswersConflicts, AnswersWhy, IsFirstChoice};
 ghost use Rattle.pw_sessions.specs.inside.Steps.{CanAnswer, OnlyKeepsMore, is_written};
-ghost use Rattle.pw_sessions.specs.inside.Steps.{AnswersAskIfLeft, SeesWriter, remembering};
-ghost use Rattle.pw_sessions.specs.Freshness.{CallsNoneAgain, CallsOnceIfKept, IsSettledFor};
+ghost use Rattle.pw_sessions.specs.inside.Steps.{AnswersAskIfLeft, IsRemembered, SeesWriter};
+ghost use Rattle.pw_sessions.specs.Freshness.{CallsNoneAgain, IsSettledFor};
 ghost use Rattle.pw_sessions.specs.Freshness.{value_for};
 ghost use Rattle.pw_sessions.specs.Carrying.{KeepsNogoods};
 
 use super::Workbench;
-use super::session::Session;
+use super::snapshot::Snapshot;
+use super::snapshots::{place_of, place_to_start, remember};
 use crate::reply::{Refusal, Reply};
 use pw_cells::CellStore;
 use pw_info::Info;
 use pw_network::Network;
 use pw_premises::PremiseSet;
 use pw_reasons::{Groups, Picks, choose, list_conflicts, reason, worldview_with};
-use pw_settle::{Settled, resettle, settle};
+use pw_settle::{Settled, resettle_from, settle};
 use std::alloc::{AllocError, Allocator};
 
 // Whether an instance that is visible in the worldview writes the declared cell. It looks at the
@@ -58,37 +59,37 @@ fn is_written_by<A: Allocator + Copy>(
     false
 }
 
-// Settles in a worldview, starting from the values of a session if there is one. The session is
-// given up. Fails only when out of memory.
+// Settles in a worldview, starting from the snapshot of this worldview or else from the latest within
+// it, if there is one. Fails only when out of memory.
 fn settle_after<A: Allocator + Copy>(
     alloc: A,
-    last: Option<Session<A>>,
+    snapshots: &[Snapshot<A>],
     network: &Network<'_, '_, A>,
     store: &mut CellStore<A>,
     worldview: &PremiseSet,
 ) -> Result<Settled<A>, AllocError>
     requires kinds { kinds_of store.old ≡ kinds_in (wiring network.now) }
     requires sound { IsSound (wiring network.now) store.old }
-    requires fits { IfSome last (λ session. IsFitting (wiring network.now) store.old session.values) }
+    requires fit { SnapshotsFit (wiring network.now) store.old snapshots.now }
     ensures settled { IfOk result (λ settled.
         IsSettled (wiring network.now) store.old worldview.now settled) }
     ensures current { IfOk result (λ settled. IsCurrent (wiring network.now) store.new settled) }
-    ensures none { IfOk result (CallsNoneAgain (wiring network.now) store.old worldview.now last) }
-    ensures once { IfOk result (CallsOnceIfKept (wiring network.now) store.old worldview.now) }
-    ensures due { IfOk result (λ settled.
-        CallsDue (wiring network.now) store.old store.new worldview.now last settled.calls) }
+    ensures none { IfOk result (CallsNoneAgain (wiring network.now) store.old worldview.now
+        snapshots.now) }
+    ensures due { IfOk result (λ settled. CallsDue (wiring network.now) store.old store.new
+        worldview.now (start_for snapshots.now worldview.now) settled.calls) }
     ensures grows { KeepsMore (wiring network.now) store.old store.new }
     ensures upstream { StaysUpstream (wiring network.now) store.old store.new }
 {
-    match last {
-        Some(last) => resettle(alloc, last.values, network, store, worldview),
-        None => settle(alloc, network, store, worldview),
-    }
+    let Some(place) = place_to_start(snapshots, worldview) else {
+        return settle(alloc, network, store, worldview);
+    };
+    let start = &snapshots[place];
+    resettle_from(alloc, &start.values, network, store, worldview)
 }
 
 impl<'d, 'r, A: Allocator + Copy> Workbench<'d, 'r, A> {
-    // Settles under the beliefs of the user, who must exist, starting from the user's last session,
-    // which is given up. Fails only when out of memory.
+    // Settles under the beliefs of the user, who must exist. Fails only when out of memory.
     fn settle_for(&mut self, user: u8) -> Result<Settled<A>, AllocError>
         requires can { CanAnswer (state self.old) user }
         requires calls { (state self.old).calls ≡ 0 }
@@ -99,40 +100,48 @@ impl<'d, 'r, A: Allocator + Copy> Workbench<'d, 'r, A> {
             CallsDueFor (state self.old) user (state self.new)) }
         ensures refused { OnErr result ((state self.new).calls ≡ 0) }
         ensures nogoods { (state self.new).nogoods ≡ (state self.old).nogoods }
+        ensures same { state self.new ≡ record (state self.old) {
+          store = (state self.new).store;
+          calls = (state self.new).calls;
+        } }
         ensures grows { OnlyKeepsMore (state self.old) user (state self.new) }
     {
         let alloc = *self.beliefs.allocator();
         let beliefs = self.beliefs_of(user);
-        let last = self.sessions[usize::from(user)].take();
-        let settled = settle_after(alloc, last, &self.network, &mut self.store, &beliefs)?;
+        let settled = settle_after(
+            alloc,
+            &self.snapshots,
+            &self.network,
+            &mut self.store,
+            &beliefs,
+        )?;
         self.calls = settled.calls();
         Ok(settled)
     }
 
-    // From now on these are the last values of the user, who must exist, and they are current.
-    fn remember(&mut self, user: u8, settled: Settled<A>)
-        requires { user < length (state self.old).sessions }
-        ensures { state self.new ≡ remembering (state self.old) user settled }
+    // From now on these are the latest values, and they are current. Fails only when out of memory;
+    // then nothing changes.
+    fn remember(&mut self, settled: Settled<A>) -> Result<(), AllocError>
+        ensures ok { OnOk result (IsRemembered (state self.old) settled (state self.new)) }
+        ensures err { OnErr result (state self.new ≡ state self.old) }
     {
-        self.sessions[usize::from(user)] = Some(Session {
-            values: settled,
-            is_current: true,
-        });
+        remember(&mut self.snapshots, settled, &self.beliefs)
     }
 
-    // The value of the declared cell under the beliefs of the user, who must exist, if the user's
-    // last session is known to have it.
+    // The value of the declared cell under the beliefs of the user, who must exist, if a snapshot is
+    // known to have it.
     fn known_to(&self, user: u8, cell: u32) -> Option<Info>
         requires can { CanAnswer (state self.now) user }
         requires cell { cell < length (state self.now).network.declared.cells }
         ensures value { IfSome result (λ info. info ≡ value_for (state self.now) user cell) }
         ensures fresh { IfSome result (λ info. IsFresh (state self.now) user) }
     {
-        let session = self.sessions[usize::from(user)].as_ref()?;
-        if !session.is_current || *session.values.worldview() != self.beliefs_of(user) {
+        let place = place_of(&self.snapshots, &self.beliefs_of(user))?;
+        let snapshot = &self.snapshots[place];
+        if !snapshot.is_current {
             return None;
         }
-        Some(session.values.value(cell).info)
+        Some(snapshot.values.value(cell).info)
     }
 
     // What is known about the declared cell under the beliefs of the user, who must exist.
@@ -174,7 +183,9 @@ impl<'d, 'r, A: Allocator + Copy> Workbench<'d, 'r, A> {
             return Reply::Refused(Refusal::Memory);
         };
         let info = settled.value(cell).info;
-        self.remember(user, settled);
+        let Ok(()) = self.remember(settled) else {
+            return Reply::Refused(Refusal::Memory);
+        };
         Reply::Value(info)
     }
 
@@ -205,7 +216,9 @@ impl<'d, 'r, A: Allocator + Copy> Workbench<'d, 'r, A> {
             return Reply::Refused(Refusal::Memory);
         };
         let info = settled.value(cell).info;
-        self.remember(user, settled);
+        let Ok(()) = self.remember(settled) else {
+            return Reply::Refused(Refusal::Memory);
+        };
         Reply::Because(info, reason)
     }
 
@@ -220,7 +233,7 @@ impl<'d, 'r, A: Allocator + Copy> Workbench<'d, 'r, A> {
             (AllContradict (state self.old) user (groups_of groups.now))) }
         ensures covers { (w : Premises) → covers (state self.old).nogoods w ≡ true
             → covers (state self.new).nogoods w ≡ true }
-        ensures sessions { (state self.new).sessions ≡ (state self.old).sessions }
+        ensures snapshots { (state self.new).snapshots ≡ (state self.old).snapshots }
         ensures calls { (state self.new).calls ≡ (state self.old).calls }
         ensures grows { OnlyKeepsMore (state self.old) user (state self.new) }
     {
@@ -240,21 +253,21 @@ impl<'d, 'r, A: Allocator + Copy> Workbench<'d, 'r, A> {
     // Chooses for the user, who must exist: if a combination is found, the user believes it from
     // now on, in the place of all premises of the groups. Never inlined, like `why`.
     #[inline(never)]
-    pub(super) fn choose(&mut self, user: u8, groups: &Groups) -> Reply<A>
+    pub(super) fn choose(&mut self, user: u8, groups: Groups) -> Reply<A>
         requires can { CanAnswer (state self.old) user }
-        requires premises { AreOfPremises (groups_of groups.now) }
-        ensures chosen { IsChosen (state self.old) user (groups_of groups.now) (state self.new)
+        requires premises { AreOfPremises (groups_of groups) }
+        ensures chosen { IsChosen (state self.old) user (groups_of groups) (state self.new)
             (reply_by result) }
         ensures noted { KeepsNogoods (state self.old) (state self.new) (reply_by result) }
     {
-        let Ok(chosen) = self.find_choice(user, groups) else {
+        let Ok(chosen) = self.find_choice(user, &groups) else {
             return Reply::Refused(Refusal::Memory);
         };
         let Some(picks) = chosen else {
             return Reply::Chose(None);
         };
         let beliefs = self.beliefs_of(user);
-        let worldview = worldview_with(&beliefs, groups, &picks);
+        let worldview = worldview_with(&beliefs, &groups, &picks);
         self.set_beliefs(user, worldview);
         Reply::Chose(Some(picks))
     }
@@ -277,7 +290,9 @@ impl<'d, 'r, A: Allocator + Copy> Workbench<'d, 'r, A> {
         let Ok(conflicts) = list_conflicts(alloc, &self.network, &settled) else {
             return Reply::Refused(Refusal::Memory);
         };
-        self.remember(user, settled);
+        let Ok(()) = self.remember(settled) else {
+            return Reply::Refused(Refusal::Memory);
+        };
         Reply::Listed(conflicts)
     }
 }

@@ -36,15 +36,6 @@ impl Entries {
         }
     }
 
-    // How many instances are visible in the worldview.
-    fn count_visible(&self, worldview: &PremiseSet) -> u128 {
-        let visible = self
-            .instances
-            .iter()
-            .filter(|instance| instance.support.is_subset(worldview));
-        visible.count() as u128
-    }
-
     // Whether the command attaches under premises that the user believes, or tells something that
     // does not follow under these beliefs.
     fn is_news(&self, registry: &Registry, command: &Command, user: usize) -> Result<bool, Fail> {
@@ -104,9 +95,9 @@ impl Users {
         if !entries.settles(command) || self.of(command.user) != Freshness::Unknown {
             return 0;
         }
-        let beliefs = entries.beliefs(command.user);
-        if self.is_any_fresh(entries, &beliefs) {
-            return entries.count_visible(&beliefs);
+        // Who believes what a fresh user believes is fresh too.
+        if self.is_any_fresh(entries, &entries.beliefs(command.user)) {
+            return 0;
         }
         u128::MAX
     }

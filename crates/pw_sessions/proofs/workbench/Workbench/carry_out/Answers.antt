@@ -21,6 +21,7 @@ use Rattle.pw_sessions.proofs.ChosenLines.{carried_choose, chosen_calls, chosen_
 use Rattle.pw_sessions.proofs.FreshLines.{asks_written, attached_seen, can_answer, kind_of_told, store_fits, written_asks}
 use Rattle.pw_sessions.proofs.UnchangedReplies.{no_change_as_before, no_change_itself, no_change_keeping, notes_none}
 use Rattle.pw_sessions.proofs.FreshUsers.{counts_none, fresh_believed, fresh_refused, fresh_told, keeps_fresh, question_counts, question_keeps}
+use Rattle.std.proofs.lemmas.List.{length-set}
 use Rattle.pw_settle.proofs.StoreCells.{cells_kept}
 use Rattle.pw_sessions.proofs.workbench.Workbench.carry_out.Goals as goal
 
@@ -218,7 +219,7 @@ returns-in-Believe-clause-fresh g c =
     subst (λ (x : Command). KeepsFresh (state c.args.self.now) x (state c.set_beliefs.new.self) (reply.Done)) (sym c.in-Believe.is)
     (keeps_fresh (state c.args.self.now) (state c.set_beliefs.new.self) (commands.Believe c.in-Believe.user c.in-Believe.premises) (reply.Done) (λ d before settles. settles)
     (λ user is. elim (subst (λ (new : Workbench). (beliefs_in new user ≢ beliefs_in (state c.args.self.now) user) ⊎ IsFresh new user)
-    (sym c.set_beliefs.ensures) (fresh_believed (state c.args.self.now) _ user is)) [
+    (sym c.set_beliefs.ensures) (fresh_believed (state c.args.self.now) _ (length-set (state c.args.self.now).beliefs _ _) user is)) [
       | inl other ↦ inl (inl other)
       | inr fresh ↦ inr fresh
     ]))
@@ -234,7 +235,7 @@ returns-in-Doubt-clause-fresh g c =
     subst (λ (x : Command). KeepsFresh (state c.args.self.now) x (state c.set_beliefs-in-Doubt.new.self) (reply.Done)) (sym c.in-Doubt.is)
     (keeps_fresh (state c.args.self.now) (state c.set_beliefs-in-Doubt.new.self) (commands.Doubt c.in-Doubt.user c.in-Doubt.premises) (reply.Done) (λ d before settles. settles)
     (λ user is. elim (subst (λ (new : Workbench). (beliefs_in new user ≢ beliefs_in (state c.args.self.now) user) ⊎ IsFresh new user)
-    (sym c.set_beliefs-in-Doubt.ensures) (fresh_believed (state c.args.self.now) _ user is)) [
+    (sym c.set_beliefs-in-Doubt.ensures) (fresh_believed (state c.args.self.now) _ (length-set (state c.args.self.now).beliefs _ _) user is)) [
       | inl other ↦ inl (inl other)
       | inr fresh ↦ inr fresh
     ]))
@@ -261,7 +262,8 @@ pub returns-in-Ask-clause-fresh : goal.returns-in-Ask-clause-fresh
 returns-in-Ask-clause-fresh g c =
     subst (λ (x : Command). KeepsFresh (state c.args.self.now) x (state c.ask.new.self) (reply_by c.ask.result)) (sym c.in-Ask.is)
     (question_keeps (state c.args.self.now) (commands.Ask c.in-Ask.user c.in-Ask.cell) _ (state c.ask.new.self) (reply_by c.ask.result)
-    (store_fits (state c.args.self.now) c.requires.can) c.ask.ensures.grows c.ask.ensures.asked
+    (can_answer (state c.args.self.now) c.requires.can c.in-Ask.user
+    (subst (λ (x : Command). IsDeclared (wiring c.args.self.now.network).declared (Says x)) c.in-Ask.is c.requires.can.declared).0) c.ask.ensures.grows c.ask.ensures.asked
     (asks_written (state c.args.self.now) c.args.self.now.network.well c.in-Ask.user c.in-Ask.cell
     (subst (λ (x : Command). IsDeclared (wiring c.args.self.now.network).declared (Says x)) c.in-Ask.is c.requires.can.declared)))
 
@@ -269,7 +271,8 @@ pub returns-in-Ask-clause-calls : goal.returns-in-Ask-clause-calls
 returns-in-Ask-clause-calls g c =
     subst (λ (x : Command). CountsCalls (state c.args.self.now) x (state c.ask.new.self) (reply_by c.ask.result)) (sym c.in-Ask.is)
     (question_counts (state c.args.self.now) (commands.Ask c.in-Ask.user c.in-Ask.cell) _ (state c.ask.new.self) (reply_by c.ask.result)
-    (store_fits (state c.args.self.now) c.requires.can) c.ask.ensures.grows c.ask.ensures.asked
+    (can_answer (state c.args.self.now) c.requires.can c.in-Ask.user
+    (subst (λ (x : Command). IsDeclared (wiring c.args.self.now.network).declared (Says x)) c.in-Ask.is c.requires.can.declared).0) c.ask.ensures.grows c.ask.ensures.asked
     (asks_written (state c.args.self.now) c.args.self.now.network.well c.in-Ask.user c.in-Ask.cell
     (subst (λ (x : Command). IsDeclared (wiring c.args.self.now.network).declared (Says x)) c.in-Ask.is c.requires.can.declared))
     (written_asks (state c.args.self.now) c.args.self.now.network.well c.in-Ask.user c.in-Ask.cell
@@ -279,14 +282,16 @@ pub returns-in-Why-clause-fresh : goal.returns-in-Why-clause-fresh
 returns-in-Why-clause-fresh g c =
     subst (λ (x : Command). KeepsFresh (state c.args.self.now) x (state c.why.new.self) (reply_by c.why.result)) (sym c.in-Why.is)
     (question_keeps (state c.args.self.now) (commands.Why c.in-Why.user c.in-Why.cell) _ (state c.why.new.self) (reply_by c.why.result)
-    (store_fits (state c.args.self.now) c.requires.can) c.why.ensures.grows c.why.ensures.asked
+    (can_answer (state c.args.self.now) c.requires.can c.in-Why.user
+    (subst (λ (x : Command). IsDeclared (wiring c.args.self.now.network).declared (Says x)) c.in-Why.is c.requires.can.declared).0) c.why.ensures.grows c.why.ensures.asked
     (λ d before left settles. tt))
 
 pub returns-in-Why-clause-calls : goal.returns-in-Why-clause-calls
 returns-in-Why-clause-calls g c =
     subst (λ (x : Command). CountsCalls (state c.args.self.now) x (state c.why.new.self) (reply_by c.why.result)) (sym c.in-Why.is)
     (question_counts (state c.args.self.now) (commands.Why c.in-Why.user c.in-Why.cell) _ (state c.why.new.self) (reply_by c.why.result)
-    (store_fits (state c.args.self.now) c.requires.can) c.why.ensures.grows c.why.ensures.asked
+    (can_answer (state c.args.self.now) c.requires.can c.in-Why.user
+    (subst (λ (x : Command). IsDeclared (wiring c.args.self.now.network).declared (Says x)) c.in-Why.is c.requires.can.declared).0) c.why.ensures.grows c.why.ensures.asked
     (λ d before left settles. tt)
     (λ d before left settling. tt))
 
@@ -294,14 +299,16 @@ pub returns-in-Conflicts-clause-fresh : goal.returns-in-Conflicts-clause-fresh
 returns-in-Conflicts-clause-fresh g c =
     subst (λ (x : Command). KeepsFresh (state c.args.self.now) x (state c.conflicts.new.self) (reply_by c.conflicts.result)) (sym c.in-Conflicts.is)
     (question_keeps (state c.args.self.now) (commands.Conflicts c.in-Conflicts.user) _ (state c.conflicts.new.self) (reply_by c.conflicts.result)
-    (store_fits (state c.args.self.now) c.requires.can) c.conflicts.ensures.grows c.conflicts.ensures.asked
+    (can_answer (state c.args.self.now) c.requires.can c.in-Conflicts.user
+    (subst (λ (x : Command). IsDeclared (wiring c.args.self.now.network).declared (Says x)) c.in-Conflicts.is c.requires.can.declared).0) c.conflicts.ensures.grows c.conflicts.ensures.asked
     (λ d before left settles. tt))
 
 pub returns-in-Conflicts-clause-calls : goal.returns-in-Conflicts-clause-calls
 returns-in-Conflicts-clause-calls g c =
     subst (λ (x : Command). CountsCalls (state c.args.self.now) x (state c.conflicts.new.self) (reply_by c.conflicts.result)) (sym c.in-Conflicts.is)
     (question_counts (state c.args.self.now) (commands.Conflicts c.in-Conflicts.user) _ (state c.conflicts.new.self) (reply_by c.conflicts.result)
-    (store_fits (state c.args.self.now) c.requires.can) c.conflicts.ensures.grows c.conflicts.ensures.asked
+    (can_answer (state c.args.self.now) c.requires.can c.in-Conflicts.user
+    (subst (λ (x : Command). IsDeclared (wiring c.args.self.now.network).declared (Says x)) c.in-Conflicts.is c.requires.can.declared).0) c.conflicts.ensures.grows c.conflicts.ensures.asked
     (λ d before left settles. tt)
     (λ d before left settling. tt))
 

@@ -14,12 +14,12 @@ returns-clause-left g c =
       store = c.add_cells.new.self;
       nogoods = c.new.result;
       beliefs = c.in_ok-beliefs.beliefs.items;
-      sessions = c.in_ok-sessions.sessions.items;
+      snapshots = c.in_ok-snapshots.snapshots.items;
       calls = 0;
     } in
     let new = c.in_ok-add_cells.ensures.cells
     ∙ ap (λ cs. cs ++ map new_cell c.kinds.result.now) c.new-store.ensures ∙ ap (map new_cell) c.kinds.ensures.kinds in
     let believed : c.in_ok-beliefs.beliefs.items ≡ replicate c.users-users.result (premises_below c.premises.result) =
     c.in_ok-beliefs.ensures.items_if_clones_equal (λ y same. same) ∙ (λ i. replicate (c.from.ensures i) (c.first-premises.ensures.below i)) in
-    IsLeftBy-new (declared c.args.declaration.now) c.kinds.ensures.each bench c.users-users.result c.premises.result c.requires new c.new.ensures believed c.in_ok-sessions.ensures
+    IsLeftBy-new (declared c.args.declaration.now) c.kinds.ensures.each bench c.users-users.result c.premises.result c.requires new c.new.ensures believed c.in_ok-snapshots.ensures.items
     c.users-users.ensures.count c.premises.ensures.count

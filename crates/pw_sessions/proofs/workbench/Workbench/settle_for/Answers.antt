@@ -1,25 +1,26 @@
-use Rattle.std.proofs.Common.{ℕ, Option, set, sym, subst}
+use Rattle.std.proofs.Common.{◌≡◌, List, Some, sym, ◌∙◌, subst}
+use Rattle.pw_premises.specs.Premises.{Premises}
 use Rattle.pw_sessions.specs.inside.Fields.{state}
-use Rattle.pw_sessions.specs.Session.{Session}
-use Rattle.pw_sessions.specs.inside.Steps.{OnlyKeepsMore}
-use Rattle.pw_sessions.specs.Workbench.{Workbench}
+use Rattle.pw_sessions.specs.Snapshot.{Snapshot, snapshot_in}
+use Rattle.pw_sessions.proofs.FreshUsers.{calls_few}
 use Rattle.pw_sessions.proofs.LastValues.{only_settles}
 use Rattle.pw_sessions.proofs.workbench.Workbench.settle_for.Goals as goal
 
 pub returns-in_err-settled-clause-grows : goal.returns-in_err-settled-clause-grows
 returns-in_err-settled-clause-grows g c =
-    let old : Workbench = state c.args.self.now in
-    let new : ℕ → Option Session → Workbench = λ user session.
-    record old { store = c.settle_after.new.store; sessions = set old.sessions user session } in
-    subst (λ (n : ℕ). OnlyKeepsMore old c.args.user (new n c.take-last.new.self)) (sym c.from.ensures)
-    (subst (λ (o : Option Session). OnlyKeepsMore old c.args.user (new c.args.user o)) (sym c.take-last.ensures.after)
-    (only_settles old c.args.user c.settle_after.new.store old.calls c.settle_after.ensures.grows c.settle_after.ensures.upstream))
+    only_settles (state c.args.self.now) c.args.user c.settle_after.new.store (state c.args.self.now).calls c.settle_after.ensures.grows
+    c.settle_after.ensures.upstream
 
 pub returns-clause-grows : goal.returns-clause-grows
 returns-clause-grows g c =
-    let old : Workbench = state c.args.self.now in
-    let new : ℕ → Option Session → Workbench = λ user session.
-    record old { store = c.settle_after.new.store; sessions = set old.sessions user session; calls = c.calls-self.result } in
-    subst (λ (n : ℕ). OnlyKeepsMore old c.args.user (new n c.take-last.new.self)) (sym c.from.ensures)
-    (subst (λ (o : Option Session). OnlyKeepsMore old c.args.user (new c.args.user o)) (sym c.take-last.ensures.after)
-    (only_settles old c.args.user c.settle_after.new.store c.calls-self.result c.settle_after.ensures.grows c.settle_after.ensures.upstream))
+    only_settles (state c.args.self.now) c.args.user c.settle_after.new.store c.calls-self.result c.settle_after.ensures.grows
+    c.settle_after.ensures.upstream
+
+pub returns-clause-calls : goal.returns-clause-calls
+returns-clause-calls g c =
+    calls_few (state c.args.self.now) c.args.user c.calls-self.result c.requires.can.exists
+    (λ snapshot has current.
+    c.calls-self.ensures
+    ∙ c.in_ok-settled.ensures.none snapshot
+    (subst (λ (l : List Snapshot). snapshot_in l c.beliefs_of-beliefs.result ≡ Some snapshot) (sym c.deref.ensures.value)
+    (subst (λ (w : Premises). snapshot_in c.args.self.now.snapshots.items w ≡ Some snapshot) (sym c.beliefs_of-beliefs.ensures) has)) current)

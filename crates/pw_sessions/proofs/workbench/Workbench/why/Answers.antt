@@ -1,9 +1,10 @@
-use Rattle.std.proofs.Common.{◌≡◌, ◌<◌, Some, true, refl, sym, ap, ◌∙◌, subst, inl, inr, arith}
+use Rattle.std.proofs.Common.{◌≡◌, ◌<◌, ℕ, List, true, refl, sym, ap, ◌∙◌, subst, inl, inr, arith}
 use Rattle.pw_info.specs.declared.info.Info.{Info}
 use Rattle.pw_premises.specs.Premises.{Premises}
 use Rattle.pw_cells.specs.Cells.{Store}
 use Rattle.pw_network.specs.Wiring.{wiring}
 use Rattle.pw_network.specs.Network.{Network, cells_in}
+use Rattle.pw_settle.specs.Growth.{KeepsMore, StaysUpstream}
 use Rattle.pw_settle.specs.Settled.{IsSettled}
 use Rattle.pw_settle.specs.Sound.{IsSound}
 use Rattle.pw_settle.specs.Values.{value_in}
@@ -13,11 +14,12 @@ use Rattle.pw_reasons.specs.Reason.{reason_of}
 use Rattle.pw_sessions.specs.inside.Fields.{state}
 use Rattle.pw_sessions.specs.Carrying.{NotesReasons}
 use Rattle.pw_sessions.specs.Reply as reply
+use Rattle.pw_sessions.specs.declared.reply.Refusal.TheVariants as refusal
 use Rattle.pw_sessions.specs.Freshness.{IsAsked}
 use Rattle.pw_sessions.specs.inside.Steps.{OnlyKeepsMore, StoreFits}
 use Rattle.pw_sessions.specs.Workbench.{Workbench, beliefs_in}
 use Rattle.pw_sessions.proofs.AfterSettling.{due_for_still}
-use Rattle.pw_sessions.proofs.LastValues.{fits_after, only_keeps_then, only_notes, only_remembers, session_keeping, session_of}
+use Rattle.pw_sessions.proofs.LastValues.{beliefs_kept, fits_after, fitting_snapshot, only_keeps_then, only_notes, only_remembers, snapshot_keeping}
 use Rattle.pw_sessions.proofs.CurrentValues.{current_keeping}
 use Rattle.pw_sessions.proofs.FreshUsers.{asked_refused, asked_remembered}
 use Rattle.pw_sessions.proofs.UnchangedReplies.{notes_none, notes_reason, notes_refused}
@@ -39,25 +41,59 @@ reason-requires-clause-settled g c =
     (settled_still (wiring c.args.self.now.network) c.args.self.now.store c.settle_for.new.self.store
     (beliefs_in (state c.args.self.now) c.args.user) c.in-Ok.settled c.settle_for.ensures.grows.grows c.in-Ok.ensures.settled)
 
-pub returns-in_default-reason-clause-grows : goal.returns-in_default-reason-clause-grows
-returns-in_default-reason-clause-grows g c =
-    only_keeps_then (state c.args.self.now) c.args.user (state c.settle_for.new.self)
-    (record (state c.settle_for.new.self) { store = c.reason.new.store; nogoods = c.reason.new.nogoods }) c.settle_for.ensures.grows
-    (only_notes (state c.settle_for.new.self) c.args.user c.reason.new.store c.reason.new.nogoods c.reason.ensures.grows c.reason.ensures.upstream
-    (λ are. c.reason.ensures.nogoods))
-
 pub returns-in_default-clause-asked : goal.returns-in_default-clause-asked
 returns-in_default-clause-asked g c =
-    asked_refused (state c.args.self.now) (state c.settle_for.new.self) c.args.user Unit tt c.settle_for.ensures.calls
-    (inl (refl, c.in_default.ensures.refused))
+    asked_refused (state c.args.self.now) (state c.settle_for.new.self) c.args.user Unit tt c.requires.can.fits c.settle_for.ensures.grows
+    (ap (λ (b : Workbench). b.snapshots) c.settle_for.ensures.same) c.settle_for.ensures.calls (inl (refl, c.in_default.ensures.refused))
+
+-- what was found, with what the search for a reason kept and noted
+after_reason : (old : Workbench) (user : ℕ) (found : Workbench) (store : Store) (nogoods : List Premises) → OnlyKeepsMore old user found →
+    KeepsMore found.network found.store store → StaysUpstream found.network found.store store → AreNogoods found.network found.store nogoods →
+    OnlyKeepsMore old user (record found { store = store; nogoods = nogoods })
+after_reason old user found store nogoods keeps grows upstream are =
+    only_keeps_then old user found (record found { store = store; nogoods = nogoods }) keeps (only_notes found user store nogoods grows upstream (λ noted. are))
+
+pub returns-in_default-reason-clause-grows : goal.returns-in_default-reason-clause-grows
+returns-in_default-reason-clause-grows g c =
+    after_reason (state c.args.self.now) c.args.user (state c.settle_for.new.self) c.reason.new.store c.reason.new.nogoods c.settle_for.ensures.grows
+    c.reason.ensures.grows c.reason.ensures.upstream c.reason.ensures.nogoods
 
 pub returns-in_default-reason-clause-asked : goal.returns-in_default-reason-clause-asked
 returns-in_default-reason-clause-asked g c =
-    asked_refused (state c.args.self.now) (record (state c.settle_for.new.self) { store = c.reason.new.store; nogoods = c.reason.new.nogoods }) c.args.user Unit tt
-    c.settle_for.ensures.calls (inr (due_for_still (state c.args.self.now) (state c.settle_for.new.self)
-    (record (state c.settle_for.new.self) { store = c.reason.new.store; nogoods = c.reason.new.nogoods }) c.args.user
-    c.settle_for.ensures.grows.network c.reason.ensures.grows refl
-    c.in-Ok.ensures.due))
+    let old : Workbench = state c.args.self.now in
+    let found : Workbench = state c.settle_for.new.self in
+    let after : Workbench = record found { store = c.reason.new.store; nogoods = c.reason.new.nogoods } in
+    asked_refused old after c.args.user Unit tt c.requires.can.fits
+    (after_reason old c.args.user found c.reason.new.store c.reason.new.nogoods c.settle_for.ensures.grows c.reason.ensures.grows c.reason.ensures.upstream
+    c.reason.ensures.nogoods)
+    (ap (λ (b : Workbench). b.snapshots) c.settle_for.ensures.same) c.settle_for.ensures.calls
+    (inr (due_for_still old found after c.args.user c.settle_for.ensures.grows.network c.reason.ensures.grows refl c.in-Ok.ensures.due))
+
+pub returns-in_default-remember-clause-grows : goal.returns-in_default-remember-clause-grows
+returns-in_default-remember-clause-grows g c =
+    let old : Workbench = state c.args.self.now in
+    let found : Workbench = state c.settle_for.new.self in
+    subst (OnlyKeepsMore old c.args.user) (sym {A = Workbench} c.in_default-remember.ensures.err)
+    (after_reason old c.args.user found c.reason.new.store c.reason.new.nogoods c.settle_for.ensures.grows c.reason.ensures.grows c.reason.ensures.upstream
+    c.reason.ensures.nogoods)
+
+pub returns-in_default-remember-clause-asked : goal.returns-in_default-remember-clause-asked
+returns-in_default-remember-clause-asked g c =
+    let old : Workbench = state c.args.self.now in
+    let found : Workbench = state c.settle_for.new.self in
+    let after : Workbench = record found { store = c.reason.new.store; nogoods = c.reason.new.nogoods } in
+    subst (λ (new : Workbench). IsAsked old c.args.user Unit new (reply.Refused refusal.Memory)) (sym {A = Workbench} c.in_default-remember.ensures.err)
+    (asked_refused old after c.args.user Unit tt c.requires.can.fits
+    (after_reason old c.args.user found c.reason.new.store c.reason.new.nogoods c.settle_for.ensures.grows c.reason.ensures.grows c.reason.ensures.upstream
+    c.reason.ensures.nogoods)
+    (ap (λ (b : Workbench). b.snapshots) c.settle_for.ensures.same) c.settle_for.ensures.calls
+    (inr (due_for_still old found after c.args.user c.settle_for.ensures.grows.network c.reason.ensures.grows refl c.in-Ok.ensures.due)))
+
+pub returns-in_default-remember-clause-noted : goal.returns-in_default-remember-clause-noted
+returns-in_default-remember-clause-noted g c =
+    subst (λ (bench : Workbench). NotesReasons (state c.args.self.now).nogoods bench.nogoods (reply.Refused refusal.Memory))
+    (sym {A = Workbench} c.in_default-remember.ensures.err)
+    (notes_refused _ _ _ _ c.settle_for.ensures.nogoods c.reason.ensures.covers (λ info reason is. absurd (cc)))
 
 pub returns-clause-answer : goal.returns-clause-answer
 returns-clause-answer g c =
@@ -77,16 +113,16 @@ returns-clause-answer g c =
 -- the values are still current after the reason was found
 pub returns-clause-asked : goal.returns-clause-asked
 returns-clause-asked g c =
+    let old : Workbench = state c.args.self.now in
     let found : Workbench = state c.settle_for.new.self in
     let after : Workbench = record found { store = c.reason.new.store; nogoods = c.reason.new.nogoods } in
-    let fits : StoreFits found = fits_after (state c.args.self.now) c.args.user found c.settle_for.ensures.grows c.requires.can.fits in
-    subst (λ (new : Workbench). IsAsked (state c.args.self.now) c.args.user Unit new (reply.Because c.value-info.result.info c.in-Ok-reason.reason))
-    (sym c.remember.ensures)
-    (asked_remembered (state c.args.self.now) after c.args.user c.in-Ok.settled Unit (reply.Because c.value-info.result.info c.in-Ok-reason.reason) tt
-    (omega (arith, c.requires.can.session, c.settle_for.ensures.grows.users)) c.settle_for.ensures.grows.beliefs c.in-Ok.ensures.settled.worldview_is
+    let fits : StoreFits found = fits_after old c.args.user found c.settle_for.ensures.grows c.requires.can.fits in
+    asked_remembered old after c.args.user c.in-Ok.settled (state c.remember.new.self) Unit
+    (reply.Because c.value-info.result.info c.in-Ok-reason.reason) tt c.in-Ok-remember.ensures.ok c.requires.can.exists
+    c.settle_for.ensures.grows.beliefs c.in-Ok.ensures.settled.worldview_is
     (current_keeping found.network found.store c.reason.new.store c.in-Ok.settled fits.kinds fits.sound c.reason.ensures.grows c.in-Ok.ensures.current)
     c.settle_for.ensures.calls
-    (due_for_still (state c.args.self.now) found after c.args.user c.settle_for.ensures.grows.network c.reason.ensures.grows refl c.in-Ok.ensures.due))
+    (due_for_still old found after c.args.user c.settle_for.ensures.grows.network c.reason.ensures.grows refl c.in-Ok.ensures.due)
 
 pub returns-clause-grows : goal.returns-clause-grows
 returns-clause-grows g c =
@@ -94,14 +130,15 @@ returns-clause-grows g c =
     let found : Workbench = state c.settle_for.new.self in
     let after : Workbench = record found { store = c.reason.new.store; nogoods = c.reason.new.nogoods } in
     let fits : StoreFits found = fits_after old c.args.user found c.settle_for.ensures.grows c.requires.can.fits in
-    only_keeps_then old c.args.user found (state c.remember.new.self) c.settle_for.ensures.grows
-    (only_keeps_then found c.args.user after (state c.remember.new.self)
-    (only_notes found c.args.user c.reason.new.store c.reason.new.nogoods c.reason.ensures.grows c.reason.ensures.upstream (λ are. c.reason.ensures.nogoods))
-    (subst (OnlyKeepsMore after c.args.user) (sym c.remember.ensures)
-    (only_remembers after c.args.user (Some (record { values = c.in-Ok.settled; is_current = true }))
-    (session_keeping found.network found.store c.reason.new.store fits.kinds fits.sound c.reason.ensures.grows
+    only_keeps_then old c.args.user after (state c.remember.new.self)
+    (after_reason old c.args.user found c.reason.new.store c.reason.new.nogoods c.settle_for.ensures.grows c.reason.ensures.grows c.reason.ensures.upstream
+    c.reason.ensures.nogoods)
+    (only_remembers after c.args.user c.in-Ok.settled (state c.remember.new.self) c.in-Ok-remember.ensures.ok
+    (c.in-Ok.ensures.settled.worldview_is ∙ sym (beliefs_kept old c.args.user found c.settle_for.ensures.grows))
+    (snapshot_keeping found.network found.store c.reason.new.store fits.kinds fits.sound c.reason.ensures.grows
     (record { values = c.in-Ok.settled; is_current = true })
-    (session_of old c.args.user found c.in-Ok.settled c.args.self.now.network.well c.settle_for.ensures.grows c.in-Ok.ensures.settled c.in-Ok.ensures.current)))))
+    (fitting_snapshot old c.args.user found c.in-Ok.settled c.args.self.now.network.well c.settle_for.ensures.grows c.in-Ok.ensures.settled
+    c.in-Ok.ensures.current)))
 
 -- ---- what is noted
 
@@ -121,6 +158,6 @@ returns-clause-noted g c =
     (settled_still (wiring c.args.self.now.network) c.args.self.now.store found.store
     (beliefs_in (state c.args.self.now) c.args.user) c.in-Ok.settled c.settle_for.ensures.grows.grows c.in-Ok.ensures.settled) in
     let here : c.args.cell < cells_in found.network = subst (λ (n : Network). c.args.cell < cells_in n) (sym c.settle_for.ensures.grows.network) there in
-    subst (λ (bench : Workbench). NotesReasons (state c.args.self.now).nogoods bench.nogoods (reply.Because c.value-info.result.info c.in-Ok-reason.reason)) (sym c.remember.ensures)
+    subst (λ (bench : Workbench). NotesReasons (state c.args.self.now).nogoods bench.nogoods (reply.Because c.value-info.result.info c.in-Ok-reason.reason)) (sym {A = Workbench} c.in-Ok-remember.ensures.ok.rest)
     (notes_reason (state c.args.self.now).nogoods found.nogoods c.reason.new.nogoods c.value-info.result.info (value_in found.network found.store c.in-Ok.settled.worldview c.args.cell) c.in-Ok-reason.reason
     c.settle_for.ensures.nogoods c.reason.ensures.covers (c.value-info.ensures.info ∙ settled.values c.args.cell here) c.in-Ok-reason.ensures.covered)

@@ -1,8 +1,8 @@
-//! The stored results of a user's last question.
+//! What a question settled in one worldview.
 ghost use Rattle.std.specs.Prelude.{◌≡◌, ◌<◌, ◌↔◌, IsTrue, length};
 ghost use Rattle.pw_info.specs.Information.{kind_of};
 ghost use Rattle.pw_settle.specs.Settled.{info_at};
-ghost use Rattle.pw_sessions.specs.Session.{IsAfterTell, SayAlready, after_entry};
+ghost use Rattle.pw_sessions.specs.Snapshot.{IsAfterTell, SayAlready, after_entry};
 
 use pw_facts::Fact;
 use pw_premises::PremiseSet;
@@ -10,27 +10,27 @@ use pw_settle::Settled;
 use std::alloc::{Allocator, Global};
 use std::marker::Model;
 
-// The values that a user's last question settled, and whether they are known to be current.
+// The values of one worldview, and whether they are known to be current.
 #[derive(Drop)]
-pub(crate) struct Session<A: Allocator = Global> {
+pub(crate) struct Snapshot<A: Allocator = Global> {
     pub(super) values: Settled<A>,
     pub(super) is_current: bool,
 }
 
-impl<A: Allocator> Model for Session<A> {
+impl<A: Allocator> Model for Snapshot<A> {
     ghost use Rattle.pw_info.specs.contracts.info.Info as informations;
     ghost use Rattle.pw_settle.specs.inside.Known.{settled_code};
-    ghost use Rattle.pw_sessions.specs.Session.{Session};
-    ghost use Rattle.pw_sessions.specs.Session.{session_code};
+    ghost use Rattle.pw_sessions.specs.Snapshot.{Snapshot};
+    ghost use Rattle.pw_sessions.specs.Snapshot.{snapshot_code};
 
-    ghost Value = { Session };
+    ghost Value = { Snapshot };
 
-    ghost coded = { session_code (settled_code informations.the_row.coded) };
+    ghost coded = { snapshot_code (settled_code informations.the_row.coded) };
 
     ghost view = { λ a. record { values = a.values; is_current = a.is_current } };
 }
 
-impl<A: Allocator> Session<A> {
+impl<A: Allocator> Snapshot<A> {
     // Something was attached under these premises. If it is visible in the worldview of the values,
     // they may not be current.
     pub(super) fn note_entry(&mut self, support: &PremiseSet)

@@ -1,0 +1,171 @@
+//! The snapshots of a workbench, in the order of their last use, the latest first.
+ghost use Rattle.std.specs.Prelude.{◌≡◌, ◌<◌, ◌≤◌, ◌∷◌, length, map, position, remove, IfSome};
+ghost use Rattle.std.specs.Prelude.{OnErr, OnOk, vec_capacity, vec_len};
+ghost use Rattle.std.specs.Option.{option_or};
+ghost use Rattle.pw_info.specs.Information.{kind_of};
+ghost use Rattle.pw_sessions.specs.Snapshot.{EachBecomes, HaveValues, IsAfterTell};
+ghost use Rattle.pw_sessions.specs.Snapshot.{after_entry, is_of, is_within};
+ghost use Rattle.pw_sessions.specs.inside.Steps.{CanBeSpared, IsLatest, OnlySpares, is_believed};
+
+use super::snapshot::Snapshot;
+use pw_facts::Fact;
+use pw_premises::PremiseSet;
+use pw_settle::Settled;
+use std::alloc::{AllocError, Allocator};
+
+// As many snapshots are kept as there are users, and this many more.
+const MOST_OTHERS: usize = 64;
+
+// The most values that all snapshots have together, while one can be spared.
+const MOST_VALUES: usize = 262_144;
+
+// The room for the snapshots of this many users.
+pub(super) fn room_for(users: usize) -> usize {
+    users.saturating_add(MOST_OTHERS)
+}
+
+// The place of the snapshot of exactly this worldview, if there is one.
+pub(super) fn place_of<A: Allocator>(
+    snapshots: &[Snapshot<A>],
+    worldview: &PremiseSet,
+) -> Option<usize>
+    ensures { result ≡ position (is_of worldview.now) snapshots.now }
+{
+    snapshots
+        .iter()
+        .position(|snapshot| *snapshot.values.worldview() == *worldview)
+}
+
+// The place of the latest snapshot whose worldview lies within this one, if there is one.
+fn place_within<A: Allocator>(snapshots: &[Snapshot<A>], worldview: &PremiseSet) -> Option<usize>
+    ensures { result ≡ position (is_within worldview.now) snapshots.now }
+{
+    snapshots.iter().position(|snapshot| snapshot.values.worldview().is_subset(worldview))
+}
+
+// The place of the snapshot from which a settling in this worldview goes on: the one of the same
+// worldview, or else the latest within it, if there is one.
+pub(super) fn place_to_start<A: Allocator>(
+    snapshots: &[Snapshot<A>],
+    worldview: &PremiseSet,
+) -> Option<usize>
+    ensures { result ≡ option_or (position (is_of worldview.now) snapshots.now)
+        (position (is_within worldview.now) snapshots.now) }
+{
+    match place_of(snapshots, worldview) {
+        Some(place) => Some(place),
+        None => place_within(snapshots, worldview),
+    }
+}
+
+// Something was attached under these premises: the snapshots that see it are no longer known to be
+// current.
+pub(super) fn note_entry<A: Allocator>(snapshots: &mut [Snapshot<A>], support: &PremiseSet)
+    ensures { snapshots.new ≡ map (after_entry support.now) snapshots.old }
+{
+    for snapshot in snapshots.iter_mut() {
+        snapshot.note_entry(support);
+    }
+}
+
+// A fact was told about the cell, and each snapshot has a value of the fact's kind for the cell: the
+// snapshots to which the fact is news are no longer known to be current.
+pub(super) fn note_tell<A: Allocator>(snapshots: &mut [Snapshot<A>], cell: u32, fact: &Fact)
+    requires { HaveValues cell (kind_of fact.now.info) snapshots.old }
+    ensures { EachBecomes (IsAfterTell cell fact.now) snapshots.old snapshots.new }
+{
+    for snapshot in snapshots.iter_mut() {
+        snapshot.note_tell(cell, fact);
+    }
+}
+
+// The number of values that the snapshots have together.
+fn values_in<A: Allocator>(snapshots: &[Snapshot<A>]) -> usize {
+    let mut values: usize = 0;
+    for snapshot in snapshots {
+        values = values.saturating_add(snapshot.values.cells());
+    }
+    values
+}
+
+// Whether one of the beliefs is exactly this worldview.
+fn is_among(beliefs: &[PremiseSet], worldview: &PremiseSet) -> bool
+    ensures { result ≡ is_believed beliefs.now worldview.now }
+{
+    beliefs.iter().any(|believed| *worldview == *believed)
+}
+
+// The place of the snapshot that was used longest ago of those whose worldview is none of the
+// beliefs.
+fn place_to_spare<A: Allocator>(snapshots: &[Snapshot<A>], beliefs: &[PremiseSet]) -> Option<usize>
+    ensures { IfSome result (CanBeSpared beliefs.now snapshots.now) }
+{
+    for back in 0..snapshots.len() {
+        let place = snapshots.len() - 1 - back;
+        let snapshot = &snapshots[place];
+        if !is_among(beliefs, snapshot.values.worldview()) {
+            return Some(place);
+        }
+    }
+    None
+}
+
+// Gives the snapshot at this place up.
+fn give_up<A: Allocator>(snapshots: &mut Vec<Snapshot<A>, A>, place: usize)
+    requires { place < length snapshots.old.items }
+    ensures items { snapshots.new.items ≡ remove snapshots.old.items place }
+    ensures len { vec_len snapshots.new ≤ vec_len snapshots.old }
+    ensures capacity { vec_capacity snapshots.new ≡ vec_capacity snapshots.old }
+{
+    snapshots.remove(place);
+}
+
+// Puts a snapshot before the others, for which there is room.
+fn put_first<A: Allocator>(snapshots: &mut Vec<Snapshot<A>, A>, snapshot: Snapshot<A>)
+    requires { vec_len snapshots.old < vec_capacity snapshots.old }
+    ensures { snapshots.new.items ≡ snapshot ∷ snapshots.old.items }
+{
+    let _ = snapshots.insert(0, snapshot);
+}
+
+// Gives snapshots up until there is room for one more, first those that were used longest ago, and
+// none whose worldview is one of the beliefs.
+fn make_room<A: Allocator>(snapshots: &mut Vec<Snapshot<A>, A>, beliefs: &[PremiseSet])
+    ensures spares { OnlySpares beliefs.now snapshots.old.items snapshots.new.items }
+    ensures len { vec_len snapshots.new ≤ vec_len snapshots.old }
+    ensures capacity { vec_capacity snapshots.new ≡ vec_capacity snapshots.old }
+{
+    for _ in 0..snapshots.len() {
+        if snapshots.len() < room_for(beliefs.len()) && values_in(snapshots) <= MOST_VALUES {
+            return;
+        }
+        let Some(place) = place_to_spare(snapshots, beliefs) else {
+            return;
+        };
+        give_up(snapshots, place);
+    }
+}
+
+// These values are the latest snapshot from now on, and current. Another of their worldview is given
+// up, and others if there is no room for them. Fails only when out of memory; then nothing changes.
+pub(super) fn remember<A: Allocator>(
+    snapshots: &mut Vec<Snapshot<A>, A>,
+    values: Settled<A>,
+    beliefs: &[PremiseSet],
+) -> Result<(), AllocError>
+    ensures ok { OnOk result (IsLatest beliefs.now snapshots.old.items values
+        snapshots.new.items) }
+    ensures err { OnErr result (snapshots.new.items ≡ snapshots.old.items) }
+{
+    snapshots.reserve(1)?;
+    if let Some(place) = place_of(snapshots, values.worldview()) {
+        give_up(snapshots, place);
+    }
+    make_room(snapshots, beliefs);
+    let snapshot = Snapshot {
+        values,
+        is_current: true,
+    };
+    put_first(snapshots, snapshot);
+    Ok(())
+}
