@@ -38,11 +38,18 @@ Command lines:
 
 Each command is answered on standard output by a line `N: REPLY`, where N is the number of its line.
 
+By hand, type a command and read its reply; Ctrl-D, the end of standard input, ends the run.
+`rlwrap workbench run DECL` lets you edit lines and call back earlier ones.
+
 `workbench check DECL` reads the declaration alone. Where it has no fault it prints how many users,
 premises, cells, sets and compounds are declared, as `ok users 1 premises 2 cells 3 sets 1 compounds 1`.
+`workbench list DECL` prints what is declared, a line each, as `user ann`, `premise b of ann`,
+`set part cable card`, `cell x interval`, `compound twice x interval t interval`.
+`workbench procedures` prints a line for each procedure and built-in compound: its name, the kinds of
+its cells, and what it says about them.
 
 Status:
-  0  the transcript was answered to its end, or the declaration checked has no fault
+  0  the transcript was answered to its end, the declaration has no fault, or the procedures were printed
   1  a fault, told by one line on standard error
   2  a bad command line
 
@@ -66,6 +73,12 @@ pub enum Job<'a> {
     Check {
         declaration: &'a str,
     },
+    /// List what a declaration declares.
+    List {
+        declaration: &'a str,
+    },
+    /// Print the table of the procedures.
+    Procedures,
 }
 
 /// The arguments given to the program. The first is the program's name.
@@ -98,13 +111,21 @@ fn command<'a>(alloc: Global) -> Result<Command<'a>, Error> {
     let check = Command::new(alloc, "check")
         .about("Says how much a declaration declares, or its first fault")
         .arg(declaration_argument(alloc))?;
+    let list = Command::new(alloc, "list")
+        .about("Lists what a declaration declares, a line each, or says its first fault")
+        .arg(declaration_argument(alloc))?;
+    let procedures = Command::new(alloc, "procedures").about(
+        "Lists the procedures and the built-in compounds, with the kinds of their cells",
+    );
     let workbench = Command::new(alloc, "workbench")
         .version(VERSION)
         .about(ABOUT)
         .after_help(MORE)
         .subcommand_required(true)
         .subcommand(run)?
-        .subcommand(check)?;
+        .subcommand(check)?
+        .subcommand(list)?
+        .subcommand(procedures)?;
     Ok(workbench)
 }
 
@@ -127,7 +148,15 @@ pub fn read_arguments<'a>(alloc: Global, arguments: &'a [String]) -> Result<Job<
             return Ok(Job::Check { declaration });
         }
     }
-    // The command accepts no arguments that lack either.
+    if let Some(list) = matches.subcommand_matches("list") {
+        if let Some(declaration) = list.get_str("DECL") {
+            return Ok(Job::List { declaration });
+        }
+    }
+    if matches.subcommand_matches("procedures").is_some() {
+        return Ok(Job::Procedures);
+    }
+    // The command accepts no arguments but these.
     Err(bad_command_line(alloc, "no declaration was named"))
 }
 

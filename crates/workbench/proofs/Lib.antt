@@ -1,2 +1,4 @@
 pub mod Fronts
+pub mod Listings
 pub mod Program
+pub mod Rows

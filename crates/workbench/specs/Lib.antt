@@ -1,2 +1,4 @@
 pub mod Ending
+pub mod Listing
 pub mod Procedures
+pub mod Table

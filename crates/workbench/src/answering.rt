@@ -1,13 +1,14 @@
 //! The jobs: a declaration is read over a registry of procedures; then a transcript is answered, or
-//! the size of the declaration is reported.
+//! what is declared is counted or listed. Or the table of the procedures is printed.
 
 use crate::checking::check_line;
 use crate::fault::Fault;
 use crate::files::declaration_text;
-use crate::procedures::{OverProcedures, over_procedures};
+use crate::listing::listing;
+use crate::procedures::{OverProcedures, over_procedures, procedure_table};
 use pw_command_line::Job;
 use pw_decl::{Declaration, read_declaration};
-use pw_info::Writing;
+use pw_info::{Writing, put_all};
 use pw_procs::Registry;
 use pw_transcript::{Reading, RunFault, run};
 use std::io::Read;
@@ -68,6 +69,26 @@ fn check<'a, R: Files + Print + AllocGlobal>(
     }
 }
 
+// Writes the bytes to standard output.
+fn print<'a, R: Print>(rt: &R, bytes: &[u8]) -> Result<(), Fault<'a>> {
+    let mut output = Writing::new(io::writer(rt));
+    match put_all(&mut output, bytes) {
+        Ok(()) => Ok(()),
+        Err(_) => Err(Fault::Run(RunFault::Write)),
+    }
+}
+
+// Reads the declaration, and lists on standard output what it declares.
+fn list<'a, R: Files + Print + AllocGlobal>(
+    rt: &R,
+    registry: &Registry,
+    declaration: &'a str,
+) -> Result<(), Fault<'a>> {
+    let text = declaration_text(rt, declaration)?;
+    let listing = listing(rt.alloc(), &text, registry)?;
+    print(rt, &listing)
+}
+
 // A job to be done.
 #[derive(Drop)]
 struct Doing<'r, 'a, R> {
@@ -85,6 +106,8 @@ impl<'a, R: Files + Input + Print + AllocGlobal> OverProcedures for Doing<'_, 'a
                 transcript,
             } => answer_transcript(self.rt, registry, declaration, transcript),
             Job::Check { declaration } => check(self.rt, registry, declaration),
+            Job::List { declaration } => list(self.rt, registry, declaration),
+            Job::Procedures => print(self.rt, procedure_table().as_bytes()),
         }
     }
 }

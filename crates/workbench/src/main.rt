@@ -7,6 +7,7 @@ mod checking;
 mod ending;
 mod fault;
 mod files;
+mod listing;
 mod procedures;
 
 use answering::do_job;

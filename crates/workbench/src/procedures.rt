@@ -1,12 +1,15 @@
 //! The procedures of the program: one for each meaning of the table, and the sign of a number by
 //! rules.
-ghost use Rattle.std.specs.Prelude.{◌≡◌, ◌∷◌, [], List, map, IfOk};
+ghost use Rattle.std.specs.Prelude.{◌≡◌, ◌∷◌, [], All, List, map, IfOk};
 ghost use Rattle.pw_info.specs.Information.{kind_of};
 ghost use Rattle.pw_info.specs.declared.info.Info.{Info as Information};
 ghost use Rattle.pw_procs.specs.Rules.{AreRules, value_of_rules};
-ghost use Rattle.pw_procs.specs.Procedure.{procedures_of};
+ghost use Rattle.pw_procs.specs.Procedure.{Procedure, procedures_of};
 ghost use Rattle.pw_procs.specs.Registry.{procedures_in};
+ghost use Rattle.pw_decl.specs.BuiltIn.{HasPrelude};
+ghost use Rattle.pw_decl.specs.Declaration.{Declared};
 ghost use Rattle.workbench.specs.Procedures.{AreOfProgram};
+ghost use Rattle.workbench.specs.Table.{IsBuiltInRow, compound_rows, text_of_table};
 
 use crate::fault::Fault;
 use pw_info::{Info, Kind, SetKind};
@@ -89,33 +92,71 @@ fn table_of(alloc: Global, rules: &[Rule], output: Kind) -> Result<Vec<Rule>, Al
     Ok(table)
 }
 
-// Puts the fourteen procedures of the table at the end of a list, each boxed here: a value that
-// holds a boxed closure may not leave the function that made it.
-macro_rules! add_table {
-    (each $alloc:expr, $list:expr, $($name:literal $meaning:ident $body:ident,)*) => {
+// The fourteen procedures of the table: each name, with its meaning, its body, and the rest of its row
+// in the printed table.
+//
+// `list` puts them at the end of a list, each boxed here: a value that holds a boxed closure may not
+// leave the function that made it. `rows` is the printed table: these, `sign`, and the compounds that
+// every declaration has.
+macro_rules! table {
+    (list $alloc:expr, $list:expr; $($name:literal $meaning:ident $body:ident $row:literal,)*) => {
         $(
             add_of_table($alloc, $list, $name, Meaning::$meaning, Box::new($alloc, bodies::$body)?)?;
         )*
     };
-    ($alloc:expr, $list:expr) => {
-        add_table! {
-            each $alloc, $list,
-            "adder" Adder adder,
-            "subtractor" Subtractor subtractor,
-            "multiplier" Multiplier multiplier,
-            "squarer" Squarer squarer,
-            "divider" Divider divider,
-            "at_most" AtMost at_most,
-            "equal" Equal equal,
-            "inverter" Inverter inverter,
-            "conjoiner" Conjoiner conjoiner,
-            "disjoiner" Disjoiner disjoiner,
-            "switch" Switch switch,
-            "copy" Copy copy,
-            "point" Point point,
-            "fixed" Fixed fixed,
+    (rows; $($name:literal $meaning:ident $body:ident $row:literal,)*) => {
+        concat!(
+            $($name, $row,)*
+            "sign",
+            "         x interval -> sign                       one way   neg, zero or pos, as x is\n",
+            "sum          x interval y interval t interval         all ways  t = x + y\n",
+            "product      x interval y interval t interval         all ways  t = x * y\n",
+            "conditional  p bool a interval b interval r interval  one way   r = a if p is true, r = b if p is false\n",
+        )
+    };
+    (of $($what:tt)*) => {
+        table! {
+            $($what)*;
+            "adder" Adder adder
+            "        x interval y interval -> interval        one way   x + y\n",
+            "subtractor" Subtractor subtractor
+            "   t interval x interval -> interval        one way   t - x\n",
+            "multiplier" Multiplier multiplier
+            "   x interval y interval -> interval        one way   x * y\n",
+            "squarer" Squarer squarer
+            "      x interval -> interval                   one way   x * x\n",
+            "divider" Divider divider
+            "      t interval x interval -> interval        one way   t / x; nothing while x may be 0\n",
+            "at_most" AtMost at_most
+            "      x interval y interval -> bool            one way   whether x <= y\n",
+            "equal" Equal equal
+            "        x S y S -> bool                          one way   whether x = y; S is any kind\n",
+            "inverter" Inverter inverter
+            "     p bool -> bool                           one way   not p\n",
+            "conjoiner" Conjoiner conjoiner
+            "    p bool q bool -> bool                    one way   p and q\n",
+            "disjoiner" Disjoiner disjoiner
+            "    p bool q bool -> bool                    one way   p or q\n",
+            "switch" Switch switch
+            "       p bool x S -> S                          one way   x if p is true; S is any kind\n",
+            "copy" Copy copy
+            "         x S -> S                                 one way   x; S is any kind\n",
+            "point" Point point
+            "        k exact -> interval                      one way   k\n",
+            "fixed" Fixed fixed
+            "        x interval -> exact                      one way   x, once it has one value\n",
         }
     };
+}
+
+/// The table that `procedures` prints, as it is for all procedures of the program: a row for each,
+/// and one for each compound that every declaration has.
+pub fn procedure_table() -> &'static str
+    ensures rows { (procedures : List Procedure) → AreOfProgram procedures
+        → result.now ≡ text_of_table procedures }
+    ensures compounds { (d : Declared) → HasPrelude d → All (IsBuiltInRow d) compound_rows }
+{
+    table!(of rows)
 }
 
 // If the names are good, the only possible fault is out of memory.
@@ -189,6 +230,6 @@ pub fn over_procedures<'a, T: OverProcedures + Drop>(
         rules,
         body,
     )?;
-    add_table!(alloc, &mut list);
+    table!(of list alloc, &mut list);
     lend(alloc, list, task)
 }
