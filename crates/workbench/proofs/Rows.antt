@@ -1,5 +1,5 @@
 -- The entries of the program's procedures, and the text of the table.
-use Rattle.std.proofs.Common.{◌≡◌, ℕ, ◌+◌, List, [], ◌∷◌, ◌++◌, map, Bool, false, refl, sym, ◌∙◌, ap, codes, subst}
+use Rattle.std.proofs.Common.{◌≡◌, ℕ, ◌+◌, List, [], ◌∷◌, ◌++◌, map, false, refl, sym, ◌∙◌, ap, codes, subst}
 use Rattle.std.specs.Prelude.{All, slice_index_or}
 use Rattle.std.specs.List.{flat_map}
 use Rattle.std.proofs.lemmas.List.Elements.{All-from_recursion}

@@ -1,5 +1,5 @@
 -- What `list` prints of the text of a declaration.
-use Rattle.std.specs.Prelude.{◌≡◌, ℕ, Bool, true, false, not, List, [], ◌∷◌, ◌++◌, codes, drop}
+use Rattle.std.specs.Prelude.{◌≡◌, ℕ, Bool, false, not, List, [], ◌∷◌, ◌++◌, codes, drop}
 use Rattle.std.specs.Prelude.{filter, get_or, if◌then◌else◌, map}
 use Rattle.std.specs.List.{flat_map}
 use Rattle.std.specs.Str.{bytes_eq}

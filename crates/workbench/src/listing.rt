@@ -1,5 +1,5 @@
 //! What `list` prints of a declaration: each line that declares something outside compounds.
-ghost use Rattle.std.specs.Prelude.{◌≡◌, ◌++◌, ◌∷◌, [], List, ℕ, OnOk, IfOk, IfErr};
+ghost use Rattle.std.specs.Prelude.{◌≡◌, ◌++◌, ◌∷◌, List, ℕ, OnOk, IfOk, IfErr};
 ghost use Rattle.std.specs.List.{flat_map};
 ghost use Rattle.pw_info.specs.Words.{words_of};
 ghost use Rattle.pw_procs.specs.Registry.{procedures_in};
