@@ -1,1 +1,3 @@
 pub mod Host
+pub mod Rest
+pub mod Sum

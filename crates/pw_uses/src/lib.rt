@@ -1,6 +1,11 @@
-//! A proved host that uses the workbench as a library: read it before you write your own.
+//! Proved hosts that use the workbench as a library: read them before you write your own.
 #![tactic(auto)]
 
+mod answer;
 mod host;
+mod rest;
+mod sum;
 
+pub use answer::HostFault;
 pub use host::{Matter, asked_by_two};
+pub use rest::rest;

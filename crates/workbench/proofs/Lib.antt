@@ -1,4 +1,2 @@
 pub mod Fronts
 pub mod Listings
-pub mod Program
-pub mod Rows

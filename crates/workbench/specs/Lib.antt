@@ -1,4 +1,2 @@
 pub mod Ending
 pub mod Listing
-pub mod Procedures
-pub mod Table

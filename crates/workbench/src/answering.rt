@@ -5,11 +5,11 @@ use crate::checking::check_line;
 use crate::fault::Fault;
 use crate::files::declaration_text;
 use crate::listing::listing;
-use crate::procedures::{OverProcedures, over_procedures, procedure_table};
 use pw_command_line::Job;
 use pw_decl::{Declaration, read_declaration};
 use pw_info::{Writing, put_all};
 use pw_procs::Registry;
+use pw_standard::{OverRegistry, over_standard, procedure_table};
 use pw_transcript::{Reading, RunFault, run};
 use std::io::Read;
 use std::rt::Files;
@@ -96,7 +96,7 @@ struct Doing<'r, 'a, R> {
     job: &'r Job<'a>,
 }
 
-impl<'a, R: Files + Input + Print + AllocGlobal> OverProcedures for Doing<'_, 'a, R> {
+impl<'a, R: Files + Input + Print + AllocGlobal> OverRegistry for Doing<'_, 'a, R> {
     type Answer = Result<(), Fault<'a>>;
 
     fn over(self, registry: &Registry) -> Result<(), Fault<'a>> {
@@ -112,10 +112,10 @@ impl<'a, R: Files + Input + Print + AllocGlobal> OverProcedures for Doing<'_, 'a
     }
 }
 
-/// Does the job over the program's procedures. There may be no memory for these.
+/// Does the job over the standard procedures. There may be no memory for these.
 pub fn do_job<'a, R: Files + Input + Print + AllocGlobal>(
     rt: &R,
     job: &Job<'a>,
 ) -> Result<(), Fault<'a>> {
-    over_procedures(rt.alloc(), Doing { rt, job })?
+    over_standard(rt.alloc(), Doing { rt, job })?
 }

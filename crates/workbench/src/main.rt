@@ -8,7 +8,6 @@ mod ending;
 mod fault;
 mod files;
 mod listing;
-mod procedures;
 
 use answering::do_job;
 use ending::{Stop, conclude};

@@ -2,8 +2,8 @@ use Rattle.std.proofs.Common.{[], ◌∷◌, ◌++◌, refl, ◌∙◌, ap}
 use Rattle.pw_procs.specs.Meaning.{is_given_by_rules}
 use Rattle.pw_procs.specs.Procedure.{procedure_of, procedures_of}
 use Rattle.pw_procs.proofs.AddedProcedures.{procedures-added}
-use Rattle.workbench.proofs.Program.{HasTable, one_more}
-use Rattle.workbench.proofs.procedures.over_procedures.Goals as goal
+use Rattle.pw_standard.proofs.StandardLists.{HasTable, one_more}
+use Rattle.pw_standard.proofs.procedures.over_standard.Goals as goal
 
 pub lend-requires : goal.lend-requires
 lend-requires g c =

@@ -1,4 +1,4 @@
--- The list of the program's procedures as it grows, and its names, which are those of a registry.
+-- The list of the standard procedures as it grows, and its names, which are those of a registry.
 use Rattle.std.proofs.Common.{◌≡◌, ℕ, List, [], ◌∷◌, ◌++◌, map, refl, sym, ◌∙◌, ap, arith, subst, codes, true}
 use Rattle.std.proofs.lemmas.List.{map-append}
 use Rattle.pw_info.specs.Name.{is_name, is_reserved}
@@ -9,7 +9,7 @@ use Rattle.pw_procs.specs.Procedure.{Procedure, procedure_of, procedures_of, nam
 use Rattle.pw_procs.specs.Registering.{AreRegistered}
 use Rattle.pw_procs.proofs.AddedProcedures.{procedures-added, names-meanings}
 use Rattle.pw_procs.proofs.RegistryNames.{registered_by_test, are_free}
-use Rattle.workbench.specs.Procedures.{named_table, AreOfProgram}
+use Rattle.pw_standard.specs.Procedures.{named_table, AreStandard}
 
 -- first a procedure, and then others with these meanings under their names
 abbrev pub HasTable : Procedure → List (List ℕ × Meaning) → List Procedure → Type 0
@@ -31,10 +31,10 @@ names_free : are_free [] (codes "sign" ∷ map (λ entry. entry.0) named_table) 
 unfolding is_name is_reserved
 names_free = refl
 
-names_are : (procedures : List Procedure) → AreOfProgram procedures → names_of procedures ≡ codes "sign" ∷ map (λ entry. entry.0) named_table
-names_are procedures program =
-    ap names_of program.are ∙ rw (names-meanings program.others, program.table, program.is_sign.name) refl
+names_are : (procedures : List Procedure) → AreStandard procedures → names_of procedures ≡ codes "sign" ∷ map (λ entry. entry.0) named_table
+names_are procedures standard =
+    ap names_of standard.are ∙ rw (names-meanings standard.others, standard.table, standard.is_sign.name) refl
 
-pub registered : (procedures : List Procedure) → AreOfProgram procedures → AreRegistered (names_of procedures)
-registered procedures program =
+pub registered : (procedures : List Procedure) → AreStandard procedures → AreRegistered (names_of procedures)
+registered procedures standard =
     subst AreRegistered (sym (names_are procedures program)) (registered_by_test _ names_free (omega arith))

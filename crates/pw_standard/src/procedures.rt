@@ -1,6 +1,5 @@
-//! The procedures of the program: one for each meaning of the table, and the sign of a number by
-//! rules.
-ghost use Rattle.std.specs.Prelude.{◌≡◌, ◌∷◌, [], All, List, map, IfOk};
+//! The standard procedures: one for each meaning of the table, and the sign of a number by rules.
+ghost use Rattle.std.specs.Prelude.{◌≡◌, ◌∷◌, [], All, List, map, IfOk, ⊤};
 ghost use Rattle.pw_info.specs.Information.{kind_of};
 ghost use Rattle.pw_info.specs.declared.info.Info.{Info as Information};
 ghost use Rattle.pw_procs.specs.Rules.{AreRules, value_of_rules};
@@ -8,10 +7,10 @@ ghost use Rattle.pw_procs.specs.Procedure.{Procedure, procedures_of};
 ghost use Rattle.pw_procs.specs.Registry.{procedures_in};
 ghost use Rattle.pw_decl.specs.BuiltIn.{HasPrelude};
 ghost use Rattle.pw_decl.specs.Declaration.{Declared};
-ghost use Rattle.workbench.specs.Procedures.{AreOfProgram};
-ghost use Rattle.workbench.specs.Table.{IsBuiltInRow, compound_rows, text_of_table};
+ghost use Rattle.pw_standard.specs.Lending.{IsOverStandard};
+ghost use Rattle.pw_standard.specs.Procedures.{AreStandard};
+ghost use Rattle.pw_standard.specs.Table.{IsBuiltInRow, compound_rows, text_of_table};
 
-use crate::fault::Fault;
 use pw_info::{Info, Kind, SetKind};
 use pw_kinds::Interval;
 use pw_procs::bodies::{self, by_rules};
@@ -149,66 +148,71 @@ macro_rules! table {
     };
 }
 
-/// The table that `procedures` prints, as it is for all procedures of the program: a row for each,
-/// and one for each compound that every declaration has.
+/// The table of the standard procedures and the built-in compounds: a row for each, with its name,
+/// what it takes and gives, and whether it carries information one way or all ways.
 pub fn procedure_table() -> &'static str
-    ensures rows { (procedures : List Procedure) → AreOfProgram procedures
+    ensures rows { (procedures : List Procedure) → AreStandard procedures
         → result.now ≡ text_of_table procedures }
     ensures compounds { (d : Declared) → HasPrelude d → All (IsBuiltInRow d) compound_rows }
 {
     table!(of rows)
 }
 
-// If the names are good, the only possible fault is out of memory.
-fn want_of_memory<'a>(fault: RegistryFault) -> Fault<'a>
+// The names are good, so the only possible fault is out of memory.
+fn out_of_memory(fault: RegistryFault) -> AllocError
     requires { fault ≡ RegistryFault.Memory }
 {
     let _ = fault;
-    Fault::Memory
+    AllocError
 }
 
-// The registry of the program's procedures. There may be no memory for it.
-fn registry_of<'a>(alloc: Global, list: Vec<Stored>) -> Result<Registry, Fault<'a>>
-    requires { AreOfProgram (procedures_of list.items) }
-    ensures { IfOk result (λ registry. AreOfProgram (procedures_in registry)) }
+// The registry of the standard procedures. Fails only when out of memory.
+fn registry_of(alloc: Global, list: Vec<Stored>) -> Result<Registry, AllocError>
+    requires { AreStandard (procedures_of list.items) }
+    ensures { IfOk result (λ registry. AreStandard (procedures_in registry)) }
 {
     match Registry::new(alloc, list) {
         Ok(registry) => Ok(registry),
-        Err((fault, _)) => Err(want_of_memory(fault)),
+        Err((fault, _)) => Err(out_of_memory(fault)),
     }
 }
 
-/// A task over the registry of the program's procedures.
-pub trait OverProcedures {
+/// A task over the registry of the standard procedures.
+///
+/// What holds a boxed closure may not leave the function that makes it. So the registry is lent to a
+/// task, and not returned.
+pub trait OverRegistry {
+    /// What the task answers.
     type Answer;
 
-    /// The answer of the task. The registry passed to it holds the fifteen procedures of the
-    /// program, and no others.
+    // What it promises of its answer over these procedures, if an `impl` says so.
+    ghost promise: { Self → List Procedure → Answer → Type 0 } = { λ _ _ _. ⊤ };
+
+    /// The answer of the task. The registry holds the fifteen standard procedures, and no others.
     fn over(self, registry: &Registry) -> Self::Answer
-        requires { AreOfProgram (procedures_in registry.now) };
+        requires { AreStandard (procedures_in registry.now) }
+        ensures { promise self (procedures_in registry.now) result };
 }
 
-// Makes a registry of the program's procedures, lends it to a task, and answers what the task
-// answers. Fails if there is no memory for the registry.
-fn lend<'a, T: OverProcedures + Drop>(
+// Makes a registry of the standard procedures, lends it to a task, and answers what the task
+// answers. Fails only when out of memory.
+fn lend<T: OverRegistry + Drop>(
     alloc: Global,
     list: Vec<Stored>,
     task: T,
-) -> Result<T::Answer, Fault<'a>>
-    requires { AreOfProgram (procedures_of list.items) }
+) -> Result<T::Answer, AllocError>
+    requires { AreStandard (procedures_of list.items) }
+    ensures { IfOk result (IsOverStandard (T.promise task)) }
 {
     let registry = registry_of(alloc, list)?;
     Ok(task.over(&registry))
 }
 
-/// Makes the procedures and a registry of them, lends it to a task, and answers what the task
-/// answers.
-///
-/// There may be no memory for them. A value that holds a boxed closure stays inside this function.
-pub fn over_procedures<'a, T: OverProcedures + Drop>(
-    alloc: Global,
-    task: T,
-) -> Result<T::Answer, Fault<'a>> {
+/// Makes a registry of the fifteen standard procedures, lends it to the task, and answers what the
+/// task answers. Fails only when out of memory for the registry.
+pub fn over_standard<T: OverRegistry + Drop>(alloc: Global, task: T) -> Result<T::Answer, AllocError>
+    ensures { IfOk result (IsOverStandard (T.promise task)) }
+{
     let mut list = Vec::new(alloc);
     let set = sign_set();
     let sign = Kind::Members(set);

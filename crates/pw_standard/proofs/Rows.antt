@@ -1,4 +1,4 @@
--- The entries of the program's procedures, and the text of the table.
+-- The entries of the standard procedures, and the text of the table.
 use Rattle.std.proofs.Common.{◌≡◌, ℕ, ◌+◌, List, [], ◌∷◌, ◌++◌, map, false, refl, sym, ◌∙◌, ap, codes, subst}
 use Rattle.std.specs.Prelude.{All, slice_index_or}
 use Rattle.std.specs.List.{flat_map}
@@ -17,8 +17,8 @@ use Rattle.pw_procs.specs.Signature.{input_slots_of, output_slot_of}
 use Rattle.pw_procs.specs.Procedure.{Procedure, named_meanings}
 use Rattle.pw_decl.specs.BuiltIn.{HasPrelude}
 use Rattle.pw_decl.specs.Declaration.{Declared, built_in_kind_names}
-use Rattle.workbench.specs.Procedures.{named_table, AreOfProgram, IsSign}
-use Rattle.workbench.specs.Table.{Entry, entry_of, entries_of, text_of_slot, text_of_entries, notes, text_of_compound_row, compound_rows, text_of_table, IsBuiltInRow}
+use Rattle.pw_standard.specs.Procedures.{named_table, AreStandard, IsSign}
+use Rattle.pw_standard.specs.Table.{Entry, entry_of, entries_of, text_of_slot, text_of_entries, notes, text_of_compound_row, compound_rows, text_of_table, IsBuiltInRow}
 
 -- the entry of a meaning of the table under a name
 abbrev pub entry_by : List ℕ × Meaning → Entry
@@ -101,19 +101,19 @@ sign_is sign is =
     let output = sign_output sign is.output.0 is.output.1 is.output.3 in
     rw (is.name, is.input, output) refl
 
--- the entries of the program's procedures
-entries_known : (procedures : List Procedure) → AreOfProgram procedures → entries_of procedures ≡ map entry_by named_table ++ sign_entry ∷ []
-entries_known procedures program =
-    ap entries_of program.are
-    ∙ ap (λ others. others ++ entry_of program.sign ∷ []) (others_are program.others program.table)
-    ∙ ap (λ sign. map entry_by named_table ++ sign ∷ []) (sign_is program.sign program.is_sign)
+-- the entries of the standard procedures
+entries_known : (procedures : List Procedure) → AreStandard procedures → entries_of procedures ≡ map entry_by named_table ++ sign_entry ∷ []
+entries_known procedures standard =
+    ap entries_of standard.are
+    ∙ ap (λ others. others ++ entry_of standard.sign ∷ []) (others_are standard.others standard.table)
+    ∙ ap (λ sign. map entry_by named_table ++ sign ∷ []) (sign_is standard.sign standard.is_sign)
 
 -- the table of these entries
 abbrev pub known_text : List ℕ
 known_text = text_of_entries notes (map entry_by named_table ++ sign_entry ∷ []) ++ flat_map text_of_compound_row compound_rows
 
-pub table_text : (procedures : List Procedure) → AreOfProgram procedures → known_text ≡ text_of_table procedures
-table_text procedures program =
+pub table_text : (procedures : List Procedure) → AreStandard procedures → known_text ≡ text_of_table procedures
+table_text procedures standard =
     sym (ap (λ entries. text_of_entries notes entries ++ flat_map text_of_compound_row compound_rows) (entries_known procedures program))
 
 -- the built-in compounds are those of the table

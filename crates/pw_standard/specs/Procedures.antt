@@ -1,4 +1,4 @@
--- The procedures of the program: their names, and what each means.
+-- The standard procedures: their names, and what each means.
 use Rattle.std.specs.Prelude.{◌≡◌, ℕ, List, [], ◌∷◌, codes, true}
 use Rattle.pw_info.specs.declared.kind.SetKind.{SetKind}
 use Rattle.pw_info.specs.declared.kind.Kind.TheVariants as kinds
@@ -30,8 +30,8 @@ pub record IsSign (procedure : Procedure) : Type 0 where
   pub output : (set : SetKind) × (set.number ≡ 1) × (set.size ≡ 3)
       × (output_slot_of procedure.signature ≡ slots.Fixed (kinds.Members set))
 
--- the procedures of the program: `sign`, and the meanings of the table under their names
-pub record AreOfProgram (procedures : List Procedure) : Type 0 where
+-- the standard procedures: `sign`, and the meanings of the table under their names
+pub record AreStandard (procedures : List Procedure) : Type 0 where
   pub sign : Procedure
   pub others : List Procedure
   pub are : procedures ≡ sign ∷ others

@@ -1,5 +1,5 @@
--- The table of procedures and built-in compounds that `procedures` prints: a row for each, with its
--- name, what it takes and gives, and whether it carries information one way or all ways.
+-- The table of the standard procedures and the built-in compounds: a row for each, with its name, what
+-- it takes and gives, and whether it carries information one way or all ways.
 use Rattle.std.specs.Prelude.{ℕ, ◌+◌, ◌-◌, List, [], ◌∷◌, ◌++◌, codes, length, map, replicate}
 use Rattle.std.specs.Prelude.{slice_index_or}
 use Rattle.std.specs.List.{flat_map}
@@ -95,7 +95,7 @@ text_of_entries (note ∷ more) (entry ∷ entries) = text_of_entry note entry
     ++ text_of_entries more entries
 text_of_entries more entries = []
 
--- the entries of the program's procedures, of which the first is `sign`, with `sign` last
+-- the entries of the standard procedures, of which the first is `sign`, with `sign` last
 abbrev pub entries_of : List Procedure → List Entry
 entries_of [] = []
 entries_of (sign ∷ others) = map entry_of others ++ entry_of sign ∷ []
@@ -149,7 +149,7 @@ IsBuiltInRow d row = IsBuiltIn d row.name row.number row.kinds
 
 -- ---- the table
 
--- the rows of the program's procedures, with the slots of their signatures, and then those of the
+-- the rows of the standard procedures, with the slots of their signatures, and then those of the
 -- built-in compounds
 abbrev pub text_of_table : List Procedure → List ℕ
 text_of_table procedures = text_of_entries notes (entries_of procedures)
