@@ -1,2 +1,3 @@
+pub mod Readings
 pub mod Rows
 pub mod StandardLists

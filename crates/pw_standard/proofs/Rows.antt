@@ -114,7 +114,7 @@ known_text = text_of_entries notes (map entry_by named_table ++ sign_entry ∷ [
 
 pub table_text : (procedures : List Procedure) → AreStandard procedures → known_text ≡ text_of_table procedures
 table_text procedures standard =
-    sym (ap (λ entries. text_of_entries notes entries ++ flat_map text_of_compound_row compound_rows) (entries_known procedures program))
+    sym (ap (λ entries. text_of_entries notes entries ++ flat_map text_of_compound_row compound_rows) (entries_known procedures standard))
 
 -- the built-in compounds are those of the table
 pub rows_built_in : (d : Declared) → HasPrelude d → All (IsBuiltInRow d) compound_rows

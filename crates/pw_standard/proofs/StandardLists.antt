@@ -37,4 +37,4 @@ names_are procedures standard =
 
 pub registered : (procedures : List Procedure) → AreStandard procedures → AreRegistered (names_of procedures)
 registered procedures standard =
-    subst AreRegistered (sym (names_are procedures program)) (registered_by_test _ names_free (omega arith))
+    subst AreRegistered (sym (names_are procedures standard)) (registered_by_test _ names_free (omega arith))

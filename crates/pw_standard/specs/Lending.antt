@@ -4,7 +4,7 @@ use Rattle.std.specs.Prelude.{◌≡◌, ◌⊎◌, ℕ, List, Result, MatchResu
 use Rattle.pw_procs.specs.Procedure.{Procedure}
 use Rattle.pw_decl.specs.BuiltIn.{HasPrelude}
 use Rattle.pw_decl.specs.Declaration.{Declared}
-use Rattle.pw_decl.specs.Faults.{SpellsDeclaration, IsFirstFault, IsReported}
+use Rattle.pw_decl.specs.Faults.{SpellsDeclaration, IsFirstFault}
 use Rattle.pw_decl.specs.declared.decl_fault.DeclFault.{DeclFault}
 use Rattle.pw_decl.specs.declared.decl_fault.DeclFaultKind.TheVariants.{Memory}
 use Rattle.pw_standard.specs.Procedures.{AreStandard}
@@ -33,9 +33,9 @@ IsFaultOverStandard text fault =
     ⊎ ((procedures : List Procedure) × AreStandard procedures
     × IsFirstFault procedures text fault.line fault.why)
 
--- the text is read over these procedures: it spells a declaration, over which the answer is as
--- promised, or it has this fault
-abbrev pub IsReadOver : {Answer : Type 0} → (Declared → Answer → Type 0) → List ℕ → List Procedure →
+-- the text was read over some standard procedures: it spells a declaration, over which the answer is
+-- as promised, or it has this fault
+abbrev pub IsReadOver : {Answer : Type 0} → (Declared → Answer → Type 0) → List ℕ →
     Result Answer DeclFault → Type 0
-IsReadOver promise text procedures read =
-    MatchResult read (IsOverText promise text) (IsReported procedures text)
+IsReadOver promise text read =
+    MatchResult read (IsOverText promise text) (IsFaultOverStandard text)

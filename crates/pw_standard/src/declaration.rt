@@ -19,7 +19,7 @@ pub trait OverDeclaration {
     type Answer;
 
     // What it promises of its answer over this declaration, if an `impl` says so.
-    ghost promise: { Self → Declared → Answer → Type 0 } = { λ _ _ _. ⊤ };
+    ghost promise: { Self → Declared → Self.Answer → Type 0 } = { λ _ _ _. ⊤ };
 
     /// The answer of the task. The procedures of the declaration are the fifteen standard ones, and
     /// its first compounds are `sum`, `product` and `conditional`.
@@ -40,8 +40,7 @@ struct Reading<'a, T> {
 impl<T: OverDeclaration + Drop> OverRegistry for Reading<'_, T> {
     type Answer = Result<T::Answer, DeclFault>;
 
-    ghost promise = { λ reading procedures read.
-        IsReadOver (T.promise reading.task) reading.text.now procedures read };
+    ghost promise = { λ reading _. IsReadOver (T.promise reading.task) reading.text.now };
 
     fn over(self, registry: &Registry) -> Result<T::Answer, DeclFault> {
         let Reading { alloc, text, task } = self;

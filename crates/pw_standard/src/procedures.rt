@@ -186,7 +186,7 @@ pub trait OverRegistry {
     type Answer;
 
     // What it promises of its answer over these procedures, if an `impl` says so.
-    ghost promise: { Self → List Procedure → Answer → Type 0 } = { λ _ _ _. ⊤ };
+    ghost promise: { Self → List Procedure → Self.Answer → Type 0 } = { λ _ _ _. ⊤ };
 
     /// The answer of the task. The registry holds the fifteen standard procedures, and no others.
     fn over(self, registry: &Registry) -> Self::Answer
@@ -210,7 +210,10 @@ fn lend<T: OverRegistry + Drop>(
 
 /// Makes a registry of the fifteen standard procedures, lends it to the task, and answers what the
 /// task answers. Fails only when out of memory for the registry.
-pub fn over_standard<T: OverRegistry + Drop>(alloc: Global, task: T) -> Result<T::Answer, AllocError>
+pub fn over_standard<T: OverRegistry + Drop>(
+    alloc: Global,
+    task: T,
+) -> Result<T::Answer, AllocError>
     ensures { IfOk result (IsOverStandard (T.promise task)) }
 {
     let mut list = Vec::new(alloc);

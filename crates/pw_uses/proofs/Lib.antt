@@ -1,1 +1,2 @@
 mod HostLemmas
+mod SumLemmas

@@ -8,7 +8,8 @@ use Rattle.pw_info.specs.declared.kind.Kind.TheVariants as kinds
 use Rattle.pw_facts.specs.declared.fact.Fact.{Fact}
 use Rattle.pw_procs.specs.Registering.{place_of_name}
 use Rattle.pw_procs.specs.Registry.{cells_of}
-use Rattle.pw_decl.specs.Declaration.{Declared, callable_named, kind_at}
+use Rattle.pw_decl.specs.Compound.{kinds_at}
+use Rattle.pw_decl.specs.Declaration.{Declared, Takes, callable_named, kind_at}
 use Rattle.pw_sessions.specs.Entries.{Entry, Told, Attached}
 use Rattle.pw_uses.specs.declared.sum.Sum.{Sum}
 
@@ -29,11 +30,12 @@ pub record HasCells (d : Declared) (x y t : ℕ) : Type 0 where
 abbrev pub Lacks : Declared → Type 0
 Lacks d = (x y t : ℕ) → HasCells d x y t → ⊥
 
--- the sum is the declared `sum`, between these cells
+-- the sum is the declared `sum`, between these cells, which it takes
 pub record IsSumIn (d : Declared) (sum : Sum) : Type 0 where
   pub cells : HasCells d sum.x sum.y sum.t
   pub called : callable_named d (codes "sum") ≡ Some sum.callable
   pub between : cells_of sum.cells ≡ sum.x ∷ sum.y ∷ sum.t ∷ []
+  pub takes : Takes d sum.callable (kinds_at d.kinds (cells_of sum.cells))
 
 -- an interval that rests on no premise
 abbrev pub fact_of : Interval → Fact

@@ -31,7 +31,7 @@ impl OverDeclaration for Known {
     ghost promise = { λ known. IsRestOrFault known.x known.t };
 
     fn over(self, declaration: &Declaration<'_>) -> Result<Info, HostFault> {
-        let sum = Sum::named(declaration).ok_or(HostFault::Lacking)?;
+        let sum = Sum::named(declaration)?;
         let network = Network::new(self.alloc, declaration)?;
         let mut workbench = Workbench::new(self.alloc, declaration, network)?;
         done(workbench.command(1, &sum.attaching()))?;

@@ -1,11 +1,12 @@
 //! A sum between three cells of a declaration, and the commands of a host about it.
 
-ghost use Rattle.std.specs.Prelude.{◌≡◌, ℕ, IfSome, IfNone};
+ghost use Rattle.std.specs.Prelude.{◌≡◌, ℕ, IfSome, IfNone, IfOk, IfErr, OnErr};
 ghost use Rattle.std.specs.FinSet.{empty};
 ghost use Rattle.pw_decl.specs.BuiltIn.{HasPrelude};
 ghost use Rattle.pw_decl.specs.inside.Fields.{declared};
 ghost use Rattle.pw_uses.specs.Sum.{IsIntervalCell, IsSumIn, Lacks, fact_of};
 
+use crate::answer::HostFault;
 use pw_decl::{Callable, Declaration};
 use pw_facts::Fact;
 use pw_info::{Info, Kind};
@@ -38,13 +39,13 @@ pub(crate) struct Sum {
 }
 
 impl Sum {
-    /// The sum of a declaration. None if it lacks a user, or a cell of intervals of one of these
-    /// names.
-    pub(crate) fn named(declaration: &Declaration<'_>) -> Option<Sum>
+    // The sum of a declaration, if it has a user, and cells of intervals of these names.
+    fn found(declaration: &Declaration<'_>) -> Option<Sum>
         requires { HasPrelude (declared declaration.now) }
         ensures some { IfSome result (IsSumIn (declared declaration.now)) }
         ensures none { IfNone result (Lacks (declared declaration.now)) }
     {
+        declaration.limits();
         if declaration.users() == 0 {
             return None;
         }
@@ -60,6 +61,20 @@ impl Sum {
             y,
             t,
         })
+    }
+
+    /// The sum of a declaration. `Lacking` if that has no user, or lacks a cell of intervals of one
+    /// of the names.
+    pub(crate) fn named(declaration: &Declaration<'_>) -> Result<Sum, HostFault>
+        requires { HasPrelude (declared declaration.now) }
+        ensures ok { IfOk result (IsSumIn (declared declaration.now)) }
+        ensures err { IfErr result (λ fault. fault ≡ HostFault.Lacking) }
+        ensures lacks { OnErr result (Lacks (declared declaration.now)) }
+    {
+        match Sum::found(declaration) {
+            Some(sum) => Ok(sum),
+            None => Err(HostFault::Lacking),
+        }
     }
 
     /// Attaches the sum, for everybody.
