@@ -46,10 +46,10 @@ pub out_by : (old : Workbench) (line : ℕ) (x y : Command) (new : Workbench) (g
 out_by old line x y new given same out = subst (λ (command : Command). CarriesOut old line command new given) same out
 
 -- a reply that is no refusal
-done_is_none : reply.Done ≡ reply.Refused refusal.Memory → ⊥
+pub done_is_none : reply.Done ≡ reply.Refused refusal.Memory → ⊥
 done_is_none e = cc
 
-value_is_none : (info : Info) → reply.Value info ≡ reply.Refused refusal.Memory → ⊥
+pub value_is_none : (info : Info) → reply.Value info ≡ reply.Refused refusal.Memory → ⊥
 value_is_none info e = cc
 
 -- ---- what two users ask for

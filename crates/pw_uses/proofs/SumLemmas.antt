@@ -1,6 +1,6 @@
 -- What a host knows of a sum, and after each of its commands about it.
-use Rattle.std.proofs.Common.{◌≡◌, ℕ, ◌+◌, ◌<◌, ◌≤◌, List, [], ◌∷◌, Some, length, refl, sym, ap, ◌∙◌, subst, arith, codes, slice_get}
-use Rattle.std.specs.Prelude.{All}
+use Rattle.std.proofs.Common.{◌≡◌, ℕ, ◌<◌, List, [], ◌∷◌, Some, length, refl, sym, ap, ◌∙◌, subst, arith, codes, slice_get}
+use Rattle.std.specs.Prelude.{All, IfOk, IfErr, Result, Ok, Err}
 use Rattle.std.specs.FinSet.{empty}
 use Rattle.std.proofs.lemmas.List.Elements.{All-cons, All-nil}
 use Rattle.std.proofs.lemmas.Option.{slice_get-get_or}
@@ -9,7 +9,6 @@ use Rattle.pw_info.specs.declared.info.Info.{Info}
 use Rattle.pw_info.specs.declared.kind.Kind.TheVariants as kinds
 use Rattle.pw_premises.specs.Premises.{Premises}
 use Rattle.pw_premises.specs.PremiseSubsets.{empty_is_subset}
-use Rattle.pw_procs.specs.Registry.{cells_of}
 use Rattle.pw_decl.specs.declared.step.Callable.{Callable}
 use Rattle.pw_decl.specs.declared.step.Callable.TheVariants as callables
 use Rattle.pw_decl.specs.BuiltIn.{HasPrelude}
@@ -25,7 +24,10 @@ use Rattle.pw_sessions.specs.Reply as reply
 use Rattle.pw_sessions.specs.Values.{cell_value, visible_in}
 use Rattle.pw_sessions.specs.Workbench.{Workbench, IsLeftBy}
 use Rattle.pw_uses.specs.declared.sum.Sum.{Sum}
-use Rattle.pw_uses.specs.Rest.{IsRest}
+use Rattle.pw_standard.specs.Lending.{IsOverText}
+use Rattle.pw_uses.specs.declared.answer.HostFault.{HostFault}
+use Rattle.pw_uses.specs.declared.answer.HostFault.TheVariants as faults
+use Rattle.pw_uses.specs.Rest.{IsRest, IsRestOrFault, IsFaultOfText}
 use Rattle.pw_uses.specs.Sum.{IsIntervalCell, HasCells, IsSumIn, fact_of, entries_of}
 use Rattle.pw_uses.proofs.HostLemmas.{next_can, next_answered, can_by, done_is_none, value_is_none}
 
@@ -51,7 +53,7 @@ takes_them d x y t callable cells prelude many has called between =
 -- ---- line by line
 
 -- the information of a reply with a value
-info_in : Info → Reply → Info
+abbrev info_in : Info → Reply → Info
 info_in other (reply.Value info) = info
 info_in other given = other
 
@@ -73,9 +75,13 @@ module _ (d : Declared) (sum : Sum) (is : IsSumIn d sum) (x t : Interval) where
   abbrev pub ask : Command
   ask = commands.Ask 0 sum.y
 
-  abbrev pub one two three : List LineReading
+  abbrev pub one : List LineReading
   one = Says attach ∷ []
+
+  abbrev pub two : List LineReading
   two = Says attach ∷ Says tell_x ∷ []
+
+  abbrev pub three : List LineReading
   three = Says attach ∷ Says tell_x ∷ Says tell_t ∷ []
 
   attach_named : IsDeclared d (Says attach)
@@ -137,3 +143,23 @@ module _ (d : Declared) (sum : Sum) (is : IsSumIn d sum) (x t : Interval) where
           value = ap (info_in info) known.answer
               ∙ ap (λ entries. cell_value d entries sum.y) (all_visible (beliefs_at d 0 three));
         }
+
+-- ---- what the host answers
+
+pub answer_is : (x t : Interval) (d : Declared) (answer : Result Info HostFault) → IfOk answer (IsRest x t d) → IfErr answer (λ fault. fault ≡ faults.Memory) →
+    IsRestOrFault x t d answer
+answer_is x t d (Ok info) ok err = ok
+answer_is x t d (Err faults.Memory) ok err = tt
+answer_is x t d (Err faults.Lacking) ok err = absurd (cc)
+answer_is x t d (Err (faults.Declaration fault)) ok err = absurd (cc)
+
+pub answered : (x t : Interval) (text : List ℕ) (answer : Result Info HostFault) → IsOverText (IsRestOrFault x t) text answer → IfOk answer (IsOverText (IsRest x t) text)
+answered x t text (Ok info) over =
+    record { declared = over.declared; standard = over.standard; spells = over.spells; prelude = over.prelude; kept = over.kept }
+answered x t text (Err fault) over = tt
+
+pub refused : (x t : Interval) (text : List ℕ) (answer : Result Info HostFault) → IsOverText (IsRestOrFault x t) text answer → IfErr answer (IsFaultOfText text)
+refused x t text (Ok info) over = tt
+refused x t text (Err faults.Memory) over = tt
+refused x t text (Err faults.Lacking) over = (over.declared, over.standard, over.spells, over.kept)
+refused x t text (Err (faults.Declaration fault)) over = absurd over.kept

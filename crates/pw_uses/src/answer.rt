@@ -25,10 +25,22 @@ pub enum HostFault {
 }
 
 impl From<AllocError> for HostFault {
-    ghost from_gives = { λ _ fault. fault ≡ HostFault.Memory };
+    ghost use Rattle.pw_uses.specs.declared.answer.HostFault.TheVariants.{Memory};
+
+    ghost from_gives = { λ _ fault. fault ≡ Memory };
 
     fn from(_: AllocError) -> HostFault {
         HostFault::Memory
+    }
+}
+
+impl From<DeclFault> for HostFault {
+    ghost use Rattle.pw_uses.specs.declared.answer.HostFault.TheVariants.{Declaration};
+
+    ghost from_gives = { λ fault given. given ≡ Declaration fault };
+
+    fn from(fault: DeclFault) -> HostFault {
+        HostFault::Declaration(fault)
     }
 }
 

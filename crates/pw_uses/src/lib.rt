@@ -8,4 +8,4 @@ mod sum;
 
 pub use answer::HostFault;
 pub use host::{Matter, asked_by_two};
-pub use rest::rest;
+pub use rest::rest_of_sum;

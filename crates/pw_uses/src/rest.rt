@@ -46,9 +46,9 @@ impl OverDeclaration for Known {
 ///
 /// The error is `Declaration` with the first fault of a text that is no declaration, `Lacking` if
 /// the declaration lacks the user or one of the cells, and `Memory` if memory ran out later.
-pub fn rest(alloc: Global, text: &[u8], x: Interval, t: Interval) -> Result<Info, HostFault>
+pub fn rest_of_sum(alloc: Global, text: &[u8], x: Interval, t: Interval) -> Result<Info, HostFault>
     ensures ok { IfOk result (IsOverText (IsRest x t) text.now) }
     ensures err { IfErr result (IsFaultOfText text.now) }
 {
-    over_text(alloc, text, Known { alloc, x, t }).map_err(HostFault::Declaration)?
+    over_text(alloc, text, Known { alloc, x, t })?
 }

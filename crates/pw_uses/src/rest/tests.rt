@@ -1,6 +1,6 @@
 //! What is left of a sum, over the text of a declaration.
 
-use super::rest;
+use super::rest_of_sum;
 use crate::answer::HostFault;
 use pw_decl::{DeclFault, DeclFaultKind};
 use pw_info::Info;
@@ -21,7 +21,7 @@ fn from_to(lo: i64, hi: i64) -> Result<Interval, Fail> {
 #[test]
 fn rest_of_a_sum(rt: HostRuntime) -> Result<(), Fail> {
     let (taken, all) = (from_to(3, 4)?, from_to(10, 12)?);
-    let left = rest(rt.alloc(), CELLS.as_bytes(), taken, all);
+    let left = rest_of_sum(rt.alloc(), CELLS.as_bytes(), taken, all);
     assert_eq!(rt; left, Ok(Info::of_interval(from_to(6, 9)?)));
     Ok(())
 }
@@ -31,12 +31,18 @@ fn rest_of_a_sum(rt: HostRuntime) -> Result<(), Fail> {
 fn texts_without_an_answer(rt: HostRuntime) -> Result<(), Fail> {
     let all = from_to(0, 9)?;
     let lacking = b"workbench 1\nuser ann\ncell x interval\ncell t interval\n";
-    assert_eq!(rt; rest(rt.alloc(), lacking, all, all), Err(HostFault::Lacking));
+    assert_eq!(rt;
+        rest_of_sum(rt.alloc(), lacking, all, all),
+        Err(HostFault::Lacking)
+    );
     let fault = DeclFault {
         line: 2,
         why: DeclFaultKind::UnknownName,
     };
     let faulty = b"workbench 1\ncell x height\n";
-    assert_eq!(rt; rest(rt.alloc(), faulty, all, all), Err(HostFault::Declaration(fault)));
+    assert_eq!(rt;
+        rest_of_sum(rt.alloc(), faulty, all, all),
+        Err(HostFault::Declaration(fault))
+    );
     Ok(())
 }
