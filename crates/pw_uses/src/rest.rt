@@ -25,6 +25,18 @@ struct Known {
     t: Interval,
 }
 
+/// What is known of the cell `y` if the text declares a user and cells `x`, `y` and `t` of
+/// intervals, `t = x + y`, and this is known of `x` and of `t`.
+///
+/// The error is `Declaration` with the first fault of a text that is no declaration, `Lacking` if
+/// the declaration lacks the user or one of the cells, and `Memory` if memory ran out later.
+pub fn rest_of_sum(alloc: Global, text: &[u8], x: Interval, t: Interval) -> Result<Info, HostFault>
+    ensures ok { IfOk result (IsOverText (IsRest x t) text.now) }
+    ensures err { IfErr result (IsFaultOfText text.now) }
+{
+    over_text(alloc, text, Known { alloc, x, t })?
+}
+
 impl OverDeclaration for Known {
     type Answer = Result<Info, HostFault>;
 
@@ -39,16 +51,4 @@ impl OverDeclaration for Known {
         done(workbench.command(3, &telling(sum.t, self.t)))?;
         value(workbench.command(4, &asking(sum.y)))
     }
-}
-
-/// What is known of the cell `y` if the text declares a user and cells `x`, `y` and `t` of
-/// intervals, `t = x + y`, and this is known of `x` and of `t`.
-///
-/// The error is `Declaration` with the first fault of a text that is no declaration, `Lacking` if
-/// the declaration lacks the user or one of the cells, and `Memory` if memory ran out later.
-pub fn rest_of_sum(alloc: Global, text: &[u8], x: Interval, t: Interval) -> Result<Info, HostFault>
-    ensures ok { IfOk result (IsOverText (IsRest x t) text.now) }
-    ensures err { IfErr result (IsFaultOfText text.now) }
-{
-    over_text(alloc, text, Known { alloc, x, t })?
 }
