@@ -13,7 +13,7 @@ use thiserror::Error;
 /// Why a host has no answer.
 #[derive(Clone, Copy, Debug, PartialEq, Eq, Error)]
 pub enum HostFault {
-    /// The text is no declaration.
+    /// The text is no declaration, or memory ran out while it was read.
     #[error(transparent)]
     Declaration(DeclFault),
     /// The declaration lacks what the host needs.

@@ -25,11 +25,12 @@ struct Known {
     t: Interval,
 }
 
-/// What is known of the cell `y` if the text declares a user and cells `x`, `y` and `t` of
-/// intervals, `t = x + y`, and this is known of `x` and of `t`.
+/// Reads a declaration of a user and of cells `x`, `y` and `t` of intervals, attaches `sum x y t`,
+/// tells what is known of `x` and of `t`, and answers what is then known of `y`.
 ///
-/// The error is `Declaration` with the first fault of a text that is no declaration, `Lacking` if
-/// the declaration lacks the user or one of the cells, and `Memory` if memory ran out later.
+/// The error is `Declaration` with the first fault of a text that is no declaration, or if memory
+/// runs out while it is read; `Lacking` if the declaration lacks the user or one of the cells; and
+/// `Memory` if memory runs out later.
 pub fn rest_of_sum(alloc: Global, text: &[u8], x: Interval, t: Interval) -> Result<Info, HostFault>
     ensures ok { IfOk result (IsOverText (IsRest x t) text.now) }
     ensures err { IfErr result (IsFaultOfText text.now) }
