@@ -14,8 +14,8 @@ use pw_decl::{Declaration, read_declaration};
 use pw_info::{Writing, put_all};
 use pw_procs::Registry;
 use pw_transcript::{Reading, RunFault, run};
-use std::io::Read;
 use std::alloc::Global;
+use std::io::Read;
 use std::rt::Files;
 use std::{fs, io};
 
@@ -94,7 +94,10 @@ fn list<'a, R: Files + Print + AllocGlobal>(
 }
 
 // Prints what is explained of a declaration.
-fn print_blocks<'a, R: Print + AllocGlobal>(rt: &R, blocks: &Blocks<Global>) -> Result<(), Fault<'a>> {
+fn print_blocks<'a, R: Print + AllocGlobal>(
+    rt: &R,
+    blocks: &Blocks<Global>,
+) -> Result<(), Fault<'a>> {
     print(rt, &blocks.text)?;
     if blocks.are_cut {
         print(rt, b"more faulty lines may follow\n")?;

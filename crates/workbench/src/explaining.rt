@@ -118,7 +118,13 @@ fn faulty_lines<A: Allocator + Copy>(
         if fault.why == DeclFaultKind::Memory {
             return blocks;
         }
-        match add_block(alloc, &mut blocks.text, table, next_text(text, &rest), fault) {
+        match add_block(
+            alloc,
+            &mut blocks.text,
+            table,
+            next_text(text, &rest),
+            fault,
+        ) {
             Ok(Some(left)) => rest = Some(left),
             Ok(None) => {
                 blocks.are_cut = false;
