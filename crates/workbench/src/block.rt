@@ -61,7 +61,7 @@ fn told<A: Allocator + Copy>(
 
 // Both together.
 fn joined<A: Allocator>(mut front: Vec<u8, A>, rest: Vec<u8, A>) -> Result<Vec<u8, A>, AllocError>
-    ensures { IfOk result (λ all. all.items ≡ front.entry.items ++ rest.items) }
+    ensures { IfOk result (λ all. all.items ≡ front.items ++ rest.items) }
 {
     front.extend_from_slice(&rest)?;
     Ok(front)
