@@ -1,3 +1,3 @@
 pub mod Cut
-pub mod Near
 pub mod Spot
+pub mod Wanted

@@ -1,4 +1,7 @@
 //! What is wrong with the groups of a choice.
+ghost use Rattle.std.specs.Prelude.{◌≡◌, IfSome};
+ghost use Rattle.pw_decl.specs.inside.Fields.{declared};
+ghost use Rattle.pw_explain.specs.Wanted.{IsOneOf};
 
 use crate::command::nearest_premise;
 use crate::expected::Expected;
@@ -50,7 +53,9 @@ fn name_at<'a>(
     name: usize,
     expected: Expected<'a>,
     near: Option<&'a [u8]>,
-) -> Explanation<'a> {
+) -> Explanation<'a>
+    ensures { result.near ≡ near.entry }
+{
     Explanation {
         spot: Spot::Name(group.saturating_add(FRONT), name),
         expected,
@@ -78,7 +83,9 @@ fn unknown_in_group<'a, A: Allocator + Copy>(
 pub(crate) fn unknown_premise_in_groups<'a, A: Allocator + Copy>(
     declaration: &'a Declaration<'_, A>,
     mut words: Words<'a>,
-) -> Explanation<'a> {
+) -> Explanation<'a>
+    ensures { IfSome result.near (λ name. IsOneOf (declared declaration.now).premises name.now) }
+{
     let mut group = 0usize;
     while let Some(word) = words.next() {
         if let Some((number, name)) = unknown_in_group(declaration, word) {

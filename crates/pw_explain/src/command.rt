@@ -1,4 +1,7 @@
 //! The refusals of a line of a transcript.
+ghost use Rattle.std.specs.Prelude.{IfSome};
+ghost use Rattle.pw_decl.specs.inside.Fields.{declared};
+ghost use Rattle.pw_explain.specs.Wanted.{IsOneOf, IsWanted};
 
 use crate::before::{Before, third_word};
 use crate::call::{explain_cells, next_cell};
@@ -29,7 +32,9 @@ fn offer_commands<'a>(nearest: &mut Nearest<'a>) {
 fn nearest_user<'a, A: Allocator + Copy>(
     declaration: &'a Declaration<'_, A>,
     word: &'a [u8],
-) -> Option<&'a [u8]> {
+) -> Option<&'a [u8]>
+    ensures { IfSome result (λ name. IsOneOf (declared declaration.now).users name.now) }
+{
     let mut nearest = Nearest::to(word);
     for user in 0..declaration.users() {
         nearest.offer(declaration.user_name(user).as_bytes());
@@ -41,7 +46,9 @@ fn nearest_user<'a, A: Allocator + Copy>(
 fn nearest_cell<'a, A: Allocator + Copy>(
     declaration: &'a Declaration<'_, A>,
     word: &'a [u8],
-) -> Option<&'a [u8]> {
+) -> Option<&'a [u8]>
+    ensures { IfSome result (λ name. IsOneOf (declared declaration.now).cells name.now) }
+{
     let mut nearest = Nearest::to(word);
     for cell in 0..declaration.cells() {
         nearest.offer(declaration.cell_name(cell).as_bytes());
@@ -53,7 +60,9 @@ fn nearest_cell<'a, A: Allocator + Copy>(
 pub(crate) fn nearest_premise<'a, A: Allocator + Copy>(
     declaration: &'a Declaration<'_, A>,
     word: &'a [u8],
-) -> Option<&'a [u8]> {
+) -> Option<&'a [u8]>
+    ensures { IfSome result (λ name. IsOneOf (declared declaration.now).premises name.now) }
+{
     let mut nearest = Nearest::to(word);
     for premise in 0..declaration.premises() {
         nearest.offer(declaration.premise_name(premise).as_bytes());
@@ -79,7 +88,9 @@ fn is_command(line: &[u8], command: &[u8]) -> bool {
 fn explain_user<'a, A: Allocator + Copy>(
     declaration: &'a Declaration<'_, A>,
     line: &'a [u8],
-) -> Explanation<'a> {
+) -> Explanation<'a>
+    ensures { IfSome result.near (λ name. IsOneOf (declared declaration.now).users name.now) }
+{
     let near = match Words::new(line).next() {
         Some(word) => nearest_user(declaration, word),
         None => None,
@@ -117,7 +128,9 @@ fn unknown_cell_number<A: Allocator + Copy>(
 fn explain_cell<'a, A: Allocator + Copy>(
     declaration: &'a Declaration<'_, A>,
     line: &'a [u8],
-) -> Explanation<'a> {
+) -> Explanation<'a>
+    ensures { IfSome result.near (λ name. IsOneOf (declared declaration.now).cells name.now) }
+{
     let number = if is_command(line, b"attach") {
         unknown_cell_number(declaration, line).unwrap_or(3)
     } else {
@@ -187,7 +200,9 @@ fn first_premise_number(line: &[u8]) -> usize {
 fn explain_premise<'a, A: Allocator + Copy>(
     declaration: &'a Declaration<'_, A>,
     line: &'a [u8],
-) -> Explanation<'a> {
+) -> Explanation<'a>
+    ensures { IfSome result.near (λ name. IsOneOf (declared declaration.now).premises name.now) }
+{
     if is_command(line, b"choose") {
         return unknown_premise_in_groups(declaration, words_from(line, 2));
     }
@@ -248,7 +263,9 @@ pub fn explain_refusal<'a, A: Allocator + Copy>(
     declaration: &'a Declaration<'_, A>,
     line: &'a [u8],
     refusal: Refusal,
-) -> Explanation<'a> {
+) -> Explanation<'a>
+    ensures near { IfSome result.near (λ name. IsWanted (declared declaration.now) refusal name.now) }
+{
     let before = Before::whole(table, text);
     match refusal {
         Refusal::LineTooLong => Explanation::line(Expected::ShortCommand),

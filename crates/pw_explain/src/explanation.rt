@@ -1,4 +1,5 @@
 //! The explanation of a faulty line, and the lines in which it is written.
+ghost use Rattle.std.specs.Prelude.{◌≡◌, None};
 
 use crate::expected::Expected;
 use crate::spot::{Place, Spot, is_blank, is_visible, place_of};
@@ -20,7 +21,9 @@ pub struct Explanation<'a> {
 
 impl<'a> Explanation<'a> {
     /// A word at fault, with no name near.
-    pub(crate) fn word(number: usize, expected: Expected<'a>) -> Explanation<'a> {
+    pub(crate) fn word(number: usize, expected: Expected<'a>) -> Explanation<'a>
+        ensures { result.near ≡ None }
+    {
         Explanation {
             spot: Spot::Word(number),
             expected,
@@ -33,7 +36,9 @@ impl<'a> Explanation<'a> {
         number: usize,
         expected: Expected<'a>,
         near: Option<&'a [u8]>,
-    ) -> Explanation<'a> {
+    ) -> Explanation<'a>
+        ensures { result.near ≡ near.entry }
+    {
         Explanation {
             spot: Spot::Word(number),
             expected,
@@ -42,7 +47,9 @@ impl<'a> Explanation<'a> {
     }
 
     /// The line as a whole.
-    pub(crate) fn line(expected: Expected<'a>) -> Explanation<'a> {
+    pub(crate) fn line(expected: Expected<'a>) -> Explanation<'a>
+        ensures { result.near ≡ None }
+    {
         Explanation {
             spot: Spot::Line,
             expected,
