@@ -1,16 +1,20 @@
-//! The jobs: a declaration is read over a registry of procedures; then a transcript is answered, or
-//! what is declared is counted or listed. Or the table of the procedures is printed.
+//! The jobs: a declaration is read over a registry of procedures; then a transcript is answered,
+//! what is declared is counted or listed, or faulty lines are explained. Or the table of the
+//! procedures is printed.
 
 use crate::checking::check_line;
+use crate::explaining::{Blocks, explain_text};
 use crate::fault::Fault;
 use crate::files::declaration_text;
 use crate::listing::listing;
+use crate::refused_lines::write_refused_lines;
 use pw_command_line::Job;
 use pw_decl::{Declaration, read_declaration};
 use pw_info::{Writing, put_all};
 use pw_procs::Registry;
 use pw_standard::{OverRegistry, over_standard, procedure_table};
 use pw_transcript::{Reading, RunFault, run};
+use std::alloc::Global;
 use std::io::Read;
 use std::rt::Files;
 use std::{fs, io};
@@ -89,6 +93,72 @@ fn list<'a, R: Files + Print + AllocGlobal>(
     print(rt, &listing)
 }
 
+// Prints what is explained of a declaration.
+fn print_blocks<'a, R: Print + AllocGlobal>(
+    rt: &R,
+    blocks: &Blocks<Global>,
+) -> Result<(), Fault<'a>> {
+    print(rt, &blocks.text)?;
+    if blocks.are_cut {
+        print(rt, b"more faulty lines may follow\n")?;
+    }
+    Ok(())
+}
+
+// Explains the faulty lines of the text of a declaration. If there are any, it fails with the fault
+// of the first.
+fn explain_declaration<'a, R: Print + AllocGlobal>(
+    rt: &R,
+    registry: &Registry,
+    text: &[u8],
+) -> Result<(), Fault<'a>> {
+    let table = procedure_table().as_bytes();
+    match explain_text(rt.alloc(), table, registry, text) {
+        Some((blocks, fault)) => {
+            print_blocks(rt, &blocks)?;
+            Err(fault)
+        }
+        None => Ok(()),
+    }
+}
+
+// Explains the refused lines of the transcript of this name, over the declaration of the text. If
+// there are any, it fails.
+fn explain_transcript<'a, R: Files + Print + AllocGlobal>(
+    rt: &R,
+    registry: &Registry,
+    text: &[u8],
+    transcript: &'a str,
+) -> Result<(), Fault<'a>> {
+    let declaration = read_declaration(rt.alloc(), text, registry)?;
+    let table = procedure_table().as_bytes();
+    let any = match fs::open(rt, transcript) {
+        Ok(file) => write_refused_lines(rt, table, text, &declaration, file)?,
+        Err(_) => return Err(Fault::CannotRead(transcript)),
+    };
+    if any {
+        Err(Fault::RefusedLines)
+    } else {
+        Ok(())
+    }
+}
+
+// Explains the faulty lines of the declaration, or if it has none the refused lines of the
+// transcript, if one is named.
+fn explain<'a, R: Files + Print + AllocGlobal>(
+    rt: &R,
+    registry: &Registry,
+    declaration: &'a str,
+    transcript: Option<&'a str>,
+) -> Result<(), Fault<'a>> {
+    let text = declaration_text(rt, declaration)?;
+    explain_declaration(rt, registry, &text)?;
+    if let Some(transcript) = transcript {
+        explain_transcript(rt, registry, &text, transcript)?;
+    }
+    print(rt, b"ok\n")
+}
+
 // A job to be done.
 #[derive(Drop)]
 struct Doing<'r, 'a, R> {
@@ -107,6 +177,10 @@ impl<'a, R: Files + Input + Print + AllocGlobal> OverRegistry for Doing<'_, 'a, 
             } => answer_transcript(self.rt, registry, declaration, transcript),
             Job::Check { declaration } => check(self.rt, registry, declaration),
             Job::List { declaration } => list(self.rt, registry, declaration),
+            Job::Explain {
+                declaration,
+                transcript,
+            } => explain(self.rt, registry, declaration, transcript),
             Job::Procedures => print(self.rt, procedure_table().as_bytes()),
         }
     }

@@ -3,11 +3,14 @@
 #![tactic(auto)]
 
 mod answering;
+mod block;
 mod checking;
 mod ending;
+mod explaining;
 mod fault;
 mod files;
 mod listing;
+mod refused_lines;
 
 use answering::do_job;
 use ending::{Stop, conclude};
