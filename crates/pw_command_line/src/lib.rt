@@ -45,11 +45,14 @@ By hand, type a command and read its reply; Ctrl-D, the end of standard input, e
 premises, cells, sets and compounds are declared, as `ok users 1 premises 2 cells 3 sets 1 compounds 1`.
 `workbench list DECL` prints what is declared, a line each, as `user ann`, `premise b of ann`,
 `set part cable card`, `cell x interval`, `compound twice x interval t interval`.
+`workbench explain DECL [TRANSCRIPT]` shows each faulty line of DECL, or of TRANSCRIPT, with the word
+at fault, what was expected in its place, and the nearest name; `ok` if no line is faulty.
 `workbench procedures` prints a line for each procedure and built-in compound: its name, the kinds of
 its cells, and what it says about them.
 
 Status:
-  0  the transcript was answered to its end, the declaration has no fault, or the procedures were printed
+  0  the transcript was answered to its end, the declaration has no fault, no line is faulty for `explain`,
+     or the procedures were printed
   1  a fault, told by one line on standard error
   2  a bad command line
 
@@ -76,6 +79,11 @@ pub enum Job<'a> {
     /// List what a declaration declares.
     List {
         declaration: &'a str,
+    },
+    /// Explain the faulty lines of a declaration, and those of a transcript, if one is named.
+    Explain {
+        declaration: &'a str,
+        transcript: Option<&'a str>,
     },
     /// Print the table of the procedures.
     Procedures,
@@ -114,6 +122,13 @@ fn command<'a>(alloc: Global) -> Result<Command<'a>, Error> {
     let list = Command::new(alloc, "list")
         .about("Lists what a declaration declares, a line each, or says its first fault")
         .arg(declaration_argument(alloc))?;
+    let explained = Arg::new(alloc, "TRANSCRIPT").help(
+        "The file of the transcript, of which refused lines are explained too",
+    );
+    let explain = Command::new(alloc, "explain")
+        .about("Explains the faulty lines of a declaration, or of a transcript")
+        .arg(declaration_argument(alloc))?
+        .arg(explained)?;
     let procedures = Command::new(alloc, "procedures").about(
         "Lists the procedures and the built-in compounds, with the kinds of their cells",
     );
@@ -125,6 +140,7 @@ fn command<'a>(alloc: Global) -> Result<Command<'a>, Error> {
         .subcommand(run)?
         .subcommand(check)?
         .subcommand(list)?
+        .subcommand(explain)?
         .subcommand(procedures)?;
     Ok(workbench)
 }
@@ -151,6 +167,14 @@ pub fn read_arguments<'a>(alloc: Global, arguments: &'a [String]) -> Result<Job<
     if let Some(list) = matches.subcommand_matches("list") {
         if let Some(declaration) = list.get_str("DECL") {
             return Ok(Job::List { declaration });
+        }
+    }
+    if let Some(explain) = matches.subcommand_matches("explain") {
+        if let Some(declaration) = explain.get_str("DECL") {
+            return Ok(Job::Explain {
+                declaration,
+                transcript: explain.get_str("TRANSCRIPT"),
+            });
         }
     }
     if matches.subcommand_matches("procedures").is_some() {

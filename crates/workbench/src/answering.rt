@@ -1,13 +1,16 @@
-//! The jobs: a declaration is read over a registry of procedures; then a transcript is answered, or
-//! what is declared is counted or listed. Or the table of the procedures is printed.
+//! The jobs: a declaration is read over a registry of procedures; then a transcript is answered,
+//! what is declared is counted or listed, or faulty lines are explained. Or the table of the
+//! procedures is printed.
 
 use crate::checking::check_line;
+use crate::explaining::faulty_lines;
 use crate::fault::Fault;
 use crate::files::declaration_text;
 use crate::listing::listing;
 use crate::procedures::{OverProcedures, over_procedures, procedure_table};
+use crate::refused_lines::write_refused_lines;
 use pw_command_line::Job;
-use pw_decl::{Declaration, read_declaration};
+use pw_decl::{DeclFault, Declaration, read_declaration};
 use pw_info::{Writing, put_all};
 use pw_procs::Registry;
 use pw_transcript::{Reading, RunFault, run};
@@ -89,6 +92,63 @@ fn list<'a, R: Files + Print + AllocGlobal>(
     print(rt, &listing)
 }
 
+// Explains the faulty lines of a declaration, of which the first has this fault, and answers it.
+fn explain_declaration<'a, R: Print + AllocGlobal>(
+    rt: &R,
+    registry: &Registry,
+    text: Vec<u8>,
+    first: DeclFault,
+) -> Fault<'a> {
+    let blocks = faulty_lines(rt.alloc(), procedure_table().as_bytes(), registry, text, first);
+    if let Err(fault) = print(rt, &blocks.text) {
+        return fault;
+    }
+    if blocks.are_cut {
+        if let Err(fault) = print(rt, b"more faulty lines may follow\n") {
+            return fault;
+        }
+    }
+    Fault::Declaration(first)
+}
+
+// Explains the refused lines of the transcript of this name. There are none without a name.
+fn explain_transcript<'a, R: Files + Print + AllocGlobal>(
+    rt: &R,
+    text: &[u8],
+    declaration: &Declaration<'_>,
+    transcript: Option<&'a str>,
+) -> Result<(), Fault<'a>> {
+    let any = match transcript {
+        Some(name) => match fs::open(rt, name) {
+            Ok(file) => {
+                let table = procedure_table().as_bytes();
+                write_refused_lines(rt, table, text, declaration, file)?
+            }
+            Err(_) => return Err(Fault::CannotRead(name)),
+        },
+        None => false,
+    };
+    if any {
+        return Err(Fault::RefusedLines);
+    }
+    print(rt, b"ok\n")
+}
+
+// Explains the faulty lines of the declaration, or if it has none the refused lines of the
+// transcript.
+fn explain<'a, R: Files + Print + AllocGlobal>(
+    rt: &R,
+    registry: &Registry,
+    declaration: &'a str,
+    transcript: Option<&'a str>,
+) -> Result<(), Fault<'a>> {
+    let text = declaration_text(rt, declaration)?;
+    match read_declaration(rt.alloc(), &text, registry) {
+        Ok(declaration) => explain_transcript(rt, &text, &declaration, transcript),
+        Err(first) => Err(explain_declaration(rt, registry, text, first)),
+    }
+}
+
 // A job to be done.
 #[derive(Drop)]
 struct Doing<'r, 'a, R> {
@@ -107,6 +167,10 @@ impl<'a, R: Files + Input + Print + AllocGlobal> OverProcedures for Doing<'_, 'a
             } => answer_transcript(self.rt, registry, declaration, transcript),
             Job::Check { declaration } => check(self.rt, registry, declaration),
             Job::List { declaration } => list(self.rt, registry, declaration),
+            Job::Explain {
+                declaration,
+                transcript,
+            } => explain(self.rt, registry, declaration, transcript),
             Job::Procedures => print(self.rt, procedure_table().as_bytes()),
         }
     }

@@ -17,6 +17,9 @@ pub enum Fault<'a> {
     /// The run over the transcript ended before the transcript did.
     #[error(transparent)]
     Run(#[from] RunFault),
+    /// Lines of the transcript are refused, and were explained.
+    #[error("transcript: refused lines")]
+    RefusedLines,
     /// Out of memory, elsewhere than in the declaration and the run.
     #[error("memory")]
     Memory,

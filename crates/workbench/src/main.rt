@@ -5,10 +5,12 @@
 mod answering;
 mod checking;
 mod ending;
+mod explaining;
 mod fault;
 mod files;
 mod listing;
 mod procedures;
+mod refused_lines;
 
 use answering::do_job;
 use ending::{Stop, conclude};

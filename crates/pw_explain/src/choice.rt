@@ -1,0 +1,150 @@
+//! What is wrong with the groups of a choice.
+
+use crate::command::nearest_premise;
+use crate::expected::Expected;
+use crate::explanation::Explanation;
+use crate::spot::Spot;
+use pw_decl::Declaration;
+use pw_info::Words;
+use std::alloc::Allocator;
+
+// The number of the words before the first group.
+const FRONT: usize = 2;
+
+// The greatest number of groups, and of names in a group.
+const MOST_GROUPS: usize = 6;
+
+const MOST_NAMES: usize = 4;
+
+/// The names of a group, one after another.
+#[derive(Drop)]
+pub(crate) struct Names<'a> {
+    rest: Option<&'a [u8]>,
+}
+
+impl<'a> Names<'a> {
+    /// All names of the group.
+    pub(crate) fn of(word: &'a [u8]) -> Names<'a> {
+        Names { rest: Some(word) }
+    }
+
+    /// The next name.
+    pub(crate) fn next(&mut self) -> Option<&'a [u8]> {
+        let word = self.rest?;
+        match word.iter().position(|byte| *byte == b'|') {
+            Some(at) => {
+                self.rest = Some(&word[at + 1..]);
+                Some(&word[..at])
+            }
+            None => {
+                self.rest = None;
+                Some(word)
+            }
+        }
+    }
+}
+
+// A name in a group, by the number of the group, from 0, and that of the name in it.
+fn name_at<'a>(
+    group: usize,
+    name: usize,
+    expected: Expected<'a>,
+    near: Option<&'a [u8]>,
+) -> Explanation<'a> {
+    Explanation {
+        spot: Spot::Name(group.saturating_add(FRONT), name),
+        expected,
+        near,
+    }
+}
+
+// The number of the first name in the group that names no premise.
+fn unknown_in_group<'a, A: Allocator + Copy>(
+    declaration: &Declaration<'_, A>,
+    word: &'a [u8],
+) -> Option<(usize, &'a [u8])> {
+    let mut names = Names::of(word);
+    let mut number = 0usize;
+    while let Some(name) = names.next() {
+        if declaration.premise(name).is_none() {
+            return Some((number, name));
+        }
+        number = number.saturating_add(1);
+    }
+    None
+}
+
+/// The first name in the groups that names no premise.
+pub(crate) fn unknown_premise_in_groups<'a, A: Allocator + Copy>(
+    declaration: &'a Declaration<'_, A>,
+    mut words: Words<'a>,
+) -> Explanation<'a> {
+    let mut group = 0usize;
+    while let Some(word) = words.next() {
+        if let Some((number, name)) = unknown_in_group(declaration, word) {
+            let near = nearest_premise(declaration, name);
+            return name_at(group, number, Expected::Premise, near);
+        }
+        group = group.saturating_add(1);
+    }
+    Explanation::line(Expected::Premise)
+}
+
+// Whether the name is among the first names of a group, so many of them.
+fn is_among(name: &[u8], word: &[u8], most: usize) -> bool {
+    let mut names = Names::of(word);
+    for _ in 0..most {
+        match names.next() {
+            Some(other) if other == name => return true,
+            Some(_) => {}
+            None => return false,
+        }
+    }
+    false
+}
+
+// Whether the name is in one of the first groups, so many of them.
+fn is_in_groups(name: &[u8], mut words: Words<'_>, most: usize) -> bool {
+    for _ in 0..most {
+        match words.next() {
+            Some(word) if is_among(name, word, MOST_NAMES) => return true,
+            Some(_) => {}
+            None => return false,
+        }
+    }
+    false
+}
+
+// The first name in the group, which has this number, that is one too many, or stands before.
+fn wrong_in_group<'a>(words: Words<'a>, word: &'a [u8], group: usize) -> Option<Explanation<'a>> {
+    let mut names = Names::of(word);
+    let mut number = 0usize;
+    while let Some(name) = names.next() {
+        if number >= MOST_NAMES {
+            let expected = Expected::NoMore("4 names in a group");
+            return Some(name_at(group, number, expected, None));
+        }
+        if is_among(name, word, number) || is_in_groups(name, words.again(), group) {
+            return Some(name_at(group, number, Expected::Once, None));
+        }
+        number += 1;
+    }
+    None
+}
+
+/// The first group, or name in a group, that may not stand there.
+pub(crate) fn explain_choice<'a>(words: Words<'a>) -> Explanation<'a> {
+    let mut rest = words.again();
+    let mut group = 0usize;
+    while let Some(word) = rest.next() {
+        if group >= MOST_GROUPS {
+            let number = MOST_GROUPS + FRONT;
+            return Explanation::word(number, Expected::NoMore("6 groups"));
+        }
+        if let Some(explanation) = wrong_in_group(words.again(), word, group) {
+            return explanation;
+        }
+        group += 1;
+    }
+    Explanation::line(Expected::Group)
+}

@@ -1,0 +1,52 @@
+//! A text, cut at one of its lines.
+
+use pw_info::{Words, next_line};
+
+/// The parts of a text before a line, that line, and what comes after it.
+#[derive(Clone, Copy)]
+pub struct Cut<'a> {
+    /// The lines before it, with their line feeds.
+    pub before: &'a [u8],
+    /// The line, without its line feed.
+    pub line: &'a [u8],
+    /// The line feed of the line, if it has one, and the lines after it.
+    pub after: &'a [u8],
+}
+
+// A text whose first line is the one at which it is cut, after the bytes before it.
+fn cut_at_first<'a>(before: &'a [u8], rest: &'a [u8]) -> Option<Cut<'a>> {
+    if rest.is_empty() {
+        return None;
+    }
+    let line = match next_line(rest) {
+        Some((line, _)) => line,
+        None => rest,
+    };
+    Some(Cut {
+        before,
+        line,
+        after: &rest[line.len()..],
+    })
+}
+
+/// The text, cut at the line of this number, from 1. None if it has no such line.
+pub fn cut_at(text: &[u8], number: u32) -> Option<Cut<'_>> {
+    if number == 0 {
+        return None;
+    }
+    let mut rest = text;
+    for _ in 1..number {
+        let (_, after) = next_line(rest)?;
+        rest = after;
+    }
+    let before = &text[..text.len() - rest.len()];
+    cut_at_first(before, rest)
+}
+
+/// Whether the first word of the line is this one.
+pub fn begins_with(word: &[u8], line: &[u8]) -> bool {
+    match Words::new(line).next() {
+        Some(first) => first == word,
+        None => false,
+    }
+}

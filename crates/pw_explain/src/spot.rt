@@ -1,0 +1,123 @@
+//! Where in a line a fault is.
+
+/// What is at fault in a line.
+#[derive(Clone, Copy, Debug, PartialEq, Eq)]
+pub enum Spot {
+    /// The word of this number, from 0. If the line has as many words only, a word is missing.
+    Word(usize),
+    /// A name in a group of names: the numbers of the word and of the name in it, from 0.
+    Name(usize, usize),
+    /// The first byte that no line may have.
+    Byte,
+    /// The line as a whole.
+    Line,
+}
+
+/// Bytes of a line: from the first number on, up to the second.
+///
+/// A missing word has the place of one byte, after a space after the last word. That place may lie
+/// past the end of the line.
+#[derive(Clone, Copy, Debug, PartialEq, Eq)]
+pub struct Place {
+    /// The number of the first byte, from 0.
+    pub from: usize,
+    /// The number of the first byte after them.
+    pub to: usize,
+}
+
+// A space, a tab or a carriage return.
+pub(crate) fn is_blank(byte: u8) -> bool {
+    byte == b' ' || byte == b'\t' || byte == b'\r'
+}
+
+/// Whether the byte is visible ASCII.
+pub(crate) fn is_visible(byte: u8) -> bool {
+    0x21 <= byte && byte <= 0x7E
+}
+
+// The number of bytes at the front that are blanks, or that are none.
+fn run_len(bytes: &[u8], blank: bool) -> usize {
+    for (i, byte) in bytes.iter().enumerate() {
+        if is_blank(*byte) != blank {
+            return i;
+        }
+    }
+    bytes.len()
+}
+
+// The place of the first word from this byte on.
+fn next_word(line: &[u8], at: usize) -> Option<Place> {
+    let rest = &line[at..];
+    let gap = run_len(rest, true);
+    let word = &rest[gap..];
+    if word.is_empty() {
+        return None;
+    }
+    let from = at + gap;
+    Some(Place {
+        from,
+        to: from + run_len(word, false),
+    })
+}
+
+// The place of a word that is missing after this byte, at which the last word ends.
+fn missing_after(end: usize) -> Place {
+    if end == 0 {
+        return Place { from: 0, to: 1 };
+    }
+    Place {
+        from: end + 1,
+        to: end + 2,
+    }
+}
+
+// The place of the word of this number, or of the word that is missing after the last.
+fn place_of_word(line: &[u8], number: usize) -> Place {
+    let mut end = 0;
+    for _ in 0..number {
+        match next_word(line, end) {
+            Some(word) => end = word.to,
+            None => return missing_after(end),
+        }
+    }
+    match next_word(line, end) {
+        Some(word) => word,
+        None => missing_after(end),
+    }
+}
+
+// The place of the name of this number in the word.
+fn place_of_name(line: &[u8], word: Place, number: usize) -> Place {
+    let mut from = word.from;
+    let mut left = number;
+    for at in word.from..word.to {
+        if line[at] == b'|' {
+            if left == 0 {
+                return Place { from, to: at };
+            }
+            left -= 1;
+            from = at + 1;
+        }
+    }
+    Place { from, to: word.to }
+}
+
+// The place of the first byte that no line may have.
+fn place_of_byte(line: &[u8]) -> Option<Place> {
+    for (i, byte) in line.iter().enumerate() {
+        if !is_blank(*byte) && !is_visible(*byte) {
+            return Some(Place { from: i, to: i + 1 });
+        }
+    }
+    None
+}
+
+/// The place in the line of what is at fault. None for the line as a whole.
+pub fn place_of(line: &[u8], spot: Spot) -> Option<Place> {
+    match spot {
+        Spot::Word(number) => Some(place_of_word(line, number)),
+        Spot::Name(word, name) => Some(place_of_name(line, place_of_word(line, word), name)),
+        Spot::Byte => place_of_byte(line),
+        Spot::Line => None,
+    }
+}
