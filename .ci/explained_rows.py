@@ -150,12 +150,12 @@ SECOND_LINES = [
 """),
     ("user caf\xc3\xa9 bob", "syntax", """
     user caf?? bob
-         ^^^^^
+            ^
     expected ..
 """),
     ("cell height \x00\x7f\xff interval", "syntax", """
     cell height ??? interval
-                ^^^
+                ^
     expected ..
 """),
     # Names that are taken.
@@ -182,7 +182,7 @@ SECOND_LINES = [
     # Lines of more than 100 bytes: the word ends at the 100th byte, and past it.
     (f"compound c {'p' * 32} interval {'q' * 32} {'k' * 14}".ljust(200, " "), "unknown name", f"""
     compound c {'p' * 32} interval {'q' * 32} {'k' * 14}
-                                                                                      ^^^^^^^^^^^^^^
+    {' ' * 86}{'^' * 14}
     expected a kind: interval, exact, bool, sign or a set declared above
 """),
     (f"compound c {'p' * 32} interval {'q' * 32} {'k' * 15} r bool", "unknown name", f"""
@@ -419,7 +419,7 @@ LINES = [
 """),
     ("ann tell\x0bheight 1", 1, """
     ann tell?height 1
-        ^^^^^^^^^^^
+            ^
     expected ..
 """),
     ("anm ask height", 2, """

@@ -111,12 +111,10 @@ Known = namedtuple("Known", "places names")
 
 
 def known_of_form(line):
-    """Of words that do not fit: some word, a part of one, the place of a missing one, or the word with a wrong byte."""
-    spans, wrong = spans_of(line), re.search(r"[^ \t\r\x21-\x7e]", line)
-    if wrong:
-        return Known([next(span for span in spans if span[1] > wrong.start())], None)
-    parts = [part.span() for part in re.finditer(r"[^ \t\r|{},]+", line)]
-    return Known([*spans, *parts, missing_place(line)], None)
+    """Of a wrong byte, the first one; of words that do not fit, some word, a name in a group, or the place of a missing word."""
+    wrong = re.search(r"[^ \t\r\x21-\x7e]", line)
+    parts = [part.span() for part in re.finditer(r"[^ \t\r|]+", line)]
+    return Known([wrong.span()] if wrong else [*spans_of(line), *parts, missing_place(line)], None)
 
 
 def first_unknown(words, names):

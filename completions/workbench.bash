@@ -1,7 +1,7 @@
 # Completions of workbench(1) for bash: source this file, or install it as `workbench` in bash-completion's folder.
 
 _workbench() {
-    local commands='run check list procedures explain help'
+    local commands='run check list explain procedures help'
     local options='-h --help -V --version'
     local word=${COMP_WORDS[COMP_CWORD]} subcommand='' place=0 argument ended=''
     COMPREPLY=()
