@@ -1,4 +1,5 @@
 //! What the lines before a line declare, by their words. They have no fault.
+ghost use Rattle.std.specs.Prelude.{◌≡◌, ◌<◌, length, IfSome};
 
 use crate::near::Nearest;
 use crate::shape::Shape;
@@ -24,7 +25,9 @@ struct Declarings<'a> {
 
 impl<'a> Declarings<'a> {
     // The next of them.
-    fn next(&mut self) -> Option<Declaring<'a>> {
+    fn next(&mut self) -> Option<Declaring<'a>>
+        ensures { IfSome result (λ _. length self.new.lines < length self.old.lines) }
+    {
         while let Some(line) = self.lines.next() {
             let number = self.number;
             self.number = number.saturating_add(1);
@@ -36,7 +39,9 @@ impl<'a> Declarings<'a> {
     }
 
     // The name of the sort that the line declares, if it does. The next line stands after it.
-    fn name_in(&mut self, line: &'a [u8]) -> Option<&'a [u8]> {
+    fn name_in(&mut self, line: &'a [u8]) -> Option<&'a [u8]>
+        ensures { self.new.lines ≡ self.old.lines }
+    {
         if idles(line) {
             return None;
         }

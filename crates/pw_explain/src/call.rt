@@ -1,4 +1,5 @@
 //! The first cell that a callable does not take: of a call, or of an attachment.
+ghost use Rattle.std.specs.Prelude.{◌<◌, length, IfSome};
 
 use crate::before::Before;
 use crate::expected::Expected;
@@ -17,7 +18,9 @@ fn expected_kind<'a>(kind: &'a [u8], is_row: bool, same: Option<&'a [u8]>) -> Op
 }
 
 /// The next of the words that names a cell: `under` names none.
-pub(crate) fn next_cell<'a>(words: &mut Words<'a>) -> Option<&'a [u8]> {
+pub(crate) fn next_cell<'a>(words: &mut Words<'a>) -> Option<&'a [u8]>
+    ensures { IfSome result (λ _. length words.new < length words.old) }
+{
     let word = words.next()?;
     if word == b"under".as_slice() {
         None

@@ -64,12 +64,12 @@ fn unknown_in_group<'a, A: Allocator + Copy>(
     word: &'a [u8],
 ) -> Option<(usize, &'a [u8])> {
     let mut names = Names::of(word);
-    let mut number = 0usize;
-    while let Some(name) = names.next() {
+    // A word has no more names than bytes, and one.
+    for number in 0..=word.len() {
+        let name = names.next()?;
         if declaration.premise(name).is_none() {
             return Some((number, name));
         }
-        number = number.saturating_add(1);
     }
     None
 }
@@ -118,33 +118,27 @@ fn is_in_groups(name: &[u8], mut words: Words<'_>, most: usize) -> bool {
 // The first name in the group, which has this number, that is one too many, or stands before.
 fn wrong_in_group<'a>(words: Words<'a>, word: &'a [u8], group: usize) -> Option<Explanation<'a>> {
     let mut names = Names::of(word);
-    let mut number = 0usize;
-    while let Some(name) = names.next() {
-        if number >= MOST_NAMES {
-            let expected = Expected::NoMore("4 names in a group");
-            return Some(name_at(group, number, expected, None));
-        }
+    for number in 0..MOST_NAMES {
+        let name = names.next()?;
         if is_among(name, word, number) || is_in_groups(name, words.again(), group) {
             return Some(name_at(group, number, Expected::Once, None));
         }
-        number += 1;
     }
-    None
+    names.next()?;
+    let expected = Expected::NoMore("4 names in a group");
+    Some(name_at(group, MOST_NAMES, expected, None))
 }
 
 /// The first group, or name in a group, that may not stand there.
 pub(crate) fn explain_choice<'a>(words: Words<'a>) -> Explanation<'a> {
     let mut rest = words.again();
-    let mut group = 0usize;
-    while let Some(word) = rest.next() {
-        if group >= MOST_GROUPS {
-            let number = MOST_GROUPS + FRONT;
-            return Explanation::word(number, Expected::NoMore("6 groups"));
-        }
+    for group in 0..MOST_GROUPS {
+        let Some(word) = rest.next() else {
+            return Explanation::line(Expected::Group);
+        };
         if let Some(explanation) = wrong_in_group(words.again(), word, group) {
             return explanation;
         }
-        group += 1;
     }
-    Explanation::line(Expected::Group)
+    Explanation::word(MOST_GROUPS + FRONT, Expected::NoMore("6 groups"))
 }

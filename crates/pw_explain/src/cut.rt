@@ -1,4 +1,6 @@
 //! A text, cut at one of its lines.
+ghost use Rattle.std.specs.Prelude.{◌≡◌, ◌++◌, IfSome};
+ghost use Rattle.pw_explain.specs.Cut.{IsCutOf};
 
 use pw_info::{Words, next_line};
 
@@ -14,7 +16,9 @@ pub struct Cut<'a> {
 }
 
 // A text whose first line is the one at which it is cut, after the bytes before it.
-fn cut_at_first<'a>(before: &'a [u8], rest: &'a [u8]) -> Option<Cut<'a>> {
+fn cut_at_first<'a>(before: &'a [u8], rest: &'a [u8]) -> Option<Cut<'a>>
+    ensures { IfSome result (IsCutOf (before.now ++ rest.now)) }
+{
     if rest.is_empty() {
         return None;
     }
@@ -30,7 +34,9 @@ fn cut_at_first<'a>(before: &'a [u8], rest: &'a [u8]) -> Option<Cut<'a>> {
 }
 
 /// The text, cut at the line of this number, from 1. None if it has no such line.
-pub fn cut_at(text: &[u8], number: u32) -> Option<Cut<'_>> {
+pub fn cut_at(text: &[u8], number: u32) -> Option<Cut<'_>>
+    ensures { IfSome result (IsCutOf text.now) }
+{
     if number == 0 {
         return None;
     }

@@ -2,7 +2,7 @@
 
 use crate::before::{Before, is_built_in_kind, second_word, third_word};
 use crate::call::explain_cells;
-use crate::cut::{begins_with, Cut};
+use crate::cut::{Cut, begins_with};
 use crate::expected::{Expected, sort_word};
 use crate::explanation::Explanation;
 use crate::form::line_fits;
@@ -100,9 +100,7 @@ fn explain_twice<'a>(sort: Sort, line: &'a [u8]) -> Explanation<'a> {
         _ => (1, "member"),
     };
     match second_standing(words_after_name(line), step) {
-        Some(at) => {
-            Explanation::word(at.saturating_add(FRONT), Expected::NewThanWord(what))
-        }
+        Some(at) => { Explanation::word(at.saturating_add(FRONT), Expected::NewThanWord(what)) }
         None => Explanation::word(1, Expected::Name),
     }
 }

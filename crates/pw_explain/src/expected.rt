@@ -154,7 +154,12 @@ impl<'a> Expected<'a> {
                 " already",
             ),
             Expected::NoMore(most) => add_quoted(text, "at most ", most.as_bytes(), ""),
-            Expected::OwnPremise(user) => add_quoted(text, "a premise of `", user, "` or of no user"),
+            Expected::OwnPremise(user) => add_quoted(
+                text,
+                "a premise of `",
+                user,
+                "` or of no user",
+            ),
             Expected::Information(kind) => add_information(text, kind),
             Expected::CellOfKind(kind) => add_quoted(text, "a cell of the kind `", kind, "`"),
             Expected::NoCell(callable) => add_quoted(text, "no further cell for `", callable, "`"),

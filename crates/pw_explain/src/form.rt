@@ -52,10 +52,10 @@ fn is_reserved(word: &[u8]) -> bool {
 
 // Takes the new name, the second word.
 fn new_name_fits<'a>(words: &mut Words<'a>) -> Fits<'a> {
-    match words.next() {
-        Some(word) => name_fits(word, 1),
-        None => Err(Explanation::word(1, Expected::Name)),
-    }
+    let Some(word) = words.next() else {
+        return Err(Explanation::word(1, Expected::Name));
+    };
+    name_fits(word, 1)
 }
 
 // A header: the first words of a declaration.

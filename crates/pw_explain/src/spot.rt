@@ -1,4 +1,6 @@
 //! Where in a line a fault is.
+ghost use Rattle.std.specs.Prelude.{◌≤◌, length, IfSome, IfOk, IfErr};
+ghost use Rattle.pw_explain.specs.Spot.{LiesIn, LiesAfter, IsPlaceIn};
 
 /// What is at fault in a line.
 #[derive(Clone, Copy, Debug, PartialEq, Eq)]
@@ -36,7 +38,9 @@ pub(crate) fn is_visible(byte: u8) -> bool {
 }
 
 // The number of bytes at the front that are blanks, or that are none.
-fn run_len(bytes: &[u8], blank: bool) -> usize {
+fn run_len(bytes: &[u8], blank: bool) -> usize
+    ensures { result ≤ length bytes.now }
+{
     for (i, byte) in bytes.iter().enumerate() {
         if is_blank(*byte) != blank {
             return i;
@@ -46,7 +50,10 @@ fn run_len(bytes: &[u8], blank: bool) -> usize {
 }
 
 // The place of the first word from this byte on.
-fn next_word(line: &[u8], at: usize) -> Option<Place> {
+fn next_word(line: &[u8], at: usize) -> Option<Place>
+    requires { at ≤ length line.now }
+    ensures { IfSome result (LiesIn line.now) }
+{
     let rest = &line[at..];
     let gap = run_len(rest, true);
     let word = &rest[gap..];
@@ -54,40 +61,52 @@ fn next_word(line: &[u8], at: usize) -> Option<Place> {
         return None;
     }
     let from = at + gap;
-    Some(Place {
-        from,
-        to: from + run_len(word, false),
-    })
+    let to = from + run_len(word, false);
+    Some(Place { from, to })
 }
 
-// The place of a word that is missing after this byte, at which the last word ends.
-fn missing_after(end: usize) -> Place {
-    if end == 0 {
-        return Place { from: 0, to: 1 };
-    }
-    Place {
-        from: end + 1,
-        to: end + 2,
-    }
-}
-
-// The place of the word of this number, or of the word that is missing after the last.
-fn place_of_word(line: &[u8], number: usize) -> Place {
+// The place of the word of this number, or where the last word ends if there are fewer.
+fn find_word(line: &[u8], number: usize) -> Result<Place, usize>
+    ensures ok { IfOk result (LiesIn line.now) }
+    ensures err { IfErr result (λ end. end ≤ length line.now) }
+{
     let mut end = 0;
     for _ in 0..number {
         match next_word(line, end) {
             Some(word) => end = word.to,
-            None => return missing_after(end),
+            None => return Err(end),
         }
     }
     match next_word(line, end) {
-        Some(word) => word,
-        None => missing_after(end),
+        Some(word) => Ok(word),
+        None => Err(end),
     }
 }
 
-// The place of the name of this number in the word.
-fn place_of_name(line: &[u8], word: Place, number: usize) -> Place {
+// The place of a word that is missing, where the last word ends at this byte.
+fn missing_after(line: &[u8], end: usize) -> Place
+    requires { end ≤ length line.now }
+    ensures { LiesAfter line.now result }
+{
+    let from = if end == 0 { 0 } else { end + 1 };
+    Place { from, to: from + 1 }
+}
+
+// The place of the word of this number, or of the word that is missing after the last.
+fn place_of_word(line: &[u8], number: usize) -> Place
+    ensures { IsPlaceIn line.now result }
+{
+    match find_word(line, number) {
+        Ok(word) => word,
+        Err(end) => missing_after(line, end),
+    }
+}
+
+// The place of the name of this number in the word at this place.
+fn name_in(line: &[u8], word: Place, number: usize) -> Place
+    requires { LiesIn line.now word }
+    ensures { LiesIn line.now result }
+{
     let mut from = word.from;
     let mut left = number;
     for at in word.from..word.to {
@@ -102,8 +121,20 @@ fn place_of_name(line: &[u8], word: Place, number: usize) -> Place {
     Place { from, to: word.to }
 }
 
+// The place of the name of this number in the word of that number, or of the word if it is missing.
+fn place_of_name(line: &[u8], word: usize, number: usize) -> Place
+    ensures { IsPlaceIn line.now result }
+{
+    match find_word(line, word) {
+        Ok(place) => name_in(line, place, number),
+        Err(end) => missing_after(line, end),
+    }
+}
+
 // The place of the first byte that no line may have.
-fn place_of_byte(line: &[u8]) -> Option<Place> {
+fn place_of_byte(line: &[u8]) -> Option<Place>
+    ensures { IfSome result (LiesIn line.now) }
+{
     for (i, byte) in line.iter().enumerate() {
         if !is_blank(*byte) && !is_visible(*byte) {
             return Some(Place { from: i, to: i + 1 });
@@ -113,10 +144,12 @@ fn place_of_byte(line: &[u8]) -> Option<Place> {
 }
 
 /// The place in the line of what is at fault. None for the line as a whole.
-pub fn place_of(line: &[u8], spot: Spot) -> Option<Place> {
+pub fn place_of(line: &[u8], spot: Spot) -> Option<Place>
+    ensures { IfSome result (IsPlaceIn line.now) }
+{
     match spot {
         Spot::Word(number) => Some(place_of_word(line, number)),
-        Spot::Name(word, name) => Some(place_of_name(line, place_of_word(line, word), name)),
+        Spot::Name(word, number) => Some(place_of_name(line, word, number)),
         Spot::Byte => place_of_byte(line),
         Spot::Line => None,
     }

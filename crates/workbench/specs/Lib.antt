@@ -1,4 +1,5 @@
 pub mod Ending
+pub mod Explaining
 pub mod Listing
 pub mod Procedures
 pub mod Table

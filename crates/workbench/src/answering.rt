@@ -3,17 +3,18 @@
 //! procedures is printed.
 
 use crate::checking::check_line;
-use crate::explaining::faulty_lines;
+use crate::explaining::{Blocks, explain_text};
 use crate::fault::Fault;
 use crate::files::declaration_text;
 use crate::listing::listing;
 use crate::procedures::{OverProcedures, over_procedures, procedure_table};
 use crate::refused_lines::write_refused_lines;
 use pw_command_line::Job;
-use pw_decl::{DeclFault, Declaration, read_declaration};
+use pw_decl::{Declaration, read_declaration};
 use pw_info::{Writing, put_all};
 use pw_procs::Registry;
 use pw_transcript::{Reading, RunFault, run};
+use std::alloc::Global;
 use std::io::Read;
 use std::rt::Files;
 use std::{fs, io};
@@ -92,23 +93,16 @@ fn list<'a, R: Files + Print + AllocGlobal>(
     print(rt, &listing)
 }
 
-// Explains the faulty lines of a declaration, of which the first has this fault, and answers it.
-fn explain_declaration<'a, R: Print + AllocGlobal>(
+// Prints what is explained of a declaration.
+fn print_blocks<'a, R: Print + AllocGlobal>(
     rt: &R,
-    registry: &Registry,
-    text: Vec<u8>,
-    first: DeclFault,
-) -> Fault<'a> {
-    let blocks = faulty_lines(rt.alloc(), procedure_table().as_bytes(), registry, text, first);
-    if let Err(fault) = print(rt, &blocks.text) {
-        return fault;
-    }
+    blocks: &Blocks<Global>,
+) -> Result<(), Fault<'a>> {
+    print(rt, &blocks.text)?;
     if blocks.are_cut {
-        if let Err(fault) = print(rt, b"more faulty lines may follow\n") {
-            return fault;
-        }
+        print(rt, b"more faulty lines may follow\n")?;
     }
-    Fault::Declaration(first)
+    Ok(())
 }
 
 // Explains the refused lines of the transcript of this name. There are none without a name.
@@ -143,9 +137,12 @@ fn explain<'a, R: Files + Print + AllocGlobal>(
     transcript: Option<&'a str>,
 ) -> Result<(), Fault<'a>> {
     let text = declaration_text(rt, declaration)?;
-    match read_declaration(rt.alloc(), &text, registry) {
+    match explain_text(rt.alloc(), procedure_table().as_bytes(), registry, &text) {
         Ok(declaration) => explain_transcript(rt, &text, &declaration, transcript),
-        Err(first) => Err(explain_declaration(rt, registry, text, first)),
+        Err((blocks, fault)) => {
+            print_blocks(rt, &blocks)?;
+            Err(fault)
+        }
     }
 }
 

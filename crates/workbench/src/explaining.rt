@@ -1,14 +1,15 @@
-//! What `explain` prints of the faulty lines of a declaration, and of a line of a transcript.
+//! What `explain` prints of the faulty lines of a declaration.
+ghost use Rattle.std.specs.Prelude.{OnOk, IfErr};
+ghost use Rattle.pw_procs.specs.Registry.{procedures_in};
+ghost use Rattle.workbench.specs.Ending.{IsDeclaration, IsToldOfText};
 
+use crate::fault::Fault;
 use pw_decl::{DeclFault, DeclFaultKind, Declaration, read_declaration};
 use pw_explain::{
-    Cut, Explanation, cut_at, explain_fault, explain_refusal, explain_text_fault, is_header,
-    without_line, write_explanation, write_line,
+    Cut, cut_at, explain_fault, explain_text_fault, is_header, without_line, write_explanation,
+    write_line,
 };
-use pw_info::{Writing, put_all};
 use pw_procs::Registry;
-use pw_sessions::{Refusal, Reply};
-use pw_transcript::{read_command, write_reply};
 use std::alloc::{AllocError, Allocator};
 
 // At most so many faulty lines of a declaration are explained.
@@ -21,15 +22,6 @@ pub struct Blocks<A: Allocator> {
     pub text: Vec<u8, A>,
     /// Whether more faulty lines may follow.
     pub are_cut: bool,
-}
-
-// What is to be read after a fault.
-#[derive(Drop)]
-enum Rest<A: Allocator> {
-    // This text, in which the faulty line is blank.
-    Text(Vec<u8, A>),
-    // Nothing.
-    Nothing,
 }
 
 // Adds the block of a fault at a line.
@@ -61,27 +53,34 @@ fn add_block_of_text<A: Allocator + Copy>(
     write_explanation(alloc, blocks, &explanation)
 }
 
-// Adds the block of a fault of the text, and answers what is to be read after it.
+// Adds the block of a fault of the text, and answers what is left to be read, if anything is.
 fn add_block<A: Allocator + Copy>(
     alloc: A,
     blocks: &mut Vec<u8, A>,
     table: &[u8],
     text: &[u8],
     fault: DeclFault,
-) -> Result<Rest<A>, AllocError> {
+) -> Result<Option<Vec<u8, A>>, AllocError> {
+    let mut block = Vec::new(alloc);
     if !blocks.is_empty() {
-        blocks.push(b'\n')?;
+        block.push(b'\n')?;
     }
-    let Some(cut) = cut_at(text, fault.line) else {
-        add_block_of_text(alloc, blocks, fault)?;
-        return Ok(Rest::Nothing);
+    let left = match cut_at(text, fault.line) {
+        Some(cut) => {
+            add_block_at(alloc, &mut block, table, &cut, fault)?;
+            if is_header(&cut) {
+                None
+            } else {
+                Some(without_line(alloc, &cut)?)
+            }
+        }
+        None => {
+            add_block_of_text(alloc, &mut block, fault)?;
+            None
+        }
     };
-    add_block_at(alloc, blocks, table, &cut, fault)?;
-    if is_header(&cut) {
-        return Ok(Rest::Nothing);
-    }
-    let rest = without_line(alloc, &cut)?;
-    Ok(Rest::Text(rest))
+    blocks.extend_from_slice(&block)?;
+    Ok(left)
 }
 
 // The fault of the text, if it has one.
@@ -92,88 +91,75 @@ fn fault_of<A: Allocator + Copy>(alloc: A, text: &[u8], registry: &Registry) -> 
     }
 }
 
-/// The blocks of the faulty lines of a declaration, the first of which has this fault. If memory
-/// runs out, fewer lines are explained.
-pub fn faulty_lines<A: Allocator + Copy>(
+// What is to be read next: the text, or what is left of it after a fault.
+fn next_text<'a, A: Allocator>(text: &'a [u8], rest: &'a Option<Vec<u8, A>>) -> &'a [u8] {
+    match rest {
+        Some(rest) => rest.as_slice(),
+        None => text,
+    }
+}
+
+// The blocks of the faulty lines of a text, the first of which has this fault. If memory runs out,
+// fewer lines are explained.
+fn faulty_lines<A: Allocator + Copy>(
     alloc: A,
     table: &[u8],
     registry: &Registry,
-    text: Vec<u8, A>,
+    text: &[u8],
     first: DeclFault,
 ) -> Blocks<A> {
-    let mut blocks = Vec::new(alloc);
-    let mut text = text;
+    let mut blocks = Blocks {
+        text: Vec::new(alloc),
+        are_cut: true,
+    };
+    let mut rest = None;
     let mut fault = first;
     for _ in 0..MOST_BLOCKS {
         if fault.why == DeclFaultKind::Memory {
-            break;
+            return blocks;
         }
-        let length = blocks.len();
-        match add_block(alloc, &mut blocks, table, &text, fault) {
-            Ok(Rest::Text(rest)) => text = rest,
-            Ok(Rest::Nothing) => {
-                return Blocks {
-                    text: blocks,
-                    are_cut: false,
-                };
+        match add_block(
+            alloc,
+            &mut blocks.text,
+            table,
+            next_text(text, &rest),
+            fault,
+        ) {
+            Ok(Some(left)) => rest = Some(left),
+            Ok(None) => {
+                blocks.are_cut = false;
+                return blocks;
             }
-            Err(AllocError) => {
-                blocks.truncate(length);
-                break;
-            }
+            Err(AllocError) => return blocks,
         }
-        match fault_of(alloc, &text, registry) {
+        match fault_of(alloc, next_text(text, &rest), registry) {
             Some(next) => fault = next,
             None => {
-                return Blocks {
-                    text: blocks,
-                    are_cut: false,
-                };
+                blocks.are_cut = false;
+                return blocks;
             }
         }
     }
-    Blocks {
-        text: blocks,
-        are_cut: true,
-    }
+    blocks
 }
 
-// The block of a refused line of this number.
-fn block_of_line<A: Allocator + Copy>(
-    alloc: A,
-    declaration: &Declaration<'_, A>,
-    number: u32,
-    line: &[u8],
-    refusal: Refusal,
-    explanation: &Explanation<'_>,
-) -> Result<Vec<u8, A>, AllocError> {
-    let mut output = Writing::new(Vec::new(alloc));
-    let reply: Reply<A> = Reply::Refused(refusal);
-    if put_all(&mut output, b"transcript line ").is_err() {
-        return Err(AllocError);
-    }
-    if write_reply(number, &reply, declaration, &mut output).is_err() {
-        return Err(AllocError);
-    }
-    let mut block = output.into_writer();
-    write_line(&mut block, line, explanation.spot)?;
-    write_explanation(alloc, &mut block, explanation)?;
-    Ok(block)
-}
-
-/// The block of the line of this number, if it is refused.
-pub fn refused_line<A: Allocator + Copy>(
+/// The declaration of the text, or what `explain` prints of the text, and the fault with which it
+/// ends: that of `check`.
+pub fn explain_text<'r, A: Allocator + Copy>(
     alloc: A,
     table: &[u8],
+    registry: &'r Registry,
     text: &[u8],
-    declaration: &Declaration<'_, A>,
-    number: u32,
-    line: &[u8],
-) -> Result<Option<Vec<u8, A>>, AllocError> {
-    let Err(refusal) = read_command(line, declaration) else {
-        return Ok(None);
-    };
-    let explanation = explain_refusal(table, text, declaration, line, refusal);
-    let block = block_of_line(alloc, declaration, number, line, refusal, &explanation)?;
-    Ok(Some(block))
+) -> Result<Declaration<'r, A>, (Blocks<A>, Fault<'static>)>
+    ensures ok { OnOk result (IsDeclaration (procedures_in registry.entry.now) text.now) }
+    ensures err { IfErr result (λ told.
+        IsToldOfText (procedures_in registry.entry.now) text.now told.1) }
+{
+    match read_declaration(alloc, text, registry) {
+        Ok(declaration) => Ok(declaration),
+        Err(fault) => {
+            let blocks = faulty_lines(alloc, table, registry, text, fault);
+            Err((blocks, Fault::Declaration(fault)))
+        }
+    }
 }

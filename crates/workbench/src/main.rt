@@ -3,6 +3,7 @@
 #![tactic(auto)]
 
 mod answering;
+mod block;
 mod checking;
 mod ending;
 mod explaining;

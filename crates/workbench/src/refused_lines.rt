@@ -1,11 +1,10 @@
 //! What `explain` prints of a transcript: each line that is refused.
 
-use crate::explaining::refused_line;
+use crate::block::block_of;
 use crate::fault::Fault;
 use pw_decl::Declaration;
 use pw_info::{Writing, put_all};
 use pw_transcript::RunFault;
-use std::alloc::{Allocator, Global};
 use std::io::{self, BufRead, BufReader, ErrorKind, Read};
 
 // The greatest number of lines, and of bytes.
@@ -75,7 +74,7 @@ pub fn write_refused_lines<'a, R: Print + AllocGlobal, T: Read + Drop>(
             return Err(Fault::Run(RunFault::Limit));
         }
         let line = without_line_feed(&line);
-        if let Some(block) = refused_line(rt.alloc(), table, text, declaration, number, line)? {
+        if let Some(block) = block_of(rt.alloc(), table, text, declaration, number, line)? {
             write_block(&mut output, &block, !any)?;
             any = true;
         }
