@@ -1,3 +1,4 @@
+pub mod Blocks
 pub mod Fronts
 pub mod Listings
 pub mod Program

@@ -105,31 +105,46 @@ fn print_blocks<'a, R: Print + AllocGlobal>(
     Ok(())
 }
 
-// Explains the refused lines of the transcript of this name. There are none without a name.
+// Explains the faulty lines of the text of a declaration. If there are any, it fails with the fault
+// of the first.
+fn explain_declaration<'a, R: Print + AllocGlobal>(
+    rt: &R,
+    registry: &Registry,
+    text: &[u8],
+) -> Result<(), Fault<'a>> {
+    let table = procedure_table().as_bytes();
+    match explain_text(rt.alloc(), table, registry, text) {
+        Some((blocks, fault)) => {
+            print_blocks(rt, &blocks)?;
+            Err(fault)
+        }
+        None => Ok(()),
+    }
+}
+
+// Explains the refused lines of the transcript of this name, over the declaration of the text. If
+// there are any, it fails.
 fn explain_transcript<'a, R: Files + Print + AllocGlobal>(
     rt: &R,
+    registry: &Registry,
     text: &[u8],
-    declaration: &Declaration<'_>,
-    transcript: Option<&'a str>,
+    transcript: &'a str,
 ) -> Result<(), Fault<'a>> {
-    let any = match transcript {
-        Some(name) => match fs::open(rt, name) {
-            Ok(file) => {
-                let table = procedure_table().as_bytes();
-                write_refused_lines(rt, table, text, declaration, file)?
-            }
-            Err(_) => return Err(Fault::CannotRead(name)),
-        },
-        None => false,
+    let declaration = read_declaration(rt.alloc(), text, registry)?;
+    let table = procedure_table().as_bytes();
+    let any = match fs::open(rt, transcript) {
+        Ok(file) => write_refused_lines(rt, table, text, &declaration, file)?,
+        Err(_) => return Err(Fault::CannotRead(transcript)),
     };
     if any {
-        return Err(Fault::RefusedLines);
+        Err(Fault::RefusedLines)
+    } else {
+        Ok(())
     }
-    print(rt, b"ok\n")
 }
 
 // Explains the faulty lines of the declaration, or if it has none the refused lines of the
-// transcript.
+// transcript, if one is named.
 fn explain<'a, R: Files + Print + AllocGlobal>(
     rt: &R,
     registry: &Registry,
@@ -137,13 +152,11 @@ fn explain<'a, R: Files + Print + AllocGlobal>(
     transcript: Option<&'a str>,
 ) -> Result<(), Fault<'a>> {
     let text = declaration_text(rt, declaration)?;
-    match explain_text(rt.alloc(), procedure_table().as_bytes(), registry, &text) {
-        Ok(declaration) => explain_transcript(rt, &text, &declaration, transcript),
-        Err((blocks, fault)) => {
-            print_blocks(rt, &blocks)?;
-            Err(fault)
-        }
+    explain_declaration(rt, registry, &text)?;
+    if let Some(transcript) = transcript {
+        explain_transcript(rt, registry, &text, transcript)?;
     }
+    print(rt, b"ok\n")
 }
 
 // A job to be done.

@@ -2,6 +2,8 @@
 ghost use Rattle.std.specs.Prelude.{◌≡◌, ◌++◌, IfOk, IfSome, IfNone, codes};
 ghost use Rattle.pw_info.specs.Passing.{Writes};
 ghost use Rattle.pw_decl.specs.inside.Fields.{declared};
+ghost use Rattle.pw_sessions.specs.Reply as replies;
+ghost use Rattle.pw_transcript.specs.ReplyText.{text_of_reply};
 ghost use Rattle.workbench.specs.Explaining.{IsBlockOf, IsNotRefused, title_of};
 
 use pw_decl::Declaration;
@@ -10,6 +12,20 @@ use pw_info::{Failed, Output, Writing, put_all};
 use pw_sessions::{Refusal, Reply};
 use pw_transcript::{read_command, write_reply};
 use std::alloc::{AllocError, Allocator};
+
+// Writes the reply that refuses a line.
+fn write_refused<A: Allocator + Copy, O: Output>(
+    number: u32,
+    refusal: Refusal,
+    declaration: &Declaration<'_, A>,
+    output: &mut O,
+) -> Result<(), Failed>
+    ensures { Writes O.passes O.has_failed output.old output.new result
+        (text_of_reply (declared declaration.now) number (replies.Refused refusal)) }
+{
+    let reply: Reply<A> = Reply::Refused(refusal);
+    write_reply(number, &reply, declaration, output)
+}
 
 // Writes the first line of a block.
 #[tactic(auto, using(pw_info::proofs::PassingFacts::first_fails, pw_info::proofs::PassingFacts::second_writes))]
@@ -23,8 +39,7 @@ fn write_title<A: Allocator + Copy, O: Output>(
         (title_of (declared declaration.now) number refusal) }
 {
     put_all(output, b"transcript line ")?;
-    let reply: Reply<A> = Reply::Refused(refusal);
-    write_reply(number, &reply, declaration, output)
+    write_refused(number, refusal, declaration, output)
 }
 
 // The first line of a block, with its line end.
@@ -61,7 +76,7 @@ fn told<A: Allocator + Copy>(
 
 // Both together.
 fn joined<A: Allocator>(mut front: Vec<u8, A>, rest: Vec<u8, A>) -> Result<Vec<u8, A>, AllocError>
-    ensures { IfOk result (λ all. all.items ≡ front.entry.items ++ rest.items) }
+    ensures { IfOk result (λ all. all.items ≡ front.items ++ rest.items) }
 {
     front.extend_from_slice(&rest)?;
     Ok(front)

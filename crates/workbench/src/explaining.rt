@@ -1,10 +1,10 @@
 //! What `explain` prints of the faulty lines of a declaration.
-ghost use Rattle.std.specs.Prelude.{OnOk, IfErr};
+ghost use Rattle.std.specs.Prelude.{IfSome, IfNone};
 ghost use Rattle.pw_procs.specs.Registry.{procedures_in};
 ghost use Rattle.workbench.specs.Ending.{IsDeclaration, IsToldOfText};
 
 use crate::fault::Fault;
-use pw_decl::{DeclFault, DeclFaultKind, Declaration, read_declaration};
+use pw_decl::{DeclFault, DeclFaultKind, read_declaration};
 use pw_explain::{
     Cut, cut_at, explain_fault, explain_text_fault, is_header, without_line, write_explanation,
     write_line,
@@ -143,23 +143,22 @@ fn faulty_lines<A: Allocator + Copy>(
     blocks
 }
 
-/// The declaration of the text, or what `explain` prints of the text, and the fault with which it
-/// ends: that of `check`.
-pub fn explain_text<'r, A: Allocator + Copy>(
+/// What `explain` prints of the faulty lines of a text, and the fault with which it ends, which is
+/// that of `check`. None if no line is faulty.
+pub fn explain_text<A: Allocator + Copy>(
     alloc: A,
     table: &[u8],
-    registry: &'r Registry,
+    registry: &Registry,
     text: &[u8],
-) -> Result<Declaration<'r, A>, (Blocks<A>, Fault<'static>)>
-    ensures ok { OnOk result (IsDeclaration (procedures_in registry.entry.now) text.now) }
-    ensures err { IfErr result (λ told.
-        IsToldOfText (procedures_in registry.entry.now) text.now told.1) }
+) -> Option<(Blocks<A>, Fault<'static>)>
+    ensures none { IfNone result (IsDeclaration (procedures_in registry.now) text.now) }
+    ensures some { IfSome result (λ told.
+        IsToldOfText (procedures_in registry.now) text.now told.1) }
 {
-    match read_declaration(alloc, text, registry) {
-        Ok(declaration) => Ok(declaration),
-        Err(fault) => {
-            let blocks = faulty_lines(alloc, table, registry, text, fault);
-            Err((blocks, Fault::Declaration(fault)))
-        }
-    }
+    let fault = match read_declaration(alloc, text, registry) {
+        Ok(_) => return None,
+        Err(fault) => fault,
+    };
+    let blocks = faulty_lines(alloc, table, registry, text, fault);
+    Some((blocks, Fault::Declaration(fault)))
 }
