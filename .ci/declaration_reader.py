@@ -60,7 +60,7 @@ class Declared:
         self.begun, self.compounds = False, 0
 
     def read(self, line):
-        """Reads the next line, or raises its fault."""
+        """Reads the next line, or raises its fault; a line with a fault declares nothing."""
         require(len(line) <= 4096, LIMIT)
         if is_silent(line):
             return
@@ -122,8 +122,8 @@ class Declared:
         require(len(words) == 2 and is_name(words[0]), SYNTAX)
         require(words[0] not in self.open.cells, DUPLICATE)
         require(words[1] in self.kinds, UNKNOWN)
-        self.open.cells[words[0]] = self.kinds[words[1]]
         self.lengthen(["local", *words], 0, 1)
+        self.open.cells[words[0]] = self.kinds[words[1]]
 
     def read_call(self, name, words):
         require(words, SYNTAX)
@@ -135,8 +135,9 @@ class Declared:
     def lengthen(self, words, procedures, inner):
         """One more line of the open compound, which expands to so many more procedures and inner cells."""
         made = self.open
-        made.procedures, made.inner = made.procedures + procedures, made.inner + inner
-        require(max(made.procedures, made.inner) <= 256, LIMIT)
+        procedures, inner = made.procedures + procedures, made.inner + inner
+        require(max(procedures, inner) <= 256, LIMIT)
+        made.procedures, made.inner = procedures, inner
         made.body.append(words)
 
     def read_end(self, words):

@@ -1,7 +1,7 @@
 # Completions of workbench(1) for bash: source this file, or install it as `workbench` in bash-completion's folder.
 
 _workbench() {
-    local commands='run check list procedures help'
+    local commands='run check list explain procedures help'
     local options='-h --help -V --version'
     local word=${COMP_WORDS[COMP_CWORD]} subcommand='' place=0 argument ended=''
     COMPREPLY=()
@@ -29,7 +29,7 @@ _workbench() {
     case $subcommand:$place in
         :*) mapfile -t COMPREPLY < <(compgen -W "$commands" -- "$word") ;;
         help:1) mapfile -t COMPREPLY < <(compgen -W "$commands" -- "$word") ;;
-        run:[12] | check:1 | list:1)
+        run:[12] | explain:[12] | check:1 | list:1)
             compopt -o filenames 2>/dev/null
             mapfile -t COMPREPLY < <(compgen -f -- "$word")
             ;;
