@@ -130,10 +130,13 @@ fn explain_transcript<'a, R: Files + Print + AllocGlobal>(
     text: &[u8],
     transcript: &'a str,
 ) -> Result<(), Fault<'a>> {
-    let declaration = read_declaration(rt.alloc(), text, registry)?;
+    // By reference, so that the code that reads commands here is not the one that `run` has inline: a
+    // second caller would keep it from being inlined there, at a tenth of the cost of a line.
+    let alloc = rt.alloc();
+    let declaration = read_declaration(&alloc, text, registry)?;
     let table = procedure_table().as_bytes();
     let any = match fs::open(rt, transcript) {
-        Ok(file) => write_refused_lines(rt, table, text, &declaration, file)?,
+        Ok(file) => write_refused_lines(rt, &alloc, table, text, &declaration, file)?,
         Err(_) => return Err(Fault::CannotRead(transcript)),
     };
     if any {

@@ -5,6 +5,7 @@ use crate::fault::Fault;
 use pw_decl::Declaration;
 use pw_info::{Writing, put_all};
 use pw_transcript::RunFault;
+use std::alloc::Allocator;
 use std::io::{self, BufRead, BufReader, ErrorKind, Read};
 
 // The greatest number of lines, and of bytes.
@@ -45,11 +46,12 @@ fn write_block<'a, W: io::Write>(
 ///
 /// Fails if the transcript cannot be read, if it is longer than `run` answers, if a write fails,
 /// and when out of memory.
-pub fn write_refused_lines<'a, R: Print + AllocGlobal, T: Read + Drop>(
+pub fn write_refused_lines<'a, A: Allocator + Copy, R: Print + AllocGlobal, T: Read + Drop>(
     rt: &R,
+    alloc: A,
     table: &[u8],
     text: &[u8],
-    declaration: &Declaration<'_>,
+    declaration: &Declaration<'_, A>,
     transcript: T,
 ) -> Result<bool, Fault<'a>> {
     let mut reader = match BufReader::new(rt.alloc(), transcript.take(MOST_BYTES + 1)) {
@@ -74,7 +76,7 @@ pub fn write_refused_lines<'a, R: Print + AllocGlobal, T: Read + Drop>(
             return Err(Fault::Run(RunFault::Limit));
         }
         let line = without_line_feed(&line);
-        if let Some(block) = block_of(rt.alloc(), table, text, declaration, number, line)? {
+        if let Some(block) = block_of(alloc, table, text, declaration, number, line)? {
             write_block(&mut output, &block, !any)?;
             any = true;
         }
