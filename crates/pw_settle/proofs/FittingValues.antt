@@ -71,7 +71,7 @@ fits_now network well store settled same all kept queued satisfied done = record
 -- ---- going on from values that fit
 
 -- what is not seen to fail of an information holds
-implies_stable : (a b : Info) → ((Implies a b → ⊥) → ⊥) → Implies a b
+pub implies_stable : (a b : Info) → ((Implies a b → ⊥) → ⊥) → Implies a b
 implies_stable a b not_not v possible =
     elim (cases_Bool (allows b v)) [
       | inl is ↦ is

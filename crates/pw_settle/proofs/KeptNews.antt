@@ -34,13 +34,13 @@ map_more better known (c ∷ cells) more =
     (λ v possible. All-head (λ c. Implies (better c) (known c)) c cells more v possible, map_more better known cells (All-tail (λ c. Implies (better c) (known c)) c cells more))
 
 -- informations of cells that are of their kinds
-kinds_mapped : (known : ℕ → Info) (store : Store) → ((c : ℕ) → kind_of (known c) ≡ kind_in_store store c) → (cells : List ℕ) →
+pub kinds_mapped : (known : ℕ → Info) (store : Store) → ((c : ℕ) → kind_of (known c) ≡ kind_in_store store c) → (cells : List ℕ) →
     map kind_of (map known cells) ≡ map (kind_in_store store) cells
 kinds_mapped known store are [] = refl
 kinds_mapped known store are (c ∷ cells) = λ i. are c i ∷ kinds_mapped known store are cells i
 
 -- a procedure says at least as much if of each input at least as much is known
-value_more : (procedure : Procedure) (better known : ℕ → Info) (cells : List ℕ) → map kind_of (map better cells) ≡ map kind_of (map known cells) →
+pub value_more : (procedure : Procedure) (better known : ℕ → Info) (cells : List ℕ) → map kind_of (map better cells) ≡ map kind_of (map known cells) →
     All (λ c. Implies (better c) (known c)) cells → Implies (value_by procedure (map better cells)) (value_by procedure (map known cells))
 value_more procedure better known cells one_kind more =
     value_mono (output_slot_of procedure.signature) (map better cells) (map known cells) one_kind (map_more better known cells more) procedure.meaning

@@ -114,7 +114,7 @@ satisfied_all network w known queued number others one n d below seen free =
 -- ---- instances that do not read what changed
 
 -- if no input is the cell, the inputs are informed as before
-unread : (before now : ℕ → Info) (cell : ℕ) → ((c : ℕ) → c ≢ cell → now c ≡ before c) → (inputs : List ℕ) → list_any (nat_eq cell) inputs ≡ false →
+pub unread : (before now : ℕ → Info) (cell : ℕ) → ((c : ℕ) → c ≢ cell → now c ≡ before c) → (inputs : List ℕ) → list_any (nat_eq cell) inputs ≡ false →
     map now inputs ≡ map before inputs
 unread before now cell same [] none = refl
 unread before now cell same (c ∷ inputs) none =
@@ -130,7 +130,7 @@ unread before now cell same (c ∷ inputs) none =
     eqb_not c cell e not = grind (arith, nat_tests)
 
 -- a satisfied instance that does not read it stays satisfied
-still_satisfied : (network : Network) (well : IsWellNetwork network) (a : Attached) → Contains network.attached a → (before now : ℕ → Info) (cell : ℕ) →
+pub still_satisfied : (network : Network) (well : IsWellNetwork network) (a : Attached) → Contains network.attached a → (before now : ℕ → Info) (cell : ℕ) →
     ((c : ℕ) → c ≢ cell → now c ≡ before c) → ((c : ℕ) → Implies (now c) (before c)) → reads cell a ≡ false →
     IsSatisfied network before a → IsSatisfied network now a
 still_satisfied network well a there before now cell same more not_read satisfied =

@@ -29,3 +29,6 @@ pub mod SoundStores
 pub mod StoreCells
 pub mod GrowingGains
 pub mod SeenLines
+pub mod AsideStarts
+pub mod AsideNews
+pub mod AsideEnds

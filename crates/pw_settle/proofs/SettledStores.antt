@@ -111,7 +111,7 @@ abbrev reads_at : Network → ℕ → ℕ → Bool
 reads_at network cell number = slice_index_or (map (reads cell) network.attached) number false
 
 -- no more visible instances read a cell than there are instances
-readers_most : (network : Network) (w : Premises) (cell : ℕ) → reader_count network w cell ≤ length network.attached
+pub readers_most : (network : Network) (w : Premises) (cell : ℕ) → reader_count network w cell ≤ length network.attached
 readers_most network w cell =
     omega (
       arith,

@@ -98,7 +98,7 @@ sound_attached network wider wide well also old new own same fits are sound w c 
     many = sym (length-map old.cells (λ (x : Cell). x.kind)) ∙ ap length same
 
 -- a merge implies the second of the two
-meet_second : (i j : Info) → kind_of i ≡ kind_of j → Implies (meet i j) j
+pub meet_second : (i j : Info) → kind_of i ≡ kind_of j → Implies (meet i j) j
 meet_second i j one_kind = also_implies j (meet j i) (meet i j) (meet_comm j i (sym one_kind)) (meet_first j i (sym one_kind))
 
 -- so it keeps no less than before

@@ -1,4 +1,5 @@
 -- What only the steps of the code and their proofs speak of.
+pub mod Aside
 pub mod Due
 pub mod Known
 pub mod Progress

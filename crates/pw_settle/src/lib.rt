@@ -8,8 +8,10 @@ mod propagating;
 mod resettling;
 mod settled;
 mod settling;
+mod settling_aside;
 mod support_list;
 
 pub use resettling::{resettle, resettle_from};
 pub use settled::Settled;
 pub use settling::settle;
+pub use settling_aside::settle_aside;

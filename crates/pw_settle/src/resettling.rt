@@ -82,7 +82,7 @@ fn has_changed(before: &[Info], now: &[Info], cell: usize) -> bool
 }
 
 // Queues the visible readers of the cells of which more is kept now than was found before.
-fn queue_changed<A: Allocator + Copy>(
+pub(crate) fn queue_changed<A: Allocator + Copy>(
     network: &Network<'_, '_, A>,
     visible: &[bool],
     before: &[Info],

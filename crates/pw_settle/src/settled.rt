@@ -4,6 +4,7 @@ ghost use Rattle.pw_settle.specs.Settled.{info_at, support_at};
 
 use crate::known::Known;
 use pw_facts::Fact;
+use pw_info::Info;
 use pw_premises::PremiseSet;
 use std::alloc::{Allocator, Global};
 use std::marker::Model;
@@ -50,6 +51,13 @@ impl<A: Allocator> Settled<A> {
             info: self.known.infos[cell as usize],
             support: self.known.supports.get(cell as usize),
         }
+    }
+
+    // The information about each cell, in the order of the cells.
+    pub(crate) fn infos(&self) -> &[Info]
+        ensures { result.now ≡ self.now.infos }
+    {
+        &self.known.infos
     }
 
     /// The number of cells that have a value: those that the network had.

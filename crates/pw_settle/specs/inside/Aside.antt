@@ -1,0 +1,61 @@
+-- What is known about each cell in a worldview while its value is found beside the store, which
+-- keeps nothing of it.
+use Rattle.std.specs.Prelude.{◌≡◌, ℕ, ◌<◌, ◌*◌, Bool, true, false, List, length}
+use Rattle.std.specs.FinSet.{is_subset}
+use Rattle.pw_info.specs.declared.info.Info.{Info}
+use Rattle.pw_info.specs.Information.{kind_of, Implies}
+use Rattle.pw_info.specs.Rank.{rank_of}
+use Rattle.pw_premises.specs.Premises.{Premises}
+use Rattle.pw_facts.specs.Facts.{IsLeastAbove}
+use Rattle.pw_cells.specs.Cells.{Store, told_in}
+use Rattle.pw_network.specs.Network.{Attached, Network}
+use Rattle.pw_settle.specs.Calls.{is_instance_visible, reader_count, sum_below}
+use Rattle.pw_settle.specs.Settled.{info_at, support_at}
+use Rattle.pw_settle.specs.Values.{IsSatisfied, attached_no, kinds_in, numbered, value_in}
+use Rattle.pw_settle.specs.inside.Progress.{is_set}
+
+-- what is known about a cell in the worldview: it rests on premises of the worldview, follows in
+-- each worldview that has these, and says at least what was told
+pub record IsFound (network : Network) (store : Store) (w : Premises) (cell : ℕ) (info : Info)
+    (support : Premises) : Type 0 where
+  pub kind : kind_of info ≡ (numbered (kinds_in network)).kind cell
+  pub within : is_subset support w ≡ true
+  pub follows : IsLeastAbove support (λ v. value_in network store v cell) info
+  pub told : Implies info (told_in store cell w)
+
+-- the same of all cells
+pub record AreFound (network : Network) (store : Store) (w : Premises) (infos : List Info)
+    (supports : List Premises) : Type 0 where
+  pub many : length infos ≡ length (kinds_in network)
+  pub as_many : length supports ≡ length infos
+  pub each : (cell : ℕ) →
+      IsFound network store w cell (info_at infos cell) (support_at supports cell)
+
+-- the instance of this number was visible, and no less is known now of the cell that it writes
+pub record StaysMet (network : Network) (was_visible : List Bool) (before now : List Info)
+    (number : ℕ) : Type 0 where
+  pub visible : is_set was_visible number ≡ true
+  pub output : (d : Attached) →
+      Implies (info_at now (attached_no network number d).instance.output)
+      (info_at before (attached_no network number d).instance.output)
+
+-- only visible instances are queued, and each visible one that is not queued stays met
+pub record AreOthersMet (network : Network) (visible was_visible : List Bool)
+    (before now : List Info) (queued : List Bool) : Type 0 where
+  pub flags : length queued ≡ length visible
+  pub seen : (number : ℕ) → is_set queued number ≡ true → is_set visible number ≡ true
+  pub others : (number : ℕ) → number < length visible → is_set visible number ≡ true →
+      is_set queued number ≡ false → StaysMet network was_visible before now number
+
+-- what may still be found out: the sum over the cells of the rank of what is known, times the
+-- visible readers
+abbrev pub weight_of : Network → Premises → List Info → ℕ
+weight_of network w infos = sum_below (length infos) (λ cell.
+    rank_of (info_at infos cell) * reader_count network w cell)
+
+-- each visible instance is satisfied
+abbrev pub AreAllSatisfied : Network → Premises → (ℕ → Info) → Type 0
+AreAllSatisfied network w known =
+    (number : ℕ) (d : Attached) → number < length network.attached →
+    is_instance_visible w (attached_no network number d) ≡ true →
+    IsSatisfied network known (attached_no network number d)

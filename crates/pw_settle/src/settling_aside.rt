@@ -1,0 +1,282 @@
+//! Settling beside the store: the values of another worldview, from values at hand.
+ghost use Rattle.std.specs.Prelude.{◌≡◌, ◌+◌, ◌<◌, ◌≤◌, true, IsTrue, IfOk, OnOk, length, map};
+ghost use Rattle.pw_info.specs.Information.{kind_of};
+ghost use Rattle.pw_cells.specs.Cells.{kinds_of};
+ghost use Rattle.pw_network.specs.Wiring.{wiring};
+ghost use Rattle.pw_settle.specs.Calls.{AreVisible, most_calls, visible_at};
+ghost use Rattle.pw_settle.specs.Settled.{IsSettled, info_at};
+ghost use Rattle.pw_settle.specs.Sound.{IsSound};
+ghost use Rattle.pw_settle.specs.Values.{kinds_in};
+ghost use Rattle.pw_settle.specs.inside.Aside.{AreFound, AreOthersMet, IsFound, StaysMet};
+ghost use Rattle.pw_settle.specs.inside.Aside.{AreAllSatisfied, weight_of};
+ghost use Rattle.pw_settle.specs.inside.Progress.{AreOthersSatisfied, AreQueuedVisible};
+ghost use Rattle.pw_settle.specs.inside.Progress.{AreSatisfied, tally};
+
+use crate::agenda::Agenda;
+use crate::known::{Known, take_in};
+use crate::propagating::news;
+use crate::resettling::queue_changed;
+use crate::settled::Settled;
+use crate::settling::{queue_readers, seen};
+use crate::support_list::SupportList;
+use pw_cells::CellStore;
+use pw_facts::{Fact, merge_facts};
+use pw_info::Info;
+use pw_network::Network;
+use pw_premises::PremiseSet;
+use std::alloc::{AllocError, Allocator};
+
+// What is known about a cell at the start: its earlier value, if that rests on premises of the
+// worldview alone, and what is kept of it there. In a part of the earlier worldview the earlier
+// value says what is kept.
+fn start_value<A: Allocator + Copy>(
+    before: &Settled<A>,
+    network: &Network<'_, '_, A>,
+    store: &mut CellStore<A>,
+    cell: u32,
+    worldview: &PremiseSet,
+) -> Fact
+    requires kinds { kinds_of store.old ≡ kinds_in (wiring network.now) }
+    requires sound { IsSound (wiring network.now) store.old }
+    requires before { IsSettled (wiring network.now) store.old before.now.worldview before.now }
+    requires cell { cell < length store.old.cells }
+    ensures unchanged { store.new ≡ store.old }
+    ensures found { IsFound (wiring network.now) store.old worldview.now cell result.info
+        result.support }
+{
+    // The network belongs to the store.
+    let _instances = network.instances();
+    let earlier = before.value(cell);
+    if !earlier.support.is_subset(worldview) {
+        return store.kept(cell, worldview);
+    }
+    if worldview.is_subset(before.worldview()) {
+        return earlier;
+    }
+    merge_facts(&earlier, &store.kept(cell, worldview))
+}
+
+// What is known about the cells at the start. Fails only when out of memory.
+fn start_values<A: Allocator + Copy>(
+    alloc: A,
+    before: &Settled<A>,
+    network: &Network<'_, '_, A>,
+    store: &mut CellStore<A>,
+    worldview: &PremiseSet,
+) -> Result<Known<A>, AllocError>
+    requires kinds { kinds_of store.old ≡ kinds_in (wiring network.now) }
+    requires sound { IsSound (wiring network.now) store.old }
+    requires before { IsSettled (wiring network.now) store.old before.now.worldview before.now }
+    ensures unchanged { store.new ≡ store.old }
+    ensures found { IfOk result (λ known. AreFound (wiring network.now) store.old worldview.now
+        known.infos.items known.supports) }
+{
+    let mut infos = Vec::with_capacity(alloc, store.cells() as usize)?;
+    let mut supports = SupportList::with_capacity(alloc, store.cells() as usize)?;
+    for cell in 0..store.cells() {
+        let fact = start_value(before, network, store, cell, worldview);
+        let _ = infos.push(fact.info);
+        supports.push(fact.support)?;
+    }
+    Ok(Known { infos, supports })
+}
+
+// Whether the instance of this number was visible, and no less is known now of the cell that it
+// writes.
+fn stays_met<A: Allocator + Copy>(
+    network: &Network<'_, '_, A>,
+    was_visible: &[bool],
+    before: &[Info],
+    now: &[Info],
+    number: usize,
+) -> bool
+    requires there { number < length was_visible.now }
+    requires all { length was_visible.now ≡ length (wiring network.now).attached }
+    requires before { map kind_of before.now ≡ kinds_in (wiring network.now) }
+    requires now { map kind_of now.now ≡ kinds_in (wiring network.now) }
+    ensures { IsTrue result → StaysMet (wiring network.now) was_visible.now before.now now.now
+        number }
+{
+    let output = network.instances()[number].output as usize;
+    was_visible[number] && now[output].implies(&before[output])
+}
+
+// An agenda of the visible instances that were not visible, or write a cell of which less is known
+// now. Fails only when out of memory.
+fn fallen_instances<A: Allocator + Copy>(
+    alloc: A,
+    network: &Network<'_, '_, A>,
+    visible: &[bool],
+    was_visible: &[bool],
+    before: &[Info],
+    now: &[Info],
+) -> Result<Agenda<A>, AllocError>
+    requires visible { length visible.now ≡ length (wiring network.now).attached }
+    requires was_visible { length was_visible.now ≡ length (wiring network.now).attached }
+    requires before { map kind_of before.now ≡ kinds_in (wiring network.now) }
+    requires now { map kind_of now.now ≡ kinds_in (wiring network.now) }
+    ensures { IfOk result (λ agenda. AreOthersMet (wiring network.now) visible.now was_visible.now
+        before.now now.now agenda) }
+{
+    let mut agenda = Agenda::new(alloc, visible.len())?;
+    for number in 0..visible.len() {
+        if visible[number] && !stays_met(network, was_visible, before, now, number) {
+            agenda.add(number);
+        }
+    }
+    Ok(agenda)
+}
+
+// An agenda of the visible instances that what is known at the start may not satisfy: those that
+// were not visible, those that write a cell of which less is known now, and the readers of each
+// cell of which more is. Fails only when out of memory.
+fn unmet_instances<A: Allocator + Copy>(
+    alloc: A,
+    before: &Settled<A>,
+    network: &Network<'_, '_, A>,
+    store: &CellStore<A>,
+    worldview: &PremiseSet,
+    visible: &[bool],
+    known: &Known<A>,
+) -> Result<Agenda<A>, AllocError>
+    requires kinds { kinds_of store.now ≡ kinds_in (wiring network.now) }
+    requires before { IsSettled (wiring network.now) store.now before.now.worldview before.now }
+    requires visible { AreVisible (wiring network.now) worldview.now visible.now }
+    requires found { AreFound (wiring network.now) store.now worldview.now known.now.infos.items
+        known.now.supports }
+    ensures flags { IfOk result (λ agenda. length agenda
+        ≡ length (wiring network.now).attached) }
+    ensures seen { IfOk result (AreQueuedVisible (wiring network.now) worldview.now) }
+    ensures satisfied { IfOk result (AreSatisfied (wiring network.now) worldview.now
+        (info_at known.now.infos.items)) }
+{
+    let was_visible = seen(alloc, network.instances(), before.worldview())?;
+    let mut agenda = fallen_instances(
+        alloc,
+        network,
+        visible,
+        &was_visible,
+        before.infos(),
+        &known.infos,
+    )?;
+    queue_changed(network, visible, before.infos(), &known.infos, &mut agenda);
+    Ok(agenda)
+}
+
+// Calls the procedure of an instance, which is visible and not queued. If the value is news, it is
+// taken in, and the visible readers of the output are queued. Fails only when out of memory.
+fn call_aside<A: Allocator + Copy>(
+    network: &Network<'_, '_, A>,
+    store: &CellStore<A>,
+    worldview: &PremiseSet,
+    known: &mut Known<A>,
+    visible: &[bool],
+    agenda: &mut Agenda<A>,
+    number: usize,
+    calls: &mut u128,
+) -> Result<(), AllocError>
+    requires kinds { kinds_of store.now ≡ kinds_in (wiring network.now) }
+    requires found { AreFound (wiring network.now) store.now worldview.now known.old.infos.items
+        known.old.supports }
+    requires visible { AreVisible (wiring network.now) worldview.now visible.now }
+    requires flags { length agenda.old ≡ length (wiring network.now).attached }
+    requires seen { AreQueuedVisible (wiring network.now) worldview.now agenda.old }
+    requires number { visible_at (wiring network.now) worldview.now number ≡ true }
+    requires room { calls.old < most_calls }
+    requires others { AreOthersSatisfied (wiring network.now) worldview.now
+        (info_at known.old.infos.items) agenda.old number }
+    ensures counted { calls.new ≡ calls.old + 1 }
+    ensures found { OnOk result (AreFound (wiring network.now) store.now worldview.now
+        known.new.infos.items known.new.supports) }
+    ensures flags { length agenda.new ≡ length agenda.old }
+    ensures seen { AreQueuedVisible (wiring network.now) worldview.now agenda.new }
+    ensures satisfied { OnOk result (AreSatisfied (wiring network.now) worldview.now
+        (info_at known.new.infos.items) agenda.new) }
+    ensures most { OnOk result (tally agenda.new
+        + weight_of (wiring network.now) worldview.now known.new.infos.items
+        ≤ tally agenda.old
+        + weight_of (wiring network.now) worldview.now known.old.infos.items) }
+{
+    if let Some((cell, fact)) = news(network, &known.infos, &known.supports, number, calls) {
+        take_in(&mut known.infos, &mut known.supports, cell, &fact)?;
+        queue_readers(network, visible, agenda, cell);
+    }
+    Ok(())
+}
+
+// Calls queued instances until none is left, and answers the number of calls. Fails only when out
+// of memory.
+fn work_aside<A: Allocator + Copy>(
+    network: &Network<'_, '_, A>,
+    store: &CellStore<A>,
+    worldview: &PremiseSet,
+    known: &mut Known<A>,
+    visible: &[bool],
+    mut agenda: Agenda<A>,
+) -> Result<u128, AllocError>
+    requires kinds { kinds_of store.now ≡ kinds_in (wiring network.now) }
+    requires found { AreFound (wiring network.now) store.now worldview.now known.old.infos.items
+        known.old.supports }
+    requires visible { AreVisible (wiring network.now) worldview.now visible.now }
+    requires flags { length agenda ≡ length (wiring network.now).attached }
+    requires seen { AreQueuedVisible (wiring network.now) worldview.now agenda }
+    requires satisfied { AreSatisfied (wiring network.now) worldview.now
+        (info_at known.old.infos.items) agenda }
+    ensures found { OnOk result (AreFound (wiring network.now) store.now worldview.now
+        known.new.infos.items known.new.supports) }
+    ensures satisfied { OnOk result (AreAllSatisfied (wiring network.now) worldview.now
+        (info_at known.new.infos.items)) }
+{
+    // These lengths bound the count.
+    let _cells = store.cells();
+    let _instances = visible.len();
+    let mut calls = 0;
+    while let Some(number) = agenda.take() {
+        call_aside(
+            network,
+            store,
+            worldview,
+            known,
+            visible,
+            &mut agenda,
+            number,
+            &mut calls,
+        )?;
+    }
+    Ok(calls)
+}
+
+/// The values of the cells of a network in a worldview, found from the values of any other one, for
+/// trials: the store stays as it is, so no later reading walks what a trial derived. Values as
+/// `settle` answers them, each with premises of the worldview that it rests on. Fails only when out
+/// of memory.
+///
+/// The store is sound, and the earlier values are those of all cells and instances that there are
+/// now, in their worldview: it may have more premises than this one, or fewer, or others. An
+/// earlier value stays if it rests on premises of this worldview alone. The instances called at
+/// first are the visible ones that were not visible then, those that write a cell of which less is
+/// known now, and the readers of cells of which more is.
+pub fn settle_aside<A: Allocator + Copy>(
+    alloc: A,
+    before: &Settled<A>,
+    network: &Network<'_, '_, A>,
+    store: &mut CellStore<A>,
+    worldview: &PremiseSet,
+) -> Result<Settled<A>, AllocError>
+    requires kinds { kinds_of store.old ≡ kinds_in (wiring network.now) }
+    requires sound { IsSound (wiring network.now) store.old }
+    requires before { IsSettled (wiring network.now) store.old before.now.worldview before.now }
+    ensures settled { IfOk result (IsSettled (wiring network.now) store.old worldview.now) }
+    ensures unchanged { store.new ≡ store.old }
+{
+    let visible = seen(alloc, network.instances(), worldview)?;
+    let mut known = start_values(alloc, before, network, store, worldview)?;
+    let agenda = unmet_instances(alloc, before, network, store, worldview, &visible, &known)?;
+    let calls = work_aside(network, store, worldview, &mut known, &visible, agenda)?;
+    Ok(Settled {
+        known,
+        worldview: *worldview,
+        instances: network.instances().len(),
+        calls,
+    })
+}
