@@ -5,6 +5,7 @@ use Rattle.std.proofs.lemmas.Bool.{cases_Bool, eqb-false, eqb-true}
 use Rattle.std.proofs.lemmas.List.{get_or_default, get_or-set_same, get_or-set_other, length-set}
 use Rattle.std.proofs.lemmas.List.Elements.{All-contains, All-weaker}
 use Rattle.pw_kinds.proofs.Order.{true_both}
+use Rattle.pw_info.specs.declared.kind.Kind.{Kind}
 use Rattle.pw_info.specs.declared.kind.Kind.TheVariants as kinds
 use Rattle.pw_info.specs.declared.info.Info.{Info}
 use Rattle.pw_info.specs.Information.{allows, kind_of, meet, nothing, Implies}
@@ -23,7 +24,7 @@ use Rattle.pw_network.specs.Readers.{reads, readers_of}
 use Rattle.pw_settle.specs.Calls.{is_instance_visible, reader_count, visible_at}
 use Rattle.pw_settle.specs.Settled.{info_at, support_at}
 use Rattle.pw_settle.specs.Sources.{IsImplied, said_by}
-use Rattle.pw_settle.specs.Values.{IsSatisfied, attached_no, kinds_in, propagators_of, told_sources, value_in, visible_instances}
+use Rattle.pw_settle.specs.Values.{IsSatisfied, attached_no, kinds_in, numbered, propagators_of, told_sources, value_in, visible_instances}
 use Rattle.pw_settle.specs.inside.Aside.{AreFound, IsFound, weight_of}
 use Rattle.pw_settle.specs.inside.Known.{IsPlaced, TakesIn}
 use Rattle.pw_settle.specs.inside.Progress.{AreOthersSatisfied, AreSatisfied, IsNews, is_set}
@@ -32,7 +33,7 @@ use Rattle.pw_settle.proofs.JoinedSupports.{joined_parts, joined_within}
 use Rattle.pw_settle.proofs.KeptFacts.{by_cell, kind-in_value, kind_there}
 use Rattle.pw_settle.proofs.KeptNews.{kinds_mapped, value_more}
 use Rattle.pw_settle.proofs.KeptProgress.{no_instance, reader_listed, still_satisfied, unread, visible_below, visible_no}
-use Rattle.pw_settle.proofs.PlacedInstances.{accepted, all_sources, the_source}
+use Rattle.pw_settle.proofs.PlacedInstances.{accepted, all_sources, kind-info_at, the_source}
 use Rattle.pw_settle.proofs.SettledValues.{all_placed, says}
 use Rattle.pw_settle.proofs.SoundStores.{meet_second}
 use Rattle.pw_settle.proofs.SourceLists.{all_after}
@@ -53,6 +54,12 @@ value_says network well store same w a there seen placed =
     (propagators_of network.declared.procedures (visible_instances network.attached w)) (says network store w same (all_placed network well)))
     there seen)
 
+-- informations in two lists that are of the kinds of the cells are of one kind
+pub output_kinds : (network : Network) (infos others : List Info) → map kind_of infos ≡ kinds_in network → map kind_of others ≡ kinds_in network → (cell : ℕ) →
+    kind_of (info_at infos cell) ≡ kind_of (info_at others cell)
+output_kinds network infos others same also cell =
+    kind-info_at infos cell ∙ ap (λ (ks : List Kind). (numbered ks).kind cell) (same ∙ sym also) ∙ sym (kind-info_at others cell)
+
 -- a procedure makes no less of values that say no less than what is known
 pub value_says_more : (network : Network) (store : Store) (same : kinds_of store ≡ kinds_in network) (w v : Premises) (infos : List Info) (supports : List Premises) →
     AreFound network store w infos supports → (procedure : Procedure) (inputs : List ℕ) →
@@ -62,6 +69,17 @@ value_says_more network store same w v infos supports found procedure inputs mor
     value_more procedure (λ c. value_in network store v c) (info_at infos) inputs
     (kinds_mapped (λ c. value_in network store v c) store (kind-in_value network store same v) inputs
     ∙ sym (kinds_mapped (info_at infos) store (λ c. (found.each c).kind ∙ sym (kind_there network store same c)) inputs)) more
+
+-- what there is after a call that made news: it is found, what is not queued is satisfied, and less
+-- may still be found out
+pub record IsAfterAside (network : Network) (store : Store) (w : Premises) (infos new_infos : List Info) (new_supports : List Premises) (number cell : ℕ)
+    : Type 0 where
+  pub found : AreFound network store w new_infos new_supports
+  pub satisfied : (queued new_queued : List Bool) → AreOthersSatisfied network w (info_at infos) queued number →
+      ((n : ℕ) → Contains (readers_of network cell) n → visible_at network w n ≡ true → is_set new_queued n ≡ true) →
+      ((n : ℕ) → is_set queued n ≡ true → is_set new_queued n ≡ true) →
+      AreSatisfied network w (info_at new_infos) new_queued
+  pub weight_is : weight_of network w new_infos + reader_count network w cell ≤ weight_of network w infos
 
 module _ (network : Network) (well : IsWellNetwork network) (store : Store) (same : kinds_of store ≡ kinds_in network) (w : Premises)
     (infos : List Info) (supports : List Premises) (found : AreFound network store w infos supports)
@@ -234,3 +252,6 @@ module _ (network : Network) (well : IsWellNetwork network) (store : Store) (sam
           let now = ap rank_of info_here in
           let more : rank_of (info_at new_infos cell) + 1 ≤ rank_of (info_at infos cell) = omega (arith, fallen, now) in
           omega (arith, mul-le-mul_right (reader_count network w cell) more)
+
+  pub after_aside : IsAfterAside network store w infos new_infos new_supports number cell
+  after_aside = record { found = found_news; satisfied = satisfied_news; weight_is = weight_falls }

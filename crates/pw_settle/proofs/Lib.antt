@@ -30,5 +30,6 @@ pub mod StoreCells
 pub mod GrowingGains
 pub mod SeenLines
 pub mod AsideStarts
+pub mod AsideAgendas
 pub mod AsideNews
 pub mod AsideEnds

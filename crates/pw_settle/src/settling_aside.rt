@@ -97,8 +97,9 @@ fn stays_met<A: Allocator + Copy>(
     ensures { IsTrue result → StaysMet (wiring network.now) was_visible.now before.now now.now
         number }
 {
-    let output = network.instances()[number].output as usize;
-    was_visible[number] && now[output].implies(&before[output])
+    let instance = &network.instances()[number];
+    was_visible[number]
+        && now[instance.output as usize].implies(&before[instance.output as usize])
 }
 
 // An agenda of the visible instances that were not visible, or write a cell of which less is known

@@ -1,0 +1,60 @@
+use Rattle.std.proofs.Common.{◌≡◌, ◌+◌, ◌*◌, ◌≤◌, Bool, false, List, length, ap, sym, ◌∙◌, arith}
+use Rattle.std.proofs.lemmas.List.{length-map, length-set}
+use Rattle.std.proofs.lemmas.List.Sums.{count_by-le-length}
+use Rattle.pw_cells.specs.Cells.{Cell}
+use Rattle.pw_network.specs.Wiring.{wiring}
+use Rattle.pw_settle.specs.Calls.{is_instance_visible}
+use Rattle.pw_settle.specs.inside.Aside.{weight_of}
+use Rattle.pw_settle.specs.inside.Progress.{is_set, tally}
+use Rattle.pw_settle.proofs.AsideEnds.{weight_bound}
+use Rattle.pw_settle.proofs.SettledStores.{calls_fit}
+use Rattle.pw_settle.proofs.TakenFlags.{taken_less, taken_others}
+use Rattle.pw_settle.proofs.settling_aside.work_aside.Given as given
+use Rattle.pw_settle.proofs.settling_aside.work_aside.Goals as goal
+
+pub call_aside-requires-clause-room : goal.call_aside-requires-clause-room
+call_aside-requires-clause-room g c =
+    calls_fit c.loop-number.calls (tally c.loop-number.agenda) (weight_of (wiring c.args.network.now) c.args.worldview.now c.loop-number.known.infos.items)
+    (tally c.args.agenda) (weight_of (wiring c.args.network.now) c.args.worldview.now c.args.known.now.infos.items)
+    (length c.args.known.now.infos.items) (length (wiring c.args.network.now).attached) c.loop-number.invariant.most
+    (omega (
+      arith,
+      count_by-le-length (λ (flag : Bool). flag) c.args.agenda,
+      c.requires.flags,
+    ))
+    (weight_bound (wiring c.args.network.now) c.args.worldview.now c.args.known.now.infos.items)
+    (omega (
+      arith,
+      c.cells-cells.ensures,
+      c.requires.found.many,
+      ap length c.requires.kinds,
+      length-map c.args.store.now.cells (λ (x : Cell). x.kind),
+    )) (omega (
+      arith,
+      ap length c.requires.visible,
+      length-map (wiring c.args.network.now).attached (is_instance_visible c.args.worldview.now),
+    ))
+
+pub call_aside-requires-clause-others : goal.call_aside-requires-clause-others
+call_aside-requires-clause-others g c n d below other seen free =
+    c.loop-number.invariant.satisfied n d below seen
+    (taken_others c.loop-number.agenda c.take.new.self c.in-Some.number n c.in-Some.ensures.some.1 other free)
+
+-- the one that was taken is one less
+less : (g : given.Over) (c : goal.In_ok-call_aside g) → tally c.take.new.self + 1 ≡ tally c.loop-number.agenda
+less g c = taken_less c.loop-number.agenda c.take.new.self c.in-Some.number c.in-Some.ensures.some.1 c.in-Some.ensures.some.0
+
+pub loop-number-smaller : goal.loop-number-smaller
+loop-number-smaller g c = omega (arith, c.in_ok-call_aside.ensures.most, less g c)
+
+pub loop-number-preserved : goal.loop-number-preserved
+loop-number-preserved g c = record {
+  found = c.in_ok-call_aside.ensures.found;
+  flags = c.call_aside.ensures.flags ∙ ap length c.in-Some.ensures.some.1 ∙ length-set c.loop-number.agenda c.in-Some.number false ∙ c.loop-number.invariant.flags;
+  seen = c.call_aside.ensures.seen;
+  satisfied = c.in_ok-call_aside.ensures.satisfied;
+  most = omega (arith, c.loop-number.invariant.most, c.in_ok-call_aside.ensures.most, c.call_aside.ensures.counted, less g c);
+}
+
+pub returns-clause-satisfied : goal.returns-clause-satisfied
+returns-clause-satisfied g c n d below seen = c.loop-number.invariant.satisfied n d below seen (c.in_default.ensures.none n)
