@@ -187,3 +187,21 @@ module _ (network : Network) (well : IsWellNetwork network) (store : Store) (sam
           where
             read_low : (c : ℕ) → list_any (nat_eq c) a.instance.inputs ≡ true → c < length (kinds_in network)
             read_low c reading = read_here (λ (k : ℕ). k < length (kinds_in network)) c a.instance.inputs placed.0.0 reading
+
+  -- the same for what the lists are that were looked at
+  module _ (earlier now : List Info) (is_earlier : earlier ≡ before.infos) (is_now : now ≡ infos) where
+    pub kinds_looked_at : (cell : ℕ) → cell < length now → kind_of (found_of earlier now cell) ≡ kind_of (info_at now cell)
+    kinds_looked_at =
+        subst (λ (l : List Info). (cell : ℕ) → cell < length l → kind_of (found_of earlier l cell) ≡ kind_of (info_at l cell)) (sym is_now)
+        (subst (λ (e : List Info). (cell : ℕ) → cell < length infos → kind_of (found_of e infos cell) ≡ kind_of (info_at infos cell)) (sym is_earlier) found_before_kind)
+
+    pub satisfied_by : (visible was first queued : List Bool) → visible ≡ map (is_instance_visible w) network.attached →
+        was ≡ map (is_instance_visible before.worldview) network.attached → AreOthersMet network visible was earlier now first →
+        QueuesReaders network visible (λ cell. (cell < length now) × HasChanged earlier now cell) first queued →
+        AreSatisfied network w (info_at infos) queued
+    satisfied_by visible was first queued now_seen seen_before met queues =
+        start_satisfied visible was first queued now_seen seen_before
+        (subst (λ (e : List Info). AreOthersMet network visible was e infos first) is_earlier
+        (subst (λ (l : List Info). AreOthersMet network visible was earlier l first) is_now met))
+        (subst (λ (e : List Info). QueuesReaders network visible (λ cell. (cell < length infos) × HasChanged e infos cell) first queued) is_earlier
+        (subst (λ (l : List Info). QueuesReaders network visible (λ cell. (cell < length l) × HasChanged earlier l cell) first queued) is_now queues))

@@ -151,16 +151,11 @@ fn unmet_instances<A: Allocator + Copy>(
     ensures satisfied { IfOk result (AreSatisfied (wiring network.now) worldview.now
         (info_at known.now.infos.items)) }
 {
+    let earlier = before.infos();
+    let now = known.infos.as_slice();
     let was_visible = seen(alloc, network.instances(), before.worldview())?;
-    let mut agenda = fallen_instances(
-        alloc,
-        network,
-        visible,
-        &was_visible,
-        before.infos(),
-        &known.infos,
-    )?;
-    queue_changed(network, visible, before.infos(), &known.infos, &mut agenda);
+    let mut agenda = fallen_instances(alloc, network, visible, &was_visible, earlier, now)?;
+    queue_changed(network, visible, earlier, now, &mut agenda);
     Ok(agenda)
 }
 

@@ -1,0 +1,35 @@
+use Rattle.std.proofs.Common.{◌≡◌, List, length, map, sym, ap, subst, ◌∙◌}
+use Rattle.pw_info.specs.declared.info.Info.{Info}
+use Rattle.pw_info.specs.Information.{kind_of}
+use Rattle.pw_premises.specs.Premises.{Premises}
+use Rattle.pw_network.specs.Wiring.{wiring}
+use Rattle.pw_network.specs.Network.{Attached}
+use Rattle.pw_settle.specs.Calls.{is_instance_visible}
+use Rattle.pw_settle.proofs.AsideEnds.{kinds_looked_at, satisfied_by}
+use Rattle.pw_settle.proofs.AsideStarts.{found_kinds, settled_kinds}
+use Rattle.pw_settle.proofs.settling_aside.unmet_instances.Goals as goal
+
+pub fallen_instances-requires-clause-before : goal.fallen_instances-requires-clause-before
+fallen_instances-requires-clause-before g c =
+    ap (map kind_of) c.infos-earlier.ensures
+    ∙ settled_kinds (wiring c.args.network.now) c.args.network.now.well c.args.store.now c.args.before.now c.requires.before
+
+pub fallen_instances-requires-clause-now : goal.fallen_instances-requires-clause-now
+fallen_instances-requires-clause-now g c =
+    ap (map kind_of) c.as_slice-now.ensures.value
+    ∙ found_kinds (wiring c.args.network.now) c.args.store.now c.args.worldview.now c.args.known.now.infos.items c.args.known.now.supports c.requires.found
+
+pub queue_changed-requires-clause-kinds : goal.queue_changed-requires-clause-kinds
+queue_changed-requires-clause-kinds g c =
+    kinds_looked_at (wiring c.args.network.now) c.args.network.now.well c.args.store.now c.requires.kinds c.args.worldview.now c.args.before.now c.requires.before
+    c.args.known.now.infos.items c.args.known.now.supports c.requires.found c.infos-earlier.result.now c.as_slice-now.result.now c.infos-earlier.ensures
+    c.as_slice-now.ensures.value
+
+pub returns-clause-satisfied : goal.returns-clause-satisfied
+returns-clause-satisfied g c =
+    satisfied_by (wiring c.args.network.now) c.args.network.now.well c.args.store.now c.requires.kinds c.args.worldview.now c.args.before.now c.requires.before
+    c.args.known.now.infos.items c.args.known.now.supports c.requires.found c.infos-earlier.result.now c.as_slice-now.result.now c.infos-earlier.ensures
+    c.as_slice-now.ensures.value c.args.visible.now c.deref.result.now c.in_ok-agenda.agenda c.queue_changed.new.agenda c.requires.visible
+    (c.deref.ensures.value ∙ c.in_ok-was_visible.ensures ∙ ap (map (is_instance_visible c.worldview.result.now)) c.instances.ensures.instances
+    ∙ ap (λ (w : Premises). map (is_instance_visible w) (wiring c.args.network.now).attached) c.worldview.ensures)
+    c.in_ok-agenda.ensures c.queue_changed.ensures
