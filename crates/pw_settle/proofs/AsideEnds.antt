@@ -2,7 +2,6 @@
 -- start.
 use Rattle.std.proofs.Common.{◌≡◌, ℕ, ◌*◌, ◌<◌, ◌≤◌, Bool, true, false, List, [], ◌∷◌, All, Contains, length, map, refl, sym, ap, ◌∙◌, subst, arith, inl, inr}
 use Rattle.std.specs.Prelude.{nat_eq}
-use Rattle.std.specs.FinSet.{is_subset}
 use Rattle.std.specs.List.{list_any, range_with_len}
 use Rattle.std.proofs.Math.Nat.{mul-le-mul}
 use Rattle.std.proofs.lemmas.Bool.{cases_Bool, or_cases, or_left, or_right}
@@ -17,11 +16,11 @@ use Rattle.pw_info.proofs.Informations.{Implies-antisym}
 use Rattle.pw_info.proofs.Ranks.{rank_most_of_all}
 use Rattle.pw_premises.specs.Premises.{Premises}
 use Rattle.pw_premises.specs.PremiseSubsets.{is_subset_refl}
-use Rattle.pw_procs.specs.Procedure.{Procedure, value_by}
+use Rattle.pw_procs.specs.Procedure.{Procedure}
 use Rattle.pw_cells.specs.Cells.{Store, kinds_of, told_in}
 use Rattle.pw_decl.proofs.FlatKept.{range_below}
 use Rattle.pw_network.specs.Network.{Attached, IsWellNetwork, Network, cells_in}
-use Rattle.pw_settle.specs.Calls.{is_instance_visible, reader_count, visible_at}
+use Rattle.pw_settle.specs.Calls.{is_instance_visible, reader_count}
 use Rattle.pw_settle.specs.Settled.{IsSettled, Settled, info_at, support_at}
 use Rattle.pw_settle.specs.Sources.{IsImplied, Told}
 use Rattle.pw_settle.specs.Values.{attached_no, kinds_in, numbered, numbers_of_cells, propagators_of, sources_in, told_sources, value_in, visible_instances}

@@ -1,5 +1,5 @@
 -- What is known beside the store after a fact that an instance made was taken in.
-use Rattle.std.proofs.Common.{◌≡◌, ◌≢◌, ℕ, ◌+◌, ◌*◌, ◌<◌, ◌≤◌, Bool, true, false, eqb, List, [], ◌∷◌, All, Contains, length, map, sym, ap, ◌∙◌, subst, arith, mul-le-mul_right, inl, inr}
+use Rattle.std.proofs.Common.{◌≡◌, ◌≢◌, ℕ, ◌+◌, ◌*◌, ◌<◌, ◌≤◌, Bool, true, false, eqb, List, All, Contains, length, map, sym, ap, ◌∙◌, subst, arith, mul-le-mul_right, inl, inr}
 use Rattle.std.specs.FinSet.{empty, is_subset, union}
 use Rattle.std.proofs.lemmas.Bool.{cases_Bool, eqb-false, eqb-true}
 use Rattle.std.proofs.lemmas.List.{get_or_default, get_or-set_same, get_or-set_other, length-set}
@@ -18,7 +18,7 @@ use Rattle.pw_premises.specs.PremiseSubsets.{is_subset_trans, union_is_subset}
 use Rattle.pw_procs.specs.Procedure.{Procedure, value_by}
 use Rattle.pw_facts.specs.declared.fact.Fact.{Fact}
 use Rattle.pw_facts.specs.Facts.{IsLeastAbove}
-use Rattle.pw_cells.specs.Cells.{Store, kinds_of, told_in}
+use Rattle.pw_cells.specs.Cells.{Store, kinds_of}
 use Rattle.pw_network.specs.Network.{Attached, IsWellNetwork, Network}
 use Rattle.pw_network.specs.Readers.{reads, readers_of}
 use Rattle.pw_settle.specs.Calls.{is_instance_visible, reader_count, visible_at}
@@ -35,7 +35,6 @@ use Rattle.pw_settle.proofs.KeptNews.{kinds_mapped, value_more}
 use Rattle.pw_settle.proofs.KeptProgress.{no_instance, reader_listed, still_satisfied, unread, visible_below, visible_no}
 use Rattle.pw_settle.proofs.PlacedInstances.{accepted, all_sources, kind-info_at, the_source}
 use Rattle.pw_settle.proofs.SettledValues.{all_placed, says}
-use Rattle.pw_settle.proofs.SoundStores.{meet_second}
 use Rattle.pw_settle.proofs.SourceLists.{all_after}
 use Rattle.pw_settle.proofs.SumsBelow.{sum_falls}
 use Rattle.pw_settle.proofs.ValueGrows.{seen_source}

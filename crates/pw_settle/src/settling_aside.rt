@@ -98,8 +98,7 @@ fn stays_met<A: Allocator + Copy>(
         number }
 {
     let instance = &network.instances()[number];
-    was_visible[number]
-        && now[instance.output as usize].implies(&before[instance.output as usize])
+    was_visible[number] && now[instance.output as usize].implies(&before[instance.output as usize])
 }
 
 // An agenda of the visible instances that were not visible, or write a cell of which less is known

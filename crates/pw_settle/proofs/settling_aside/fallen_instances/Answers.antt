@@ -1,7 +1,5 @@
-use Rattle.std.proofs.Common.{◌≡◌, ℕ, ◌+◌, Bool, true, false, List, length, replicate, sym, ap, subst, ◌∙◌, arith}
-use Rattle.std.proofs.lemmas.List.{get_or-replicate, length-replicate}
+use Rattle.std.proofs.Common.{◌+◌, sym, subst, ◌∙◌, arith}
 use Rattle.pw_network.specs.Wiring.{wiring}
-use Rattle.pw_settle.specs.inside.Progress.{is_set}
 use Rattle.pw_settle.proofs.AsideAgendas.{AreMetTo, all_met, met_none, met_passed, met_queued}
 use Rattle.pw_settle.proofs.settling_aside.fallen_instances.Goals as goal
 use Rattle.pw_settle.proofs.settling_aside.fallen_instances.Goals.{then-visible-number+then-not-stays_met, else-visible-number, else-visible-number-via-then-visible-number+else-not-stays_met, else-visible-number-via-else-visible-number}

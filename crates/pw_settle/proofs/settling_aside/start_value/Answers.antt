@@ -1,12 +1,10 @@
-use Rattle.std.proofs.Common.{◌≡◌, ◌<◌, Bool, true, length, sym, ap, subst, ◌∙◌, arith}
+use Rattle.std.proofs.Common.{sym, ap, subst, ◌∙◌}
 use Rattle.std.specs.FinSet.{is_subset}
 use Rattle.pw_info.specs.declared.info.Info.{Info}
 use Rattle.pw_info.specs.Information.{kind_of}
 use Rattle.pw_premises.specs.Premises.{Premises}
-use Rattle.pw_cells.specs.Cells.{Cell}
 use Rattle.pw_network.specs.Wiring.{wiring}
 use Rattle.pw_settle.specs.Settled.{info_at, support_at}
-use Rattle.pw_settle.specs.Values.{kinds_in}
 use Rattle.pw_settle.specs.inside.Aside.{IsFound}
 use Rattle.pw_settle.proofs.AsideStarts.{cell_there, earlier_found, earlier_kind, kept_found, merged_found}
 use Rattle.pw_settle.proofs.KeptFacts.{kind_there}

@@ -1,8 +1,6 @@
-use Rattle.std.proofs.Common.{◌≡◌, ℕ, ◌+◌, [], ◌∷◌, ◌++◌, length, refl, sym, ap, ◌∙◌, subst, arith}
+use Rattle.std.proofs.Common.{◌≡◌, ℕ, length, refl, ◌∙◌, subst, arith}
 use Rattle.pw_cells.specs.Cells.{Store}
 use Rattle.pw_network.specs.Wiring.{wiring}
-use Rattle.pw_settle.specs.Settled.{IsSettled}
-use Rattle.pw_settle.specs.Sound.{IsSound}
 use Rattle.pw_settle.specs.inside.Aside.{IsFound}
 use Rattle.pw_settle.proofs.AsideStarts.{IsFoundTo, all_found, found_more, found_none}
 use Rattle.pw_settle.proofs.settling_aside.start_values.Goals as goal

@@ -1,11 +1,10 @@
-use Rattle.std.proofs.Common.{◌≡◌, ◌<◌, length, subst, sym, ap, ◌∙◌, arith}
+use Rattle.std.proofs.Common.{◌≡◌, subst, sym, ap, ◌∙◌, arith}
 use Rattle.pw_info.specs.declared.info.Info.{Info}
 use Rattle.pw_info.specs.Information.{Implies, kind_of}
 use Rattle.pw_network.specs.Wiring.{wiring}
 use Rattle.pw_network.specs.inside.Held.{attachment}
 use Rattle.pw_network.specs.Network.{Attached}
 use Rattle.pw_settle.specs.Settled.{info_at}
-use Rattle.pw_settle.specs.Values.{attached_no}
 use Rattle.pw_settle.proofs.AsideNews.{output_kinds}
 use Rattle.pw_settle.proofs.NewsLemmas.{kept_instance, output_read, output_there}
 use Rattle.pw_settle.proofs.settling_aside.stays_met.Given as given

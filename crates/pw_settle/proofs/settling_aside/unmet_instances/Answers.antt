@@ -1,9 +1,7 @@
-use Rattle.std.proofs.Common.{◌≡◌, List, length, map, sym, ap, subst, ◌∙◌}
-use Rattle.pw_info.specs.declared.info.Info.{Info}
+use Rattle.std.proofs.Common.{map, ap, ◌∙◌}
 use Rattle.pw_info.specs.Information.{kind_of}
 use Rattle.pw_premises.specs.Premises.{Premises}
 use Rattle.pw_network.specs.Wiring.{wiring}
-use Rattle.pw_network.specs.Network.{Attached}
 use Rattle.pw_settle.specs.Calls.{is_instance_visible}
 use Rattle.pw_settle.proofs.AsideEnds.{kinds_looked_at, satisfied_by}
 use Rattle.pw_settle.proofs.AsideStarts.{found_kinds, settled_kinds}
