@@ -14,9 +14,10 @@ use Rattle.pw_network.specs.Network.{Network, IsWellNetwork, cells_in}
 use Rattle.pw_settle.specs.Growth.{KeepsMore}
 use Rattle.pw_settle.specs.Settled.{IsSettled, Settled, info_at, support_at}
 use Rattle.pw_settle.specs.Values.{kinds_in}
-use Rattle.pw_settle.proofs.Growing.{same_value}
+use Rattle.pw_settle.proofs.Growing.{same_value, settled_still}
 use Rattle.pw_reasons.specs.Choice.{IsConsistent, IsFirstConsistent}
 use Rattle.pw_reasons.specs.Groups.{all_of}
+use Rattle.pw_reasons.specs.inside.Reasoning.{AreSettledLast}
 use Rattle.pw_reasons.specs.inside.Skipping.{IsIncludedUntil}
 use Rattle.pw_reasons.specs.Combinations.{combinations_of, worldview_of, worldviews_of}
 use Rattle.pw_reasons.specs.Nogood.{AreNogoods, IsNogood, covers}
@@ -168,3 +169,21 @@ module _ (network : Network) (old new : Store) (grows : KeepsMore network old ne
     here = is.here;
     contradictory = subst IsContradiction (sym (same_value network old new grows.told w is.cell)) is.contradictory;
   })
+
+  -- so are the values found last
+  pub last_now : (last : Option Settled) → AreSettledLast network old last → AreSettledLast network new last
+  last_now None are = are
+  last_now (Some values) are = settled_still network old new values.worldview values grows are
+
+  pub last_then : (last : Option Settled) → AreSettledLast network new last → AreSettledLast network old last
+  last_then None are = are
+  last_then (Some values) are = record {
+    worldview_is = are.worldview_is;
+    cells = are.cells;
+    values = λ cell below. are.values cell below ∙ same_value network old new grows.told values.worldview cell;
+    supports = are.supports;
+    within = are.within;
+    enough = λ cell below.
+        sym (same_value network old new grows.told (support_at values.supports cell) cell) ∙ are.enough cell below
+        ∙ same_value network old new grows.told values.worldview cell;
+  }

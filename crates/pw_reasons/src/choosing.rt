@@ -11,7 +11,8 @@ ghost use Rattle.pw_reasons.specs.Choice.{IsConsistent, IsFirstConsistent};
 ghost use Rattle.pw_reasons.specs.Combinations.{groups_of, picked_in, worldviews_of};
 ghost use Rattle.pw_reasons.specs.Nogood.{AreNogoods, covers};
 ghost use Rattle.pw_settle.specs.Growth.{KeepsMore, StaysUpstream};
-ghost use Rattle.pw_settle.specs.Settled.{info_at};
+ghost use Rattle.pw_reasons.specs.inside.Reasoning.{AreSettledLast};
+ghost use Rattle.pw_settle.specs.Settled.{IsSettled, info_at};
 ghost use Rattle.pw_settle.specs.Sound.{IsSound};
 ghost use Rattle.pw_settle.specs.Values.{kinds_in};
 
@@ -24,7 +25,7 @@ use crate::picks::Picks;
 use pw_cells::CellStore;
 use pw_network::Network;
 use pw_premises::PremiseSet;
-use pw_settle::{Settled, settle};
+use pw_settle::{Settled, settle, settle_aside};
 use std::alloc::{AllocError, Allocator};
 
 // A cell of the network whose settled value is a contradiction, if there is one.
@@ -79,10 +80,32 @@ fn refuting<A: Allocator + Copy>(
     None
 }
 
+// The values of the worldview, found from those found last if there are any. Otherwise the network is
+// settled. Fails only when out of memory.
+fn settle_next<A: Allocator + Copy>(
+    alloc: A,
+    network: &Network<'_, '_, A>,
+    store: &mut CellStore<A>,
+    last: &Option<Settled<A>>,
+    worldview: &PremiseSet,
+) -> Result<Settled<A>, AllocError>
+    requires kinds { kinds_of store.old ≡ kinds_in (wiring network.now) }
+    requires sound { IsSound (wiring network.now) store.old }
+    requires last { AreSettledLast (wiring network.now) store.old last.now }
+    ensures settled { IfOk result (IsSettled (wiring network.now) store.old worldview.now) }
+    ensures grows { KeepsMore (wiring network.now) store.old store.new }
+    ensures upstream { StaysUpstream (wiring network.now) store.old store.new }
+{
+    match last {
+        Some(values) => settle_aside(alloc, values, network, store, worldview),
+        None => settle(alloc, network, store, worldview),
+    }
+}
+
 // A set of these premises and those taken that contradicts itself, if something is contradictory
 // when exactly these are believed: then a noted set covers each worldview that includes it. If a
-// noted set covers the premises, it is one that does, and nothing is settled. Otherwise the network
-// is settled, and the support of a contradiction is noted. Fails only when out of memory.
+// noted set covers the premises, it is one that does, and no values are found. Otherwise their values
+// are found, and the support of a contradiction is noted. Fails only when out of memory.
 fn contradict<A: Allocator + Copy>(
     alloc: A,
     network: &Network<'_, '_, A>,
@@ -91,10 +114,12 @@ fn contradict<A: Allocator + Copy>(
     others: &PremiseSet,
     before: &Picks,
     picks: &Picks,
+    last: &mut Option<Settled<A>>,
 ) -> Result<Option<PremiseSet>, AllocError>
     requires kinds { kinds_of store.old ≡ kinds_in (wiring network.now) }
     requires sound { IsSound (wiring network.now) store.old }
     requires nogoods { AreNogoods (wiring network.now) store.old nogoods.old }
+    requires last { AreSettledLast (wiring network.now) store.old last.old }
     requires picks { All (λ premise. premise < most_premises) (picked_in picks.now) }
     ensures known { covers nogoods.old (union others.now (from_list (picked_in picks.now))) ≡ true
         → ((nogood : Premises) × (result ≡ Ok (Some nogood)))
@@ -105,6 +130,7 @@ fn contradict<A: Allocator + Copy>(
         → is_subset nogood w ≡ true → covers nogoods.new w ≡ true)) }
     ensures consistent { IfOk result (λ found. IfNone found (IsConsistent (wiring network.now)
         store.old (union others.now (from_list (picked_in picks.now))))) }
+    ensures last { AreSettledLast (wiring network.now) store.old last.new }
     ensures nogoods { AreNogoods (wiring network.now) store.old nogoods.new }
     ensures covers { (w : Premises) → covers nogoods.old w ≡ true → covers nogoods.new w ≡ true }
     ensures grows { KeepsMore (wiring network.now) store.old store.new }
@@ -117,11 +143,12 @@ fn contradict<A: Allocator + Copy>(
     if let Some(covering) = nogoods.covering(&premises) {
         return Ok(Some(covering));
     }
-    let settled = settle(alloc, network, store, &premises)?;
+    let settled = settle_next(alloc, network, store, last, &premises)?;
     match contradictory_cell(network, &settled) {
         Some(cell) => {
             let support = settled.value(cell).support;
             nogoods.note(&support)?;
+            *last = Some(settled);
             Ok(Some(support))
         }
         None => Ok(None),
@@ -136,7 +163,9 @@ fn contradict<A: Allocator + Copy>(
 ///
 /// Each earlier combination contradicts itself, and what contradicted is noted. A combination that
 /// a noted set covers is passed over unsettled: so if all are covered, nothing is settled, and no
-/// memory is taken. After an answer of None all are covered. (Radul and Sussman, *The Art of the
+/// memory is taken. After an answer of None all are covered. The first of the others is settled
+/// (`settle`). The values of each later one are found beside the store (`settle_aside`), from those
+/// of the one before. (Radul and Sussman, *The Art of the
 /// Propagator*, on hypothetical premises. The order is this program's own.)
 ///
 /// The store is sound, and the nogoods are sets of premises that contradict themselves. Both stay
@@ -172,9 +201,13 @@ pub fn choose<A: Allocator + Copy>(
     let count = count_combinations(groups);
     let mut number = 0;
     let mut before = Picks::none();
+    // The values of the combination before, if they were found.
+    let mut last = None;
     while number < count {
         let picks = combination(groups, number);
-        let found = contradict(alloc, network, store, nogoods, &others, &before, &picks)?;
+        let found = contradict(
+            alloc, network, store, nogoods, &others, &before, &picks, &mut last,
+        )?;
         let Some(nogood) = found else {
             return Ok(Some(picks));
         };

@@ -14,14 +14,14 @@ ghost use Rattle.pw_settle.specs.Growth.{KeepsMore, StaysUpstream};
 ghost use Rattle.pw_settle.specs.Settled.{IsSettled, info_at};
 ghost use Rattle.pw_settle.specs.Sound.{IsSound};
 ghost use Rattle.pw_settle.specs.Values.{kinds_in, value_in};
-ghost use Rattle.pw_reasons.specs.inside.Reasoning.{CoversContradiction, tried_in};
+ghost use Rattle.pw_reasons.specs.inside.Reasoning.{AreSettledLast, CoversContradiction, tried_in};
 
 use crate::nogoods::Nogoods;
 use pw_cells::CellStore;
 use pw_info::Info;
 use pw_network::Network;
 use pw_premises::PremiseSet;
-use pw_settle::{Settled, settle};
+use pw_settle::{Settled, settle_aside};
 use std::alloc::{AllocError, Allocator};
 
 // The remaining premises of a worldview, and some of them that are enough for the value of a cell.
@@ -59,18 +59,46 @@ fn kept_support<A: Allocator + Copy>(
     }
 }
 
+// The values of the worldview, found from those found last, or else from the settled ones. Fails only
+// when out of memory.
+fn settle_again<A: Allocator + Copy>(
+    alloc: A,
+    network: &Network<'_, '_, A>,
+    store: &mut CellStore<A>,
+    settled: &Settled<A>,
+    last: &Option<Settled<A>>,
+    worldview: &PremiseSet,
+) -> Result<Settled<A>, AllocError>
+    requires kinds { kinds_of store.old ≡ kinds_in (wiring network.now) }
+    requires sound { IsSound (wiring network.now) store.old }
+    requires settled { IsSettled (wiring network.now) store.old settled.now.worldview settled.now }
+    requires last { AreSettledLast (wiring network.now) store.old last.now }
+    ensures settled { IfOk result (IsSettled (wiring network.now) store.old worldview.now) }
+    ensures unchanged { store.new ≡ store.old }
+{
+    match last {
+        Some(values) => settle_aside(alloc, values, network, store, worldview),
+        None => settle_aside(alloc, settled, network, store, worldview),
+    }
+}
+
 // Premises of the worldview that are enough for the information, if it follows there at the cell.
-// Settles only if the kept facts do not say it already. Fails only when out of memory.
+// Its values are found only if the kept facts do not say it already, and are the last ones if they
+// say it. Fails only when out of memory.
 fn support_within<A: Allocator + Copy>(
     alloc: A,
     network: &Network<'_, '_, A>,
     store: &mut CellStore<A>,
+    settled: &Settled<A>,
+    last: &mut Option<Settled<A>>,
     info: &Info,
     cell: u32,
     worldview: &PremiseSet,
 ) -> Result<Option<PremiseSet>, AllocError>
     requires kinds { kinds_of store.old ≡ kinds_in (wiring network.now) }
     requires sound { IsSound (wiring network.now) store.old }
+    requires settled { IsSettled (wiring network.now) store.old settled.now.worldview settled.now }
+    requires last { AreSettledLast (wiring network.now) store.old last.old }
     requires cell { cell < cells_in (wiring network.now) }
     requires kind { kind_of (value_in (wiring network.now) store.old worldview.now cell)
         ≡ kind_of info.now }
@@ -78,18 +106,19 @@ fn support_within<A: Allocator + Copy>(
         (AreEnough (wiring network.now) store.old cell info.now worldview.now)) }
     ensures none { IfOk result (λ found. IfNone found
         (Implies (value_in (wiring network.now) store.old worldview.now cell) info.now → ⊥)) }
-    ensures grows { KeepsMore (wiring network.now) store.old store.new }
-    ensures upstream { StaysUpstream (wiring network.now) store.old store.new }
+    ensures last { AreSettledLast (wiring network.now) store.old last.new }
+    ensures unchanged { store.new ≡ store.old }
 {
     if let Some(support) = kept_support(network, store, info, cell, worldview) {
         return Ok(Some(support));
     }
-    let value = settle(alloc, network, store, worldview)?.value(cell);
-    if value.info.implies(info) {
-        Ok(Some(value.support))
-    } else {
-        Ok(None)
+    let values = settle_again(alloc, network, store, settled, last, worldview)?;
+    let value = values.value(cell);
+    if !value.info.implies(info) {
+        return Ok(None);
     }
+    *last = Some(values);
+    Ok(Some(value.support))
 }
 
 // The remaining premises after this one was tried: it is taken out if the value of the cell stays
@@ -100,6 +129,7 @@ fn try_premise<A: Allocator + Copy>(
     network: &Network<'_, '_, A>,
     store: &mut CellStore<A>,
     settled: &Settled<A>,
+    last: &mut Option<Settled<A>>,
     cell: u32,
     left: Left,
     premise: u16,
@@ -107,6 +137,7 @@ fn try_premise<A: Allocator + Copy>(
     requires kinds { kinds_of store.old ≡ kinds_in (wiring network.now) }
     requires sound { IsSound (wiring network.now) store.old }
     requires settled { IsSettled (wiring network.now) store.old settled.now.worldview settled.now }
+    requires last { AreSettledLast (wiring network.now) store.old last.old }
     requires cell { cell < cells_in (wiring network.now) }
     requires part { is_subset left.premises settled.now.worldview ≡ true }
     requires enough { AreEnough (wiring network.now) store.old cell
@@ -115,8 +146,8 @@ fn try_premise<A: Allocator + Copy>(
         cell settled.now.worldview left.premises premise) }
     ensures enough { IfOk result (λ after. AreEnough (wiring network.now) store.old cell
         (info_at settled.now.infos cell) after.premises after.support) }
-    ensures grows { KeepsMore (wiring network.now) store.old store.new }
-    ensures upstream { StaysUpstream (wiring network.now) store.old store.new }
+    ensures last { AreSettledLast (wiring network.now) store.old last.new }
+    ensures unchanged { store.new ≡ store.old }
 {
     let premises = left.premises.without(premise);
     if !left.support.contains(premise) {
@@ -124,7 +155,7 @@ fn try_premise<A: Allocator + Copy>(
         return Ok(Left { premises, support });
     }
     let info = settled.value(cell).info;
-    match support_within(alloc, network, store, &info, cell, &premises)? {
+    match support_within(alloc, network, store, settled, last, &info, cell, &premises)? {
         Some(support) => Ok(Left { premises, support }),
         None => Ok(left),
     }
@@ -145,16 +176,19 @@ fn try_premises<A: Allocator + Copy>(
     requires cell { cell < cells_in (wiring network.now) }
     ensures reason { IfOk result (λ reason. reason
         ≡ reason_of (λ w. value_in (wiring network.now) store.old w cell) settled.now.worldview) }
-    ensures grows { KeepsMore (wiring network.now) store.old store.new }
-    ensures upstream { StaysUpstream (wiring network.now) store.old store.new }
+    ensures unchanged { store.new ≡ store.old }
 {
     let worldview = *settled.worldview();
     let mut left = Left {
         premises: worldview,
         support: settled.value(cell).support,
     };
+    // The values found last, without one premise at least. A trial goes on from them.
+    let mut last = None;
     for premise in worldview.numbers().rev() {
-        left = try_premise(alloc, network, store, settled, cell, left, premise)?;
+        left = try_premise(
+            alloc, network, store, settled, &mut last, cell, left, premise,
+        )?;
     }
     Ok(left.premises)
 }
@@ -171,7 +205,8 @@ fn try_premises<A: Allocator + Copy>(
 ///
 /// Premises that are enough for the value are always at hand. A premise that is not among them is
 /// taken out at once. For a premise that is, the kept facts are looked up without it, and if they
-/// do not say the value, the network is settled without it. (Radul and Sussman, *The Art of the
+/// do not say the value, the values without it are found beside the store (`settle_aside`), from the
+/// values found last in which the cell has its value. So the store is unchanged. (Radul and Sussman, *The Art of the
 /// Propagator*, keep one support with each value. Making it irredundant, in a fixed order, is this
 /// program's own.)
 pub fn reason<A: Allocator + Copy>(

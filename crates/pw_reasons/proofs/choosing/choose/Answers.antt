@@ -8,7 +8,7 @@ use Rattle.pw_settle.proofs.Growing.{keeps_more_then}
 use Rattle.pw_reasons.specs.Choice.{IsConsistent}
 use Rattle.pw_reasons.specs.Combinations.{combinations_of, groups_of, picked_in, worldview_of, worldviews_of}
 use Rattle.pw_reasons.specs.Nogood.{covers}
-use Rattle.pw_reasons.proofs.ChoiceLemmas.{all_hold, consistent_then, covered_nogoods, first_consistent, if_none, if_some, more_covered, nogoods_now, nogoods_then, not_both, not_refused, still_covered, tried_is}
+use Rattle.pw_reasons.proofs.ChoiceLemmas.{all_hold, consistent_then, covered_nogoods, first_consistent, if_none, if_some, last_now, last_then, more_covered, nogoods_now, nogoods_then, not_both, not_refused, still_covered, tried_is}
 use Rattle.pw_reasons.proofs.CombinationLemmas.{taken_from}
 use Rattle.pw_reasons.proofs.choosing.choose.Goals as goal
 
@@ -24,6 +24,10 @@ pub contradict-requires-clause-nogoods : goal.contradict-requires-clause-nogoods
 contradict-requires-clause-nogoods g c =
     nogoods_now (wiring c.args.network.now) c.args.store.now c.loop-number.store c.loop-number.invariant.grows c.loop-number.nogoods
     c.loop-number.invariant.nogoods
+
+pub contradict-requires-clause-last : goal.contradict-requires-clause-last
+contradict-requires-clause-last g c =
+    last_now (wiring c.args.network.now) c.args.store.now c.loop-number.store c.loop-number.invariant.grows c.loop-number.last c.loop-number.invariant.last
 
 pub returns-in_err-found-clause-known : goal.returns-in_err-found-clause-known
 returns-in_err-found-clause-known g c all =
@@ -125,6 +129,7 @@ loop-number-preserved g c =
           (same.1 ∙ before.0, same.2 ∙ before.1);
       nogoods = nogoods_then network old c.loop-number.store c.loop-number.invariant.grows c.contradict.new.nogoods c.contradict.ensures.nogoods;
       covers = λ w before. c.contradict.ensures.covers w (c.loop-number.invariant.covers w before);
+      last = last_then network old c.loop-number.store c.loop-number.invariant.grows c.contradict.new.last c.contradict.ensures.last;
       grows = keeps_more_then network old c.loop-number.store c.contradict.new.store c.loop-number.invariant.grows c.contradict.ensures.grows;
       upstream = λ given rests. c.contradict.ensures.upstream given (c.loop-number.invariant.upstream given rests);
     }

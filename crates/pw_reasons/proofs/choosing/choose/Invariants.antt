@@ -4,6 +4,7 @@ use Rattle.pw_premises.specs.Premises.{Premises}
 use Rattle.pw_settle.specs.Growth.{KeepsMore, StaysUpstream}
 use Rattle.pw_reasons.specs.Combinations.{groups_of, worldviews_of}
 use Rattle.pw_reasons.specs.Nogood.{AreNogoods, covers}
+use Rattle.pw_reasons.specs.inside.Reasoning.{AreSettledLast}
 use Rattle.pw_reasons.proofs.choosing.choose.Given as goal
 
 -- each combination so far is covered; nothing changed where all were covered at the start
@@ -14,6 +15,7 @@ invariant-loop-number g l = record {
       → (l.store ≡ l.fn.store) × (l.nogoods ≡ l.fn.nogoods);
   nogoods : AreNogoods (wiring l.fn.network) l.fn.store l.nogoods;
   covers : (w : Premises) → covers l.fn.nogoods w ≡ true → covers l.nogoods w ≡ true;
+  last : AreSettledLast (wiring l.fn.network) l.fn.store l.last;
   grows : KeepsMore (wiring l.fn.network) l.fn.store l.store;
   upstream : StaysUpstream (wiring l.fn.network) l.fn.store l.store;
 }

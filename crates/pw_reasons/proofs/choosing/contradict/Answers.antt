@@ -35,31 +35,31 @@ returns-in_err-note-in-Some-contradictory_cell-clause-known g c covered =
     absurd (covering_not_found c.args.nogoods.now c.with_taken-premises.result (sym c.covering.ensures ∙ c.in_default-covering.is)
     (ap (covers c.args.nogoods.now) c.with_taken-premises.ensures ∙ covered))
 
-pub returns-in-Some-contradictory_cell-clause-known : goal.returns-in-Some-contradictory_cell-clause-known
-returns-in-Some-contradictory_cell-clause-known g c covered =
+pub returns-in_ok-note-in-Some-contradictory_cell-clause-known : goal.returns-in_ok-note-in-Some-contradictory_cell-clause-known
+returns-in_ok-note-in-Some-contradictory_cell-clause-known g c covered =
     absurd (covering_not_found c.args.nogoods.now c.with_taken-premises.result (sym c.covering.ensures ∙ c.in_default-covering.is)
     (ap (covers c.args.nogoods.now) c.with_taken-premises.ensures ∙ covered))
 
-pub returns-in-Some-contradictory_cell-clause-nogoods : goal.returns-in-Some-contradictory_cell-clause-nogoods
-returns-in-Some-contradictory_cell-clause-nogoods g c =
+pub returns-in_ok-note-in-Some-contradictory_cell-clause-nogoods : goal.returns-in_ok-note-in-Some-contradictory_cell-clause-nogoods
+returns-in_ok-note-in-Some-contradictory_cell-clause-nogoods g c =
     let network : Network = wiring c.args.network.now in
     let store : Store = c.args.store.now in
-    let are = c.in_ok-settled.ensures.found.settled c.requires.sound in
+    let are = c.in_ok-settled.ensures.settled in
     nogoods_more network store c.value-support.result.support c.args.nogoods.now c.note.new.self c.requires.nogoods
     (subst (IsNogood network store) (sym c.value-support.ensures.support)
     (support_nogood network store c.with_taken-premises.result c.in_ok-settled.settled are c.in-Some-contradictory_cell.cell
     c.in-Some-contradictory_cell.ensures.some.0 c.in-Some-contradictory_cell.ensures.some.1))
     c.note.ensures.within
 
-pub returns-clause-known : goal.returns-clause-known
-returns-clause-known g c covered =
+pub returns-in-None-clause-known : goal.returns-in-None-clause-known
+returns-in-None-clause-known g c covered =
     absurd (covering_not_found c.args.nogoods.now c.with_taken-premises.result (sym c.covering.ensures ∙ c.in_default-covering.is)
     (ap (covers c.args.nogoods.now) c.with_taken-premises.ensures ∙ covered))
 
-pub returns-clause-consistent : goal.returns-clause-consistent
-returns-clause-consistent g c =
+pub returns-in-None-clause-consistent : goal.returns-in-None-clause-consistent
+returns-in-None-clause-consistent g c =
     let network : Network = wiring c.args.network.now in
     let store : Store = c.args.store.now in
-    let are = c.in_ok-settled.ensures.found.settled c.requires.sound in
+    let are = c.in_ok-settled.ensures.settled in
     subst (IsConsistent network store) c.with_taken-premises.ensures
     (none_contradictory network store c.with_taken-premises.result c.in_ok-settled.settled are c.in-None.ensures.none)

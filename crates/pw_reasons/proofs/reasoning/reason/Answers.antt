@@ -4,6 +4,8 @@ use Rattle.pw_info.specs.declared.info.Info.{Info}
 use Rattle.pw_info.specs.Information.{IsContradiction}
 use Rattle.pw_premises.specs.Premises.{Premises}
 use Rattle.pw_network.specs.Wiring.{wiring}
+use Rattle.pw_cells.specs.Cells.{Store}
+use Rattle.pw_settle.specs.Sound.{RestsUpstream}
 use Rattle.pw_settle.specs.Values.{value_in}
 use Rattle.pw_reasons.proofs.NogoodLemmas.{covers_itself, nogoods_more}
 use Rattle.pw_reasons.proofs.ReasonLemmas.{reason_same}
@@ -40,3 +42,15 @@ returns-clause-nogoods g c =
           w.note.ensures.within)
       | else-is_contradiction w ↦ rw w.nogoods-is c.requires.nogoods
     ]
+
+pub returns-in_err-left-clause-upstream : goal.returns-in_err-left-clause-upstream
+returns-in_err-left-clause-upstream g c given rests =
+    subst (RestsUpstream (wiring c.args.network.now) given) (sym {A = Store} c.try_premises.ensures.unchanged) rests
+
+pub returns-in_err-note-clause-upstream : goal.returns-in_err-note-clause-upstream
+returns-in_err-note-clause-upstream g c given rests =
+    subst (RestsUpstream (wiring c.args.network.now) given) (sym {A = Store} c.try_premises.ensures.unchanged) rests
+
+pub returns-clause-upstream : goal.returns-clause-upstream
+returns-clause-upstream g c given rests =
+    subst (RestsUpstream (wiring c.args.network.now) given) (sym {A = Store} c.try_premises.ensures.unchanged) rests
