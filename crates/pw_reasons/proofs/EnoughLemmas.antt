@@ -7,34 +7,14 @@ use Rattle.pw_info.specs.Information.{allows, Implies}
 use Rattle.pw_premises.specs.Premises.{Premises}
 use Rattle.pw_cells.specs.Cells.{Cell, Store, kept_in, kinds_of}
 use Rattle.pw_network.specs.Network.{Network, IsWellNetwork, cells_in}
-use Rattle.pw_settle.specs.Growth.{KeepsMore}
 use Rattle.pw_settle.specs.Settled.{IsSettled, Settled, info_at, support_at}
 use Rattle.pw_settle.specs.Sound.{IsSound}
 use Rattle.pw_settle.specs.Values.{kinds_in, value_in}
-use Rattle.pw_settle.proofs.Growing.{same_value}
 use Rattle.pw_settle.proofs.KeptFacts.{also_implies, implies_also}
 use Rattle.pw_settle.proofs.SettledValues.{kinds_many}
 use Rattle.pw_reasons.specs.inside.Reasoning.{AreEnough}
 use Rattle.pw_reasons.specs.Reason.{Grows, tried}
 use Rattle.pw_reasons.proofs.ReasonLemmas.{part_without, tried_in, tried_out}
-
--- what is enough stays enough if the told facts stay
-pub enough_same : (network : Network) (old new : Store) → KeepsMore network old new → (cell : ℕ) (info : Info) (w premises : Premises) →
-    AreEnough network old cell info w premises → AreEnough network new cell info w premises
-enough_same network old new grows cell info w premises are = record {
-  within = are.within;
-  enough = also_implies info (value_in network old premises cell) (value_in network new premises cell)
-      (sym (same_value network old new grows.told premises cell)) are.enough;
-}
-
--- and was so
-pub enough_as_before : (network : Network) (old new : Store) → KeepsMore network old new → (cell : ℕ) (info : Info) (w premises : Premises) →
-    AreEnough network new cell info w premises → AreEnough network old cell info w premises
-enough_as_before network old new grows cell info w premises are = record {
-  within = are.within;
-  enough = also_implies info (value_in network new premises cell) (value_in network old premises cell)
-      (same_value network old new grows.told premises cell) are.enough;
-}
 
 -- a store that has the cells of a network has those below their number
 pub cell_there : (network : Network) (store : Store) → IsWellNetwork network → kinds_of store ≡ kinds_in network → (cell : ℕ) → cell < cells_in network →
