@@ -164,7 +164,9 @@ impl<'d, 'r, A: Allocator + Copy> Workbench<'d, 'r, A> {
         Ok(())
     }
 
-    // Carries out a command at the line after the last one, counting blank lines.
+    // Carries out a command at the line after the last one, counting blank lines. Inlined with
+    // `command`: a caller that knows which command it is pays for no other.
+    #[inline(always)]
     fn carry_out(&mut self, line: u32, command: &Command) -> Reply<A>
         requires can { CanCarryOut (state self.old) line command.now }
         requires calls { (state self.old).calls ≡ 0 }
@@ -236,6 +238,7 @@ impl<'d, 'r, A: Allocator + Copy> Workbench<'d, 'r, A> {
     ///
     /// After a why that is answered with a contradiction the reason is noted, and what was noted is
     /// never forgotten.
+    #[inline(always)]
     pub fn command(&mut self, line: u32, command: &Command) -> Reply<A>
         requires { CanBeCarriedOut (state self.old) line command.now }
         ensures carried { CarriesOut (state self.old) line command.now (state self.new)
