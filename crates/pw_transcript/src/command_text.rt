@@ -1,15 +1,18 @@
 //! Reading a line of a transcript: its form first, then its names, in the order of the refusals.
 
-ghost use Rattle.std.specs.Prelude.{◌≡◌, ◌<◌, length, true, false, None, Some, IfOk, IfErr, IfNone};
+ghost use Rattle.std.specs.Prelude.{◌≡◌, ◌<◌, ◌≤◌, length, true, false, None, Some, IfOk, IfErr, IfNone};
 ghost use Rattle.std.specs.Prelude.{IfSome, OnOk, OnErr};
 ghost use Rattle.std.specs.List.{list_all};
 ghost use Rattle.pw_procs.specs.Registering.{place_of_name};
 ghost use Rattle.pw_procs.specs.inside.Shapes.{most_arguments};
 ghost use Rattle.pw_decl.specs.inside.Fields.{declared};
-ghost use Rattle.pw_sessions.specs.Reply.{LineReading};
+ghost use Rattle.pw_decl.specs.Declaration.{Declared};
+ghost use Rattle.pw_info.specs.Words.{is_idle};
+ghost use Rattle.pw_sessions.specs.Reply.{LineReading, Refused};
+ghost use Rattle.pw_transcript.specs.Limits.{most_command_bytes};
 ghost use Rattle.pw_transcript.specs.Sentence.{Tell, Attach, Believe, Doubt, Ask, Why};
 ghost use Rattle.pw_transcript.specs.inside.Forms.{before_under};
-ghost use Rattle.pw_transcript.specs.inside.Resolving.{IsFree, IsRefusedFor};
+ghost use Rattle.pw_transcript.specs.inside.Resolving.{IsFree, IsRefusedFor, IsSpoken};
 ghost use Rattle.pw_transcript.specs.Reading.{MeansFor};
 ghost use Rattle.pw_transcript.specs.Reading as spec;
 
@@ -298,6 +301,27 @@ pub(crate) fn resolve_why<A: Allocator + Copy>(
     }
 }
 
+/// The words of a line that says something. None for a blank line or a comment. A line of more than
+/// 1,024 bytes is refused, and so is one that has a byte that no word has.
+#[inline(always)]
+pub(crate) fn line_words(line: &[u8]) -> Result<Option<Words<'_>>, Refusal>
+    ensures none { IfOk result (λ found. IfNone found ((length line.now ≤ most_command_bytes)
+        × (is_idle line.now ≡ true))) }
+    ensures some { IfOk result (λ found. IfSome found (IsSpoken line.now)) }
+    ensures err { IfErr result (λ refusal. (d : Declared) → spec.Reads d line.now (Refused refusal)) }
+{
+    if line.len() > MOST_LINE_BYTES {
+        return Err(Refusal::LineTooLong);
+    }
+    if idles(line) {
+        return Ok(None);
+    }
+    if !allows_all(line) {
+        return Err(Refusal::Syntax);
+    }
+    Ok(Some(Words::new(line)))
+}
+
 /// Reads one line without its line end. Takes no memory.
 ///
 /// The result is the command that the line says; None for a blank line or a comment of at most
@@ -313,17 +337,12 @@ pub fn read_command<A: Allocator + Copy>(
 {
     // Members of sets have names, so that no word spells two informations.
     declaration.limits();
-    if line.len() > MOST_LINE_BYTES {
-        return Err(Refusal::LineTooLong);
-    }
-    if idles(line) {
-        return Ok(None);
-    }
-    if !allows_all(line) {
-        return Err(Refusal::Syntax);
-    }
-    match read_words(declaration, Words::new(line)) {
-        Ok(command) => Ok(Some(command)),
+    match line_words(line) {
+        Ok(Some(words)) => match read_words(declaration, words) {
+            Ok(command) => Ok(Some(command)),
+            Err(refusal) => Err(refusal),
+        },
+        Ok(None) => Ok(None),
         Err(refusal) => Err(refusal),
     }
 }

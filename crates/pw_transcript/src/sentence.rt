@@ -22,6 +22,14 @@ pub(crate) fn is_tell(word: &[u8]) -> bool
     matches!(word, [b't', b'e', b'l', b'l'])
 }
 
+/// Whether the word is `ask`.
+#[inline(always)]
+pub(crate) fn is_ask(word: &[u8]) -> bool
+    ensures { result ≡ bytes_eq word.now (codes "ask") }
+{
+    matches!(word, [b'a', b's', b'k'])
+}
+
 /// Whether the word is `doubt`.
 #[inline(always)]
 pub(crate) fn is_doubt(word: &[u8]) -> bool

@@ -1,6 +1,7 @@
 //! What the words of a line say: the form of the command first, then the user, then the names.
 
-ghost use Rattle.std.specs.Prelude.{Some, option_map};
+ghost use Rattle.std.specs.Prelude.{◌≡◌, Some, codes, false, option_map};
+ghost use Rattle.std.specs.Str.{bytes_eq};
 ghost use Rattle.pw_decl.specs.inside.Fields.{declared};
 ghost use Rattle.pw_transcript.specs.Sentence.{Believe, Beliefs, Doubt, Ask, Why, Conflicts, Other};
 ghost use Rattle.pw_transcript.specs.inside.Forms.{tell_form, attach_form, premises_form, bare_form};
@@ -13,7 +14,7 @@ use crate::command_text::{
     resolve_ask, resolve_attach, resolve_believe, resolve_doubt, resolve_tell, resolve_why,
 };
 use crate::sentence::{
-    attach_words, cell_word, group_words, is_doubt, is_tell, premise_words, tell_words,
+    attach_words, cell_word, group_words, is_ask, is_doubt, is_tell, premise_words, tell_words,
 };
 use pw_decl::Declaration;
 use pw_info::Words;
@@ -23,8 +24,8 @@ use std::alloc::Allocator;
 // Each command is read by a function of its own, from its form to its names: so a line makes room
 // only for the words of its own command.
 
-// What follows `tell`.
-fn read_tell<A: Allocator + Copy>(
+/// What follows `tell`.
+pub(crate) fn read_tell<A: Allocator + Copy>(
     declaration: &Declaration<'_, A>,
     user: &[u8],
     rest: Words<'_>,
@@ -121,8 +122,8 @@ fn read_beliefs<A: Allocator + Copy>(
     }
 }
 
-// What follows `ask`.
-fn read_ask<A: Allocator + Copy>(
+/// What follows `ask`.
+pub(crate) fn read_ask<A: Allocator + Copy>(
     declaration: &Declaration<'_, A>,
     user: &[u8],
     rest: Words<'_>,
@@ -206,6 +207,38 @@ fn refuse_command<A: Allocator + Copy>(
     }
 }
 
+/// What the words after the user say, if the word that names the command is neither `tell` nor
+/// `ask`, which most lines have.
+pub(crate) fn read_other<A: Allocator + Copy>(
+    declaration: &Declaration<'_, A>,
+    user: &[u8],
+    name: &[u8],
+    rest: Words<'_>,
+) -> Result<Command, Refusal>
+    requires tell { bytes_eq name.now (codes "tell") ≡ false }
+    requires ask { bytes_eq name.now (codes "ask") ≡ false }
+    ensures { IsReadAs (declared declaration.now)
+        (option_map (sentence_by user.now) (said_form name.now rest.entry)) result }
+{
+    if name == b"attach".as_slice() {
+        read_attach(declaration, user, rest)
+    } else if name == b"believe".as_slice() {
+        read_believe(declaration, user, rest)
+    } else if is_doubt(name) {
+        read_doubt(declaration, user, rest)
+    } else if name == b"beliefs".as_slice() {
+        read_beliefs(declaration, user, rest)
+    } else if name == b"why".as_slice() {
+        read_why(declaration, user, rest)
+    } else if name == b"conflicts".as_slice() {
+        read_conflicts(declaration, user, rest)
+    } else if name == b"choose".as_slice() {
+        read_choose(declaration, user, rest)
+    } else {
+        refuse_command(declaration, user)
+    }
+}
+
 // What the words after the user say: the word that names the command, and those after it.
 fn read_named<A: Allocator + Copy>(
     declaration: &Declaration<'_, A>,
@@ -218,24 +251,10 @@ fn read_named<A: Allocator + Copy>(
 {
     if is_tell(name) {
         read_tell(declaration, user, rest)
-    } else if name == b"attach".as_slice() {
-        read_attach(declaration, user, rest)
-    } else if name == b"believe".as_slice() {
-        read_believe(declaration, user, rest)
-    } else if is_doubt(name) {
-        read_doubt(declaration, user, rest)
-    } else if name == b"beliefs".as_slice() {
-        read_beliefs(declaration, user, rest)
-    } else if name == b"ask".as_slice() {
+    } else if is_ask(name) {
         read_ask(declaration, user, rest)
-    } else if name == b"why".as_slice() {
-        read_why(declaration, user, rest)
-    } else if name == b"conflicts".as_slice() {
-        read_conflicts(declaration, user, rest)
-    } else if name == b"choose".as_slice() {
-        read_choose(declaration, user, rest)
     } else {
-        refuse_command(declaration, user)
+        read_other(declaration, user, name, rest)
     }
 }
 
