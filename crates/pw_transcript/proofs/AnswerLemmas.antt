@@ -36,7 +36,8 @@ use Rattle.pw_settle.proofs.FixpointLemmas.{kind-fixpoint}
 use Rattle.pw_sessions.proofs.WorkbenchLemmas.{left_same}
 use Rattle.pw_transcript.specs.FromScratch.{ComesTo}
 use Rattle.pw_transcript.specs.Limits.{most_lines}
-use Rattle.pw_transcript.specs.Reading.{Reads, reading_of}
+use Rattle.pw_transcript.specs.Reading.{Reads}
+use Rattle.pw_transcript.specs.inside.Resolving.{reading_by}
 use Rattle.pw_info.specs.Passing.{PassesPart}
 use Rattle.pw_transcript.specs.ReplyText.{IsReplyNamed, text_of_reply, text_if_any}
 use Rattle.pw_transcript.specs.inside.Answering.{held_line, IsLeft, IsReplied, ReadsHeld, RepliesToLine, PassesReply, FailsInReply}
@@ -196,33 +197,30 @@ module _ (d : Declared) (well : IsWellDeclared d) where
 
 -- ---- a line that is held, or too long
 
+-- a blank line gets no reply
+pub held_blank : (d : Declared) (well : IsWellDeclared d) (old : Workbench) (held : Option (List ℕ)) → ReadsHeld d held Blank → (before : List LineReading) (line : List ℕ) →
+    IsLeftBy d before old → held ≡ held_line line → RepliesToLine d before line old None
+held_blank d well old None reads before line left e = absurd (cc)
+held_blank d well old (Some held) reads before line left e = blank d well line before old left held reads e
+
 module _ (d : Declared) (well : IsWellDeclared d) (number : ℕ) (old : Workbench) (left : IsLeft d number old) (held : Option (List ℕ))
-    (read : Result (Option Command) Refusal) (reads : ReadsHeld d held (reading_of read)) where
-  pub held_blank : (said : Option Command) → read ≡ Ok said → said ≡ None → (before : List LineReading) (line : List ℕ) → IsLeftBy d before old →
-      held ≡ held_line line → RepliesToLine d before line old None
-  held_blank said is none before line left' e =
-      blank_of held (subst (λ (r : Result (Option Command) Refusal). ReadsHeld d held (reading_of r)) (is ∙ ap Ok none) reads) e
-    where
-      blank_of : (held : Option (List ℕ)) → ReadsHeld d held Blank → held ≡ held_line line → RepliesToLine d before line old None
-      blank_of None reads e = absurd (cc)
-      blank_of (Some held) reads e = blank d well line before old left' held reads e
-
+    (read : Result Command Refusal) (reads : ReadsHeld d held (reading_by read)) where
   -- the line says this command
-  says : (said : Option Command) (command : Command) → read ≡ Ok said → said ≡ Some command → ReadsHeld d held (Says command)
-  says said command is some = subst (λ (r : Result (Option Command) Refusal). ReadsHeld d held (reading_of r)) (is ∙ ap Ok some) reads
+  says : (command : Command) → read ≡ Ok command → ReadsHeld d held (Says command)
+  says command is = subst (λ (r : Result Command Refusal). ReadsHeld d held (reading_by r)) is reads
 
-  pub held_can : (said : Option Command) (command : Command) → read ≡ Ok said → said ≡ Some command → number ≤ most_lines → CanBeCarriedOut old number command
-  held_can said command is some most = can_of held (says said command is some)
+  pub held_can : (command : Command) → read ≡ Ok command → number ≤ most_lines → CanBeCarriedOut old number command
+  held_can command is most = can_of held (says command is)
     where
       can_of : (held : Option (List ℕ)) → ReadsHeld d held (Says command) → CanBeCarriedOut old number command
       can_of None reads = absurd (cc)
       can_of (Some held) reads = can_be_carried_out d well held number old left command most reads
 
-  pub held_command : (said : Option Command) (command : Command) → read ≡ Ok said → said ≡ Some command → (new bench : Workbench) (answer given : Reply) →
+  pub held_command : (command : Command) → read ≡ Ok command → (new bench : Workbench) (answer given : Reply) →
       CarriesOut old number command new answer → bench ≡ new → given ≡ answer → IsReplied d number held old bench given
-  held_command said command is some new bench answer given done left-is reply-is =
+  held_command command is new bench answer given done left-is reply-is =
       subst (λ (w : Workbench). IsReplied d number held old w given) (sym left-is)
-      (subst (IsReplied d number held old new) (sym reply-is) (replied_of held (says said command is some)))
+      (subst (IsReplied d number held old new) (sym reply-is) (replied_of held (says command is)))
     where
       replied_of : (held : Option (List ℕ)) → ReadsHeld d held (Says command) → IsReplied d number held old new answer
       replied_of None reads = absurd (cc)
@@ -237,7 +235,7 @@ module _ (d : Declared) (well : IsWellDeclared d) (number : ℕ) (old : Workbenc
   held_refused r is bench answer left-is reply-is =
       subst (λ (w : Workbench). IsReplied d number held old w answer) (sym left-is)
       (subst (IsReplied d number held old old) (sym reply-is)
-      (replied_of held (subst (λ (x : Result (Option Command) Refusal). ReadsHeld d held (reading_of x)) is reads)))
+      (replied_of held (subst (λ (x : Result Command Refusal). ReadsHeld d held (reading_by x)) is reads)))
     where
       replied_of : (held : Option (List ℕ)) → ReadsHeld d held (Refused r) → IsReplied d number held old old (reply.Refused r)
       replied_of None reads =

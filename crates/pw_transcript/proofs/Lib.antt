@@ -17,3 +17,4 @@ pub mod RunEnds
 pub mod RunLemmas
 pub mod RunParts
 pub mod SentenceLemmas
+pub mod SpokenLemmas

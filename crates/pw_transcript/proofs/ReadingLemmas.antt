@@ -19,11 +19,11 @@ use Rattle.pw_decl.specs.WellDeclared.{IsWellDeclared}
 use Rattle.pw_transcript.specs.Sentence.{Said, Tell, Attach, Believe, Doubt, Beliefs, Ask, Why, Choose, Conflicts, Other, Sentence}
 use Rattle.pw_transcript.specs.inside.Forms.{sentence_form}
 use Rattle.pw_info.specs.Words.{words_of, is_idle, is_allowed}
-use Rattle.pw_transcript.specs.Reading.{premises_of, premise_groups, cells_named, MeansFor, Means, HasAnothersPremise, RefusalAppliesTo, IsRefusedWith, sentence_refusals, SaysSentence, RefusalAppliesToLine, RefusalApplies, line_refusals, Reads}
+use Rattle.pw_transcript.specs.Reading.{IsUnrefused, premises_of, premise_groups, cells_named, MeansFor, Means, HasAnothersPremise, RefusalAppliesTo, IsRefusedWith, sentence_refusals, SaysSentence, RefusalAppliesToLine, RefusalApplies, line_refusals, Reads}
 use Rattle.pw_sessions.specs.Reply.{LineReading, Blank, Refused, Says}
 use Rattle.pw_info.proofs.FirstLemmas.{one_first, none_is_first, IsFirstIn-from, HoldsOfNone-from}
 use Rattle.pw_decl.proofs.Places.{place_of_name-lt}
-use Rattle.pw_transcript.specs.inside.Resolving.{RefusalAppliesToSaid, said_refusals, IsRefusedFor}
+use Rattle.pw_transcript.specs.inside.Resolving.{IsFree, RefusalAppliesToSaid, said_refusals, IsRefusedFor}
 use Rattle.pw_transcript.proofs.CellLists.{same_arguments}
 use Rattle.pw_transcript.proofs.HeldGroups.{same_groups}
 use Rattle.pw_transcript.proofs.SentenceLemmas.{one_sentence, given, found}
@@ -139,6 +139,10 @@ module _ (d : Declared) (s : Sentence) (user : ℕ) (at : place_of_name d.users 
   pub first_of_sentence : (r : Refusal) → IsRefusedFor d user s.said r → IsRefusedWith d s r
   first_of_sentence r first =
       inr (known_user, IsFirstIn-from (RefusalAppliesToSaid d user s.said) (RefusalAppliesTo d s) to_sentence from_sentence said_refusals r first)
+
+  -- what no refusal applies to is a sentence that none applies to
+  pub free_sentence : IsFree d user s.said → IsUnrefused d s
+  free_sentence free = (known_user, HoldsOfNone-from (RefusalAppliesToSaid d user s.said) (RefusalAppliesTo d s) from_sentence said_refusals free)
 
 -- ---- from what applies to a sentence to what applies to the line that says it
 module _ (d : Declared) (line : List ℕ) (s : Sentence) (short : length line ≤ 1024) (says : SaysSentence line s) where

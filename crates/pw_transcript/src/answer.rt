@@ -1,19 +1,246 @@
 //! The answer to one line.
 
-ghost use Rattle.std.specs.Prelude.{◌≡◌, ◌+◌, ◌≤◌, true, false, IfOk, OnOk, OnErr};
+ghost use Rattle.std.specs.Prelude.{◌≡◌, ◌+◌, ◌≤◌, ℕ, List, Option, true, false, codes, IfOk};
+ghost use Rattle.std.specs.Prelude.{OnOk, OnErr, option_map};
 ghost use Rattle.std.specs.Option.{option_copied};
+ghost use Rattle.std.specs.Str.{bytes_eq};
 ghost use Rattle.pw_decl.specs.inside.Fields.{declared};
+ghost use Rattle.pw_sessions.specs.Reply.{Refused};
 ghost use Rattle.pw_sessions.specs.inside.Fields.{state};
 ghost use Rattle.pw_transcript.specs.Limits.{most_lines};
-ghost use Rattle.pw_transcript.specs.inside.Answering.{IsLeft, PassesHeldReply};
+ghost use Rattle.pw_transcript.specs.Sentence.{Ask};
+ghost use Rattle.pw_transcript.specs.inside.Answering.{IsLeft, PassesHeldReply, ReadsAs, ReadsHeld};
 ghost use Rattle.pw_transcript.specs.inside.Answering.{FailsInHeldReply};
+ghost use Rattle.pw_transcript.specs.inside.Forms.{cell_form, said_form, sentence_by, tell_form};
+ghost use Rattle.pw_transcript.specs.inside.Forms.{sentence_form};
+ghost use Rattle.pw_transcript.specs.inside.Resolving.{reading_by};
 
-use crate::command_text::read_command;
+use crate::command_text::line_words;
 use crate::reply_text::write_reply;
+use crate::sentence::{is_ask, is_tell};
+use crate::spoken::{read_ask, read_other, read_tell};
 use pw_decl::Declaration;
-use pw_info::{Failed, Output};
-use pw_sessions::{Refusal, Reply, Workbench};
+use pw_info::{Failed, Output, Words};
+use pw_sessions::{Command, Refusal, Reply, Workbench};
 use std::alloc::Allocator;
+
+// Answers a line of whose words this was read. Inlined, so that what answers one command alone makes
+// no room for the values that others need.
+#[inline(always)]
+fn answer_read<A: Allocator + Copy, O: Output>(
+    d: &Declaration<'_, A>,
+    number: u32,
+    read: &Result<Command, Refusal>,
+    workbench: &mut Workbench<'_, '_, A>,
+    output: &mut O,
+) -> Result<bool, Failed>
+    requires left { IsLeft (declared d.now) number (state workbench.old) }
+    requires most { number ≤ most_lines }
+    requires reads { (held : Option (List ℕ)) × ReadsHeld (declared d.now) held
+        (reading_by read.now) }
+    ensures ok { (held : Option (List ℕ)) → ReadsHeld (declared d.now) held (reading_by read.now)
+        → IfOk result (PassesHeldReply O.passes (declared d.now) number held
+        (state workbench.old) (state workbench.new) output.old output.new) }
+    ensures err { (held : Option (List ℕ)) → ReadsHeld (declared d.now) held (reading_by read.now)
+        → OnErr result (FailsInHeldReply O.passes (declared d.now) number held
+        (state workbench.old) output.old output.new) }
+    ensures failed { OnErr result (O.has_failed output.new ≡ true) }
+    ensures works { OnOk result (O.has_failed output.old ≡ false
+        → O.has_failed output.new ≡ false) }
+    ensures left { IsLeft (declared d.now) (number + 1) (state workbench.new) }
+{
+    // Cells have kinds whose members have names.
+    d.limits();
+    let reply = match read {
+        Ok(command) => workbench.command(number, command),
+        Err(refusal) => Reply::Refused(*refusal),
+    };
+    match write_reply(number, &reply, d, output) {
+        Ok(()) => Ok(true),
+        Err(fault) => Err(fault),
+    }
+}
+
+// Answers a refused line. Never inlined: few lines are refused.
+#[inline(never)]
+fn answer_refused<A: Allocator + Copy, O: Output>(
+    d: &Declaration<'_, A>,
+    number: u32,
+    refusal: Refusal,
+    workbench: &mut Workbench<'_, '_, A>,
+    output: &mut O,
+) -> Result<bool, Failed>
+    requires left { IsLeft (declared d.now) number (state workbench.old) }
+    requires most { number ≤ most_lines }
+    requires reads { (held : Option (List ℕ)) × ReadsHeld (declared d.now) held
+        (Refused refusal) }
+    ensures ok { (held : Option (List ℕ)) → ReadsHeld (declared d.now) held (Refused refusal)
+        → IfOk result (PassesHeldReply O.passes (declared d.now) number held
+        (state workbench.old) (state workbench.new) output.old output.new) }
+    ensures err { (held : Option (List ℕ)) → ReadsHeld (declared d.now) held (Refused refusal)
+        → OnErr result (FailsInHeldReply O.passes (declared d.now) number held
+        (state workbench.old) output.old output.new) }
+    ensures failed { OnErr result (O.has_failed output.new ≡ true) }
+    ensures works { OnOk result (O.has_failed output.old ≡ false
+        → O.has_failed output.new ≡ false) }
+    ensures left { IsLeft (declared d.now) (number + 1) (state workbench.new) }
+{
+    answer_read(d, number, &Err(refusal), workbench, output)
+}
+
+// Answers a line that tells. Each of the commands that most lines have is answered by a function of
+// its own, which makes room for its values alone.
+#[inline(never)]
+fn answer_tell<A: Allocator + Copy, O: Output>(
+    d: &Declaration<'_, A>,
+    number: u32,
+    user: &[u8],
+    rest: Words<'_>,
+    workbench: &mut Workbench<'_, '_, A>,
+    output: &mut O,
+) -> Result<bool, Failed>
+    requires left { IsLeft (declared d.now) number (state workbench.old) }
+    requires most { number ≤ most_lines }
+    requires reads { (held : Option (List ℕ)) × ReadsAs (declared d.now) (option_map (sentence_by user.now) (tell_form rest)) held }
+    ensures ok { (held : Option (List ℕ)) → ReadsAs (declared d.now) (option_map (sentence_by user.now) (tell_form rest.entry)) held
+        → IfOk result (PassesHeldReply O.passes (declared d.now) number held
+        (state workbench.old) (state workbench.new) output.old output.new) }
+    ensures err { (held : Option (List ℕ)) → ReadsAs (declared d.now) (option_map (sentence_by user.now) (tell_form rest.entry)) held
+        → OnErr result (FailsInHeldReply O.passes (declared d.now) number held
+        (state workbench.old) output.old output.new) }
+    ensures failed { OnErr result (O.has_failed output.new ≡ true) }
+    ensures works { OnOk result (O.has_failed output.old ≡ false
+        → O.has_failed output.new ≡ false) }
+    ensures left { IsLeft (declared d.now) (number + 1) (state workbench.new) }
+{
+    let read = read_tell(d, user, rest);
+    answer_read(d, number, &read, workbench, output)
+}
+
+// Answers a line that asks.
+#[inline(never)]
+fn answer_ask<A: Allocator + Copy, O: Output>(
+    d: &Declaration<'_, A>,
+    number: u32,
+    user: &[u8],
+    rest: Words<'_>,
+    workbench: &mut Workbench<'_, '_, A>,
+    output: &mut O,
+) -> Result<bool, Failed>
+    requires left { IsLeft (declared d.now) number (state workbench.old) }
+    requires most { number ≤ most_lines }
+    requires reads { (held : Option (List ℕ)) × ReadsAs (declared d.now) (option_map (sentence_by user.now) (cell_form Ask rest)) held }
+    ensures ok { (held : Option (List ℕ)) → ReadsAs (declared d.now) (option_map (sentence_by user.now) (cell_form Ask rest.entry)) held
+        → IfOk result (PassesHeldReply O.passes (declared d.now) number held
+        (state workbench.old) (state workbench.new) output.old output.new) }
+    ensures err { (held : Option (List ℕ)) → ReadsAs (declared d.now) (option_map (sentence_by user.now) (cell_form Ask rest.entry)) held
+        → OnErr result (FailsInHeldReply O.passes (declared d.now) number held
+        (state workbench.old) output.old output.new) }
+    ensures failed { OnErr result (O.has_failed output.new ≡ true) }
+    ensures works { OnOk result (O.has_failed output.old ≡ false
+        → O.has_failed output.new ≡ false) }
+    ensures left { IsLeft (declared d.now) (number + 1) (state workbench.new) }
+{
+    let read = read_ask(d, user, rest);
+    answer_read(d, number, &read, workbench, output)
+}
+
+// Answers a line of any other command, or of none.
+#[inline(never)]
+fn answer_other<A: Allocator + Copy, O: Output>(
+    d: &Declaration<'_, A>,
+    number: u32,
+    user: &[u8],
+    name: &[u8],
+    rest: Words<'_>,
+    workbench: &mut Workbench<'_, '_, A>,
+    output: &mut O,
+) -> Result<bool, Failed>
+    requires tell { bytes_eq name.now (codes "tell") ≡ false }
+    requires ask { bytes_eq name.now (codes "ask") ≡ false }
+    requires left { IsLeft (declared d.now) number (state workbench.old) }
+    requires most { number ≤ most_lines }
+    requires reads { (held : Option (List ℕ)) × ReadsAs (declared d.now) (option_map (sentence_by user.now) (said_form name.now rest)) held }
+    ensures ok { (held : Option (List ℕ)) → ReadsAs (declared d.now) (option_map (sentence_by user.now) (said_form name.now rest.entry)) held
+        → IfOk result (PassesHeldReply O.passes (declared d.now) number held
+        (state workbench.old) (state workbench.new) output.old output.new) }
+    ensures err { (held : Option (List ℕ)) → ReadsAs (declared d.now) (option_map (sentence_by user.now) (said_form name.now rest.entry)) held
+        → OnErr result (FailsInHeldReply O.passes (declared d.now) number held
+        (state workbench.old) output.old output.new) }
+    ensures failed { OnErr result (O.has_failed output.new ≡ true) }
+    ensures works { OnOk result (O.has_failed output.old ≡ false
+        → O.has_failed output.new ≡ false) }
+    ensures left { IsLeft (declared d.now) (number + 1) (state workbench.new) }
+{
+    let read = read_other(d, user, name, rest);
+    answer_read(d, number, &read, workbench, output)
+}
+
+// Answers a line of these words, after the one that names the user.
+#[inline(always)]
+fn answer_named<A: Allocator + Copy, O: Output>(
+    d: &Declaration<'_, A>,
+    number: u32,
+    user: &[u8],
+    name: &[u8],
+    rest: Words<'_>,
+    workbench: &mut Workbench<'_, '_, A>,
+    output: &mut O,
+) -> Result<bool, Failed>
+    requires left { IsLeft (declared d.now) number (state workbench.old) }
+    requires most { number ≤ most_lines }
+    requires reads { (held : Option (List ℕ)) × ReadsAs (declared d.now) (option_map (sentence_by user.now) (said_form name.now rest)) held }
+    ensures ok { (held : Option (List ℕ)) → ReadsAs (declared d.now) (option_map (sentence_by user.now) (said_form name.now rest.entry)) held
+        → IfOk result (PassesHeldReply O.passes (declared d.now) number held
+        (state workbench.old) (state workbench.new) output.old output.new) }
+    ensures err { (held : Option (List ℕ)) → ReadsAs (declared d.now) (option_map (sentence_by user.now) (said_form name.now rest.entry)) held
+        → OnErr result (FailsInHeldReply O.passes (declared d.now) number held
+        (state workbench.old) output.old output.new) }
+    ensures failed { OnErr result (O.has_failed output.new ≡ true) }
+    ensures works { OnOk result (O.has_failed output.old ≡ false
+        → O.has_failed output.new ≡ false) }
+    ensures left { IsLeft (declared d.now) (number + 1) (state workbench.new) }
+{
+    if is_tell(name) {
+        answer_tell(d, number, user, rest, workbench, output)
+    } else if is_ask(name) {
+        answer_ask(d, number, user, rest, workbench, output)
+    } else {
+        answer_other(d, number, user, name, rest, workbench, output)
+    }
+}
+
+// Answers a line of these words.
+#[inline(always)]
+fn answer_words<A: Allocator + Copy, O: Output>(
+    d: &Declaration<'_, A>,
+    number: u32,
+    mut words: Words<'_>,
+    workbench: &mut Workbench<'_, '_, A>,
+    output: &mut O,
+) -> Result<bool, Failed>
+    requires left { IsLeft (declared d.now) number (state workbench.old) }
+    requires most { number ≤ most_lines }
+    requires reads { (held : Option (List ℕ)) × ReadsAs (declared d.now) (sentence_form words) held }
+    ensures ok { (held : Option (List ℕ)) → ReadsAs (declared d.now) (sentence_form words.entry) held
+        → IfOk result (PassesHeldReply O.passes (declared d.now) number held
+        (state workbench.old) (state workbench.new) output.old output.new) }
+    ensures err { (held : Option (List ℕ)) → ReadsAs (declared d.now) (sentence_form words.entry) held
+        → OnErr result (FailsInHeldReply O.passes (declared d.now) number held
+        (state workbench.old) output.old output.new) }
+    ensures failed { OnErr result (O.has_failed output.new ≡ true) }
+    ensures works { OnOk result (O.has_failed output.old ≡ false
+        → O.has_failed output.new ≡ false) }
+    ensures left { IsLeft (declared d.now) (number + 1) (state workbench.new) }
+{
+    let Some(user) = words.next() else {
+        return answer_refused(d, number, Refusal::Syntax, workbench, output);
+    };
+    let Some(name) = words.next() else {
+        return answer_refused(d, number, Refusal::Syntax, workbench, output);
+    };
+    answer_named(d, number, user, name, words, workbench, output)
+}
 
 /// Answers the line of this number: its reply, if it gets one, is passed to the output. The line is
 /// passed in if it has at most 1,024 bytes. The result is whether there was a reply. On `Failed`
@@ -39,18 +266,12 @@ pub(crate) fn answer_line<A: Allocator + Copy, O: Output>(
 {
     // Cells have kinds whose members have names.
     d.limits();
-    let read = match line {
-        Some(line) => read_command(line, d),
-        None => Err(Refusal::LineTooLong),
+    let Some(line) = line else {
+        return answer_refused(d, number, Refusal::LineTooLong, workbench, output);
     };
-    // The reply is written in place: moving it out costs more than looking into it.
-    let reply = match &read {
-        Ok(None) => return Ok(false),
-        Ok(Some(command)) => workbench.command(number, command),
-        Err(refusal) => Reply::Refused(*refusal),
-    };
-    match write_reply(number, &reply, d, output) {
-        Ok(()) => Ok(true),
-        Err(fault) => Err(fault),
+    match line_words(line) {
+        Ok(Some(words)) => answer_words(d, number, words, workbench, output),
+        Ok(None) => Ok(false),
+        Err(refusal) => answer_refused(d, number, refusal, workbench, output),
     }
 }

@@ -1,20 +1,23 @@
 //! Reading a line of a transcript: its form first, then its names, in the order of the refusals.
 
-ghost use Rattle.std.specs.Prelude.{◌≡◌, ◌<◌, length, true, false, None, Some, IfOk, IfErr, IfNone};
+ghost use Rattle.std.specs.Prelude.{◌≡◌, ◌<◌, ◌≤◌, length, true, false, None, Some, IfOk, IfErr, IfNone};
 ghost use Rattle.std.specs.Prelude.{IfSome, OnOk, OnErr};
 ghost use Rattle.std.specs.List.{list_all};
 ghost use Rattle.pw_procs.specs.Registering.{place_of_name};
 ghost use Rattle.pw_procs.specs.inside.Shapes.{most_arguments};
 ghost use Rattle.pw_decl.specs.inside.Fields.{declared};
-ghost use Rattle.pw_sessions.specs.Reply.{LineReading};
+ghost use Rattle.pw_decl.specs.Declaration.{Declared};
+ghost use Rattle.pw_info.specs.Words.{is_idle};
+ghost use Rattle.pw_sessions.specs.Reply.{LineReading, Refused};
+ghost use Rattle.pw_transcript.specs.Limits.{most_command_bytes};
 ghost use Rattle.pw_transcript.specs.Sentence.{Tell, Attach, Believe, Doubt, Ask, Why};
-ghost use Rattle.pw_transcript.specs.inside.Forms.{HasCells, before_under, said_in, sentence_in};
-ghost use Rattle.pw_transcript.specs.inside.Resolving.{IsFree, IsRefusedFor};
+ghost use Rattle.pw_transcript.specs.inside.Forms.{before_under};
+ghost use Rattle.pw_transcript.specs.inside.Resolving.{IsFree, IsRefusedFor, IsSpoken};
 ghost use Rattle.pw_transcript.specs.Reading.{MeansFor};
 ghost use Rattle.pw_transcript.specs.Reading as spec;
 
-use crate::choice_text::resolve_choose;
-use crate::sentence::{Said, Sentence, next_cell, read_sentence};
+use crate::sentence::next_cell;
+use crate::spoken::read_words;
 use pw_decl::Declaration;
 use pw_facts::Fact;
 use pw_info::{Words, allows_all, idles, read_info};
@@ -93,7 +96,7 @@ fn support_of<A: Allocator + Copy>(
 }
 
 // The tell of a user.
-fn resolve_tell<A: Allocator + Copy>(
+pub(crate) fn resolve_tell<A: Allocator + Copy>(
     declaration: &Declaration<'_, A>,
     user: u8,
     cell: &[u8],
@@ -166,7 +169,7 @@ fn named_cells<A: Allocator + Copy>(
 // premises that the words after it name. Never inlined, so that other lines make no room for its
 // cells.
 #[inline(never)]
-fn resolve_attach<A: Allocator + Copy>(
+pub(crate) fn resolve_attach<A: Allocator + Copy>(
     declaration: &Declaration<'_, A>,
     user: u8,
     callable: &[u8],
@@ -227,7 +230,7 @@ fn asked_cell<A: Allocator + Copy>(
 }
 
 // The believe of a user.
-fn resolve_believe<A: Allocator + Copy>(
+pub(crate) fn resolve_believe<A: Allocator + Copy>(
     declaration: &Declaration<'_, A>,
     user: u8,
     premises: Words<'_>,
@@ -245,7 +248,7 @@ fn resolve_believe<A: Allocator + Copy>(
 }
 
 // The doubt of a user.
-fn resolve_doubt<A: Allocator + Copy>(
+pub(crate) fn resolve_doubt<A: Allocator + Copy>(
     declaration: &Declaration<'_, A>,
     user: u8,
     premises: Words<'_>,
@@ -263,7 +266,7 @@ fn resolve_doubt<A: Allocator + Copy>(
 }
 
 // The question of a user about a cell.
-fn resolve_ask<A: Allocator + Copy>(
+pub(crate) fn resolve_ask<A: Allocator + Copy>(
     declaration: &Declaration<'_, A>,
     user: u8,
     cell: &[u8],
@@ -281,7 +284,7 @@ fn resolve_ask<A: Allocator + Copy>(
 }
 
 // The question of a user why a cell has its value.
-fn resolve_why<A: Allocator + Copy>(
+pub(crate) fn resolve_why<A: Allocator + Copy>(
     declaration: &Declaration<'_, A>,
     user: u8,
     cell: &[u8],
@@ -298,59 +301,25 @@ fn resolve_why<A: Allocator + Copy>(
     }
 }
 
-// The command that a user's words mean, or its first refusal. Each arm that makes room for a set or
-// a command is a function of its own: so a line makes room only for its own command.
-fn resolve_said<A: Allocator + Copy>(
-    declaration: &Declaration<'_, A>,
-    user: u8,
-    said: Said<'_>,
-) -> Result<Command, Refusal>
-    requires cells { HasCells (said_in said) }
-    ensures ok { IfOk result (λ command.
-        MeansFor (declared declaration.now) user (said_in said.entry) command) }
-    ensures none { OnOk result (IsFree (declared declaration.now) user (said_in said.entry)) }
-    ensures err { IfErr result (λ refusal.
-        IsRefusedFor (declared declaration.now) user (said_in said.entry) refusal) }
+/// The words of a line that says something. None for a blank line or a comment. A line of more than
+/// 1,024 bytes is refused, and so is one that has a byte that no word has.
+#[inline(always)]
+pub(crate) fn line_words(line: &[u8]) -> Result<Option<Words<'_>>, Refusal>
+    ensures none { IfOk result (λ found. IfNone found ((length line.now ≤ most_command_bytes)
+        × (is_idle line.now ≡ true))) }
+    ensures some { IfOk result (λ found. IfSome found (IsSpoken line.now)) }
+    ensures err { IfErr result (λ refusal. (d : Declared) → spec.Reads d line.now (Refused refusal)) }
 {
-    match said {
-        Said::Tell {
-            cell,
-            info,
-            premises,
-        } => resolve_tell(declaration, user, cell, info, premises),
-        Said::Attach {
-            callable,
-            cells,
-            premises,
-        } => resolve_attach(declaration, user, callable, cells, premises),
-        Said::Believe { premises } => resolve_believe(declaration, user, premises),
-        Said::Doubt { premises } => resolve_doubt(declaration, user, premises),
-        Said::Beliefs => Ok(Command::Beliefs { user }),
-        Said::Ask { cell } => resolve_ask(declaration, user, cell),
-        Said::Why { cell } => resolve_why(declaration, user, cell),
-        Said::Conflicts => Ok(Command::Conflicts { user }),
-        Said::Choose { groups } => resolve_choose(declaration, user, groups),
-        Said::Other => Err(Refusal::UnknownCommand),
+    if line.len() > MOST_LINE_BYTES {
+        return Err(Refusal::LineTooLong);
     }
-}
-
-// The command that a sentence means, or its first refusal.
-fn resolve<A: Allocator + Copy>(
-    declaration: &Declaration<'_, A>,
-    sentence: Sentence<'_>,
-) -> Result<Command, Refusal>
-    requires cells { HasCells (said_in sentence.said) }
-    ensures ok { IfOk result (λ command.
-        spec.Means (declared declaration.now) (sentence_in sentence.entry) command) }
-    ensures none { OnOk result (spec.IsUnrefused (declared declaration.now)
-        (sentence_in sentence.entry)) }
-    ensures err { IfErr result (λ refusal.
-        spec.IsRefusedWith (declared declaration.now) (sentence_in sentence.entry) refusal) }
-{
-    match declaration.user(sentence.user) {
-        Some(user) => resolve_said(declaration, user, sentence.said),
-        None => Err(Refusal::UnknownUser),
+    if idles(line) {
+        return Ok(None);
     }
+    if !allows_all(line) {
+        return Err(Refusal::Syntax);
+    }
+    Ok(Some(Words::new(line)))
 }
 
 /// Reads one line without its line end. Takes no memory.
@@ -368,20 +337,12 @@ pub fn read_command<A: Allocator + Copy>(
 {
     // Members of sets have names, so that no word spells two informations.
     declaration.limits();
-    if line.len() > MOST_LINE_BYTES {
-        return Err(Refusal::LineTooLong);
-    }
-    if idles(line) {
-        return Ok(None);
-    }
-    if !allows_all(line) {
-        return Err(Refusal::Syntax);
-    }
-    let Some(sentence) = read_sentence(line) else {
-        return Err(Refusal::Syntax);
-    };
-    match resolve(declaration, sentence) {
-        Ok(command) => Ok(Some(command)),
+    match line_words(line) {
+        Ok(Some(words)) => match read_words(declaration, words) {
+            Ok(command) => Ok(Some(command)),
+            Err(refusal) => Err(refusal),
+        },
+        Ok(None) => Ok(None),
         Err(refusal) => Err(refusal),
     }
 }

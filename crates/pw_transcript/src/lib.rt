@@ -12,6 +12,7 @@ mod line_buffer;
 mod progress;
 mod reply_text;
 mod sentence;
+mod spoken;
 mod transcript;
 
 pub use command_text::read_command;

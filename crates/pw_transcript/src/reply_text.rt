@@ -231,8 +231,10 @@ fn write_choice<A: Allocator + Copy, O: Output>(
     write_chosen(chosen, declaration, output)
 }
 
-// Writes the content of a reply.
-fn write_answer<A: Allocator + Copy, O: Output>(
+// Writes the content of a reply. Never inlined, so that the usual replies are read where they lie:
+// inlined, it would have every line take all parts of a reply apart.
+#[inline(never)]
+fn write_any_answer<A: Allocator + Copy, O: Output>(
     reply: &Reply<A>,
     declaration: &Declaration<'_, A>,
     output: &mut O,
@@ -251,6 +253,22 @@ fn write_answer<A: Allocator + Copy, O: Output>(
         }
         Reply::Chose(chosen) => write_choice(*chosen, declaration, output),
         Reply::Refused(refusal) => write_refusal(*refusal, output),
+    }
+}
+
+// Writes the content of a reply, the value of a cell at once.
+fn write_answer<A: Allocator + Copy, O: Output>(
+    reply: &Reply<A>,
+    declaration: &Declaration<'_, A>,
+    output: &mut O,
+) -> Result<(), Failed>
+    requires named { IsReplyNamed (declared declaration.now) (reply_by reply.now) }
+    ensures { Writes O.passes O.has_failed output.old output.new result (text_of_answer
+        (declared declaration.now) (reply_by reply.now)) }
+{
+    match reply {
+        Reply::Value(info) => write_info(info, declaration, output),
+        _ => write_any_answer(reply, declaration, output),
     }
 }
 

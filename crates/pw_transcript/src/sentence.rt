@@ -1,86 +1,38 @@
-//! The form of a command line: the user, and the role of each word of the command.
+//! The forms of commands: which words may follow the word that names one, and what each is.
 
-ghost use Rattle.std.specs.Prelude.{◌≡◌, ◌<◌, ℕ, [], List, None, Some, codes, length, MatchOption};
+ghost use Rattle.std.specs.Prelude.{◌≡◌, ℕ, [], List, None, Some, codes, map, MatchOption};
 ghost use Rattle.std.specs.Prelude.{option_map};
 ghost use Rattle.std.specs.Option.{option_copied};
 ghost use Rattle.std.specs.Str.{bytes_eq};
-ghost use Rattle.pw_info.specs.Words.{words_of};
 ghost use Rattle.pw_transcript.specs.Sentence as spec;
+ghost use Rattle.pw_transcript.specs.inside.Grouping.{names_in};
 ghost use Rattle.pw_transcript.specs.inside.Forms.{TakesCell, before_under, from_under, under_form};
-ghost use Rattle.pw_transcript.specs.inside.Forms.{tell_form, attach_form, bare_form, cell_form};
-ghost use Rattle.pw_transcript.specs.inside.Forms.{choose_form};
-ghost use Rattle.pw_transcript.specs.inside.Forms.{said_form, sentence_form};
-ghost use Rattle.pw_transcript.specs.inside.Forms.{said_in, sentence_in};
+ghost use Rattle.pw_transcript.specs.inside.Forms.{tell_form, attach_form, cell_form, choose_form};
+ghost use Rattle.pw_transcript.specs.inside.Forms.{premises_form, told_in, attached_in};
 
 use crate::group_names::are_group_words;
 use pw_info::Words;
 
-/// The command, by its words. No names are looked up.
-#[derive(Drop)]
-pub enum Said<'a> {
-    /// `tell CELL INFO [under P..]`; without `under` there are no premises.
-    Tell {
-        cell: &'a [u8],
-        info: &'a [u8],
-        premises: Words<'a>,
-    },
-    /// `attach CALLABLE CELL.. [under P..]`: the first `under` after the callable ends the cells,
-    /// of which there is at least one; without `under` there are no premises.
-    Attach {
-        callable: &'a [u8],
-        // The words from the first cell on. `next_cell` stops at `under`.
-        cells: Words<'a>,
-        premises: Words<'a>,
-    },
-    /// `believe P..`
-    Believe {
-        premises: Words<'a>,
-    },
-    /// `doubt P..`
-    Doubt {
-        premises: Words<'a>,
-    },
-    /// `beliefs`
-    Beliefs,
-    /// `ask CELL`
-    Ask {
-        cell: &'a [u8],
-    },
-    /// `why CELL`
-    Why {
-        cell: &'a [u8],
-    },
-    /// `conflicts`
-    Conflicts,
-    /// `choose GROUP..`: in no group is a name empty.
-    Choose {
-        groups: Words<'a>,
-    },
-    /// A word that names no command, with any words after it.
-    Other,
-}
-
-/// The content of a line: the user, and the command.
-#[derive(Drop)]
-pub struct Sentence<'a> {
-    /// The first word.
-    pub user: &'a [u8],
-    /// The command in the words after it.
-    pub said: Said<'a>,
-}
-
-// Whether the word is `tell`. Words that many lines have are compared byte by byte, which costs
-// less than a call.
+//// Whether the word is `tell`. Words that many lines have are compared byte by byte, which costs
+/// less than a call.
 #[inline(always)]
-fn is_tell(word: &[u8]) -> bool
+pub(crate) fn is_tell(word: &[u8]) -> bool
     ensures { result ≡ bytes_eq word.now (codes "tell") }
 {
     matches!(word, [b't', b'e', b'l', b'l'])
 }
 
-// Whether the word is `doubt`.
+/// Whether the word is `ask`.
 #[inline(always)]
-fn is_doubt(word: &[u8]) -> bool
+pub(crate) fn is_ask(word: &[u8]) -> bool
+    ensures { result ≡ bytes_eq word.now (codes "ask") }
+{
+    matches!(word, [b'a', b's', b'k'])
+}
+
+/// Whether the word is `doubt`.
+#[inline(always)]
+pub(crate) fn is_doubt(word: &[u8]) -> bool
     ensures { result ≡ bytes_eq word.now (codes "doubt") }
 {
     matches!(word, [b'd', b'o', b'u', b'b', b't'])
@@ -94,7 +46,7 @@ fn is_under(word: &[u8]) -> bool
     matches!(word, [b'u', b'n', b'd', b'e', b'r'])
 }
 
-// The premises at the end of a tell or of an attach. Inlined, like `read_cell`: a call costs as
+// The premises at the end of a tell or of an attach. Inlined, like `cell_word`: a call costs as
 // much as the work.
 #[inline(always)]
 fn read_under<'a>(mut tail: Words<'a>) -> Option<Words<'a>>
@@ -110,14 +62,24 @@ fn read_under<'a>(mut tail: Words<'a>) -> Option<Words<'a>>
     Some(tail)
 }
 
-// What follows `tell`.
-fn read_tell<'a>(mut rest: Words<'a>) -> Option<Said<'a>>
-    ensures { option_map said_in result ≡ tell_form rest.entry }
+/// The words after `tell`, by their roles: `CELL INFO [under P..]`. Without `under` there are no
+/// premises.
+#[derive(Drop)]
+pub(crate) struct TellWords<'a> {
+    pub(crate) cell: &'a [u8],
+    pub(crate) info: &'a [u8],
+    pub(crate) premises: Words<'a>,
+}
+
+/// The words after `tell`, if they fit its form.
+#[inline(always)]
+pub(crate) fn tell_words<'a>(mut rest: Words<'a>) -> Option<TellWords<'a>>
+    ensures { option_map told_in result ≡ tell_form rest.entry }
 {
     let cell = rest.next()?;
     let info = rest.next()?;
     let premises = read_under(rest)?;
-    Some(Said::Tell {
+    Some(TellWords {
         cell,
         info,
         premises,
@@ -149,9 +111,19 @@ fn after_cells<'a>(mut words: Words<'a>) -> Words<'a>
     words
 }
 
-// What follows `attach`.
-fn read_attach<'a>(mut rest: Words<'a>) -> Option<Said<'a>>
-    ensures { option_map said_in result ≡ attach_form rest.entry }
+/// The words after `attach`, by their roles: `CALLABLE CELL.. [under P..]`. The first `under` after
+/// the callable ends the cells, of which there is at least one; without it there are no premises.
+#[derive(Drop)]
+pub(crate) struct AttachWords<'a> {
+    pub(crate) callable: &'a [u8],
+    // The words from the first cell on. `next_cell` stops at `under`.
+    pub(crate) cells: Words<'a>,
+    pub(crate) premises: Words<'a>,
+}
+
+/// The words after `attach`, if they fit its form.
+pub(crate) fn attach_words<'a>(mut rest: Words<'a>) -> Option<AttachWords<'a>>
+    ensures { option_map attached_in result ≡ attach_form rest.entry }
 {
     let callable = rest.next()?;
     let cells = rest.again();
@@ -159,28 +131,28 @@ fn read_attach<'a>(mut rest: Words<'a>) -> Option<Said<'a>>
         return None;
     };
     let premises = read_under(after_cells(rest))?;
-    Some(Said::Attach {
+    Some(AttachWords {
         callable,
         cells,
         premises,
     })
 }
 
-// A command whose word nothing may follow, like `beliefs` and `conflicts`. Inlined, so that no
-// other command makes room for its values.
+/// The words after `believe` or `doubt`: at least one premise.
 #[inline(always)]
-fn read_bare<'a>(said: Said<'a>, rest: Words<'a>) -> Option<Said<'a>>
-    ensures { option_map said_in result ≡ bare_form (said_in said.entry) rest.entry }
+pub(crate) fn premise_words<'a>(rest: Words<'a>) -> Option<Words<'a>>
+    ensures { (says : List (List ℕ) → spec.Said) →
+        option_map says result ≡ premises_form says rest.entry }
 {
-    if !rest.is_empty() {
+    if rest.is_empty() {
         return None;
     }
-    Some(said)
+    Some(rest)
 }
 
-// The cell that follows `ask` or `why`, and no other word.
+/// The cell that follows `ask` or `why`, and no other word.
 #[inline(always)]
-fn read_cell<'a>(mut rest: Words<'a>) -> Option<&'a [u8]>
+pub(crate) fn cell_word<'a>(mut rest: Words<'a>) -> Option<&'a [u8]>
     ensures { (says : List ℕ → spec.Said) →
         option_map says (option_copied result) ≡ cell_form says rest.entry }
 {
@@ -188,59 +160,13 @@ fn read_cell<'a>(mut rest: Words<'a>) -> Option<&'a [u8]>
     rest.is_empty().then_some(cell)
 }
 
-// What follows `choose`.
-fn read_choose<'a>(rest: Words<'a>) -> Option<Said<'a>>
-    ensures { option_map said_in result ≡ choose_form rest.entry }
+/// The words after `choose`: at least one group, and no empty name in a group.
+pub(crate) fn group_words<'a>(rest: Words<'a>) -> Option<Words<'a>>
+    ensures { option_map (λ groups. spec.Choose (map names_in groups)) result
+        ≡ choose_form rest.entry }
 {
     if rest.is_empty() || !are_group_words(rest.again()) {
         return None;
     }
-    Some(Said::Choose { groups: rest })
-}
-
-// The command given by a word, and the words after it.
-fn read_said<'a>(name: &[u8], rest: Words<'a>) -> Option<Said<'a>>
-    ensures { option_map said_in result ≡ said_form name.now rest.entry }
-{
-    if is_tell(name) {
-        read_tell(rest)
-    } else if name == b"attach".as_slice() {
-        read_attach(rest)
-    } else if name == b"believe".as_slice() {
-        if rest.is_empty() {
-            return None;
-        }
-        Some(Said::Believe { premises: rest })
-    } else if is_doubt(name) {
-        if rest.is_empty() {
-            return None;
-        }
-        Some(Said::Doubt { premises: rest })
-    } else if name == b"beliefs".as_slice() {
-        read_bare(Said::Beliefs, rest)
-    } else if name == b"ask".as_slice() {
-        let cell = read_cell(rest)?;
-        Some(Said::Ask { cell })
-    } else if name == b"why".as_slice() {
-        let cell = read_cell(rest)?;
-        Some(Said::Why { cell })
-    } else if name == b"conflicts".as_slice() {
-        read_bare(Said::Conflicts, rest)
-    } else if name == b"choose".as_slice() {
-        read_choose(rest)
-    } else {
-        Some(Said::Other)
-    }
-}
-
-/// Sorts the words of a line by the form of its command. None if there are fewer than two words, or
-/// if the words do not fit the form of the command that the second word names.
-pub fn read_sentence(line: &[u8]) -> Option<Sentence<'_>>
-    ensures { option_map sentence_in result ≡ sentence_form (words_of line.now) }
-{
-    let mut words = Words::new(line);
-    let user = words.next()?;
-    let name = words.next()?;
-    let said = read_said(name, words)?;
-    Some(Sentence { user, said })
+    Some(rest)
 }

@@ -1,11 +1,15 @@
 -- The answer to one line, as a step from what the lines before it left to what they leave with it.
-use Rattle.std.specs.Prelude.{◌≡◌, ℕ, ◌+◌, nat_le, List, [], ◌∷◌, ◌++◌, length, Option, Some, None}
+use Rattle.std.specs.Prelude.{◌≡◌, ℕ, ◌+◌, nat_le, List, [], ◌∷◌, ◌++◌, length, Option, Some, None, Result}
 use Rattle.std.specs.Prelude.{is_some, Bool, if◌then◌else◌}
 use Rattle.pw_info.specs.Passing.{PassesPart}
 use Rattle.pw_sessions.specs.Reply.{Reply}
 use Rattle.pw_decl.specs.Declaration.{Declared}
 use Rattle.pw_sessions.specs.Reply.{LineReading, Refused}
 use Rattle.pw_sessions.specs.declared.reply.Refusal.TheVariants as refusal
+use Rattle.pw_sessions.specs.declared.command.Command.{Command}
+use Rattle.pw_sessions.specs.declared.reply.Refusal.{Refusal}
+use Rattle.pw_transcript.specs.Sentence.{Sentence}
+use Rattle.pw_transcript.specs.inside.Resolving.{IsReadAs, reading_by}
 use Rattle.pw_transcript.specs.Reading.{Reads}
 use Rattle.pw_transcript.specs.Limits.{most_command_bytes}
 use Rattle.pw_sessions.specs.Answer.{reply_to}
@@ -21,6 +25,11 @@ held_line line = if nat_le (length line) most_command_bytes then Some line else 
 abbrev pub ReadsHeld : Declared → Option (List ℕ) → LineReading → Type 0
 ReadsHeld d None reading = reading ≡ Refused refusal.LineTooLong
 ReadsHeld d (Some line) reading = Reads d line reading
+
+-- the held line reads so, as this is read of the form of its words
+abbrev pub ReadsAs : Declared → Option Sentence → Option (List ℕ) → Type 0
+ReadsAs d form held = (read : Result Command Refusal) → IsReadAs d form read
+    → ReadsHeld d held (reading_by read)
 
 -- the lines before the line of this number left it
 abbrev pub IsLeft : Declared → ℕ → Workbench → Type 0

@@ -3,9 +3,8 @@ use Rattle.std.specs.Prelude.{◌≡◌, ℕ, ◌<◌, List, [], ◌∷◌, leng
 use Rattle.std.specs.Prelude.{codes, if◌then◌else◌, map}
 use Rattle.std.specs.List.{list_all}
 use Rattle.std.specs.Str.{bytes_eq}
-use Rattle.pw_transcript.specs.declared.sentence.Said.{Said as Spelled}
-use Rattle.pw_transcript.specs.declared.sentence.Said.TheVariants as spelled
-use Rattle.pw_transcript.specs.declared.sentence.Sentence.{Sentence as SentenceSpelled}
+use Rattle.pw_transcript.specs.declared.sentence.TellWords.{TellWords}
+use Rattle.pw_transcript.specs.declared.sentence.AttachWords.{AttachWords}
 use Rattle.pw_transcript.specs.Sentence.{Said, Tell, Attach, Believe, Doubt, Beliefs, Ask, Why}
 use Rattle.pw_transcript.specs.Sentence.{Choose, Conflicts, Other, Sentence}
 use Rattle.pw_transcript.specs.inside.Grouping.{is_group_word, names_in}
@@ -90,23 +89,14 @@ abbrev pub sentence_form : List (List ℕ) → Option Sentence
 sentence_form (user ∷ name ∷ rest) = option_map (sentence_by user) (said_form name rest)
 sentence_form words = None
 
--- what the references spell
-abbrev pub said_in : Spelled → Said
-said_in (spelled.Tell cell info premises) = Tell cell.now info.now premises
-said_in (spelled.Attach callable cells premises) = Attach callable.now (before_under cells) premises
-said_in (spelled.Believe premises) = Believe premises
-said_in (spelled.Doubt premises) = Doubt premises
-said_in spelled.Beliefs = Beliefs
-said_in (spelled.Ask cell) = Ask cell.now
-said_in (spelled.Why cell) = Why cell.now
-said_in spelled.Conflicts = Conflicts
-said_in (spelled.Choose groups) = Choose (map names_in groups)
-said_in spelled.Other = Other
+-- what the words of a tell, and of an attach, say
+abbrev pub told_in : TellWords → Said
+told_in words = Tell words.cell.now words.info.now words.premises
+
+abbrev pub attached_in : AttachWords → Said
+attached_in words = Attach words.callable.now (before_under words.cells) words.premises
 
 -- an attach has at least one cell
 abbrev pub HasCells : Said → Type 0
 HasCells (Attach callable cells premises) = 0 < length cells
 HasCells said = Unit {0}
-
-abbrev pub sentence_in : SentenceSpelled → Sentence
-sentence_in sentence = sentence_by sentence.user.now (said_in sentence.said)
