@@ -183,7 +183,7 @@ fn try_premises<A: Allocator + Copy>(
         premises: worldview,
         support: settled.value(cell).support,
     };
-    // The values found last, without one premise at least. A trial goes on from them.
+    // The values found last in which the cell has its value. The next trial goes on from them.
     let mut last = None;
     for premise in worldview.numbers().rev() {
         left = try_premise(

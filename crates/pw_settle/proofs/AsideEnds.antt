@@ -27,7 +27,7 @@ use Rattle.pw_settle.specs.Values.{attached_no, kinds_in, numbered, numbers_of_c
 use Rattle.pw_settle.specs.inside.Aside.{AreAllSatisfied, AreFound, AreOthersMet, StaysMet, weight_of}
 use Rattle.pw_settle.specs.inside.Due.{HasChanged, QueuesReaders, found_of}
 use Rattle.pw_settle.specs.inside.Known.{IsPlaced}
-use Rattle.pw_settle.specs.inside.Progress.{AreQueuedVisible, AreSatisfied, is_set}
+use Rattle.pw_settle.specs.inside.Progress.{AreSatisfied, is_set}
 use Rattle.pw_settle.proofs.AsideNews.{value_says, value_says_more}
 use Rattle.pw_settle.proofs.AsideStarts.{value_kind}
 use Rattle.pw_settle.proofs.FittingValues.{implies_stable}
@@ -126,15 +126,7 @@ module _ (network : Network) (well : IsWellNetwork network) (store : Store) (sam
       (seen_before : was ≡ map (is_instance_visible before.worldview) network.attached)
       (met : AreOthersMet network visible was before.infos infos first)
       (queues : QueuesReaders network visible (λ cell. (cell < length infos) × HasChanged before.infos infos cell) first queued) where
-    -- only visible instances are queued
-    pub start_seen : AreQueuedVisible network w queued
-    start_seen n flag =
-        elim (queues.others n flag) [
-          | inl was_set ↦ sym (ap (λ (l : List Bool). is_set l n) now_seen) ∙ met.seen n was_set
-          | inr (seen, read) ↦ sym (ap (λ (l : List Bool). is_set l n) now_seen) ∙ seen
-        ]
-
-    -- each other visible one is satisfied
+    -- each visible instance that is not queued is satisfied
     pub start_satisfied : AreSatisfied network w (info_at infos) queued
     start_satisfied n d below seen free =
         all_sources network.declared.procedures (kinds_in network) a.instance placed (IsImplied (info_at infos))

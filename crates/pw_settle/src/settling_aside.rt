@@ -1,5 +1,5 @@
 //! Settling beside the store: the values of another worldview, from values at hand.
-ghost use Rattle.std.specs.Prelude.{◌≡◌, ◌+◌, ◌<◌, ◌≤◌, true, IsTrue, IfOk, OnOk, length, map};
+ghost use Rattle.std.specs.Prelude.{◌≡◌, ◌↔◌, ◌+◌, ◌<◌, ◌≤◌, true, IsTrue, IfOk, OnOk, length, map};
 ghost use Rattle.pw_info.specs.Information.{kind_of};
 ghost use Rattle.pw_cells.specs.Cells.{kinds_of};
 ghost use Rattle.pw_network.specs.Wiring.{wiring};
@@ -94,7 +94,7 @@ fn stays_met<A: Allocator + Copy>(
     requires all { length was_visible.now ≡ length (wiring network.now).attached }
     requires before { map kind_of before.now ≡ kinds_in (wiring network.now) }
     requires now { map kind_of now.now ≡ kinds_in (wiring network.now) }
-    ensures { IsTrue result → StaysMet (wiring network.now) was_visible.now before.now now.now
+    ensures { IsTrue result ↔ StaysMet (wiring network.now) was_visible.now before.now now.now
         number }
 {
     let instance = &network.instances()[number];
@@ -241,16 +241,17 @@ fn work_aside<A: Allocator + Copy>(
     Ok(calls)
 }
 
-/// The values of the cells of a network in a worldview, found from the values of any other one, for
-/// trials: the store stays as it is, so no later reading walks what a trial derived. Values as
-/// `settle` answers them, each with premises of the worldview that it rests on. Fails only when out
-/// of memory.
+/// The values of the cells of a network in a worldview, found from its values in any other one. They
+/// are values as `settle` answers them, each with premises of the worldview that it rests on. The
+/// store stays as it is: this is for trials, since no later reading walks what a trial derived.
+/// Fails only when out of memory.
 ///
 /// The store is sound, and the earlier values are those of all cells and instances that there are
-/// now, in their worldview: it may have more premises than this one, or fewer, or others. An
-/// earlier value stays if it rests on premises of this worldview alone. The instances called at
+/// now. Their worldview may have more premises than this one, or fewer, or others.
+///
+/// An earlier value stays if it rests on premises of this worldview alone. The instances called at
 /// first are the visible ones that were not visible then, those that write a cell of which less is
-/// known now, and the readers of cells of which more is.
+/// known now, and the readers of cells of which more is. No clause counts the calls.
 pub fn settle_aside<A: Allocator + Copy>(
     alloc: A,
     before: &Settled<A>,

@@ -39,11 +39,13 @@ pub record StaysMet (network : Network) (was_visible : List Bool) (before now : 
       Implies (info_at now (attached_no network number d).instance.output)
       (info_at before (attached_no network number d).instance.output)
 
--- only visible instances are queued, and each visible one that is not queued stays met
+-- the visible instances are queued that do not stay met, and nothing else
 pub record AreOthersMet (network : Network) (visible was_visible : List Bool)
     (before now : List Info) (queued : List Bool) : Type 0 where
   pub flags : length queued ≡ length visible
   pub seen : (number : ℕ) → is_set queued number ≡ true → is_set visible number ≡ true
+  pub unmet : (number : ℕ) → is_set queued number ≡ true →
+      StaysMet network was_visible before now number → ⊥
   pub others : (number : ℕ) → number < length visible → is_set visible number ≡ true →
       is_set queued number ≡ false → StaysMet network was_visible before now number
 

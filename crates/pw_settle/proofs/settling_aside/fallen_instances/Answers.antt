@@ -14,13 +14,14 @@ loop-number-preserved g c = elim c.if-visible-number.branch [
       subst (AreMetTo (wiring c.args.network.now) c.args.visible.now c.args.was_visible.now c.args.before.now c.args.now.now (c.loop-number.number + 1))
       (sym (w.agenda-is ∙ w.add.ensures))
       (met_queued (wiring c.args.network.now) c.args.visible.now c.args.was_visible.now c.args.before.now c.args.now.now c.loop-number.number c.loop-number.agenda
-      c.loop-number.invariant (omega (arith, c.loop-number-test.true)) w.if-visible-number.true)
+      c.loop-number.invariant (omega (arith, c.loop-number-test.true)) w.if-visible-number.true
+      (λ met. let flag = w.stays_met.ensures.1 met in let not = w.if-not-stays_met.true in absurd (cc)))
   | else-visible-number w ↦
       subst (AreMetTo (wiring c.args.network.now) c.args.visible.now c.args.was_visible.now c.args.before.now c.args.now.now (c.loop-number.number + 1))
       (sym w.agenda-is)
       (met_passed (wiring c.args.network.now) c.args.visible.now c.args.was_visible.now c.args.before.now c.args.now.now c.loop-number.number c.loop-number.agenda
       c.loop-number.invariant (λ shown. elim w.else-visible-number.branch [
-        | else-visible-number-via-then-visible-number+else-not-stays_met w' ↦ w'.stays_met.ensures w'.if-not-stays_met.false
+        | else-visible-number-via-then-visible-number+else-not-stays_met w' ↦ w'.stays_met.ensures.0 w'.if-not-stays_met.false
         | else-visible-number-via-else-visible-number w' ↦ let hidden = w'.if-visible-number.false in absurd (cc)
       ]))
 ]
