@@ -38,9 +38,10 @@ use Rattle.pw_transcript.specs.FromScratch.{ComesTo}
 use Rattle.pw_transcript.specs.Limits.{most_lines}
 use Rattle.pw_transcript.specs.Reading.{Reads}
 use Rattle.pw_transcript.specs.inside.Resolving.{reading_by}
+use Rattle.pw_info.specs.declared.output.Failed.{Failed}
 use Rattle.pw_info.specs.Passing.{PassesPart}
 use Rattle.pw_transcript.specs.ReplyText.{IsReplyNamed, text_of_reply, text_if_any}
-use Rattle.pw_transcript.specs.inside.Answering.{held_line, IsLeft, IsReplied, ReadsHeld, RepliesToLine, PassesReply, FailsInReply}
+use Rattle.pw_transcript.specs.inside.Answering.{AnswersLine, held_line, IsLeft, IsReplied, ReadsHeld, RepliesToLine, PassesReply, FailsInReply}
 use Rattle.pw_transcript.proofs.ReplyLemmas.{IsDeclared-from_Reads}
 
 pub held_none : (line : List ℕ) → None ≡ held_line line → 1024 < length line
@@ -280,3 +281,17 @@ module _ {O : Type 0} (passes : O → List ℕ → O → Type 0) (d : Declared) 
     comes = a.comes;
     part = subst (λ (r : Option Reply). PassesPart passes o o' (text_if_any d number r)) (sym a.answer_is) part;
   }
+
+-- ---- a line is answered
+
+-- what is answered of lines that are held in one way is answered of those held in a narrower one
+pub answers_if : {O : Type 0} {passes : O → List ℕ → O → Type 0} {d : Declared} {has_failed : O → Bool} {number : ℕ} {old new : Workbench} {o o' : O} {result : Result Bool Failed}
+    {IsHeld Others : Option (List ℕ) → Type 0} → ((held : Option (List ℕ)) → IsHeld held → Others held) →
+    AnswersLine passes d has_failed number Others old new o o' result → AnswersLine passes d has_failed number IsHeld old new o o' result
+answers_if others a = record {
+  ok = λ held is. a.ok held (others held is);
+  err = λ held is. a.err held (others held is);
+  failed = a.failed;
+  works = a.works;
+  left = a.left;
+}

@@ -9,8 +9,8 @@ ghost use Rattle.pw_sessions.specs.Reply.{Refused};
 ghost use Rattle.pw_sessions.specs.inside.Fields.{state};
 ghost use Rattle.pw_transcript.specs.Limits.{most_lines};
 ghost use Rattle.pw_transcript.specs.Sentence.{Ask};
-ghost use Rattle.pw_transcript.specs.inside.Answering.{IsLeft, PassesHeldReply, ReadsAs, ReadsHeld};
-ghost use Rattle.pw_transcript.specs.inside.Answering.{FailsInHeldReply};
+ghost use Rattle.pw_transcript.specs.inside.Answering.{AnswersLine, IsLeft, ReadsAs, ReadsHeld};
+ghost use Rattle.pw_transcript.specs.inside.Answering.{FailsInHeldReply, PassesHeldReply};
 ghost use Rattle.pw_transcript.specs.inside.Forms.{cell_form, said_form, sentence_by, tell_form};
 ghost use Rattle.pw_transcript.specs.inside.Forms.{sentence_form};
 ghost use Rattle.pw_transcript.specs.inside.Resolving.{reading_by};
@@ -38,16 +38,9 @@ fn answer_read<A: Allocator + Copy, O: Output>(
     requires most { number ≤ most_lines }
     requires reads { (held : Option (List ℕ)) × ReadsHeld (declared d.now) held
         (reading_by read.now) }
-    ensures ok { (held : Option (List ℕ)) → ReadsHeld (declared d.now) held (reading_by read.now)
-        → IfOk result (PassesHeldReply O.passes (declared d.now) number held
-        (state workbench.old) (state workbench.new) output.old output.new) }
-    ensures err { (held : Option (List ℕ)) → ReadsHeld (declared d.now) held (reading_by read.now)
-        → OnErr result (FailsInHeldReply O.passes (declared d.now) number held
-        (state workbench.old) output.old output.new) }
-    ensures failed { OnErr result (O.has_failed output.new ≡ true) }
-    ensures works { OnOk result (O.has_failed output.old ≡ false
-        → O.has_failed output.new ≡ false) }
-    ensures left { IsLeft (declared d.now) (number + 1) (state workbench.new) }
+    ensures { AnswersLine O.passes (declared d.now) O.has_failed number
+        (λ held. ReadsHeld (declared d.now) held (reading_by read.now))
+        (state workbench.old) (state workbench.new) output.old output.new result }
 {
     // Cells have kinds whose members have names.
     d.limits();
@@ -74,16 +67,9 @@ fn answer_refused<A: Allocator + Copy, O: Output>(
     requires most { number ≤ most_lines }
     requires reads { (held : Option (List ℕ)) × ReadsHeld (declared d.now) held
         (Refused refusal) }
-    ensures ok { (held : Option (List ℕ)) → ReadsHeld (declared d.now) held (Refused refusal)
-        → IfOk result (PassesHeldReply O.passes (declared d.now) number held
-        (state workbench.old) (state workbench.new) output.old output.new) }
-    ensures err { (held : Option (List ℕ)) → ReadsHeld (declared d.now) held (Refused refusal)
-        → OnErr result (FailsInHeldReply O.passes (declared d.now) number held
-        (state workbench.old) output.old output.new) }
-    ensures failed { OnErr result (O.has_failed output.new ≡ true) }
-    ensures works { OnOk result (O.has_failed output.old ≡ false
-        → O.has_failed output.new ≡ false) }
-    ensures left { IsLeft (declared d.now) (number + 1) (state workbench.new) }
+    ensures { AnswersLine O.passes (declared d.now) O.has_failed number
+        (λ held. ReadsHeld (declared d.now) held (Refused refusal))
+        (state workbench.old) (state workbench.new) output.old output.new result }
 {
     answer_read(d, number, &Err(refusal), workbench, output)
 }
@@ -101,17 +87,11 @@ fn answer_tell<A: Allocator + Copy, O: Output>(
 ) -> Result<bool, Failed>
     requires left { IsLeft (declared d.now) number (state workbench.old) }
     requires most { number ≤ most_lines }
-    requires reads { (held : Option (List ℕ)) × ReadsAs (declared d.now) (option_map (sentence_by user.now) (tell_form rest)) held }
-    ensures ok { (held : Option (List ℕ)) → ReadsAs (declared d.now) (option_map (sentence_by user.now) (tell_form rest.entry)) held
-        → IfOk result (PassesHeldReply O.passes (declared d.now) number held
-        (state workbench.old) (state workbench.new) output.old output.new) }
-    ensures err { (held : Option (List ℕ)) → ReadsAs (declared d.now) (option_map (sentence_by user.now) (tell_form rest.entry)) held
-        → OnErr result (FailsInHeldReply O.passes (declared d.now) number held
-        (state workbench.old) output.old output.new) }
-    ensures failed { OnErr result (O.has_failed output.new ≡ true) }
-    ensures works { OnOk result (O.has_failed output.old ≡ false
-        → O.has_failed output.new ≡ false) }
-    ensures left { IsLeft (declared d.now) (number + 1) (state workbench.new) }
+    requires reads { (held : Option (List ℕ)) × ReadsAs (declared d.now)
+        (option_map (sentence_by user.now) (tell_form rest)) held }
+    ensures { AnswersLine O.passes (declared d.now) O.has_failed number
+        (ReadsAs (declared d.now) (option_map (sentence_by user.now) (tell_form rest.entry)))
+        (state workbench.old) (state workbench.new) output.old output.new result }
 {
     let read = read_tell(d, user, rest);
     answer_read(d, number, &read, workbench, output)
@@ -129,17 +109,11 @@ fn answer_ask<A: Allocator + Copy, O: Output>(
 ) -> Result<bool, Failed>
     requires left { IsLeft (declared d.now) number (state workbench.old) }
     requires most { number ≤ most_lines }
-    requires reads { (held : Option (List ℕ)) × ReadsAs (declared d.now) (option_map (sentence_by user.now) (cell_form Ask rest)) held }
-    ensures ok { (held : Option (List ℕ)) → ReadsAs (declared d.now) (option_map (sentence_by user.now) (cell_form Ask rest.entry)) held
-        → IfOk result (PassesHeldReply O.passes (declared d.now) number held
-        (state workbench.old) (state workbench.new) output.old output.new) }
-    ensures err { (held : Option (List ℕ)) → ReadsAs (declared d.now) (option_map (sentence_by user.now) (cell_form Ask rest.entry)) held
-        → OnErr result (FailsInHeldReply O.passes (declared d.now) number held
-        (state workbench.old) output.old output.new) }
-    ensures failed { OnErr result (O.has_failed output.new ≡ true) }
-    ensures works { OnOk result (O.has_failed output.old ≡ false
-        → O.has_failed output.new ≡ false) }
-    ensures left { IsLeft (declared d.now) (number + 1) (state workbench.new) }
+    requires reads { (held : Option (List ℕ)) × ReadsAs (declared d.now)
+        (option_map (sentence_by user.now) (cell_form Ask rest)) held }
+    ensures { AnswersLine O.passes (declared d.now) O.has_failed number
+        (ReadsAs (declared d.now) (option_map (sentence_by user.now) (cell_form Ask rest.entry)))
+        (state workbench.old) (state workbench.new) output.old output.new result }
 {
     let read = read_ask(d, user, rest);
     answer_read(d, number, &read, workbench, output)
@@ -160,17 +134,12 @@ fn answer_other<A: Allocator + Copy, O: Output>(
     requires ask { bytes_eq name.now (codes "ask") ≡ false }
     requires left { IsLeft (declared d.now) number (state workbench.old) }
     requires most { number ≤ most_lines }
-    requires reads { (held : Option (List ℕ)) × ReadsAs (declared d.now) (option_map (sentence_by user.now) (said_form name.now rest)) held }
-    ensures ok { (held : Option (List ℕ)) → ReadsAs (declared d.now) (option_map (sentence_by user.now) (said_form name.now rest.entry)) held
-        → IfOk result (PassesHeldReply O.passes (declared d.now) number held
-        (state workbench.old) (state workbench.new) output.old output.new) }
-    ensures err { (held : Option (List ℕ)) → ReadsAs (declared d.now) (option_map (sentence_by user.now) (said_form name.now rest.entry)) held
-        → OnErr result (FailsInHeldReply O.passes (declared d.now) number held
-        (state workbench.old) output.old output.new) }
-    ensures failed { OnErr result (O.has_failed output.new ≡ true) }
-    ensures works { OnOk result (O.has_failed output.old ≡ false
-        → O.has_failed output.new ≡ false) }
-    ensures left { IsLeft (declared d.now) (number + 1) (state workbench.new) }
+    requires reads { (held : Option (List ℕ)) × ReadsAs (declared d.now)
+        (option_map (sentence_by user.now) (said_form name.now rest)) held }
+    ensures { AnswersLine O.passes (declared d.now) O.has_failed number
+        (ReadsAs (declared d.now)
+        (option_map (sentence_by user.now) (said_form name.now rest.entry)))
+        (state workbench.old) (state workbench.new) output.old output.new result }
 {
     let read = read_other(d, user, name, rest);
     answer_read(d, number, &read, workbench, output)
@@ -189,17 +158,12 @@ fn answer_named<A: Allocator + Copy, O: Output>(
 ) -> Result<bool, Failed>
     requires left { IsLeft (declared d.now) number (state workbench.old) }
     requires most { number ≤ most_lines }
-    requires reads { (held : Option (List ℕ)) × ReadsAs (declared d.now) (option_map (sentence_by user.now) (said_form name.now rest)) held }
-    ensures ok { (held : Option (List ℕ)) → ReadsAs (declared d.now) (option_map (sentence_by user.now) (said_form name.now rest.entry)) held
-        → IfOk result (PassesHeldReply O.passes (declared d.now) number held
-        (state workbench.old) (state workbench.new) output.old output.new) }
-    ensures err { (held : Option (List ℕ)) → ReadsAs (declared d.now) (option_map (sentence_by user.now) (said_form name.now rest.entry)) held
-        → OnErr result (FailsInHeldReply O.passes (declared d.now) number held
-        (state workbench.old) output.old output.new) }
-    ensures failed { OnErr result (O.has_failed output.new ≡ true) }
-    ensures works { OnOk result (O.has_failed output.old ≡ false
-        → O.has_failed output.new ≡ false) }
-    ensures left { IsLeft (declared d.now) (number + 1) (state workbench.new) }
+    requires reads { (held : Option (List ℕ)) × ReadsAs (declared d.now)
+        (option_map (sentence_by user.now) (said_form name.now rest)) held }
+    ensures { AnswersLine O.passes (declared d.now) O.has_failed number
+        (ReadsAs (declared d.now)
+        (option_map (sentence_by user.now) (said_form name.now rest.entry)))
+        (state workbench.old) (state workbench.new) output.old output.new result }
 {
     if is_tell(name) {
         answer_tell(d, number, user, rest, workbench, output)
@@ -221,17 +185,11 @@ fn answer_words<A: Allocator + Copy, O: Output>(
 ) -> Result<bool, Failed>
     requires left { IsLeft (declared d.now) number (state workbench.old) }
     requires most { number ≤ most_lines }
-    requires reads { (held : Option (List ℕ)) × ReadsAs (declared d.now) (sentence_form words) held }
-    ensures ok { (held : Option (List ℕ)) → ReadsAs (declared d.now) (sentence_form words.entry) held
-        → IfOk result (PassesHeldReply O.passes (declared d.now) number held
-        (state workbench.old) (state workbench.new) output.old output.new) }
-    ensures err { (held : Option (List ℕ)) → ReadsAs (declared d.now) (sentence_form words.entry) held
-        → OnErr result (FailsInHeldReply O.passes (declared d.now) number held
-        (state workbench.old) output.old output.new) }
-    ensures failed { OnErr result (O.has_failed output.new ≡ true) }
-    ensures works { OnOk result (O.has_failed output.old ≡ false
-        → O.has_failed output.new ≡ false) }
-    ensures left { IsLeft (declared d.now) (number + 1) (state workbench.new) }
+    requires reads { (held : Option (List ℕ)) × ReadsAs (declared d.now) (sentence_form words)
+        held }
+    ensures { AnswersLine O.passes (declared d.now) O.has_failed number
+        (ReadsAs (declared d.now) (sentence_form words.entry))
+        (state workbench.old) (state workbench.new) output.old output.new result }
 {
     let Some(user) = words.next() else {
         return answer_refused(d, number, Refusal::Syntax, workbench, output);

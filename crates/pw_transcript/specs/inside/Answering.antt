@@ -1,6 +1,7 @@
 -- The answer to one line, as a step from what the lines before it left to what they leave with it.
 use Rattle.std.specs.Prelude.{◌≡◌, ℕ, ◌+◌, nat_le, List, [], ◌∷◌, ◌++◌, length, Option, Some, None, Result}
-use Rattle.std.specs.Prelude.{is_some, Bool, if◌then◌else◌}
+use Rattle.std.specs.Prelude.{is_some, Bool, true, false, IfOk, OnOk, OnErr, if◌then◌else◌}
+use Rattle.pw_info.specs.declared.output.Failed.{Failed}
 use Rattle.pw_info.specs.Passing.{PassesPart}
 use Rattle.pw_sessions.specs.Reply.{Reply}
 use Rattle.pw_decl.specs.Declaration.{Declared}
@@ -87,3 +88,16 @@ module _ {O : Type 0} (passes : O → List ℕ → O → Type 0) (d : Declared) 
       (before : List LineReading) (line : List ℕ) → IsLeftBy d before old → length before + 1
       ≡ number → held ≡ held_line line
       → FailsInReply number before line o o'
+
+  -- The line of this number is answered, and this is the result: whether it got a reply. That holds
+  -- for each line that is held so, after all lines before it: its reply was passed, or the output
+  -- failed while it was.
+  pub record AnswersLine (has_failed : O → Bool) (number : ℕ) (IsHeld : Option (List ℕ) → Type 0)
+      (old new : Workbench) (o o' : O) (result : Result Bool Failed) : Type 0 where
+    pub ok : (held : Option (List ℕ)) → IsHeld held → IfOk result (PassesHeldReply number held old
+        new o o')
+    pub err : (held : Option (List ℕ)) → IsHeld held → OnErr result (FailsInHeldReply number held
+        old o o')
+    pub failed : OnErr result (has_failed o' ≡ true)
+    pub works : OnOk result (has_failed o ≡ false → has_failed o' ≡ false)
+    pub left : IsLeft d (number + 1) new

@@ -40,19 +40,26 @@ write_reply-requires g c =
     ] in
     record { named = replied.named }
 
-pub returns-in-Ok-write_reply-clause-ok : goal.returns-in-Ok-write_reply-clause-ok
-returns-in-Ok-write_reply-clause-ok g c = λ held reads before line left next e.
-    passes_some g.O.Output.passes (declared c.args.d.now) c.args.number before line (state c.match-read.workbench) c.args.output.now c.write_reply.new.output
-    (reply_by c.match-read.reply) ((replied g (goal.at.returns-in-Ok-write_reply-clause-ok g c).After-write_reply held reads).reply before line left next e) c.in-Ok-write_reply.ensures.passed
+pub returns-in-Ok-write_reply : goal.returns-in-Ok-write_reply
+returns-in-Ok-write_reply g c = record {
+  ok = λ held reads before line left next e.
+      passes_some g.O.Output.passes (declared c.args.d.now) c.args.number before line (state c.match-read.workbench) c.args.output.now c.write_reply.new.output
+      (reply_by c.match-read.reply) ((replied g (goal.at.returns-in-Ok-write_reply g c).After-write_reply held reads).reply before line left next e)
+      c.in-Ok-write_reply.ensures.passed;
+  err = λ held reads. tt;
+  failed = tt;
+  works = c.in-Ok-write_reply.ensures.works;
+  left = (replied g (goal.at.returns-in-Ok-write_reply g c).After-write_reply c.requires.reads.0 c.requires.reads.1).left;
+}
 
-pub returns-in-Ok-write_reply-clause-left : goal.returns-in-Ok-write_reply-clause-left
-returns-in-Ok-write_reply-clause-left g c =
-    (replied g (goal.at.returns-in-Ok-write_reply-clause-left g c).After-write_reply c.requires.reads.0 c.requires.reads.1).left
-
-pub returns-clause-err : goal.returns-clause-err
-returns-clause-err g c = λ held reads before line left next e.
-    fails_some g.O.Output.passes (declared c.args.d.now) c.args.number before line (state c.match-read.workbench) c.args.output.now c.write_reply.new.output
-    (reply_by c.match-read.reply) ((replied g (goal.at.returns-clause-err g c).After-write_reply held reads).reply before line left next e) c.in-Err-write_reply.ensures.front
-
-pub returns-clause-left : goal.returns-clause-left
-returns-clause-left g c = (replied g (goal.at.returns-clause-left g c).After-write_reply c.requires.reads.0 c.requires.reads.1).left
+pub returns : goal.returns
+returns g c = record {
+  ok = λ held reads. tt;
+  err = λ held reads before line left next e.
+      fails_some g.O.Output.passes (declared c.args.d.now) c.args.number before line (state c.match-read.workbench) c.args.output.now c.write_reply.new.output
+      (reply_by c.match-read.reply) ((replied g (goal.at.returns g c).After-write_reply held reads).reply before line left next e)
+      c.in-Err-write_reply.ensures.front;
+  failed = c.in-Err-write_reply.ensures.failed;
+  works = tt;
+  left = (replied g (goal.at.returns g c).After-write_reply c.requires.reads.0 c.requires.reads.1).left;
+}

@@ -1,4 +1,5 @@
 use Rattle.pw_decl.specs.inside.Fields.{declared}
+use Rattle.pw_transcript.proofs.AnswerLemmas.{answers_if}
 use Rattle.pw_transcript.proofs.SpokenLemmas.{named_words, no_words, one_word}
 use Rattle.pw_transcript.proofs.answer.answer_words.Goals as goal
 
@@ -6,13 +7,8 @@ pub answer_refused-requires-clause-reads : goal.answer_refused-requires-clause-r
 answer_refused-requires-clause-reads g c =
     (c.requires.reads.0, no_words (declared c.args.d.now) c.args.words c.requires.reads.0 c.in_default.ensures.0 c.requires.reads.1)
 
-pub returns-in_default-clause-ok : goal.returns-in_default-clause-ok
-returns-in_default-clause-ok g c = λ held reads.
-    c.answer_refused.ensures.ok held (no_words (declared c.args.d.now) c.args.words held c.in_default.ensures.0 reads)
-
-pub returns-in_default-clause-err : goal.returns-in_default-clause-err
-returns-in_default-clause-err g c = λ held reads.
-    c.answer_refused.ensures.err held (no_words (declared c.args.d.now) c.args.words held c.in_default.ensures.0 reads)
+pub returns-in_default : goal.returns-in_default
+returns-in_default g c = answers_if (λ held. no_words (declared c.args.d.now) c.args.words held c.in_default.ensures.0) c.answer_refused.ensures
 
 pub answer_refused-requires-in_default-next-clause-reads : goal.answer_refused-requires-in_default-next-clause-reads
 answer_refused-requires-in_default-next-clause-reads g c = (
@@ -21,15 +17,10 @@ answer_refused-requires-in_default-next-clause-reads g c = (
       c.requires.reads.1,
 )
 
-pub returns-in_default-next-clause-ok : goal.returns-in_default-next-clause-ok
-returns-in_default-next-clause-ok g c = λ held reads.
-    c.answer_refused-in_default-next.ensures.ok held
-    (one_word (declared c.args.d.now) c.args.words c.next.new.self c.in-Some.user.now held c.in-Some.ensures c.in_default-next.ensures.0 reads)
-
-pub returns-in_default-next-clause-err : goal.returns-in_default-next-clause-err
-returns-in_default-next-clause-err g c = λ held reads.
-    c.answer_refused-in_default-next.ensures.err held
-    (one_word (declared c.args.d.now) c.args.words c.next.new.self c.in-Some.user.now held c.in-Some.ensures c.in_default-next.ensures.0 reads)
+pub returns-in_default-next : goal.returns-in_default-next
+returns-in_default-next g c =
+    answers_if (λ held. one_word (declared c.args.d.now) c.args.words c.next.new.self c.in-Some.user.now held c.in-Some.ensures c.in_default-next.ensures.0)
+    c.answer_refused-in_default-next.ensures
 
 pub answer_named-requires-clause-reads : goal.answer_named-requires-clause-reads
 answer_named-requires-clause-reads g c = (
@@ -38,14 +29,8 @@ answer_named-requires-clause-reads g c = (
       c.in-Some-next.ensures c.requires.reads.1,
 )
 
-pub returns-clause-ok : goal.returns-clause-ok
-returns-clause-ok g c = λ held reads.
-    c.answer_named.ensures.ok held
-    (named_words (declared c.args.d.now) c.args.words c.next.new.self c.next-2.new.self c.in-Some.user.now c.in-Some-next.name.now held c.in-Some.ensures
-    c.in-Some-next.ensures reads)
-
-pub returns-clause-err : goal.returns-clause-err
-returns-clause-err g c = λ held reads.
-    c.answer_named.ensures.err held
-    (named_words (declared c.args.d.now) c.args.words c.next.new.self c.next-2.new.self c.in-Some.user.now c.in-Some-next.name.now held c.in-Some.ensures
-    c.in-Some-next.ensures reads)
+pub returns : goal.returns
+returns g c =
+    answers_if (λ held. named_words (declared c.args.d.now) c.args.words c.next.new.self c.next-2.new.self c.in-Some.user.now c.in-Some-next.name.now held
+    c.in-Some.ensures c.in-Some-next.ensures)
+    c.answer_named.ensures
