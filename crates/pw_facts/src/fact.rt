@@ -23,6 +23,7 @@ pub struct Fact {
 /// support of `b` if that is a subset of the support of `a`, and otherwise on the support of `a`.
 /// If only one of them says what the merge says, it rests on the support of that one. Otherwise it
 /// rests on both supports.
+#[inline(always)]
 pub fn merge_facts(a: &Fact, b: &Fact) -> Fact
     requires { kind_of a.now.info ≡ kind_of b.now.info }
     ensures rule { IsMerge a.now b.now result }

@@ -48,6 +48,7 @@ pub(crate) fn read_kept<A: Allocator + Copy>(
 }
 
 // The premises of an instance, and those of what is known about its inputs.
+#[inline(always)]
 pub(crate) fn joined_support<A: Allocator>(
     instance: &Instance,
     supports: &SupportList<A>,
@@ -64,6 +65,7 @@ pub(crate) fn joined_support<A: Allocator>(
 }
 
 // Merges a fact into what is known about a cell. If memory is refused, nothing changes.
+#[inline(always)]
 pub(crate) fn take_in<A: Allocator + Copy>(
     infos: &mut [Info],
     supports: &mut SupportList<A>,

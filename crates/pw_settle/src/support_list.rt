@@ -46,6 +46,7 @@ impl<A: Allocator + Copy> SupportList<A> {
     }
 
     // Appends the premises of one cell more. If memory is refused, nothing changes.
+    #[inline(always)]
     pub(crate) fn push(&mut self, support: PremiseSet) -> Result<(), AllocError>
         ensures ok { OnOk result (self.new ≡ self.old ++ support ∷ []) }
         ensures err { OnErr result (self.new ≡ self.old) }
@@ -65,6 +66,7 @@ impl<A: Allocator + Copy> SupportList<A> {
     }
 
     // Puts these premises in place of those of a cell. If memory is refused, nothing changes.
+    #[inline(always)]
     pub(crate) fn replace(&mut self, place: usize, support: PremiseSet) -> Result<(), AllocError>
         requires { place < length self.old }
         ensures ok { OnOk result (self.new ≡ set self.old place support) }
