@@ -218,7 +218,7 @@ fn explain_arguments<'a>(before: &Before<'a>, line: &'a [u8]) -> Explanation<'a>
     Explanation::word(2, Expected::Parameter)
 }
 
-// The number of words, counted only up to this many.
+// The number of words, or `most` if there are more.
 fn count_up_to(mut words: Words<'_>, most: usize) -> usize {
     let mut count = 0usize;
     for _ in 0..most {
