@@ -388,17 +388,60 @@ declaration line 259: limit
     ^^^^
     expected at most 256 procedures and 256 inner cells in a compound
 """),
-    # As many faulty lines as are explained, and one more.
-    ("workbench 1\n" + "x\n" * 100, "\n" + "\n".join(f"""declaration line {number}: syntax
+    # 300 faulty lines, among as many good ones, blank lines and comments.
+    ("workbench 1\n" + "".join(f"\n# {number}\ncell c{number} exact\ncell c{number} sign\n" for number in range(300)), "\n" + "\n".join(
+        f"""declaration line {5 + 4 * number}: duplicate name
+    cell c{number} sign
+         {"^" * len(f"c{number}")}
+    expected a new name; line {4 + 4 * number} declares this cell
+""" for number in range(300))),
+    # Of the lines that name a cell the first one is faulty, and the second one declares it.
+    ("workbench 1\n# x\n\ncell x exct\n\ncell x exact\ncompound c p\nend\n\ncell x bool\n", """
+declaration line 4: unknown name
+    cell x exct
+           ^^^^
+    expected a kind: interval, exact, bool, sign or a set declared above; perhaps `exact`
+
+declaration line 7: syntax
+    compound c p
+                 ^
+    expected a kind: interval, exact, bool, sign or a set declared above
+
+declaration line 10: duplicate name
+    cell x bool
+         ^
+    expected a new name; line 6 declares this cell
+"""),
+    # A parameter and a private cell, after lines that are left out.
+    ("workbench 1\nx\n\ncompound c p bool\n# q\n\ny\nlocal q bool\nlocal p bool\n\nlocal q bool\nz", """
+declaration line 2: syntax
     x
     ^
     expected user, premise, set, cell or compound
-""" for number in range(2, 102))),
-    ("workbench 1\n" + "x\n" * 101, "\n" + "\n".join(f"""declaration line {number}: syntax
-    x
-    ^
-    expected user, premise, set, cell or compound
-""" for number in range(2, 102)) + "more faulty lines may follow\n"),
+
+declaration line 7: syntax
+    y
+      ^
+    expected a parameter or a local cell of the compound
+
+declaration line 9: duplicate name
+    local p bool
+          ^
+    expected a new name; line 4 declares this parameter
+
+declaration line 11: duplicate name
+    local q bool
+          ^
+    expected a new name; line 8 declares this local cell
+
+declaration line 12: syntax
+    z
+      ^
+    expected a parameter or a local cell of the compound
+
+declaration line 13: missing end
+    expected `end` after the lines of the compound
+"""),
 ]
 
 # A line over the world above, and what is written of it. `line 1` of the first line is left out.

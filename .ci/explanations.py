@@ -8,9 +8,10 @@ from declaration_reader import END, LIMIT, PROCEDURES, SYNTAX, UNKNOWN, Declared
 from texts import KINDS, Refused, is_silent, lines_of, words_of
 from transcript_reader import REFUSALS, WORDS, lines_with_replies, read_line
 
-# The most bytes of a line that are shown, and the most faulty lines of a declaration that are explained.
-MOST_SHOWN, MOST_FAULTY = 100, 100
-MORE = "more faulty lines may follow"
+# The most bytes of a line that are shown.
+MOST_SHOWN = 100
+# The last line of an output that is not whole.
+MORE = "out of memory: more faulty lines may follow"
 # The words of the language that may be near names, beside kinds and callables.
 LANGUAGE = {
     "workbench", "user", "premise", "set", "cell", "compound", "local", "end", "of", "under", "nothing", "contradiction", *WORDS, *KINDS,

@@ -97,7 +97,7 @@ pub(crate) fn unknown_premise_in_groups<'a, A: Allocator + Copy>(
     Explanation::line(Expected::Premise)
 }
 
-// Whether the name is among the first names of a group, so many of them.
+// Whether the name is among the first `most` names of a group.
 fn is_among(name: &[u8], word: &[u8], most: usize) -> bool {
     let mut names = Names::of(word);
     for _ in 0..most {
@@ -110,7 +110,7 @@ fn is_among(name: &[u8], word: &[u8], most: usize) -> bool {
     false
 }
 
-// Whether the name is in one of the first groups, so many of them.
+// Whether the name is in one of the first `most` groups.
 fn is_in_groups(name: &[u8], mut words: Words<'_>, most: usize) -> bool {
     for _ in 0..most {
         match words.next() {

@@ -1,8 +1,10 @@
 //! A text, cut at one of its lines.
-ghost use Rattle.std.specs.Prelude.{◌≡◌, ◌++◌, IfSome};
+ghost use Rattle.std.specs.Prelude.{◌≡◌, ◌≤◌, ◌++◌, length, IfSome};
 ghost use Rattle.pw_explain.specs.Cut.{IsCutOf};
 
-use pw_info::{Words, next_line};
+use crate::before::Before;
+use crate::sort::Stand;
+use pw_info::{Words, idles, next_line};
 
 /// The parts of a text before a line, that line, and what comes after it.
 #[derive(Clone, Copy)]
@@ -13,6 +15,53 @@ pub struct Cut<'a> {
     pub line: &'a [u8],
     /// The line feed of the line, if it has one, and the lines after it.
     pub after: &'a [u8],
+}
+
+impl<'a> Cut<'a> {
+    // Where the line stands.
+    fn stand(&self) -> Stand {
+        Before::of(b"", self.before).stand
+    }
+
+    /// Whether the line is the header.
+    pub fn is_header(&self) -> bool {
+        !idles(self.line) && self.stand() == Stand::BeforeHeader
+    }
+
+    /// The lines after the line; if it begins a compound, those after the end of the compound.
+    pub(crate) fn rest(&self) -> &'a [u8]
+        ensures { length result.now ≤ length self.now.after.now }
+    {
+        if begins_with(b"compound", self.line) && self.stand() == Stand::Outside {
+            after_end(self.after)
+        } else {
+            after_line(self.after)
+        }
+    }
+}
+
+// The lines after the first.
+fn after_line(text: &[u8]) -> &[u8]
+    ensures { length result.now ≤ length text.now }
+{
+    match next_line(text) {
+        Some((_, rest)) => rest,
+        None => b"",
+    }
+}
+
+// The lines after the one that ends the open compound.
+fn after_end(text: &[u8]) -> &[u8]
+    ensures { length result.now ≤ length text.now }
+{
+    let mut rest = text;
+    while let Some((line, after)) = next_line(rest) {
+        if begins_with(b"end", line) {
+            return after;
+        }
+        rest = after;
+    }
+    b""
 }
 
 // A text whose first line is the one at which it is cut, after the bytes before it.

@@ -57,7 +57,7 @@ fn owner_of_name<'a>(before: &Before<'a>, sort: Sort, name: &[u8]) -> Option<Exp
     Some(Expected::NewThanLine(declaring.number, sort_word(sort)))
 }
 
-// Whether one of the words that stand so far apart is this word, before this number of words.
+// Whether the word stands at a multiple of `step` below this number.
 fn stands_before(word: &[u8], mut words: Words<'_>, step: usize, number: usize) -> bool {
     let mut at = 0usize;
     while let Some(other) = words.next() {
@@ -72,7 +72,7 @@ fn stands_before(word: &[u8], mut words: Words<'_>, step: usize, number: usize) 
     false
 }
 
-// The number of the first word, of those that stand so far apart, that stands there twice.
+// The first multiple of `step` at which a word stands that also stands at an earlier one.
 fn second_standing(words: Words<'_>, step: usize) -> Option<usize> {
     let mut rest = words.again();
     let mut at = 0usize;
@@ -218,7 +218,7 @@ fn explain_arguments<'a>(before: &Before<'a>, line: &'a [u8]) -> Explanation<'a>
     Explanation::word(2, Expected::Parameter)
 }
 
-// The number of words, counted only up to this many.
+// The number of words, or `most` if there are more.
 fn count_up_to(mut words: Words<'_>, most: usize) -> usize {
     let mut count = 0usize;
     for _ in 0..most {

@@ -5,7 +5,7 @@ use crate::expected::Expected;
 use crate::spot::{Place, Spot, is_blank, is_visible, place_of};
 use std::alloc::{AllocError, Allocator};
 
-// Of a longer line only so many bytes are shown.
+// The greatest number of bytes of a line that are shown.
 const SHOWN: usize = 100;
 
 /// What is at fault in a line, what was expected there, and the nearest name of that sort.
@@ -67,7 +67,7 @@ impl<'a> Explanation<'a> {
     }
 }
 
-// Adds a byte so many times.
+// Adds a byte `count` times.
 fn add_times<A: Allocator>(
     text: &mut Vec<u8, A>,
     byte: u8,

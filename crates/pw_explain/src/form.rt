@@ -30,12 +30,12 @@ fn name_fits<'a>(word: &[u8], number: usize) -> Fits<'a> {
     if is_name(word) {
         return Ok(());
     }
-    match word {
-        [b'a'..=b'z', ..] if is_reserved(word) => {
-            Err(Explanation::word(number, Expected::FreeName))
-        }
-        _ => Err(Explanation::word(number, Expected::Name)),
-    }
+    let expected = if is_reserved(word) {
+        Expected::FreeName
+    } else {
+        Expected::Name
+    };
+    Err(Explanation::word(number, expected))
 }
 
 // Whether the word is one of those that are no names.

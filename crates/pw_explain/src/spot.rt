@@ -5,7 +5,7 @@ ghost use Rattle.pw_explain.specs.Spot.{LiesIn, LiesAfter, IsPlaceIn};
 /// What is at fault in a line.
 #[derive(Clone, Copy, Debug, PartialEq, Eq)]
 pub enum Spot {
-    /// The word of this number, from 0. If the line has as many words only, a word is missing.
+    /// The word of this number, from 0. If it is the number of words of the line, a word is missing.
     Word(usize),
     /// A name in a group of names: the numbers of the word and of the name in it, from 0.
     Name(usize, usize),

@@ -1,3 +1,4 @@
 pub mod Host
+pub mod Replies
 pub mod Rest
 pub mod Sum

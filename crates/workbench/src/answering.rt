@@ -100,7 +100,7 @@ fn print_blocks<'a, R: Print + AllocGlobal>(
 ) -> Result<(), Fault<'a>> {
     print(rt, &blocks.text)?;
     if blocks.are_cut {
-        print(rt, b"more faulty lines may follow\n")?;
+        print(rt, b"out of memory: more faulty lines may follow\n")?;
     }
     Ok(())
 }

@@ -6,81 +6,76 @@ ghost use Rattle.workbench.specs.Ending.{IsDeclaration, IsToldOfText};
 use crate::fault::Fault;
 use pw_decl::{DeclFault, DeclFaultKind, read_declaration};
 use pw_explain::{
-    Cut, cut_at, explain_fault, explain_text_fault, is_header, without_line, write_explanation,
-    write_line,
+    Cut, Unread, cut_at, explain_fault, explain_text_fault, write_explanation, write_line,
 };
 use pw_procs::Registry;
 use std::alloc::{AllocError, Allocator};
-
-// At most so many faulty lines of a declaration are explained.
-const MOST_BLOCKS: usize = 100;
 
 /// The blocks of the faulty lines of a declaration.
 #[derive(Drop)]
 pub struct Blocks<A: Allocator> {
     /// Their text.
     pub text: Vec<u8, A>,
-    /// Whether more faulty lines may follow.
+    /// Whether memory ran out, so that faulty lines may be left.
     pub are_cut: bool,
 }
 
-// Adds the block of a fault at a line.
-fn add_block_at<A: Allocator + Copy>(
+// Adds the first line of a block.
+fn add_title<A: Allocator + Copy>(
     alloc: A,
-    blocks: &mut Vec<u8, A>,
+    block: &mut Vec<u8, A>,
+    fault: DeclFault,
+) -> Result<(), AllocError> {
+    let title = fault.to_string(alloc)?;
+    block.extend_from_slice(title.as_bytes())?;
+    block.push(b'\n')?;
+    Ok(())
+}
+
+// Adds what is wrong with the line at which what is left of the text is cut.
+fn add_line<A: Allocator + Copy>(
+    alloc: A,
+    block: &mut Vec<u8, A>,
     table: &[u8],
+    unread: &Unread<A>,
     cut: &Cut<'_>,
-    fault: DeclFault,
+    why: DeclFaultKind,
 ) -> Result<(), AllocError> {
-    let title = fault.to_string(alloc)?;
-    blocks.extend_from_slice(title.as_bytes())?;
-    blocks.push(b'\n')?;
-    let explanation = explain_fault(table, cut, fault.why);
-    write_line(blocks, cut.line, explanation.spot)?;
-    write_explanation(alloc, blocks, &explanation)
+    let explanation = unread.renumbered(explain_fault(table, cut, why));
+    write_line(block, cut.line, explanation.spot)?;
+    write_explanation(alloc, block, &explanation)
 }
 
-// Adds the block of a fault that is at no line.
-fn add_block_of_text<A: Allocator + Copy>(
-    alloc: A,
-    blocks: &mut Vec<u8, A>,
-    fault: DeclFault,
-) -> Result<(), AllocError> {
-    let title = fault.to_string(alloc)?;
-    blocks.extend_from_slice(title.as_bytes())?;
-    blocks.push(b'\n')?;
-    let explanation = explain_text_fault(fault);
-    write_explanation(alloc, blocks, &explanation)
-}
-
-// Adds the block of a fault of the text, and answers what is left to be read, if anything is.
+// Adds the block of the first fault of what is left of the text, and answers whether the lines after
+// it are to be read.
 fn add_block<A: Allocator + Copy>(
     alloc: A,
     blocks: &mut Vec<u8, A>,
     table: &[u8],
-    text: &[u8],
+    unread: &Unread<A>,
     fault: DeclFault,
-) -> Result<Option<Vec<u8, A>>, AllocError> {
+) -> Result<bool, AllocError> {
     let mut block = Vec::new(alloc);
     if !blocks.is_empty() {
         block.push(b'\n')?;
     }
-    let left = match cut_at(text, fault.line) {
+    let numbered = DeclFault {
+        line: unread.number(fault.line),
+        why: fault.why,
+    };
+    add_title(alloc, &mut block, numbered)?;
+    let goes_on = match cut_at(unread.text(), fault.line) {
         Some(cut) => {
-            add_block_at(alloc, &mut block, table, &cut, fault)?;
-            if is_header(&cut) {
-                None
-            } else {
-                Some(without_line(alloc, &cut)?)
-            }
+            add_line(alloc, &mut block, table, unread, &cut, fault.why)?;
+            !cut.is_header()
         }
         None => {
-            add_block_of_text(alloc, &mut block, fault)?;
-            None
+            write_explanation(alloc, &mut block, &explain_text_fault(numbered))?;
+            false
         }
     };
     blocks.extend_from_slice(&block)?;
-    Ok(left)
+    Ok(goes_on)
 }
 
 // The fault of the text, if it has one.
@@ -91,56 +86,33 @@ fn fault_of<A: Allocator + Copy>(alloc: A, text: &[u8], registry: &Registry) -> 
     }
 }
 
-// What is to be read next: the text, or what is left of it after a fault.
-fn next_text<'a, A: Allocator>(text: &'a [u8], rest: &'a Option<Vec<u8, A>>) -> &'a [u8] {
-    match rest {
-        Some(rest) => rest.as_slice(),
-        None => text,
-    }
-}
-
-// The blocks of the faulty lines of a text, the first of which has this fault. If memory runs out,
-// fewer lines are explained.
-fn faulty_lines<A: Allocator + Copy>(
+// Adds the blocks of the faulty lines of a text, the first of which has this fault. When out of
+// memory it fails, and has added those of the first of them.
+fn add_blocks<A: Allocator + Copy>(
     alloc: A,
+    blocks: &mut Vec<u8, A>,
     table: &[u8],
     registry: &Registry,
     text: &[u8],
     first: DeclFault,
-) -> Blocks<A> {
-    let mut blocks = Blocks {
-        text: Vec::new(alloc),
-        are_cut: true,
-    };
-    let mut rest = None;
+) -> Result<(), AllocError> {
+    let mut unread = Unread::new(alloc, text)?;
     let mut fault = first;
-    for _ in 0..MOST_BLOCKS {
+    // A text has no more lines than bytes, and one fault may be past its last line.
+    for _ in 0..=text.len() {
         if fault.why == DeclFaultKind::Memory {
-            return blocks;
+            return Err(AllocError);
         }
-        match add_block(
-            alloc,
-            &mut blocks.text,
-            table,
-            next_text(text, &rest),
-            fault,
-        ) {
-            Ok(Some(left)) => rest = Some(left),
-            Ok(None) => {
-                blocks.are_cut = false;
-                return blocks;
-            }
-            Err(AllocError) => return blocks,
+        if !add_block(alloc, blocks, table, &unread, fault)? {
+            return Ok(());
         }
-        match fault_of(alloc, next_text(text, &rest), registry) {
+        unread.drop_line(fault.line)?;
+        match fault_of(alloc, unread.text(), registry) {
             Some(next) => fault = next,
-            None => {
-                blocks.are_cut = false;
-                return blocks;
-            }
+            None => return Ok(()),
         }
     }
-    blocks
+    Ok(())
 }
 
 /// What `explain` prints of the faulty lines of a text, and the fault with which it ends, which is
@@ -159,6 +131,11 @@ pub fn explain_text<A: Allocator + Copy>(
         Ok(_) => return None,
         Err(fault) => fault,
     };
-    let blocks = faulty_lines(alloc, table, registry, text, fault);
+    let mut blocks = Vec::new(alloc);
+    let added = add_blocks(alloc, &mut blocks, table, registry, text, fault);
+    let blocks = Blocks {
+        text: blocks,
+        are_cut: added.is_err(),
+    };
     Some((blocks, Fault::Declaration(fault)))
 }
