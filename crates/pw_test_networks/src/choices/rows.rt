@@ -1,11 +1,9 @@
 //! Small choices whose answers are known beforehand.
 
-use super::{chosen_from, chosen_in, is_chosen};
+use super::{chosen_from, is_chosen};
 use crate::networks::{Attachment, at_line};
-use crate::reasons::reason_in;
 use crate::settling::{Matter, Tell, told};
 use pw_premises::PremiseSet;
-use pw_testing::Refusing;
 use pw_testing::worlds::WORLD;
 use std::test::Fail;
 
@@ -113,7 +111,7 @@ fn three_neighbours_have_no_two_colours(rt: HostRuntime) -> Result<(), Fail> {
             both(ga, gb).join(gc),
         ],
     )?;
-    assert!(rt; is_chosen(&choice, None) && choice.refused == 0);
+    assert!(rt; is_chosen(&choice, None));
     assert_eq!(rt; choice.covered.as_slice(), [true; 8].as_slice());
     Ok(())
 }
@@ -171,39 +169,5 @@ fn picks_of_the_same_premises_are_equal(rt: HostRuntime) -> Result<(), Fail> {
     assert!(rt; is_chosen(&longer, Some([1, 0].as_slice())));
     assert_eq!(rt; choice.chosen, same.chosen);
     assert!(rt; choice.chosen != longer.chosen);
-    Ok(())
-}
-
-#[test]
-fn where_all_are_covered_no_memory_is_taken(rt: HostRuntime) -> Result<(), Fail> {
-    let tells = [
-        told("x", 1, 1, PremiseSet::one(2)),
-        told("x", 2, 2, PremiseSet::empty()),
-    ];
-    let matter = Matter {
-        text: WORLD,
-        attachments: &[],
-        tells: &tells,
-    };
-    let (all, c) = (PremiseSet::first(4), PremiseSet::one(2));
-    let asked = [c, PremiseSet::one(0)];
-    let (ample, counting) = (Refusing::nth(rt.alloc(), 0), Refusing::nth(rt.alloc(), 0));
-    let answer = reason_in(rt.alloc(), &ample, &counting, matter, all, "x", &asked)?;
-    assert_eq!(rt; answer.reason, c);
-    // Growths are refused from the first after those of the store and of the reason.
-    let refusing = Refusing::all_from(rt.alloc(), counting.calls().saturating_add(1));
-    let choice = chosen_in(
-        rt.alloc(),
-        &ample,
-        &refusing,
-        matter,
-        all,
-        Some("x"),
-        &[&[0, 1]],
-        &asked,
-    )?;
-    assert!(rt; is_chosen(&choice, None) && choice.refused == 0);
-    assert_eq!(rt; choice.covered.as_slice(), [true, false].as_slice());
-    assert_eq!(rt; refusing.calls(), counting.calls());
     Ok(())
 }
