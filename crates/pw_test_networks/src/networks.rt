@@ -2,14 +2,13 @@
 //! lines.
 
 mod attaching;
-mod refused;
 
 ghost use Rattle.std.specs.Prelude.{◌≡◌, ◌<◌, ◌≤◌, All, length, IfOk, IfSome, IsSome};
 ghost use Rattle.pw_procs.specs.Registry.{cells_of};
 ghost use Rattle.pw_decl.specs.Declaration.{IsCallable};
 ghost use Rattle.pw_decl.specs.inside.Fields.{declared};
 ghost use Rattle.pw_network.specs.Wiring.{wiring};
-ghost use Rattle.pw_network.specs.Network.{last_attachment_line};
+ghost use Rattle.pw_network.specs.Network.{cells_in, last_attachment_line};
 ghost use Rattle.pw_network.specs.Network.{AreDeclared};
 ghost use Rattle.pw_settle.specs.Values.{kinds_in};
 
@@ -19,7 +18,7 @@ use pw_network::{Instance, Network, NetworkFault};
 use pw_premises::PremiseSet;
 use pw_procs::Arguments;
 use pw_testing::worlds::{OverDeclaration, over_text};
-use std::alloc::{AllocError, Allocator, Global};
+use std::alloc::{AllocError, Global};
 use std::test::Fail;
 
 // The names of the procedures of tests, by their numbers.
@@ -56,10 +55,7 @@ pub fn at_line<'a>(line: u32, callable: &'a str, cells: &'a [&'a str]) -> Attach
 }
 
 /// The cells of these one to four names, if all are declared.
-pub fn cells_named<A: Allocator + Copy>(
-    declaration: &Declaration<'_, A>,
-    names: &[&str],
-) -> Option<Arguments>
+pub fn cells_named(declaration: &Declaration<'_>, names: &[&str]) -> Option<Arguments>
     ensures { IfSome result (λ cells. All (λ cell. cell < length (declared declaration.now).cells)
         (cells_of cells)) }
 {
@@ -85,10 +81,24 @@ pub fn cells_named<A: Allocator + Copy>(
     }
 }
 
+/// The declared cell of this name.
+pub fn cell_of(network: &Network<'_, '_>, name: &str) -> Result<u32, Fail>
+    ensures { IfOk result (λ cell. cell < cells_in (wiring network.now)) }
+{
+    let cell = network
+        .declaration()
+        .cell(name.as_bytes())
+        .ok_or("no cell")?;
+    if cell >= network.cells() {
+        return Err("no such cell".into());
+    }
+    Ok(cell)
+}
+
 /// The callable and the cells of an attachment, by their names. None if a name is not declared, or
 /// if its line does not come after the last one or is past the most lines.
-pub fn named_in<A: Allocator + Copy>(
-    network: &Network<'_, '_, A>,
+pub fn named_in(
+    network: &Network<'_, '_>,
     attachment: &Attachment<'_>,
 ) -> Option<(Callable, Arguments)>
     ensures there { IfSome result (λ named. IsCallable (wiring network.now).declared named.0) }
@@ -105,27 +115,46 @@ pub fn named_in<A: Allocator + Copy>(
     Some((callable, cells))
 }
 
+// Attaches a callable to declared cells, by their names. Answers the line and the refusal, if it is
+// refused.
+fn attach_one(
+    network: &mut Network<'_, '_>,
+    attachment: &Attachment<'_>,
+) -> Result<Option<(u32, NetworkFault)>, Fail> {
+    let (callable, cells) = named_in(network, attachment).ok_or("wrong names")?;
+    let line = attachment.line;
+    match network.attach(line, callable, cells, attachment.support) {
+        Ok(()) => Ok(None),
+        Err(fault) => Ok(Some((line, fault))),
+    }
+}
+
+// Attaches callables, one after another. Answers the last refusal, and its line.
+fn attach_each(
+    network: &mut Network<'_, '_>,
+    attachments: &[Attachment<'_>],
+) -> Result<Option<(u32, NetworkFault)>, Fail> {
+    let mut last = None;
+    for attachment in attachments {
+        last = attach_one(network, attachment)?.or(last);
+    }
+    Ok(last)
+}
+
 /// Attaches callables to declared cells, by their names, one after another.
-pub fn attach_named<A: Allocator + Copy>(
-    network: &mut Network<'_, '_, A>,
+pub fn attach_named(
+    network: &mut Network<'_, '_>,
     attachments: &[Attachment<'_>],
 ) -> Result<(), Fail> {
-    for attachment in attachments {
-        let (callable, cells) = named_in(network, attachment).ok_or("wrong names")?;
-        let Ok(()) = network.attach(attachment.line, callable, cells, attachment.support) else {
-            return Err("not attached".into());
-        };
+    match attach_each(network, attachments)? {
+        None => Ok(()),
+        Some(_) => Err("not attached".into()),
     }
-    Ok(())
 }
 
 // Adds the cell to the text: a declared one by its name, an inner one by its line and its number
 // there.
-fn show_cell<A: Allocator + Copy>(
-    text: &mut String,
-    network: &Network<'_, '_, A>,
-    cell: u32,
-) -> Result<(), AllocError> {
+fn show_cell(text: &mut String, network: &Network<'_, '_>, cell: u32) -> Result<(), AllocError> {
     let declaration = network.declaration();
     if cell < declaration.cells() {
         return text.push_str(declaration.cell_name(cell));
@@ -140,9 +169,9 @@ fn show_cell<A: Allocator + Copy>(
 }
 
 // Adds what an instance reads and writes.
-fn show_cells<A: Allocator + Copy>(
+fn show_cells(
     text: &mut String,
-    network: &Network<'_, '_, A>,
+    network: &Network<'_, '_>,
     instance: &Instance,
 ) -> Result<(), AllocError> {
     for cell in instance.inputs.as_slice() {
@@ -155,9 +184,9 @@ fn show_cells<A: Allocator + Copy>(
 
 // Adds a line: the instance's line, its procedure, what it reads and writes, and the numbers of its
 // premises.
-fn show_instance<A: Allocator + Copy>(
+fn show_instance(
     text: &mut String,
-    network: &Network<'_, '_, A>,
+    network: &Network<'_, '_>,
     instance: &Instance,
 ) -> Result<(), AllocError> {
     let name = PROCEDURES
@@ -172,11 +201,7 @@ fn show_instance<A: Allocator + Copy>(
 }
 
 // Adds a line: the cell and the numbers of the instances that read it.
-fn show_readers<A: Allocator + Copy>(
-    text: &mut String,
-    network: &Network<'_, '_, A>,
-    cell: u32,
-) -> Result<(), AllocError> {
+fn show_readers(text: &mut String, network: &Network<'_, '_>, cell: u32) -> Result<(), AllocError> {
     show_cell(text, network, cell)?;
     text.push(':')?;
     for number in network.readers(cell) {
@@ -186,11 +211,7 @@ fn show_readers<A: Allocator + Copy>(
 }
 
 // Adds a line: the cell, if it is declared, and the numbers of the instances that write it.
-fn show_writers<A: Allocator + Copy>(
-    text: &mut String,
-    network: &Network<'_, '_, A>,
-    cell: u32,
-) -> Result<(), AllocError> {
+fn show_writers(text: &mut String, network: &Network<'_, '_>, cell: u32) -> Result<(), AllocError> {
     if cell >= network.declaration().cells() {
         return Ok(());
     }
@@ -203,10 +224,7 @@ fn show_writers<A: Allocator + Copy>(
 }
 
 // The instances of a network, a line each.
-fn instances_of<A: Allocator + Copy>(
-    alloc: Global,
-    network: &Network<'_, '_, A>,
-) -> Result<String, AllocError> {
+fn instances_of(alloc: Global, network: &Network<'_, '_>) -> Result<String, AllocError> {
     let mut text = String::new(alloc);
     for instance in network.instances() {
         show_instance(&mut text, network, instance)?;
@@ -215,10 +233,7 @@ fn instances_of<A: Allocator + Copy>(
 }
 
 // The readers of all cells of a network, a line each.
-fn readers_of<A: Allocator + Copy>(
-    alloc: Global,
-    network: &Network<'_, '_, A>,
-) -> Result<String, AllocError> {
+fn readers_of(alloc: Global, network: &Network<'_, '_>) -> Result<String, AllocError> {
     let mut text = String::new(alloc);
     for cell in 0..network.cells() {
         show_readers(&mut text, network, cell)?;
@@ -227,10 +242,7 @@ fn readers_of<A: Allocator + Copy>(
 }
 
 // The writers of the declared cells of a network, a line each.
-fn writers_of<A: Allocator + Copy>(
-    alloc: Global,
-    network: &Network<'_, '_, A>,
-) -> Result<String, AllocError> {
+fn writers_of(alloc: Global, network: &Network<'_, '_>) -> Result<String, AllocError> {
     let mut text = String::new(alloc);
     for cell in 0..network.cells() {
         show_writers(&mut text, network, cell)?;
@@ -239,10 +251,7 @@ fn writers_of<A: Allocator + Copy>(
 }
 
 /// The kinds of all cells of a network.
-pub fn kinds_of<A: Allocator + Copy>(
-    alloc: Global,
-    network: &Network<'_, '_, A>,
-) -> Result<Vec<Kind>, AllocError>
+pub fn kinds_of(alloc: Global, network: &Network<'_, '_>) -> Result<Vec<Kind>, AllocError>
     ensures { IfOk result (λ kinds. kinds.items ≡ kinds_in (wiring network.now)) }
 {
     let mut kinds = Vec::new(alloc);
@@ -264,67 +273,50 @@ pub struct Shown {
     pub fault: Option<(u32, NetworkFault)>,
 }
 
-// Attaches callables to a network over a declaration, and shows it. The growths of the network are
-// those of `memory`.
+// Attaches callables to a network over a declaration, and shows it.
 #[derive(Drop)]
-struct AttachingAll<'a, A: Allocator> {
+struct AttachingAll<'a> {
     alloc: Global,
-    memory: A,
     attachments: &'a [Attachment<'a>],
 }
 
-// Attaches callables to a new network, one after another, and shows it.
-fn attach_all<A: Allocator + Copy>(
+// Shows a network, and the last refusal.
+fn show(
     alloc: Global,
-    declaration: &Declaration<'_, A>,
-    memory: A,
-    attachments: &[Attachment<'_>],
-) -> Result<Shown, Fail> {
-    let mut network = Network::new(memory, declaration)?;
-    let mut fault = None;
-    for attachment in attachments {
-        let (callable, cells) = named_in(&network, attachment).ok_or("wrong names")?;
-        let line = attachment.line;
-        if let Err(refused) = network.attach(line, callable, cells, attachment.support) {
-            fault = Some((line, refused));
-        }
-    }
+    network: &Network<'_, '_>,
+    fault: Option<(u32, NetworkFault)>,
+) -> Result<Shown, AllocError> {
     Ok(Shown {
-        instances: instances_of(alloc, &network)?,
-        readers: readers_of(alloc, &network)?,
-        writers: writers_of(alloc, &network)?,
-        kinds: kinds_of(alloc, &network)?,
+        instances: instances_of(alloc, network)?,
+        readers: readers_of(alloc, network)?,
+        writers: writers_of(alloc, network)?,
+        kinds: kinds_of(alloc, network)?,
         last_line: network.last_line(),
         fault,
     })
 }
 
-impl<A: Allocator + Copy> OverDeclaration<A> for AttachingAll<'_, A> {
+// Attaches callables to a new network, one after another, and shows it.
+fn attach_all(
+    alloc: Global,
+    declaration: &Declaration<'_>,
+    attachments: &[Attachment<'_>],
+) -> Result<Shown, Fail> {
+    let mut network = Network::new(alloc, declaration)?;
+    let fault = attach_each(&mut network, attachments)?;
+    Ok(show(alloc, &network, fault)?)
+}
+
+impl OverDeclaration<Global> for AttachingAll<'_> {
     type Answer = Result<Shown, Fail>;
 
-    fn over(self, declaration: &Declaration<'_, A>) -> Result<Shown, Fail> {
-        attach_all(self.alloc, declaration, self.memory, self.attachments)
+    fn over(self, declaration: &Declaration<'_>) -> Result<Shown, Fail> {
+        attach_all(self.alloc, declaration, self.attachments)
     }
 }
 
-/// What a network over the declaration of this text shows once these are attached. Its growths are
-/// those of `memory`, and those of the declaration are those of `reading`.
-pub fn attached_in<A: Allocator + Copy>(
-    alloc: Global,
-    reading: A,
-    memory: A,
-    text: &str,
-    attachments: &[Attachment<'_>],
-) -> Result<Shown, Fail> {
-    let task = AttachingAll {
-        alloc,
-        memory,
-        attachments,
-    };
-    over_text(alloc, reading, text, task)?
-}
-
-/// The same with ample memory.
+/// What a network over the declaration of this text shows once these are attached.
 pub fn attached(alloc: Global, text: &str, attachments: &[Attachment<'_>]) -> Result<Shown, Fail> {
-    attached_in(alloc, alloc, alloc, text, attachments)
+    let task = AttachingAll { alloc, attachments };
+    over_text(alloc, alloc, text, task)?
 }

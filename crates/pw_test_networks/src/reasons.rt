@@ -1,10 +1,7 @@
 //! Tests of reasons. Each makes a network, tells facts, and asks in a worldview why a cell has its
 //! value. Then it asks what was noted.
 
-mod drawn;
 mod noting;
-mod questions;
-mod refused;
 mod rows;
 
 ghost use Rattle.std.specs.Prelude.{◌<◌};
@@ -13,8 +10,8 @@ ghost use Rattle.pw_network.specs.Network.{cells_in};
 ghost use Rattle.pw_reasons.specs.Nogood.{AreNogoods};
 ghost use Rattle.pw_test_networks.specs.Settling.{IsReady};
 
-use crate::networks::attach_named;
-use crate::settling::{Matter, all_told, store_of, tell_fact};
+use crate::networks::{attach_named, cell_of};
+use crate::settling::{Matter, all_told, store_of, tell_each};
 use pw_cells::CellStore;
 use pw_decl::Declaration;
 use pw_network::Network;
@@ -22,7 +19,7 @@ use pw_premises::PremiseSet;
 use pw_reasons::{Nogoods, reason};
 use pw_settle::settle;
 use pw_testing::worlds::{OverDeclaration, over_text};
-use std::alloc::{AllocError, Allocator, Global};
+use std::alloc::{AllocError, Global};
 use std::test::Fail;
 
 /// What the question came to.
@@ -31,55 +28,31 @@ pub struct Answer {
     pub reason: PremiseSet,
     /// Whether each of the sets asked for is covered afterwards.
     pub covered: Vec<bool>,
-    /// Whether the question ran out of memory, and was then put again.
-    pub is_refused: bool,
     /// Whether the told facts stayed as they were.
     pub is_told_the_same: bool,
 }
 
-/// Settles the worldview, and finds the reason.
-pub fn reason_once<A: Allocator + Copy>(
-    memory: A,
-    network: &Network<'_, '_, A>,
-    store: &mut CellStore<A>,
-    nogoods: &mut Nogoods<A>,
+// Settles the worldview, and finds the reason.
+fn reason_once(
+    alloc: Global,
+    network: &Network<'_, '_>,
+    store: &mut CellStore,
+    nogoods: &mut Nogoods,
     worldview: &PremiseSet,
     cell: u32,
 ) -> Result<PremiseSet, AllocError>
     requires ready { IsReady (wiring network.now) store.old }
     requires nogoods { AreNogoods (wiring network.now) store.old nogoods.old }
     requires cell { cell < cells_in (wiring network.now) }
-    ensures ready { IsReady (wiring network.now) store.new }
-    ensures nogoods { AreNogoods (wiring network.now) store.new nogoods.new }
 {
-    let settled = settle(memory, network, store, worldview)?;
-    reason(memory, network, store, nogoods, &settled, cell)
-}
-
-// The same, and once more if memory is refused. Answers whether it was refused.
-fn reason_anyhow<A: Allocator + Copy>(
-    memory: A,
-    network: &Network<'_, '_, A>,
-    store: &mut CellStore<A>,
-    nogoods: &mut Nogoods<A>,
-    worldview: &PremiseSet,
-    cell: u32,
-) -> Result<(bool, PremiseSet), AllocError>
-    requires ready { IsReady (wiring network.now) store.old }
-    requires nogoods { AreNogoods (wiring network.now) store.old nogoods.old }
-    requires cell { cell < cells_in (wiring network.now) }
-{
-    if let Ok(found) = reason_once(memory, network, store, nogoods, worldview, cell) {
-        return Ok((false, found));
-    }
-    let found = reason_once(memory, network, store, nogoods, worldview, cell)?;
-    Ok((true, found))
+    let settled = settle(alloc, network, store, worldview)?;
+    reason(alloc, network, store, nogoods, &settled, cell)
 }
 
 /// Whether each of these sets is covered.
-pub fn all_covered<A: Allocator + Copy>(
+pub fn all_covered(
     alloc: Global,
-    nogoods: &Nogoods<A>,
+    nogoods: &Nogoods,
     asked: &[PremiseSet],
 ) -> Result<Vec<bool>, AllocError> {
     let mut covered = Vec::new(alloc);
@@ -89,96 +62,56 @@ pub fn all_covered<A: Allocator + Copy>(
     Ok(covered)
 }
 
-// A question for the reason of a cell, and the sets asked for afterwards. The growths of the
-// declaration and the network are those of `ample`, and those of the store, of the settlings and of
-// what is noted are those of `memory`.
+// A question for the reason of a cell, and the sets asked for afterwards.
 #[derive(Drop)]
-struct Asking<'a, A: Allocator> {
+struct Asking<'a> {
     alloc: Global,
-    ample: A,
-    memory: A,
     matter: Matter<'a>,
-    worldview: PremiseSet,
+    worldview: &'a PremiseSet,
     cell: &'a str,
     asked: &'a [PremiseSet],
 }
 
-impl<A: Allocator + Copy> Asking<'_, A> {
+impl Asking<'_> {
     // Finds the reason, over a store in which the facts were told.
-    fn ask(&self, network: &Network<'_, '_, A>) -> Result<Answer, Fail> {
-        let cell = network
-            .declaration()
-            .cell(self.cell.as_bytes())
-            .ok_or("no cell")?;
-        if cell >= network.cells() {
-            return Err("no such cell".into());
-        }
-        let mut store = store_of(self.alloc, self.memory, network)?;
-        for fact in self.matter.tells {
-            tell_fact(network, &mut store, fact)?;
-        }
-        let before = all_told(self.alloc, &store, &[self.worldview])?;
-        let mut nogoods = Nogoods::new(self.memory);
-        let (is_refused, reason) = reason_anyhow(
-            self.memory,
+    fn ask(&self, network: &Network<'_, '_>) -> Result<Answer, Fail> {
+        let cell = cell_of(network, self.cell)?;
+        let mut store = store_of(self.alloc, network)?;
+        tell_each(network, &mut store, self.matter.tells)?;
+        let before = all_told(self.alloc, &store, &[*self.worldview])?;
+        let mut nogoods = Nogoods::new(self.alloc);
+        let reason = reason_once(
+            self.alloc,
             network,
             &mut store,
             &mut nogoods,
-            &self.worldview,
+            self.worldview,
             cell,
         )?;
         Ok(Answer {
             reason,
             covered: all_covered(self.alloc, &nogoods, self.asked)?,
-            is_refused,
-            is_told_the_same: all_told(self.alloc, &store, &[self.worldview])? == before,
+            is_told_the_same: all_told(self.alloc, &store, &[*self.worldview])? == before,
         })
     }
 }
 
 // Makes the network, and finds the reason.
-fn ask_over<A: Allocator + Copy>(
-    task: &Asking<'_, A>,
-    declaration: &Declaration<'_, A>,
-) -> Result<Answer, Fail> {
-    let mut network = Network::new(task.ample, declaration)?;
+fn ask_over(task: &Asking<'_>, declaration: &Declaration<'_>) -> Result<Answer, Fail> {
+    let mut network = Network::new(task.alloc, declaration)?;
     attach_named(&mut network, task.matter.attachments)?;
     task.ask(&network)
 }
 
-impl<A: Allocator + Copy> OverDeclaration<A> for Asking<'_, A> {
+impl OverDeclaration<Global> for Asking<'_> {
     type Answer = Result<Answer, Fail>;
 
-    fn over(self, declaration: &Declaration<'_, A>) -> Result<Answer, Fail> {
+    fn over(self, declaration: &Declaration<'_>) -> Result<Answer, Fail> {
         ask_over(&self, declaration)
     }
 }
 
-/// Why the cell has its value in the worldview, and which of these sets are covered then. The
-/// growths of the declaration and the network are those of `ample`, and the others those of
-/// `memory`.
-pub fn reason_in<A: Allocator + Copy>(
-    alloc: Global,
-    ample: A,
-    memory: A,
-    matter: Matter<'_>,
-    worldview: PremiseSet,
-    cell: &str,
-    asked: &[PremiseSet],
-) -> Result<Answer, Fail> {
-    let task = Asking {
-        alloc,
-        ample,
-        memory,
-        matter,
-        worldview,
-        cell,
-        asked,
-    };
-    over_text(alloc, ample, matter.text, task)?
-}
-
-/// The same with ample memory.
+/// Why the cell has its value in the worldview, and which of these sets are covered then.
 pub fn reason_of(
     alloc: Global,
     matter: Matter<'_>,
@@ -186,5 +119,12 @@ pub fn reason_of(
     cell: &str,
     asked: &[PremiseSet],
 ) -> Result<Answer, Fail> {
-    reason_in(alloc, alloc, alloc, matter, worldview, cell, asked)
+    let task = Asking {
+        alloc,
+        matter,
+        worldview: &worldview,
+        cell,
+        asked,
+    };
+    over_text(alloc, alloc, matter.text, task)?
 }

@@ -2,12 +2,10 @@
 //! over one store.
 
 mod calls;
-pub mod drawing;
-mod drawn_refused;
+mod drawing;
 mod going_on;
-pub mod growing;
-mod refused;
-pub mod rounds;
+mod growing;
+mod rounds;
 mod rows;
 mod stages;
 
@@ -19,7 +17,7 @@ ghost use Rattle.pw_network.specs.Network.{cells_in};
 ghost use Rattle.pw_settle.specs.Growth.{IsFitting};
 ghost use Rattle.pw_test_networks.specs.Settling.{IsReady, LeavesFitting};
 
-use crate::networks::{Attachment, attach_named, kinds_of};
+use crate::networks::{Attachment, attach_named, cell_of, kinds_of};
 use pw_cells::CellStore;
 use pw_decl::Declaration;
 use pw_facts::Fact;
@@ -29,7 +27,7 @@ use pw_premises::PremiseSet;
 use pw_settle::{Settled, settle};
 use pw_testing::facts::{fact, is_of_kind};
 use pw_testing::worlds::{OverDeclaration, over_text};
-use std::alloc::{AllocError, Allocator, Global};
+use std::alloc::{AllocError, Global};
 use std::test::Fail;
 
 /// A fact that a test tells of a declared cell, by its name.
@@ -65,38 +63,28 @@ pub struct Answer {
 /// What several settlings over one store came to.
 #[derive(Drop)]
 pub struct Shown {
-    /// What each answered, once there was memory.
+    /// What each answered.
     pub answers: Vec<Answer>,
     /// What the store keeps afterwards of the cells asked for, in the worldviews asked for.
     pub kept: Vec<Fact>,
-    /// How many settlings ran out of memory, and were then made again.
-    pub refused: u32,
-    /// Whether the told facts stayed as they were in each of the worldviews, after each settling
-    /// and each refusal.
+    /// Whether the told facts stayed as they were in each of the worldviews, after each settling.
     pub is_told_the_same: bool,
 }
 
-/// A store of the network's cells. Asks again if memory is refused once.
-pub fn store_of<A: Allocator + Copy>(
-    alloc: Global,
-    memory: A,
-    network: &Network<'_, '_, A>,
-) -> Result<CellStore<A>, Fail>
+/// A store of the network's cells.
+pub fn store_of(alloc: Global, network: &Network<'_, '_>) -> Result<CellStore, Fail>
     ensures { IfOk result (λ store. IsReady (wiring network.now) store) }
 {
     let kinds = kinds_of(alloc, network)?;
-    let mut store = CellStore::new(memory);
-    if store.reserve(network.cells()).is_err() {
-        store.reserve(network.cells())?;
-    }
+    let mut store = CellStore::new(alloc);
     store.add_cells(&kinds)?;
     Ok(store)
 }
 
 // Tells a fact of a cell that is there.
-fn tell_once<A: Allocator + Copy>(
-    network: &Network<'_, '_, A>,
-    store: &mut CellStore<A>,
+fn tell_once(
+    network: &Network<'_, '_>,
+    store: &mut CellStore,
     cell: u32,
     fact: Fact,
 ) -> Result<(), AllocError>
@@ -112,36 +100,25 @@ fn tell_once<A: Allocator + Copy>(
     Ok(())
 }
 
-/// Tells a fact of a declared cell. Tells it again if memory is refused once.
-pub fn tell_fact<A: Allocator + Copy>(
-    network: &Network<'_, '_, A>,
-    store: &mut CellStore<A>,
-    tell: &Tell<'_>,
-) -> Result<(), Fail>
+// Tells a fact of a declared cell.
+fn tell_fact(network: &Network<'_, '_>, store: &mut CellStore, tell: &Tell<'_>) -> Result<(), Fail>
     requires { IsReady (wiring network.now) store.old }
     ensures ready { OnOk result (IsReady (wiring network.now) store.new) }
     ensures fits { OnOk result (LeavesFitting (wiring network.now) store.old
         (wiring network.now) store.new) }
 {
-    let cell = network
-        .declaration()
-        .cell(tell.cell.as_bytes())
-        .ok_or("no cell")?;
-    for _ in 0..2 {
-        if cell >= store.cells() || !is_of_kind(&tell.fact.info, store.kind(cell)) {
-            return Err("a fact of another kind".into());
-        }
-        if tell_once(network, store, cell, tell.fact).is_ok() {
-            return Ok(());
-        }
+    let cell = cell_of(network, tell.cell)?;
+    if cell >= store.cells() || !is_of_kind(&tell.fact.info, store.kind(cell)) {
+        return Err("a fact of another kind".into());
     }
-    Err("no memory".into())
+    tell_once(network, store, cell, tell.fact)?;
+    Ok(())
 }
 
 /// Tells facts of declared cells.
-pub fn tell_each<A: Allocator + Copy>(
-    network: &Network<'_, '_, A>,
-    store: &mut CellStore<A>,
+pub fn tell_each(
+    network: &Network<'_, '_>,
+    store: &mut CellStore,
     tells: &[Tell<'_>],
 ) -> Result<(), Fail>
     requires { IsReady (wiring network.now) store.old }
@@ -156,9 +133,9 @@ pub fn tell_each<A: Allocator + Copy>(
 }
 
 /// What the store is told of each cell, in one worldview after another.
-pub fn all_told<A: Allocator + Copy>(
+pub fn all_told(
     alloc: Global,
-    store: &CellStore<A>,
+    store: &CellStore,
     worldviews: &[PremiseSet],
 ) -> Result<Vec<Info>, AllocError> {
     let mut list = Vec::new(alloc);
@@ -171,10 +148,10 @@ pub fn all_told<A: Allocator + Copy>(
 }
 
 // The values of all cells of the network that was settled.
-fn values_of<A: Allocator + Copy>(
+fn values_of(
     alloc: Global,
-    network: &Network<'_, '_, A>,
-    settled: &Settled<A>,
+    network: &Network<'_, '_>,
+    settled: &Settled,
 ) -> Result<Vec<Fact>, AllocError>
     requires { length settled.now.infos ≡ cells_in (wiring network.now) }
 {
@@ -186,50 +163,27 @@ fn values_of<A: Allocator + Copy>(
 }
 
 // Settles a worldview.
-fn settle_once<A: Allocator + Copy>(
-    memory: A,
-    network: &Network<'_, '_, A>,
-    store: &mut CellStore<A>,
+fn settle_once(
+    alloc: Global,
+    network: &Network<'_, '_>,
+    store: &mut CellStore,
     worldview: &PremiseSet,
-) -> Result<Settled<A>, AllocError>
+) -> Result<Settled, AllocError>
     requires { IsReady (wiring network.now) store.old }
     ensures ready { IsReady (wiring network.now) store.new }
     ensures cells { IfOk result (λ settled.
         length settled.infos ≡ cells_in (wiring network.now)) }
     ensures fits { IfOk result (IsFitting (wiring network.now) store.new) }
 {
-    let settled = settle(memory, network, store, worldview)?;
+    let settled = settle(alloc, network, store, worldview)?;
     Ok(settled)
 }
 
-// Settles a worldview, and once more if memory is refused. Answers whether it was refused, and the
-// values in the end.
-fn settle_anyhow<A: Allocator + Copy>(
-    memory: A,
-    network: &Network<'_, '_, A>,
-    store: &mut CellStore<A>,
-    worldview: &PremiseSet,
-) -> Result<(bool, Settled<A>), Fail>
-    requires { IsReady (wiring network.now) store.old }
-    ensures ready { OnOk result (IsReady (wiring network.now) store.new) }
-    ensures cells { IfOk result (λ settled.
-        length settled.1.infos ≡ cells_in (wiring network.now)) }
-    ensures fits { IfOk result (λ settled. IsFitting (wiring network.now) store.new settled.1) }
-{
-    match settle_once(memory, network, store, worldview) {
-        Ok(settled) => Ok((false, settled)),
-        Err(_) => {
-            let settled = settle_once(memory, network, store, worldview)?;
-            Ok((true, settled))
-        }
-    }
-}
-
 // What the values of a settling show.
-fn answer_of<A: Allocator + Copy>(
+fn answer_of(
     alloc: Global,
-    network: &Network<'_, '_, A>,
-    settled: &Settled<A>,
+    network: &Network<'_, '_>,
+    settled: &Settled,
 ) -> Result<Answer, AllocError>
     requires { length settled.now.infos ≡ cells_in (wiring network.now) }
 {
@@ -240,18 +194,15 @@ fn answer_of<A: Allocator + Copy>(
 }
 
 // What the store keeps of these cells in these worldviews.
-fn kept_of<A: Allocator + Copy>(
+fn kept_of(
     alloc: Global,
-    network: &Network<'_, '_, A>,
-    store: &mut CellStore<A>,
+    network: &Network<'_, '_>,
+    store: &mut CellStore,
     asked: &[(&str, PremiseSet)],
 ) -> Result<Vec<Fact>, Fail> {
     let mut kept = Vec::new(alloc);
     for (name, worldview) in asked {
-        let cell = network
-            .declaration()
-            .cell(name.as_bytes())
-            .ok_or("no cell")?;
+        let cell = cell_of(network, name)?;
         if cell >= store.cells() {
             return Err("no such cell".into());
         }
@@ -260,35 +211,30 @@ fn kept_of<A: Allocator + Copy>(
     Ok(kept)
 }
 
-// Settlings over one store. The growths of the declaration and the network are those of `ample`,
-// and those of the store and of the settlings are those of `memory`.
+// Settlings over one store.
 #[derive(Drop)]
-struct Settling<'a, A: Allocator> {
+struct Settling<'a> {
     alloc: Global,
-    ample: A,
-    memory: A,
     matter: Matter<'a>,
     worldviews: &'a [PremiseSet],
     asked: &'a [(&'a str, PremiseSet)],
 }
 
-impl<A: Allocator + Copy> Settling<'_, A> {
+impl Settling<'_> {
     // Settles the worldviews one after another, over a store in which the facts were told.
-    fn settle_all(&self, network: &Network<'_, '_, A>) -> Result<Shown, Fail> {
-        let mut store = store_of(self.alloc, self.memory, network)?;
+    fn settle_all(&self, network: &Network<'_, '_>) -> Result<Shown, Fail> {
+        let mut store = store_of(self.alloc, network)?;
         tell_each(network, &mut store, self.matter.tells)?;
         let before = all_told(self.alloc, &store, self.worldviews)?;
         let mut shown = Shown {
             answers: Vec::new(self.alloc),
             kept: Vec::new(self.alloc),
-            refused: 0,
             is_told_the_same: true,
         };
         for worldview in self.worldviews {
-            let (is_refused, settled) = settle_anyhow(self.memory, network, &mut store, worldview)?;
+            let settled = settle_once(self.alloc, network, &mut store, worldview)?;
             let answer = answer_of(self.alloc, network, &settled)?;
             shown.answers.push(answer)?;
-            shown.refused = shown.refused.saturating_add(u32::from(is_refused));
             if all_told(self.alloc, &store, self.worldviews)? != before {
                 shown.is_told_the_same = false;
             }
@@ -299,51 +245,33 @@ impl<A: Allocator + Copy> Settling<'_, A> {
 }
 
 // Makes the network, and settles the worldviews.
-fn settle_over<A: Allocator + Copy>(
-    task: &Settling<'_, A>,
-    declaration: &Declaration<'_, A>,
-) -> Result<Shown, Fail> {
-    let mut network = Network::new(task.ample, declaration)?;
+fn settle_over(task: &Settling<'_>, declaration: &Declaration<'_>) -> Result<Shown, Fail> {
+    let mut network = Network::new(task.alloc, declaration)?;
     attach_named(&mut network, task.matter.attachments)?;
     task.settle_all(&network)
 }
 
-impl<A: Allocator + Copy> OverDeclaration<A> for Settling<'_, A> {
+impl OverDeclaration<Global> for Settling<'_> {
     type Answer = Result<Shown, Fail>;
 
-    fn over(self, declaration: &Declaration<'_, A>) -> Result<Shown, Fail> {
+    fn over(self, declaration: &Declaration<'_>) -> Result<Shown, Fail> {
         settle_over(&self, declaration)
     }
 }
 
 /// Settles these worldviews one after another. Answers what they came to, and what the store then
-/// keeps of the cells asked for. The growths of the declaration and the network are those of
-/// `ample`, and the others those of `memory`.
-pub fn settled_in<A: Allocator + Copy>(
-    alloc: Global,
-    ample: A,
-    memory: A,
-    matter: Matter<'_>,
-    worldviews: &[PremiseSet],
-    asked: &[(&str, PremiseSet)],
-) -> Result<Shown, Fail> {
-    let task = Settling {
-        alloc,
-        ample,
-        memory,
-        matter,
-        worldviews,
-        asked,
-    };
-    over_text(alloc, ample, matter.text, task)?
-}
-
-/// The same with ample memory.
+/// keeps of the cells asked for.
 pub fn settled(
     alloc: Global,
     matter: Matter<'_>,
     worldviews: &[PremiseSet],
     asked: &[(&str, PremiseSet)],
 ) -> Result<Shown, Fail> {
-    settled_in(alloc, alloc, alloc, matter, worldviews, asked)
+    let task = Settling {
+        alloc,
+        matter,
+        worldviews,
+        asked,
+    };
+    over_text(alloc, alloc, matter.text, task)?
 }

@@ -3,7 +3,9 @@ ghost use Rattle.std.specs.Prelude.{[], Some};
 
 use pw_info::{Failed, Info, Kind, Output, Writing, put_all, read_info, write_info};
 use pw_kinds::{Exact, Interval};
+use std::alloc::Global;
 use std::io::{self, ErrorKind, Write};
+use std::process::Abort;
 use std::test::Fail;
 
 mod words;
@@ -47,7 +49,7 @@ fn reads_numbers(rt: HostRuntime) {
         ("", None),
     ];
     for (word, want) in cases {
-        assert_eq!(rt; read_number(word.as_bytes()), want, "at {word}");
+        assert!(rt; read_number(word.as_bytes()) == want, "at {word}");
     }
 }
 
@@ -72,34 +74,38 @@ fn reads_ranges(rt: HostRuntime) {
         ("", None),
     ];
     for (word, want) in cases {
-        assert_eq!(rt; read_range(word.as_bytes()), want, "at {word}");
+        assert!(rt; read_range(word.as_bytes()) == want, "at {word}");
     }
 }
 
 #[test]
 fn reads_no_thousand_digits(rt: HostRuntime) {
     let ones = [b'1'; 1000];
-    assert_eq!(rt; read_exact(&ones), None);
-    assert_eq!(rt; read_range(&ones), None);
+    assert!(rt; read_exact(&ones).is_none() && read_range(&ones).is_none());
 }
 
 #[test]
 fn reads_no_bytes_past_ascii(rt: HostRuntime) {
     let words: [&[u8]; 4] = [b"\xff", b"1\xb2", b"\xd9\xa1", b"1..\xd9\xa2"];
     for word in words {
-        assert_eq!(rt; read_exact(word), None);
-        assert_eq!(rt; read_range(word), None);
+        assert!(rt; read_exact(word).is_none() && read_range(word).is_none());
     }
+}
+
+// Checks that a number is read from what is written of it.
+fn is_read_back<R: Abort + AllocGlobal>(rt: &R, number: i64) -> Result<(), Fail> {
+    let interval = Interval::new(number, number).ok_or("no interval")?;
+    let mut output = Writing::new(Vec::new(rt.alloc()));
+    write_info(&Info::of_interval(interval), &Palette, &mut output)?;
+    assert!(rt; read_number(output.into_writer().as_slice()) == Some(number));
+    Ok(())
 }
 
 #[test]
 fn reads_what_is_written(rt: HostRuntime) -> Result<(), Fail> {
     let numbers: [i64; 5] = [0, 7, -7, 1_000_000, -1_000_000];
     for number in numbers {
-        let interval = Interval::new(number, number).ok_or("no interval")?;
-        let mut output = Writing::new(Vec::new(rt.alloc()));
-        write_info(&Info::of_interval(interval), &Palette, &mut output)?;
-        assert_eq!(rt; read_number(output.into_writer().as_slice()), Some(number));
+        is_read_back(&rt, number)?;
     }
     Ok(())
 }
@@ -130,29 +136,47 @@ impl Write for Trickle {
     }
 }
 
+/// An output over a writer with this room.
+pub fn trickling(alloc: Global, room: usize) -> Writing<Trickle> {
+    Writing::new(Trickle {
+        text: Vec::new(alloc),
+        room,
+    })
+}
+
+/// Checks that the writer took the text, or as much of it as there was room for.
+pub fn has_front<R: Abort>(rt: &R, output: Writing<Trickle>, text: &[u8], room: usize) {
+    let kept = room.min(text.len());
+    assert!(rt;
+        output.into_writer().text.as_slice() == &text[..kept],
+        "at {room}"
+    );
+}
+
+// Checks that an output that failed takes nothing.
+fn takes_nothing<R: Abort>(rt: &R, output: &mut Writing<Trickle>, text: &[u8]) {
+    assert!(rt; output.put(text) == Err(Failed));
+    assert!(rt; output.put(b"") == Err(Failed));
+    assert!(rt; output.failed());
+}
+
+// Passes a text to a writer with this room. Checks that it takes the text or a front.
+fn passes<R: Abort + AllocGlobal>(rt: &R, text: &[u8], room: usize) {
+    let mut output = trickling(rt.alloc(), room);
+    let answer = put_all(&mut output, text);
+    let has_room = room >= text.len();
+    assert!(rt; answer.is_ok() == has_room, "at {room}");
+    assert!(rt; output.failed() == !has_room, "at {room}");
+    if output.failed() {
+        takes_nothing(rt, &mut output, text);
+    }
+    has_front(rt, output, text, room);
+}
+
 #[test]
 fn passes_the_text_or_a_front(rt: HostRuntime) {
-    let text = b"one byte at a time";
     for room in 0..20usize {
-        let writer = Trickle {
-            text: Vec::new(rt.alloc()),
-            room,
-        };
-        let mut output = Writing::new(writer);
-        let answer = put_all(&mut output, text);
-        assert_eq!(rt; answer.is_ok(), room >= text.len(), "at {room}");
-        assert_eq!(rt; output.failed(), room < text.len(), "at {room}");
-        if output.failed() {
-            assert_eq!(rt; output.put(text), Err(Failed), "at {room}");
-            assert_eq!(rt; output.put(b""), Err(Failed), "at {room}");
-            assert!(rt; output.failed(), "at {room}");
-        }
-        let kept = room.min(text.len());
-        assert_eq!(rt;
-            output.into_writer().text.as_slice(),
-            &text[..kept],
-            "at {room}"
-        );
+        passes(&rt, b"one byte at a time", room);
     }
 }
 
@@ -175,8 +199,8 @@ impl Write for Full {
 #[test]
 fn no_byte_taken_is_a_failure(rt: HostRuntime) {
     let mut output = Writing::new(Full);
-    assert_eq!(rt; output.put(b""), Ok(0));
-    assert_eq!(rt; output.put(b"x"), Err(Failed));
+    assert!(rt; output.put(b"") == Ok(0));
+    assert!(rt; output.put(b"x") == Err(Failed));
     assert!(rt; output.failed());
-    assert_eq!(rt; output.put(b""), Err(Failed));
+    assert!(rt; output.put(b"") == Err(Failed));
 }

@@ -1,6 +1,9 @@
 //! Tests of sets of premises.
 
+ghost use Rattle.std.specs.Prelude.{◌<◌};
+
 use pw_premises::PremiseSet;
+use std::process::Abort;
 use std::test::Fail;
 
 #[test]
@@ -14,14 +17,31 @@ fn sets_of_few_premises(rt: HostRuntime) {
         (64, false),
         (511, false),
     ] {
-        assert_eq!(rt; few.contains(n), within, "at {n}");
+        assert!(rt; few.contains(n) == within, "at {n}");
     }
     assert!(rt; PremiseSet::first(0) == PremiseSet::empty());
-    let all = PremiseSet::first(512);
-    assert!(rt; all.contains(0) && all.contains(63) && all.contains(64) && all.contains(511));
-    assert!(rt; !all.contains(512) && !all.contains(65_535));
-    let last = PremiseSet::one(511);
-    assert!(rt; last.contains(511) && !last.contains(63) && !last.contains(447));
+}
+
+#[test]
+fn sets_of_all_premises_and_of_the_last(rt: HostRuntime) {
+    let (all, last) = (PremiseSet::first(512), PremiseSet::one(511));
+    for (n, in_all, is_last) in [
+        (0u16, true, false),
+        (63, true, false),
+        (64, true, false),
+        (447, true, false),
+        (511, true, true),
+        (512, false, false),
+        (65_535, false, false),
+    ] {
+        assert!(rt; all.contains(n) == in_all, "at {n}");
+        assert!(rt; last.contains(n) == is_last, "at {n}");
+    }
+}
+
+#[test]
+fn sets_joined_and_taken_apart(rt: HostRuntime) {
+    let (few, last) = (PremiseSet::first(3), PremiseSet::one(511));
     let two = PremiseSet::one(1).join(last);
     let both = few.join(two);
     assert!(rt; few.is_subset(&both) && two.is_subset(&both));
@@ -30,17 +50,22 @@ fn sets_of_few_premises(rt: HostRuntime) {
     assert!(rt; both.difference(few) == last && few != two);
 }
 
+// Checks that sets whose last premise is this one lose it.
+fn loses_the_last<R: Abort>(rt: &R, n: u16)
+    requires { n < 512 }
+{
+    let (first, one) = (PremiseSet::first(n + 1), PremiseSet::one(n));
+    assert!(rt; first.without(n) == PremiseSet::first(n), "{n}");
+    assert!(rt; !one.is_empty() && one.without(n).is_empty(), "{n}");
+}
+
 #[test]
 fn sets_without_a_premise(rt: HostRuntime) {
     let few = PremiseSet::first(3);
     assert!(rt; few.without(1) == PremiseSet::one(0).join(PremiseSet::one(2)));
     assert!(rt; few.without(3) == few && few.without(512) == few && few.without(65_535) == few);
     for n in [63, 64, 511] {
-        assert!(rt;
-            PremiseSet::first(n + 1).without(n) == PremiseSet::first(n),
-            "{n}"
-        );
-        assert!(rt; !PremiseSet::one(n).is_empty() && PremiseSet::one(n).without(n).is_empty());
+        loses_the_last(&rt, n);
     }
     assert!(rt; !few.is_empty() && PremiseSet::empty().is_empty());
 }
@@ -52,6 +77,26 @@ fn debug_text(rt: HostRuntime) -> Result<(), Fail> {
         text.as_str(),
         "PremiseSet { words: [7, 0, 0, 0, 0, 0, 0, 0] }"
     );
+    Ok(())
+}
+
+// Checks the numbers of a set from the front.
+fn rises<R: Abort + AllocGlobal>(rt: &R, set: PremiseSet, wanted: &[u16]) -> Result<(), Fail> {
+    let mut numbers = Vec::new(rt.alloc());
+    for n in set.numbers() {
+        numbers.push(n)?;
+    }
+    assert!(rt; numbers.as_slice() == wanted);
+    Ok(())
+}
+
+// Checks the numbers of a set from the back.
+fn falls<R: Abort + AllocGlobal>(rt: &R, set: PremiseSet, wanted: &[u16]) -> Result<(), Fail> {
+    let mut numbers = Vec::new(rt.alloc());
+    for n in set.numbers().rev() {
+        numbers.push(n)?;
+    }
+    assert!(rt; numbers.as_slice() == wanted);
     Ok(())
 }
 
@@ -71,28 +116,20 @@ fn numbers_rise_and_fall_from_the_back(rt: HostRuntime) -> Result<(), Fail> {
             [511, 64, 63, 1, 0].as_slice(),
         ),
     ] {
-        let mut forth = Vec::new(rt.alloc());
-        for n in set.numbers() {
-            forth.push(n)?;
-        }
-        assert_eq!(rt; forth.as_slice(), rising);
-        let mut back = Vec::new(rt.alloc());
-        for n in set.numbers().rev() {
-            back.push(n)?;
-        }
-        assert_eq!(rt; back.as_slice(), falling);
+        rises(&rt, set, rising)?;
+        falls(&rt, set, falling)?;
     }
-    assert_eq!(rt; PremiseSet::first(512).numbers().count(), 512);
+    assert!(rt; PremiseSet::first(512).numbers().count() == 512);
     Ok(())
 }
 
 #[test]
 fn numbers_from_both_ends(rt: HostRuntime) {
     let mut left = PremiseSet::first(3).join(PremiseSet::one(400)).numbers();
-    assert_eq!(rt; left.next(), Some(0));
-    assert_eq!(rt; left.next_back(), Some(400));
-    assert_eq!(rt; left.next_back(), Some(2));
-    assert_eq!(rt; left.next(), Some(1));
-    assert_eq!(rt; left.next(), None);
-    assert_eq!(rt; left.next_back(), None);
+    assert!(rt; left.next() == Some(0));
+    assert!(rt; left.next_back() == Some(400));
+    assert!(rt; left.next_back() == Some(2));
+    assert!(rt; left.next() == Some(1));
+    assert!(rt; left.next() == None);
+    assert!(rt; left.next_back() == None);
 }

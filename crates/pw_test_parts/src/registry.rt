@@ -1,19 +1,11 @@
-//! Tests of registries: lists of procedures under several names; and fifteen procedures, as in the
-//! program, over an allocator that refuses growths. A refused registry hands the list of procedures
-//! back whole, and the list makes a registry once there is memory.
-ghost use Rattle.std.specs.Prelude.{◌≡◌, ◌∷◌, [], map, IfOk};
-ghost use Rattle.pw_info.specs.Information.{kind_of};
-ghost use Rattle.pw_procs.specs.Rules.{AreRules, value_of_rules};
+//! Tests of registries: lists of procedures under several names; and fifteen procedures, under the
+//! names of the program's, over an allocator that refuses growths. A refused registry hands the list
+//! of procedures back whole, and the list makes a registry once there is memory.
 
-use pw_info::{Info, Kind, SetKind};
-use pw_procs::bodies::{self, by_rules};
-use pw_procs::{
-    Body, Meaning, Registry, RegistryFault, Rule, Signature, Slot, Stored, add_by_rules,
-    add_of_table, add_rule, members_of_mask,
-};
+use pw_info::{Info, Kind};
+use pw_procs::{Body, Meaning, Registry, RegistryFault, Signature, Slot, Stored, bodies};
 use pw_testing::Refusing;
-use pw_testing::procedures::{from_to, table_of};
-use std::alloc::{AllocError, Allocator, Global};
+use std::alloc::{Allocator, Global};
 use std::process::Abort;
 use std::test::Fail;
 
@@ -112,8 +104,13 @@ fn names_of_procedures(rt: HostRuntime) -> Result<(), Fail> {
         (["adder", "Add", "adder"].as_slice(), RegistryFault::BadName),
         (["adder"; 65].as_slice(), RegistryFault::TooMany),
     ] {
-        assert_eq!(rt; register(rt.alloc(), names)?, refused(fault, names.len()));
+        assert!(rt; register(rt.alloc(), names)? == refused(fault, names.len()));
     }
+    Ok(())
+}
+
+#[test]
+fn numbers_of_procedures(rt: HostRuntime) -> Result<(), Fail> {
     for (names, last) in [
         ([].as_slice(), None),
         (["adder", "summer"].as_slice(), Some(1)),
@@ -125,73 +122,16 @@ fn names_of_procedures(rt: HostRuntime) -> Result<(), Fail> {
             last,
             sum: None,
         };
-        assert_eq!(rt; register(rt.alloc(), names)?, found);
+        assert!(rt; register(rt.alloc(), names)? == found);
     }
     Ok(())
-}
-
-// Adds procedures of the table at the end of a list. It boxes each body where the macro is used.
-macro_rules! add_table {
-    ($alloc:expr, $list:expr, $($name:literal $meaning:ident $body:ident,)*) => {
-        $(
-            add_of_table($alloc, $list, $name, Meaning::$meaning, Box::new($alloc, bodies::$body)?)?;
-        )*
-    };
-}
-
-// The kind of the set of signs.
-fn sign_set() -> SetKind
-    ensures number { result.number ≡ 1 }
-    ensures size { result.size ≡ 3 }
-{
-    SetKind { number: 1, size: 3 }
-}
-
-// The rules of `sign`: the signs of the numbers in each of five ranges.
-fn sign_rules(alloc: Global, sign: SetKind) -> Result<Vec<Rule>, AllocError>
-    ensures { IfOk result (λ made. AreRules (Kind.Interval ∷ []) (Kind.Members sign) made.items) }
-{
-    const MOST: i64 = 1_000_000;
-    let mut rules = Vec::new(alloc);
-    add_rule(
-        alloc,
-        &mut rules,
-        from_to(-MOST, -1),
-        members_of_mask(sign, 0b001),
-    )?;
-    add_rule(
-        alloc,
-        &mut rules,
-        from_to(0, 0),
-        members_of_mask(sign, 0b010),
-    )?;
-    add_rule(
-        alloc,
-        &mut rules,
-        from_to(1, MOST),
-        members_of_mask(sign, 0b100),
-    )?;
-    add_rule(
-        alloc,
-        &mut rules,
-        from_to(-MOST, 0),
-        members_of_mask(sign, 0b011),
-    )?;
-    add_rule(
-        alloc,
-        &mut rules,
-        from_to(0, MOST),
-        members_of_mask(sign, 0b110),
-    )?;
-    Ok(rules)
 }
 
 // Checks that the registry finds each procedure by its name.
 fn finds_all<R: Abort, A: Allocator + Copy>(rt: &R, registry: &Registry<A>) {
     for (number, name) in NAMES.iter().enumerate() {
-        assert_eq!(rt;
-            registry.find(name.as_bytes()),
-            Some(number as u8),
+        assert!(rt;
+            registry.find(name.as_bytes()) == Some(number as u8),
             "{name}"
         );
     }
@@ -199,9 +139,9 @@ fn finds_all<R: Abort, A: Allocator + Copy>(rt: &R, registry: &Registry<A>) {
 
 // Checks that the list has all procedures, in their order.
 fn is_whole<R: Abort>(rt: &R, list: &[Stored], at: u64) {
-    assert_eq!(rt; list.len(), NAMES.len(), "at {at}");
+    assert!(rt; list.len() == NAMES.len(), "at {at}");
     for (entry, name) in list.iter().zip(NAMES) {
-        assert_eq!(rt; entry.name(), name, "at {at}");
+        assert!(rt; entry.name() == name, "at {at}");
     }
 }
 
@@ -223,56 +163,28 @@ fn is_handed_back<R: Abort + AllocGlobal>(rt: &R, list: Vec<Stored>) -> Result<(
                 return Ok(());
             }
             Err((fault, back)) => {
-                assert_eq!(rt; fault, RegistryFault::Memory, "at {at}");
+                assert!(rt; fault == RegistryFault::Memory, "at {at}");
                 is_whole(rt, &back, at);
                 entries = back;
             }
         }
-        assert_eq!(rt; refusing.given_back(), refusing.taken(), "at {at}");
+        assert!(rt; refusing.given_back() == refusing.taken(), "at {at}");
     }
     Err("some growth was always refused".into())
 }
 
 #[test]
 fn a_refused_registry_hands_its_list_back(rt: HostRuntime) -> Result<(), Fail> {
-    let alloc = rt.alloc();
-    let mut list = Vec::new(alloc);
-    let set = sign_set();
-    let sign = Kind::Members(set);
-    let rules = sign_rules(alloc, set)?;
-    let table = table_of(alloc, &rules, sign)?;
-    let body: Body = Box::new(
-        alloc,
-        move |inputs: &[Info]| -> Info
-            requires kinds { map kind_of inputs.now ≡ Kind.Interval ∷ [] }
-            requires rules { AreRules (Kind.Interval ∷ []) sign table.items }
-            ensures { result ≡ value_of_rules sign table.items inputs.now }
-        { by_rules(sign, &table, inputs) },
-    )?;
-    add_by_rules(
-        alloc,
-        &mut list,
-        "sign",
-        (Kind::Interval, sign),
-        rules,
-        body,
-    )?;
-    add_table! {
-        alloc, &mut list,
-        "adder" Adder adder,
-        "subtractor" Subtractor subtractor,
-        "multiplier" Multiplier multiplier,
-        "squarer" Squarer squarer,
-        "divider" Divider divider,
-        "at_most" AtMost at_most,
-        "equal" Equal equal,
-        "inverter" Inverter inverter,
-        "conjoiner" Conjoiner conjoiner,
-        "disjoiner" Disjoiner disjoiner,
-        "switch" Switch switch,
-        "copy" Copy copy,
-        "point" Point point,
-        "fixed" Fixed fixed,
+    let signature = Signature::new(&[Slot::Same], Slot::Same).ok_or("no signature")?;
+    let mut list = Vec::new(rt.alloc());
+    for name in NAMES {
+        let body: Body = Box::new(rt.alloc(), bodies::copy)?;
+        list.push(Stored::new(
+            String::from_str(rt.alloc(), name)?,
+            signature,
+            Meaning::Copy,
+            body,
+        ))?;
     }
     is_handed_back(&rt, list)
 }

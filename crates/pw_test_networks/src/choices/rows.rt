@@ -1,16 +1,15 @@
 //! Small choices whose answers are known beforehand.
 
-use super::{chosen_from, chosen_in, is_chosen};
+use super::{Choice, chosen_from, is_chosen};
 use crate::networks::{Attachment, at_line};
-use crate::reasons::reason_in;
 use crate::settling::{Matter, Tell, told};
 use pw_premises::PremiseSet;
-use pw_testing::Refusing;
 use pw_testing::worlds::WORLD;
+use std::alloc::Global;
 use std::test::Fail;
 
-/// Three countries, each of which is red or green under premises of its own: 1 is red, 2 is green.
-pub const COUNTRIES: &str = concat!(
+// Three countries, each of which is red or green under premises of its own: 1 is red, 2 is green.
+const COUNTRIES: &str = concat!(
     "workbench 1\nuser ann\n",
     "premise ra\npremise ga\npremise rb\npremise gb\npremise rc\npremise gc\n",
     "cell na interval\ncell nb interval\ncell nc interval\n",
@@ -18,8 +17,8 @@ pub const COUNTRIES: &str = concat!(
     "at_most p q s\nat_most q p t\ninverter s t\nend\n",
 );
 
-/// The first two countries are neighbours, and so are the others.
-pub fn neighbours() -> [Attachment<'static>; 3] {
+// The first two countries are neighbours, and so are the others.
+fn neighbours() -> [Attachment<'static>; 3] {
     [
         at_line(5, "differ", &["na", "nb"]),
         at_line(12, "differ", &["nb", "nc"]),
@@ -27,8 +26,8 @@ pub fn neighbours() -> [Attachment<'static>; 3] {
     ]
 }
 
-/// Each country is red under its first premise, and green under its second.
-pub fn colours() -> [Tell<'static>; 6] {
+// Each country is red under its first premise, and green under its second.
+fn colours() -> [Tell<'static>; 6] {
     [
         told("na", 1, 1, PremiseSet::one(0)),
         told("na", 2, 2, PremiseSet::one(1)),
@@ -44,45 +43,31 @@ fn both(one: PremiseSet, other: PremiseSet) -> PremiseSet {
     one.join(other)
 }
 
-#[test]
-fn the_first_consistent_combination_is_chosen(rt: HostRuntime) -> Result<(), Fail> {
+// What is chosen for the first two countries, and which of these sets are covered then.
+fn of_two_countries(alloc: Global, asked: &[PremiseSet]) -> Result<Choice, Fail> {
     let (attachments, tells) = (neighbours(), colours());
     let matter = Matter {
         text: COUNTRIES,
         attachments: &attachments[..1],
         tells: &tells[..4],
     };
-    let choice = chosen_from(
-        rt.alloc(),
-        matter,
-        PremiseSet::first(6),
-        &[&[0, 1], &[2, 3]],
-        &[],
-    )?;
+    let lists: [&[u16]; 2] = [&[0, 1], &[2, 3]];
+    chosen_from(alloc, matter, PremiseSet::first(6), &lists, asked)
+}
+
+#[test]
+fn the_first_consistent_combination_is_chosen(rt: HostRuntime) -> Result<(), Fail> {
+    let choice = of_two_countries(rt.alloc(), &[])?;
     assert!(rt; is_chosen(&choice, Some([0, 3].as_slice())));
     Ok(())
 }
 
 #[test]
 fn a_support_is_noted_and_not_all_that_is_believed(rt: HostRuntime) -> Result<(), Fail> {
-    let (attachments, tells) = (neighbours(), colours());
-    let matter = Matter {
-        text: COUNTRIES,
-        attachments: &attachments[..1],
-        tells: &tells[..4],
-    };
     let (ra, rb, gb) = (PremiseSet::one(0), PremiseSet::one(2), PremiseSet::one(3));
-    let choice = chosen_from(
-        rt.alloc(),
-        matter,
-        PremiseSet::first(6),
-        &[&[0, 1], &[2, 3]],
-        &[both(ra, rb), both(ra, gb), ra, rb],
-    )?;
-    assert_eq!(rt;
-        choice.covered.as_slice(),
-        [true, false, false, false].as_slice()
-    );
+    let asked = [both(ra, rb), both(ra, gb), ra, rb];
+    let choice = of_two_countries(rt.alloc(), &asked)?;
+    assert!(rt; choice.covered.as_slice() == [true, false, false, false].as_slice());
     Ok(())
 }
 
@@ -113,27 +98,27 @@ fn three_neighbours_have_no_two_colours(rt: HostRuntime) -> Result<(), Fail> {
             both(ga, gb).join(gc),
         ],
     )?;
-    assert!(rt; is_chosen(&choice, None) && choice.refused == 0);
+    assert!(rt; is_chosen(&choice, None));
     assert_eq!(rt; choice.covered.as_slice(), [true; 8].as_slice());
     Ok(())
 }
 
-#[test]
-fn premises_of_other_users_can_be_chosen(rt: HostRuntime) -> Result<(), Fail> {
+// What is chosen from these groups where nothing is told, and whether all premises are covered then.
+fn where_nothing_is_told(alloc: Global, lists: &[&[u16]]) -> Result<Choice, Fail> {
     let matter = Matter {
         text: WORLD,
         attachments: &[],
         tells: &[],
     };
-    let choice = chosen_from(
-        rt.alloc(),
-        matter,
-        PremiseSet::first(4),
-        &[&[3, 0], &[1]],
-        &[PremiseSet::first(4)],
-    )?;
+    let all = PremiseSet::first(4);
+    chosen_from(alloc, matter, all, lists, &[all])
+}
+
+#[test]
+fn premises_of_other_users_can_be_chosen(rt: HostRuntime) -> Result<(), Fail> {
+    let choice = where_nothing_is_told(rt.alloc(), &[&[3, 0], &[1]])?;
     assert!(rt; is_chosen(&choice, Some([3, 1].as_slice())));
-    assert_eq!(rt; choice.covered.as_slice(), [false].as_slice());
+    assert!(rt; choice.covered.as_slice() == [false].as_slice());
     Ok(())
 }
 
@@ -159,51 +144,11 @@ fn what_is_not_named_stays_believed(rt: HostRuntime) -> Result<(), Fail> {
 
 #[test]
 fn picks_of_the_same_premises_are_equal(rt: HostRuntime) -> Result<(), Fail> {
-    let matter = Matter {
-        text: WORLD,
-        attachments: &[],
-        tells: &[],
-    };
-    let all = PremiseSet::first(4);
-    let choice = chosen_from(rt.alloc(), matter, all, &[&[1, 0]], &[])?;
-    let same = chosen_from(rt.alloc(), matter, all, &[&[1]], &[])?;
-    let longer = chosen_from(rt.alloc(), matter, all, &[&[1], &[0]], &[])?;
+    let choice = where_nothing_is_told(rt.alloc(), &[&[1, 0]])?;
+    let same = where_nothing_is_told(rt.alloc(), &[&[1]])?;
+    let longer = where_nothing_is_told(rt.alloc(), &[&[1], &[0]])?;
     assert!(rt; is_chosen(&longer, Some([1, 0].as_slice())));
-    assert_eq!(rt; choice.chosen, same.chosen);
+    assert!(rt; choice.chosen == same.chosen);
     assert!(rt; choice.chosen != longer.chosen);
-    Ok(())
-}
-
-#[test]
-fn where_all_are_covered_no_memory_is_taken(rt: HostRuntime) -> Result<(), Fail> {
-    let tells = [
-        told("x", 1, 1, PremiseSet::one(2)),
-        told("x", 2, 2, PremiseSet::empty()),
-    ];
-    let matter = Matter {
-        text: WORLD,
-        attachments: &[],
-        tells: &tells,
-    };
-    let (all, c) = (PremiseSet::first(4), PremiseSet::one(2));
-    let asked = [c, PremiseSet::one(0)];
-    let (ample, counting) = (Refusing::nth(rt.alloc(), 0), Refusing::nth(rt.alloc(), 0));
-    let answer = reason_in(rt.alloc(), &ample, &counting, matter, all, "x", &asked)?;
-    assert_eq!(rt; answer.reason, c);
-    // Growths are refused from the first after those of the store and of the reason.
-    let refusing = Refusing::all_from(rt.alloc(), counting.calls().saturating_add(1));
-    let choice = chosen_in(
-        rt.alloc(),
-        &ample,
-        &refusing,
-        matter,
-        all,
-        Some("x"),
-        &[&[0, 1]],
-        &asked,
-    )?;
-    assert!(rt; is_chosen(&choice, None) && choice.refused == 0);
-    assert_eq!(rt; choice.covered.as_slice(), [true, false].as_slice());
-    assert_eq!(rt; refusing.calls(), counting.calls());
     Ok(())
 }

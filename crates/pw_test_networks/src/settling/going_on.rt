@@ -47,9 +47,9 @@ fn compare<R: Abort + AllocGlobal>(
     Ok(Some(telling))
 }
 
-/// How many of `most` attachments, and of twelve tells, have come by a first stage, by a second,
-/// and in all.
-pub fn draw_parts(random: &mut Random, most: u64) -> [(usize, usize); 3] {
+// How many of `most` attachments, and of twelve tells, have come by a first stage, by a second,
+// and in all.
+fn draw_parts(random: &mut Random, most: u64) -> [(usize, usize); 3] {
     let first = random.below(most);
     let left = most.saturating_sub(first);
     let second = first.saturating_add(random.below(left)).saturating_add(1);
@@ -61,13 +61,9 @@ pub fn draw_parts(random: &mut Random, most: u64) -> [(usize, usize); 3] {
     ]
 }
 
-/// The stages: the first part in a first worldview; then, in a further one, another part, the rest,
-/// and nothing more.
-pub fn stages_of(
-    first: PremiseSet,
-    further: PremiseSet,
-    parts: &[(usize, usize); 3],
-) -> [Stage; 4] {
+// The stages: the first part in a first worldview; then, in a further one, another part, the rest,
+// and nothing more.
+fn stages_of(first: PremiseSet, further: PremiseSet, parts: &[(usize, usize); 3]) -> [Stage; 4] {
     [
         Stage::new(parts[0].0, parts[0].1, first),
         Stage::new(parts[1].0, parts[1].1, further),

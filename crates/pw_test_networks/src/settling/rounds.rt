@@ -4,7 +4,7 @@
 
 use super::stages::Stage;
 use super::{Matter, Tell};
-use crate::networks::attach_named;
+use crate::networks::{attach_named, cell_of};
 use pw_decl::Declaration;
 use pw_info::{Info, Kind};
 use pw_network::{Instance, Network};
@@ -37,10 +37,7 @@ fn add_told(
     if !tell.fact.support.is_subset(worldview) {
         return Ok(());
     }
-    let cell = network
-        .declaration()
-        .cell(tell.cell.as_bytes())
-        .ok_or("no cell")?;
+    let cell = cell_of(network, tell.cell)?;
     add(known, cell, &tell.fact.info)
 }
 

@@ -12,7 +12,7 @@ ghost use Rattle.pw_network.specs.Network.{cells_in};
 ghost use Rattle.pw_settle.specs.Growth.{IsFitting};
 ghost use Rattle.pw_test_networks.specs.Settling.{IsReady, LeavesFitting};
 
-use super::{Matter, Shown, all_told, answer_of, settle_anyhow, settle_once, store_of, tell_each};
+use super::{Matter, Shown, all_told, answer_of, settle_once, store_of, tell_each};
 use crate::networks::{Attachment, named_in};
 use pw_cells::CellStore;
 use pw_decl::{Callable, Declaration};
@@ -21,7 +21,7 @@ use pw_network::Network;
 use pw_premises::PremiseSet;
 use pw_settle::{Settled, resettle};
 use pw_testing::worlds::{OverDeclaration, over_text};
-use std::alloc::{AllocError, Allocator, Global};
+use std::alloc::{AllocError, Global};
 use std::test::Fail;
 
 /// How many of the attachments and of the tells of a matter have come at a stage, and the worldview
@@ -62,10 +62,7 @@ impl<'a> Matter<'a> {
 }
 
 // The kinds of the inner cells that the callable makes.
-fn inner_kinds<'a, A: Allocator + Copy>(
-    declaration: &'a Declaration<'_, A>,
-    callable: Callable,
-) -> &'a [Kind]
+fn inner_kinds<'a>(declaration: &'a Declaration<'_>, callable: Callable) -> &'a [Kind]
     requires { IsCallable (declared declaration.now) callable }
     ensures kinds { result.now ≡ inner_kinds_of (declared declaration.now).compounds callable }
     ensures most { length result.now ≤ most_inner_cells }
@@ -76,27 +73,19 @@ fn inner_kinds<'a, A: Allocator + Copy>(
     }
 }
 
-// Adds new cells of these kinds. Asks again if memory is refused once.
-fn add_cells<A: Allocator + Copy>(
-    store: &mut CellStore<A>,
-    kinds: &[Kind],
-) -> Result<(), AllocError>
+// Adds new cells of these kinds.
+fn add_cells(store: &mut CellStore, kinds: &[Kind]) -> Result<(), AllocError>
     requires { length store.old.cells + length kinds.now ≤ most_store_cells }
     ensures { OnOk result (store.new.cells ≡ store.old.cells ++ map new_cell kinds.now) }
 {
-    match store.add_cells(kinds) {
-        Ok(_) => Ok(()),
-        Err(_) => {
-            store.add_cells(kinds)?;
-            Ok(())
-        }
-    }
+    store.add_cells(kinds)?;
+    Ok(())
 }
 
 // Attaches a callable to declared cells, and adds its inner cells to the store.
-fn attach_one<A: Allocator + Copy>(
-    network: &mut Network<'_, '_, A>,
-    store: &mut CellStore<A>,
+fn attach_one(
+    network: &mut Network<'_, '_>,
+    store: &mut CellStore,
     attachment: &Attachment<'_>,
 ) -> Result<(), Fail>
     requires { IsReady (wiring network.old) store.old }
@@ -114,9 +103,9 @@ fn attach_one<A: Allocator + Copy>(
 }
 
 // Attaches callables to declared cells, and adds their inner cells to the store.
-fn attach_each<A: Allocator + Copy>(
-    network: &mut Network<'_, '_, A>,
-    store: &mut CellStore<A>,
+fn attach_each(
+    network: &mut Network<'_, '_>,
+    store: &mut CellStore,
     attachments: &[Attachment<'_>],
 ) -> Result<(), Fail>
     requires { IsReady (wiring network.old) store.old }
@@ -131,13 +120,13 @@ fn attach_each<A: Allocator + Copy>(
 }
 
 // Settles a worldview from the last values.
-fn resettle_once<A: Allocator + Copy>(
-    memory: A,
-    last: Settled<A>,
-    network: &Network<'_, '_, A>,
-    store: &mut CellStore<A>,
+fn resettle_once(
+    alloc: Global,
+    last: Settled,
+    network: &Network<'_, '_>,
+    store: &mut CellStore,
     worldview: &PremiseSet,
-) -> Result<Settled<A>, AllocError>
+) -> Result<Settled, AllocError>
     requires ready { IsReady (wiring network.now) store.old }
     requires fits { IsFitting (wiring network.now) store.old last }
     ensures ready { IsReady (wiring network.now) store.new }
@@ -145,56 +134,45 @@ fn resettle_once<A: Allocator + Copy>(
         length settled.infos ≡ cells_in (wiring network.now)) }
     ensures fits { IfOk result (IsFitting (wiring network.now) store.new) }
 {
-    let settled = resettle(memory, last, network, store, worldview)?;
+    let settled = resettle(alloc, last, network, store, worldview)?;
     Ok(settled)
 }
 
-// Settles a worldview: from the last values if there are any, and without them if memory is
-// refused. Answers whether going on from them was refused, and the values in the end.
-fn settle_next<A: Allocator + Copy>(
-    memory: A,
-    last: Option<Settled<A>>,
-    network: &Network<'_, '_, A>,
-    store: &mut CellStore<A>,
+// Settles a worldview, from the last values if there are any.
+fn settle_next(
+    alloc: Global,
+    last: Option<Settled>,
+    network: &Network<'_, '_>,
+    store: &mut CellStore,
     worldview: &PremiseSet,
-) -> Result<(bool, Settled<A>), Fail>
+) -> Result<Settled, AllocError>
     requires ready { IsReady (wiring network.now) store.old }
     requires fits { IfSome last (IsFitting (wiring network.now) store.old) }
-    ensures ready { OnOk result (IsReady (wiring network.now) store.new) }
+    ensures ready { IsReady (wiring network.now) store.new }
     ensures cells { IfOk result (λ settled.
-        length settled.1.infos ≡ cells_in (wiring network.now)) }
-    ensures fits { IfOk result (λ settled. IsFitting (wiring network.now) store.new settled.1) }
+        length settled.infos ≡ cells_in (wiring network.now)) }
+    ensures fits { IfOk result (IsFitting (wiring network.now) store.new) }
 {
-    let Some(last) = last else {
-        let (_, settled) = settle_anyhow(memory, network, store, worldview)?;
-        return Ok((false, settled));
-    };
-    match resettle_once(memory, last, network, store, worldview) {
-        Ok(settled) => Ok((false, settled)),
-        Err(_) => {
-            let settled = settle_once(memory, network, store, worldview)?;
-            Ok((true, settled))
-        }
+    match last {
+        Some(last) => resettle_once(alloc, last, network, store, worldview),
+        None => settle_once(alloc, network, store, worldview),
     }
 }
 
-// Settlings in stages over one network and one store. The growths of the declaration and the
-// network are those of `ample`, and those of the store and of the settlings are those of `memory`.
+// Settlings in stages over one network and one store.
 #[derive(Drop)]
-struct Staged<'a, A: Allocator> {
+struct Staged<'a> {
     alloc: Global,
-    ample: A,
-    memory: A,
     matter: Matter<'a>,
     stages: &'a [Stage],
 }
 
-impl<A: Allocator + Copy> Staged<'_, A> {
+impl Staged<'_> {
     // Attaches and tells what comes after one stage, up to another.
     fn come(
         &self,
-        network: &mut Network<'_, '_, A>,
-        store: &mut CellStore<A>,
+        network: &mut Network<'_, '_>,
+        store: &mut CellStore,
         before: &Stage,
         stage: &Stage,
     ) -> Result<(), Fail>
@@ -214,12 +192,12 @@ impl<A: Allocator + Copy> Staged<'_, A> {
     // comes to.
     fn settle_stage(
         &self,
-        last: Option<Settled<A>>,
-        network: &Network<'_, '_, A>,
-        store: &mut CellStore<A>,
+        last: Option<Settled>,
+        network: &Network<'_, '_>,
+        store: &mut CellStore,
         worldview: &PremiseSet,
         shown: &mut Shown,
-    ) -> Result<Settled<A>, Fail>
+    ) -> Result<Settled, Fail>
         requires ready { IsReady (wiring network.now) store.old }
         requires fits { IfSome last (IsFitting (wiring network.now) store.old) }
         ensures ready { OnOk result (IsReady (wiring network.now) store.new) }
@@ -227,10 +205,9 @@ impl<A: Allocator + Copy> Staged<'_, A> {
     {
         let seen = [*worldview, PremiseSet::empty(), PremiseSet::first(5)];
         let before = all_told(self.alloc, store, &seen)?;
-        let (is_refused, settled) = settle_next(self.memory, last, network, store, worldview)?;
+        let settled = settle_next(self.alloc, last, network, store, worldview)?;
         let answer = answer_of(self.alloc, network, &settled)?;
         shown.answers.push(answer)?;
-        shown.refused = shown.refused.saturating_add(u32::from(is_refused));
         if all_told(self.alloc, store, &seen)? != before {
             shown.is_told_the_same = false;
         }
@@ -241,15 +218,14 @@ impl<A: Allocator + Copy> Staged<'_, A> {
     // cells.
     fn settle_all(
         &self,
-        network: &mut Network<'_, '_, A>,
-        store: &mut CellStore<A>,
+        network: &mut Network<'_, '_>,
+        store: &mut CellStore,
     ) -> Result<Shown, Fail>
         requires { IsReady (wiring network.old) store.old }
     {
         let mut shown = Shown {
             answers: Vec::new(self.alloc),
             kept: Vec::new(self.alloc),
-            refused: 0,
             is_told_the_same: true,
         };
         let mut before = Stage::new(0, 0, PremiseSet::empty());
@@ -265,50 +241,32 @@ impl<A: Allocator + Copy> Staged<'_, A> {
 }
 
 // Makes the network and the store, and goes through the stages.
-fn settle_over<A: Allocator + Copy>(
-    task: &Staged<'_, A>,
-    declaration: &Declaration<'_, A>,
-) -> Result<Shown, Fail> {
-    let mut network = Network::new(task.ample, declaration)?;
-    let mut store = store_of(task.alloc, task.memory, &network)?;
+fn settle_over(task: &Staged<'_>, declaration: &Declaration<'_>) -> Result<Shown, Fail> {
+    let mut network = Network::new(task.alloc, declaration)?;
+    let mut store = store_of(task.alloc, &network)?;
     task.settle_all(&mut network, &mut store)
 }
 
-impl<A: Allocator + Copy> OverDeclaration<A> for Staged<'_, A> {
+impl OverDeclaration<Global> for Staged<'_> {
     type Answer = Result<Shown, Fail>;
 
-    fn over(self, declaration: &Declaration<'_, A>) -> Result<Shown, Fail> {
+    fn over(self, declaration: &Declaration<'_>) -> Result<Shown, Fail> {
         settle_over(&self, declaration)
     }
 }
 
 /// Settles the worldviews of these stages one after another, over a network and a store to which
 /// the matter comes in stages. Each settling after the first goes on from the values of the one
-/// before. The count of refused settlings is that of those that go on: they are then made without
-/// earlier values. The growths of the declaration and the network are those of `ample`, and the
-/// others those of `memory`.
-pub fn settled_in_stages_in<A: Allocator + Copy>(
-    alloc: Global,
-    ample: A,
-    memory: A,
-    matter: Matter<'_>,
-    stages: &[Stage],
-) -> Result<Shown, Fail> {
-    let task = Staged {
-        alloc,
-        ample,
-        memory,
-        matter,
-        stages,
-    };
-    over_text(alloc, ample, matter.text, task)?
-}
-
-/// The same with ample memory.
+/// before.
 pub fn settled_in_stages(
     alloc: Global,
     matter: Matter<'_>,
     stages: &[Stage],
 ) -> Result<Shown, Fail> {
-    settled_in_stages_in(alloc, alloc, alloc, matter, stages)
+    let task = Staged {
+        alloc,
+        matter,
+        stages,
+    };
+    over_text(alloc, alloc, matter.text, task)?
 }

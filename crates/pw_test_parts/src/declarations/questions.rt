@@ -9,7 +9,7 @@ use std::test::Fail;
 
 /// What a test asks of a declaration. What has a number is looked up by its name, and then the name
 /// by the number.
-#[derive(Clone, Copy)]
+#[derive(Clone, Copy, Debug)]
 pub enum Question<'a> {
     /// The number of the user of this name.
     User(&'a str),

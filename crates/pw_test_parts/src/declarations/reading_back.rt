@@ -48,10 +48,29 @@ const COMPOUNDS: [&str; 9] = [
     " end ",
 ];
 
-// Counts what a declaration of these lines declares.
-fn counts<R: AllocGlobal>(rt: &R, lines: &[&str]) -> Result<Option<Counts>, Fail> {
+// Checks that a declaration of these lines declares so many of each thing.
+fn has_counts<R: Abort + AllocGlobal>(rt: &R, lines: &[&str], wanted: Counts) -> Result<(), Fail> {
     let text = joined(rt.alloc(), lines)?;
-    Ok(counted(rt.alloc(), rt.alloc(), SOUND, text.as_str())?.ok())
+    let counts = counted(rt.alloc(), rt.alloc(), SOUND, text.as_str())?;
+    assert!(rt;
+        counts == Ok(wanted),
+        "{} users, {} sets",
+        wanted.users,
+        wanted.sets
+    );
+    Ok(())
+}
+
+// Checks that a declaration of these lines answers a question so.
+fn is_answered<R: Abort + AllocGlobal>(
+    rt: &R,
+    lines: &[&str],
+    question: Question<'_>,
+    answer: Option<Answer>,
+) -> Result<(), Fail> {
+    let given = asked(rt.alloc(), lines, question)?;
+    assert!(rt; given == answer, "{question:?}");
+    Ok(())
 }
 
 // Checks that a declaration of these lines answers each question as its row says.
@@ -60,9 +79,8 @@ fn answers<R: Abort + AllocGlobal>(
     lines: &[&str],
     rows: &[(Question<'_>, Option<Answer>)],
 ) -> Result<(), Fail> {
-    for (row, (question, answer)) in rows.iter().enumerate() {
-        let given = asked(rt.alloc(), lines, *question)?;
-        assert!(rt; given == *answer, "question {row}");
+    for (question, answer) in rows {
+        is_answered(rt, lines, *question, *answer)?;
     }
     Ok(())
 }
@@ -81,10 +99,7 @@ fn reads_counts_back(rt: HostRuntime) -> Result<(), Fail> {
             sets,
             compounds,
         };
-        assert!(rt;
-            counts(&rt, lines)? == Some(wanted),
-            "{users} users, {sets} sets"
-        );
+        has_counts(&rt, lines, wanted)?;
     }
     Ok(())
 }
@@ -159,7 +174,7 @@ fn reads_members_back(rt: HostRuntime) -> Result<(), Fail> {
         (255, "red", None),
     ] {
         let answer = place.map(|place| Answer::Number(place));
-        answers(&rt, &SETS, &[(Question::Place(set, name), answer)])?;
+        is_answered(&rt, &SETS, Question::Place(set, name), answer)?;
     }
     Ok(())
 }
@@ -167,46 +182,64 @@ fn reads_members_back(rt: HostRuntime) -> Result<(), Fail> {
 const BOOL: Kind = Kind::Members(SetKind { number: 0, size: 2 });
 
 #[test]
-fn reads_callables_back(rt: HostRuntime) -> Result<(), Fail> {
-    for (name, callable) in [
-        ("adder", Some(Callable::Stored(1))),
-        ("at_most", Some(Callable::Stored(8))),
-        ("sum", Some(Callable::Compound(0))),
-        ("product", Some(Callable::Compound(1))),
-        ("conditional", Some(Callable::Compound(2))),
-        ("twice", Some(Callable::Compound(3))),
-        ("less", Some(Callable::Compound(4))),
-        ("s", None),
-        ("Adder", None),
-    ] {
-        let answer = callable.map(|callable| Answer::Callable(callable));
-        answers(&rt, &COMPOUNDS, &[(Question::Callable(name), answer)])?;
+fn reads_procedures_back(rt: HostRuntime) -> Result<(), Fail> {
+    for (name, number) in [("adder", 1), ("at_most", 8)] {
+        let answer = Some(Answer::Callable(Callable::Stored(number)));
+        is_answered(&rt, &COMPOUNDS, Question::Callable(name), answer)?;
     }
     Ok(())
 }
 
 #[test]
-fn callables_take_cells_of_their_kinds(rt: HostRuntime) -> Result<(), Fail> {
-    let rows: [(&str, &[Kind], bool); 9] = [
-        ("adder", &[Kind::Interval; 3], true),
-        ("adder", &[Kind::Interval; 2], false),
-        ("copy", &[BOOL, BOOL], true),
-        ("copy", &[BOOL, Kind::Exact], false),
-        ("sum", &[Kind::Interval; 3], true),
-        (
-            "conditional",
-            &[BOOL, Kind::Interval, Kind::Interval, Kind::Interval],
-            true,
-        ),
-        ("less", &[Kind::Interval, Kind::Interval, BOOL], true),
-        ("less", &[Kind::Interval; 3], false),
-        ("less", &[], false),
-    ];
-    for (name, kinds, accepted) in rows {
-        let answer = Some(Answer::Accepts(accepted));
-        answers(&rt, &COMPOUNDS, &[(Question::Accepts(name, kinds), answer)])?;
+fn reads_compounds_back(rt: HostRuntime) -> Result<(), Fail> {
+    for (name, number) in [
+        ("sum", 0),
+        ("product", 1),
+        ("conditional", 2),
+        ("twice", 3),
+        ("less", 4),
+    ] {
+        let answer = Some(Answer::Callable(Callable::Compound(number)));
+        is_answered(&rt, &COMPOUNDS, Question::Callable(name), answer)?;
     }
     Ok(())
+}
+
+#[test]
+fn reads_no_callable_of_another_name(rt: HostRuntime) -> Result<(), Fail> {
+    for name in ["s", "Adder"] {
+        is_answered(&rt, &COMPOUNDS, Question::Callable(name), None)?;
+    }
+    Ok(())
+}
+
+// Checks whether a callable takes cells of these kinds.
+fn takes<R: Abort + AllocGlobal>(
+    rt: &R,
+    name: &str,
+    kinds: &[Kind],
+    accepted: bool,
+) -> Result<(), Fail> {
+    let answer = Some(Answer::Accepts(accepted));
+    is_answered(rt, &COMPOUNDS, Question::Accepts(name, kinds), answer)
+}
+
+#[test]
+fn procedures_take_cells_of_their_kinds(rt: HostRuntime) -> Result<(), Fail> {
+    takes(&rt, "adder", &[Kind::Interval; 3], true)?;
+    takes(&rt, "adder", &[Kind::Interval; 2], false)?;
+    takes(&rt, "copy", &[BOOL, BOOL], true)?;
+    takes(&rt, "copy", &[BOOL, Kind::Exact], false)
+}
+
+#[test]
+fn compounds_take_cells_of_their_kinds(rt: HostRuntime) -> Result<(), Fail> {
+    let kinds = [BOOL, Kind::Interval, Kind::Interval, Kind::Interval, BOOL];
+    takes(&rt, "sum", &kinds[1..4], true)?;
+    takes(&rt, "conditional", &kinds[..4], true)?;
+    takes(&rt, "less", &kinds[2..], true)?;
+    takes(&rt, "less", &kinds[1..4], false)?;
+    takes(&rt, "less", &[], false)
 }
 
 // A call over these cells.

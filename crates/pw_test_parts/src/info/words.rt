@@ -1,10 +1,13 @@
 //! Words, and the texts written for what they spell.
 
 ghost use Rattle.std.specs.Prelude.{[], ◌∷◌, codes};
+ghost use Rattle.pw_info.specs.Information.{kind_of};
+ghost use Rattle.pw_info.specs.SetNames.{IsNamed};
 
-use super::Trickle;
-use pw_info::{Info, Kind, KindNames, SetKind, Writing, read_info, write_info};
+use super::{has_front, trickling};
+use pw_info::{Info, Kind, KindNames, SetKind, read_info, write_info};
 use pw_kinds::{Exact, Interval, Members};
+use std::process::Abort;
 
 /// One set of members: the names of three colours, under each number.
 #[derive(Drop)]
@@ -38,14 +41,40 @@ impl KindNames for Palette {
 
 #[test]
 fn names_of_a_set(rt: HostRuntime) {
-    assert_eq!(rt; Palette.member(0, 1), "green");
-    assert_eq!(rt; Palette.place(0, b"blue"), Some(2));
-    assert_eq!(rt; Palette.place(0, b"pink"), None);
+    assert!(rt; Palette.member(0, 1) == "green");
+    assert!(rt; Palette.place(0, b"blue") == Some(2));
+    assert!(rt; Palette.place(0, b"pink") == None);
 }
 
 fn between(lo: i64, hi: i64) -> Option<Info> {
     let interval = Interval::new(lo, hi)?;
     Some(Info::of_interval(interval))
+}
+
+// Writes an information over an output with this room. Checks that the writer takes the text or a
+// front.
+fn is_written_in<R: Abort + AllocGlobal, N: KindNames>(
+    rt: &R,
+    info: &Info,
+    names: &N,
+    text: &str,
+    room: usize,
+)
+    requires { IsNamed (N.members names.now) (kind_of info.now) }
+{
+    let mut output = trickling(rt.alloc(), room);
+    let answer = write_info(info, names, &mut output);
+    assert!(rt; answer.is_ok() == (room >= text.len()), "at {text}, {room}");
+    has_front(rt, output, text.as_bytes(), room);
+}
+
+// Checks that an information is written as this text, or as a front of it.
+fn is_written<R: Abort + AllocGlobal, N: KindNames>(rt: &R, info: &Info, names: &N, text: &str)
+    requires { IsNamed (N.members names.now) (kind_of info.now) }
+{
+    for room in 0..20usize {
+        is_written_in(rt, info, names, text, room);
+    }
 }
 
 #[test]
@@ -73,25 +102,12 @@ fn reads_and_writes_intervals(rt: HostRuntime) {
     ];
     for (word, want, text) in cases {
         let read = read_info(word.as_bytes(), Kind::Interval, &Palette);
-        assert_eq!(rt; read, want, "at {word}");
+        assert!(rt; read == want, "at {word}");
         let Some(info) = read else {
             continue;
         };
-        assert_eq!(rt; info.kind(), Kind::Interval);
-        for room in 0..20usize {
-            let mut output = Writing::new(Trickle {
-                text: Vec::new(rt.alloc()),
-                room,
-            });
-            let answer = write_info(&info, &Palette, &mut output);
-            assert_eq!(rt; answer.is_ok(), room >= text.len(), "at {word}, {room}");
-            let kept = room.min(text.len());
-            assert_eq!(rt;
-                output.into_writer().text.as_slice(),
-                &text.as_bytes()[..kept],
-                "at {word}, {room}"
-            );
-        }
+        assert!(rt; info.kind() == Kind::Interval);
+        is_written(&rt, &info, &Palette, text);
     }
 }
 
@@ -112,25 +128,12 @@ fn reads_and_writes_members(rt: HostRuntime) {
     for (word, mask, text) in cases {
         let want = Members::of(3, mask).map(|part| Info::of_members(7, part));
         let read = read_info(word.as_bytes(), kind, &Palette);
-        assert_eq!(rt; read, want, "at {word}");
+        assert!(rt; read == want, "at {word}");
         let Some(info) = read else {
             continue;
         };
-        assert_eq!(rt; info.kind(), kind);
-        for room in 0..20usize {
-            let mut output = Writing::new(Trickle {
-                text: Vec::new(rt.alloc()),
-                room,
-            });
-            let answer = write_info(&info, &Palette, &mut output);
-            assert_eq!(rt; answer.is_ok(), room >= text.len(), "at {word}, {room}");
-            let kept = room.min(text.len());
-            assert_eq!(rt;
-                output.into_writer().text.as_slice(),
-                &text.as_bytes()[..kept],
-                "at {word}, {room}"
-            );
-        }
+        assert!(rt; info.kind() == kind);
+        is_written(&rt, &info, &Palette, text);
     }
 }
 
@@ -145,26 +148,14 @@ fn reads_and_writes_exact_numbers(rt: HostRuntime) {
         ("-1000000000", Exact::one(-1_000_000_000), "-1000000000"),
     ];
     for (word, exact, text) in cases {
+        let want = exact.map(Info::of_exact);
         let read = read_info(word.as_bytes(), Kind::Exact, &Palette);
-        assert_eq!(rt; read, exact.map(Info::of_exact), "at {word}");
+        assert!(rt; read == want, "at {word}");
         let Some(info) = read else {
             continue;
         };
-        assert_eq!(rt; info.kind(), Kind::Exact);
-        for room in 0..20usize {
-            let mut output = Writing::new(Trickle {
-                text: Vec::new(rt.alloc()),
-                room,
-            });
-            let answer = write_info(&info, &Palette, &mut output);
-            assert_eq!(rt; answer.is_ok(), room >= text.len(), "at {word}, {room}");
-            let kept = room.min(text.len());
-            assert_eq!(rt;
-                output.into_writer().text.as_slice(),
-                &text.as_bytes()[..kept],
-                "at {word}, {room}"
-            );
-        }
+        assert!(rt; info.kind() == Kind::Exact);
+        is_written(&rt, &info, &Palette, text);
     }
 }
 
@@ -194,7 +185,7 @@ fn reads_none(rt: HostRuntime) {
         &ones,
     ];
     for word in words {
-        assert_eq!(rt; read_info(word, Kind::Interval, &Palette), None);
+        assert!(rt; read_info(word, Kind::Interval, &Palette).is_none());
     }
 }
 
@@ -222,9 +213,8 @@ fn reads_no_members(rt: HostRuntime) {
         "1",
     ];
     for word in words {
-        assert_eq!(rt;
-            read_info(word.as_bytes(), kind, &Palette),
-            None,
+        assert!(rt;
+            read_info(word.as_bytes(), kind, &Palette).is_none(),
             "at {word}"
         );
     }
@@ -244,23 +234,30 @@ fn reads_no_exact_number(rt: HostRuntime) {
         "",
     ];
     for word in words {
-        assert_eq!(rt;
-            read_info(word.as_bytes(), Kind::Exact, &Palette),
-            None,
+        assert!(rt;
+            read_info(word.as_bytes(), Kind::Exact, &Palette).is_none(),
             "at {word}"
         );
     }
 }
 
+// Checks that just these parts are given back.
+fn has_parts<R: Abort>(
+    rt: &R,
+    info: &Info,
+    interval: Option<Interval>,
+    members: Option<Members>,
+    exact: Option<Exact>,
+) {
+    assert!(rt; info.interval() == interval);
+    assert!(rt; info.members() == members);
+    assert!(rt; info.exact() == exact);
+}
+
 #[test]
 fn parts_are_given_back(rt: HostRuntime) {
-    let exact = Info::of_exact(Exact::any());
-    assert_eq!(rt; exact.exact(), Some(Exact::any()));
-    assert_eq!(rt; (exact.interval(), exact.members()), (None, None));
-    let members = Info::of_members(3, Members::full(2));
-    assert_eq!(rt; members.members(), Some(Members::full(2)));
-    assert_eq!(rt; (members.interval(), members.exact()), (None, None));
-    let whole = Info::of_interval(Interval::whole());
-    assert_eq!(rt; whole.interval(), Some(Interval::whole()));
-    assert_eq!(rt; (whole.members(), whole.exact()), (None, None));
+    let (any, full, whole) = (Exact::any(), Members::full(2), Interval::whole());
+    has_parts(&rt, &Info::of_exact(any), None, None, Some(any));
+    has_parts(&rt, &Info::of_members(3, full), None, Some(full), None);
+    has_parts(&rt, &Info::of_interval(whole), Some(whole), None, None);
 }

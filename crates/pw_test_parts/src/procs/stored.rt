@@ -36,22 +36,28 @@ fn given(stored: &Stored, inputs: &[Info]) -> Option<Info> {
     Some(stored.call(inputs))
 }
 
-// Checks that a procedure gives the values of the calls of its name, and that there are some.
-fn tell_calls<R: Abort>(rt: &R, stored: &Stored, calls: &[Call]) {
-    let mut called = false;
-    for call in calls {
-        if name_of(&call.meaning) == stored.name() {
-            called = true;
-            assert_eq!(rt; given(stored, call.inputs()), Some(call.want), "{call:?}");
-        }
-    }
-    assert!(rt; called, "no call of {}", stored.name());
+// Checks that a procedure gives the value of a call.
+fn is_given<R: Abort>(rt: &R, stored: &Stored, call: &Call) {
+    assert!(rt; given(stored, call.inputs()) == Some(call.want), "{call:?}");
 }
 
-// Checks this for each procedure of the list.
+// Checks that a procedure gives the values of the calls of its name. Answers how many there are.
+fn tell_calls<R: Abort>(rt: &R, stored: &Stored, calls: &[Call]) -> u32 {
+    let mut called = 0u32;
+    for call in calls {
+        if name_of(&call.meaning) == stored.name() {
+            called = called.saturating_add(1);
+            is_given(rt, stored, call);
+        }
+    }
+    called
+}
+
+// Checks this for each procedure of the list, and that there are some calls of each.
 fn tell_all<R: Abort>(rt: &R, list: &[Stored], calls: &[Call]) {
     for stored in list {
-        tell_calls(rt, stored, calls);
+        let called = tell_calls(rt, stored, calls);
+        assert!(rt; called > 0, "no call of {}", stored.name());
     }
 }
 
@@ -113,12 +119,7 @@ fn others(rt: HostRuntime) -> Result<(), Fail> {
 fn tells<R: Abort>(rt: &R, stored: &Stored, set: SetKind, calls: &[((i64, i64), u128)]) {
     for (ends, mask) in calls {
         let got = given(stored, &[from_to(*ends)]);
-        assert_eq!(rt;
-            got,
-            Some(members_of_mask(set, *mask)),
-            "{} of {ends:?}",
-            stored.name()
-        );
+        assert!(rt; got == Some(members_of_mask(set, *mask)), "{ends:?}");
     }
 }
 

@@ -7,16 +7,7 @@ pub reason-requires-clause-nogoods : goal.reason-requires-clause-nogoods
 reason-requires-clause-nogoods g c =
     nogoods_same (wiring c.args.network.now) c.args.store.now c.settle.new.store c.settle.ensures.grows.told c.args.nogoods.now c.requires.nogoods
 
-pub returns-in_err-settled-clause-nogoods : goal.returns-in_err-settled-clause-nogoods
-returns-in_err-settled-clause-nogoods g c =
-    nogoods_same (wiring c.args.network.now) c.args.store.now c.settle.new.store c.settle.ensures.grows.told c.args.nogoods.now c.requires.nogoods
-
 pub reason-requires-clause-settled : goal.reason-requires-clause-settled
 reason-requires-clause-settled g c =
     settled_still (wiring c.args.network.now) c.args.store.now c.settle.new.store c.args.worldview.now c.in_ok-settled.settled
     c.settle.ensures.grows (c.in_ok-settled.ensures.found.settled c.requires.ready.sound)
-
-pub returns-clause-nogoods : goal.returns-clause-nogoods
-returns-clause-nogoods g c =
-    nogoods_same (wiring c.args.network.now) c.settle.new.store c.reason.new.store c.reason.ensures.grows.told c.reason.new.nogoods
-    c.reason.ensures.nogoods

@@ -1,9 +1,0 @@
-use Rattle.pw_network.specs.Wiring.{wiring}
-use Rattle.pw_test_networks.specs.Settling.{IsReady, LeavesFitting}
-use Rattle.pw_test_networks.proofs.settling.tell_fact.Given as goal
-
-abbrev pub invariant-loop : goal.invariant-loop
-invariant-loop g l = record {
-  ready : IsReady (wiring l.network) l.store;
-  fits : LeavesFitting (wiring l.network) l.fn.store (wiring l.network) l.store;
-}
