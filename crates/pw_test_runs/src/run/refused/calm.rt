@@ -1,5 +1,5 @@
-//! Commands that take no memory, with every growth refused: those on beliefs, and an ask of a cell
-//! that no instance under believed premises writes.
+//! Commands that take no memory, with every growth refused: those on beliefs, an ask of a cell that
+//! no instance under believed premises writes, and a choice of which all combinations are covered.
 
 use super::super::worked::Session;
 use super::{growths_of, run_with, wrote};
@@ -52,6 +52,26 @@ const FIRST: usize = 12;
 fn calm_commands_take_no_memory(rt: HostRuntime) -> Result<(), Fail> {
     let asked = growths_of(&rt, CALM, CALM.rows.len())?;
     assert_eq!(rt; growths_of(&rt, CALM, FIRST)?, asked);
+    Ok(())
+}
+
+// A reason notes a set of premises that covers each combination of a choice.
+const COVERED: Session<'_> = Session {
+    declaration: GENERAL,
+    rows: &[
+        ("ann tell x 1 under c", "ok"),
+        ("ann tell x 2", "ok"),
+        ("ann why x", "contradiction because c"),
+        // From here on nothing takes memory.
+        ("ann choose a|b", "chose none"),
+        ("ann beliefs", "believes a b c mine"),
+    ],
+};
+
+#[test]
+fn a_choice_of_covered_combinations_takes_no_memory(rt: HostRuntime) -> Result<(), Fail> {
+    let asked = growths_of(&rt, COVERED, COVERED.rows.len())?;
+    assert_eq!(rt; growths_of(&rt, COVERED, 3)?, asked);
     Ok(())
 }
 
