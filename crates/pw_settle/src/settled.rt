@@ -1,5 +1,6 @@
 //! The values of cells in a worldview.
 ghost use Rattle.std.specs.Prelude.{◌≡◌, ◌<◌, length};
+ghost use Rattle.std.specs.FinSet.{is_subset};
 ghost use Rattle.pw_settle.specs.Settled.{info_at, support_at};
 
 use crate::known::Known;
@@ -51,6 +52,14 @@ impl<A: Allocator> Settled<A> {
             info: self.known.infos[cell as usize],
             support: self.known.supports.get(cell as usize),
         }
+    }
+
+    // Whether the value of the cell rests on premises of the worldview alone.
+    pub(crate) fn rests_within(&self, cell: u32, worldview: &PremiseSet) -> bool
+        requires { cell < length self.now.infos }
+        ensures { result ≡ is_subset (support_at self.now.supports cell) worldview.now }
+    {
+        self.known.supports.is_within(cell as usize, worldview)
     }
 
     // The information about each cell, in the order of the cells.

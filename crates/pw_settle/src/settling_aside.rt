@@ -46,10 +46,10 @@ fn start_value<A: Allocator + Copy>(
 {
     // The network belongs to the store.
     let _instances = network.instances();
-    let earlier = before.value(cell);
-    if !earlier.support.is_subset(worldview) {
+    if !before.rests_within(cell, worldview) {
         return store.kept(cell, worldview);
     }
+    let earlier = before.value(cell);
     if worldview.is_subset(before.worldview()) {
         return earlier;
     }

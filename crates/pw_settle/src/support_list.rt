@@ -1,6 +1,7 @@
 //! A list of premises for each cell, in one width or the other.
 
 ghost use Rattle.std.specs.Prelude.{◌≡◌, ◌<◌, ◌++◌, ◌∷◌, [], length, set, IfOk, OnOk, OnErr};
+ghost use Rattle.std.specs.FinSet.{is_subset};
 ghost use Rattle.pw_settle.specs.Settled.{support_at};
 
 use pw_premises::{NarrowSet, PremiseSet};
@@ -97,6 +98,18 @@ impl<A: Allocator> SupportList<A> {
         match &self.lists {
             Widths::Narrow(list) => list[place].widen(),
             Widths::Wide(list) => list[place],
+        }
+    }
+
+    // Whether the premises of the cell at this place are all in the worldview.
+    #[inline(always)]
+    pub(crate) fn is_within(&self, place: usize, worldview: &PremiseSet) -> bool
+        requires { place < length self.now }
+        ensures { result ≡ is_subset (support_at self.now place) worldview.now }
+    {
+        match &self.lists {
+            Widths::Narrow(list) => list[place].is_within(worldview),
+            Widths::Wide(list) => list[place].is_subset(worldview),
         }
     }
 }

@@ -10,8 +10,8 @@ use Rattle.pw_settle.proofs.AsideStarts.{cell_there, earlier_found, earlier_kind
 use Rattle.pw_settle.proofs.KeptFacts.{kind_there}
 use Rattle.pw_settle.proofs.settling_aside.start_value.Goals as goal
 
-pub returns-then-not-is_subset-clause-found : goal.returns-then-not-is_subset-clause-found
-returns-then-not-is_subset-clause-found g c =
+pub returns-then-not-rests_within-clause-found : goal.returns-then-not-rests_within-clause-found
+returns-then-not-rests_within-clause-found g c =
     kept_found (wiring c.args.network.now) c.args.store.now c.requires.kinds c.args.worldview.now c.args.cell c.requires.sound
     c.kept.result.info c.kept.result.support c.kept.ensures.info c.kept.ensures.within c.kept.ensures.larger c.kept.ensures.told
 
@@ -21,8 +21,8 @@ returns-then-is_subset-clause-found g c =
     let earlier : IsFound network c.args.store.now c.args.worldview.now c.args.cell (info_at c.args.before.now.infos c.args.cell) (support_at c.args.before.now.supports c.args.cell) =
     earlier_found network c.args.store.now c.requires.kinds c.args.worldview.now c.args.cell c.args.network.now.well c.args.before.now c.requires.before
     (cell_there network c.args.store.now c.args.cell c.requires.kinds c.requires.cell)
-    (ap (λ (s : Premises). is_subset s c.args.worldview.now) (sym c.value-earlier.ensures.support) ∙ sym c.is_subset.ensures.subset ∙ c.if-not-is_subset.false)
-    (ap (λ (s : Premises). is_subset c.args.worldview.now s) (sym c.worldview.ensures) ∙ sym c.is_subset-2.ensures.subset ∙ c.if-is_subset.true) in
+    (sym c.rests_within.ensures ∙ c.if-not-rests_within.false)
+    (ap (λ (s : Premises). is_subset c.args.worldview.now s) (sym c.worldview.ensures) ∙ sym c.is_subset.ensures.subset ∙ c.if-is_subset.true) in
     subst (λ (i : Info). IsFound network c.args.store.now c.args.worldview.now c.args.cell i c.value-earlier.result.support) (sym c.value-earlier.ensures.info)
     (subst (λ (s : Premises). IsFound network c.args.store.now c.args.worldview.now c.args.cell (info_at c.args.before.now.infos c.args.cell) s) (sym c.value-earlier.ensures.support) earlier)
 
@@ -39,7 +39,7 @@ returns-clause-found g c =
     merged_found network c.args.store.now c.requires.kinds c.args.worldview.now c.args.cell c.args.network.now.well c.args.before.now c.requires.before
     (cell_there network c.args.store.now c.args.cell c.requires.kinds c.requires.cell)
     c.value-earlier.result.info c.value-earlier.result.support c.value-earlier.ensures.info c.value-earlier.ensures.support
-    (sym c.is_subset.ensures.subset ∙ c.if-not-is_subset.false)
+    (ap (λ (s : Premises). is_subset s c.args.worldview.now) c.value-earlier.ensures.support ∙ sym c.rests_within.ensures ∙ c.if-not-rests_within.false)
     c.kept-2.result c.merge_facts.result
     (kept_found network c.args.store.now c.requires.kinds c.args.worldview.now c.args.cell c.requires.sound
     c.kept-2.result.info c.kept-2.result.support c.kept-2.ensures.info c.kept-2.ensures.within c.kept-2.ensures.larger c.kept-2.ensures.told)
