@@ -4,7 +4,7 @@
 mod groups;
 mod rows;
 
-ghost use Rattle.std.specs.Prelude.{◌<◌, All, IfOk, IsTrue, OnOk};
+ghost use Rattle.std.specs.Prelude.{◌<◌, All, IfOk, IsTrue};
 ghost use Rattle.pw_network.specs.Wiring.{wiring};
 ghost use Rattle.pw_premises.specs.Premises.{most_premises};
 ghost use Rattle.pw_reasons.specs.Combinations.{groups_of};
