@@ -4,14 +4,14 @@ use Rattle.std.specs.FinSet.{empty, union, contains, is_subset, same_set, nat_cm
 use Rattle.std.specs.Int.{bit_at, bit_not, trailing_zeros}
 use Rattle.std.specs.Cmp.{both_ways, nat_cmp_total}
 use Rattle.std.proofs.Common.{refl, sym, ap, ◌∙◌, arith, bit_and, bit_or, w64, inl, inr, ◌⊎◌}
-use Rattle.std.proofs.lemmas.Bool.{cases_Bool, cases_eq, cases_lt, false≢true, eqb-true, eq-eqb}
+use Rattle.std.proofs.lemmas.Bool.{cases_eq, cases_lt, eqb-true, eq-eqb}
 use Rattle.std.proofs.lemmas.Bool.Decides.{nat_tests}
 use Rattle.std.proofs.lemmas.Nat.{and_le_l, pow_pos, or_lt}
 use Rattle.std.proofs.lemmas.Nat.Bits.{bit_at-lt, bit_at-zero, bit_at-trailing_zeros, same_from_bits_below}
 use Rattle.pw_premises.specs.Premises.{Premises}
 use Rattle.pw_premises.specs.inside.Words.{has_bit, has_bit_in, AreWords, set_where, set_of_word, set_of_words, narrow_word_of}
 use Rattle.pw_premises.specs.PremiseSets.{contains-set_where, set_where-alike, set_where-none, set_where-or, is_subset-set_where, narrow_word_again}
-use Rattle.pw_premises.specs.PremiseSubsets.{is_subset_refl, is_subset_trans, has_same_numbers, same_numbers_equal, and_not_false, false_and_not}
+use Rattle.pw_premises.specs.PremiseSubsets.{has_same_numbers, same_numbers_equal, and_not_false, false_and_not}
 use Rattle.pw_premises.proofs.PremiseWords.{has_bit-or, has_bit-and_not, has_bit-zero, of_eight, first_fits, no_left, no_right}
 use Rattle.pw_premises.proofs.NumberWords.{present, no_bit_of_zero}
 
@@ -66,24 +66,6 @@ in_first_word words q h =
 pub subset_of_words : (a : ℕ) (words : List ℕ) → a < 18446744073709551616 → AreWords words
     → nat_eq (bit_and a (18446744073709551615 - slice_index words 0)) 0 ≡ is_subset (set_of_word a) (set_of_words words)
 subset_of_words a words h fits = word_within a (slice_index words 0) 512 (has_bit_in words) h (fits.below 0 (omega arith)) (omega arith) (in_first_word words)
-
--- the numbers of the first word are among those of all words
-first_word_within : (words : List ℕ) → AreWords words → is_subset (set_of_word (slice_index words 0)) (set_of_words words) ≡ true
-first_word_within words fits =
-    let below = fits.below 0 (omega arith) in
-    sym (subset_of_words (slice_index words 0) words below fits) ∙ subset_of_word (slice_index words 0) (slice_index words 0) below below
-    ∙ is_subset_refl (set_of_word (slice_index words 0))
-
--- so if the first word has a number that the other does not have, the set is no subset
-pub first_word_differs : (a b : List ℕ) → AreWords a → AreWords b → nat_eq (bit_and (slice_index a 0) (18446744073709551615 - slice_index b 0)) 0 ≡ false
-    → is_subset (set_of_words a) (set_of_words b) ≡ false
-first_word_differs a b fits_a fits_b differs = elim (cases_Bool (is_subset (set_of_words a) (set_of_words b))) [
-  | inl all ↦
-      let part : is_subset (set_of_word (slice_index a 0)) (set_of_words b) ≡ true =
-      is_subset_trans (set_of_word (slice_index a 0)) (set_of_words a) (set_of_words b) (first_word_within a fits_a) all in
-      absurd (false≢true (sym differs ∙ subset_of_words (slice_index a 0) b (fits_a.below 0 (omega arith)) fits_b ∙ part))
-  | inr some ↦ some
-]
 
 -- ---- eight words of which all but the first are 0
 passes_both : (q : ℕ) (c : Bool) → q < 64 → (nat_lt q 64 && c) ≡ (nat_lt q 512 && c)

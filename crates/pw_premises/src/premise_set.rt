@@ -205,16 +205,6 @@ impl PremiseSet {
         self.difference(*other).is_empty()
     }
 
-    /// Whether each premise of this set is in the other. It answers what `is_subset` answers, and is
-    /// faster where it mostly answers no, as in a walk over many sets: one word often decides.
-    #[inline(always)]
-    #[tactic(auto, using(crate::proofs::NarrowWords::first_word_differs))]
-    pub fn is_rare_subset(&self, other: &PremiseSet) -> bool
-        ensures subset { result ≡ set.is_subset self.now other.now }
-    {
-        self.words[0] & !other.words[0] == 0 && self.is_subset(other)
-    }
-
     /// The least number of this set. None if the set is empty.
     pub(crate) fn least(&self) -> Option<u16>
         ensures some { IfSome result (λ n. IsLeast self.now n) }

@@ -69,7 +69,7 @@ impl<A: Allocator + Copy> Nogoods<A> {
     pub fn covers(&self, premises: &PremiseSet) -> bool
         ensures { result ≡ covers self.now premises.now }
     {
-        self.sets.iter().any(|noted| noted.is_rare_subset(premises))
+        self.sets.iter().any(|noted| noted.is_subset(premises))
     }
 
     // The first noted set that is a subset of these premises, if there is one.
@@ -78,7 +78,7 @@ impl<A: Allocator + Copy> Nogoods<A> {
     {
         self.sets
             .iter()
-            .find(|noted| noted.is_rare_subset(premises))
+            .find(|noted| noted.is_subset(premises))
             .copied()
     }
 
@@ -90,7 +90,7 @@ impl<A: Allocator + Copy> Nogoods<A> {
     {
         self.sets
             .iter()
-            .find(|noted| noted.contains(premise) && noted.is_rare_subset(premises))
+            .find(|noted| noted.contains(premise) && noted.is_subset(premises))
             .copied()
     }
 }
@@ -102,5 +102,5 @@ fn drop_larger<A: Allocator>(sets: &mut Vec<PremiseSet, A>, premises: &PremiseSe
     ensures len { vec_len sets.new ≤ vec_len sets.old }
     ensures capacity { vec_capacity sets.new ≡ vec_capacity sets.old }
 {
-    sets.retain(|noted| !premises.is_rare_subset(noted));
+    sets.retain(|noted| !premises.is_subset(noted));
 }
