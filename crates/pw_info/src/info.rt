@@ -132,6 +132,7 @@ impl Info {
     /// The merge of two informations of one kind: the values that both leave possible. (Radul and
     /// Sussman, *The Art of the Propagator*, on partial information: merging is commutative,
     /// associative and idempotent.)
+    #[inline(always)]
     pub fn meet(&self, other: &Info) -> Info
         requires { kind_of self.now ≡ kind_of other.now }
         ensures kind { kind_of result ≡ kind_of self.now }
@@ -153,6 +154,7 @@ impl Info {
 
     /// Whether this information, of the same kind as the other, is at least as informed: each value
     /// that is possible here is possible there.
+    #[inline(always)]
     pub fn implies(&self, other: &Info) -> bool
         requires { kind_of self.now ≡ kind_of other.now }
         ensures { IsTrue result ↔ Implies self.now other.now }
@@ -180,6 +182,7 @@ impl Info {
     }
 
     /// Whether no value is possible.
+    #[inline(always)]
     pub fn is_contradiction(&self) -> bool
         ensures { IsTrue result ↔ IsContradiction self.now }
     {
