@@ -29,8 +29,8 @@ pub(crate) fn append_instance<A: Allocator + Copy>(
     requires room { vec_len instances.old < vec_capacity instances.old }
     requires reader_room { vec_len readers.old.links + 8 ≤ vec_capacity readers.old.links }
     requires writer_room { vec_len writers.old.links < vec_capacity writers.old.links }
-    requires few { length instance.inputs.items ≤ 8 }
-    requires here { All (λ cell. cell < vec_len readers.old.ends) instance.inputs.items }
+    requires few { length instance.inputs ≤ 8 }
+    requires here { All (λ cell. cell < vec_len readers.old.ends) instance.inputs }
     requires readers { AreReaders (map listed_by readers.old.links.items)
         (map attachment instances.old.items) }
     requires writers { AreWriters (vec_len writers.old.ends) (map listed_by
@@ -70,12 +70,12 @@ pub(crate) fn instances_of<A: Allocator>(
     ensures items { IfOk result (λ made. map attachment made.items
         ≡ attached_on line support.now cells.now first calls.now) }
     ensures len { IfOk result (λ made. vec_len made ≡ length calls.now) }
-    ensures few { IfOk result (λ made. All (λ instance. length instance.inputs.items ≤ 8)
+    ensures few { IfOk result (λ made. All (λ instance. length instance.inputs ≤ 8)
         made.items) }
     ensures here { IfOk result (λ made. (many : ℕ)
         → All (λ call. All (λ place. at_place cells.now (λ j. first + j) place < many)
         (cells_of call.places)) calls.now
-        → All (λ instance. All (λ cell. cell < many) instance.inputs.items) made.items) }
+        → All (λ instance. All (λ cell. cell < many) instance.inputs) made.items) }
 {
     let mut made = Vec::with_capacity(alloc, calls.len())?;
     for call in calls {
@@ -98,9 +98,9 @@ pub(crate) fn append_instances<A: Allocator + Copy>(
         ≤ vec_capacity readers.old.links }
     requires writer_room { vec_len writers.old.links + vec_len attached
         ≤ vec_capacity writers.old.links }
-    requires few { All (λ instance. length instance.inputs.items ≤ 8) attached.items }
+    requires few { All (λ instance. length instance.inputs ≤ 8) attached.items }
     requires here { All (λ instance. All (λ cell. cell < vec_len readers.old.ends)
-        instance.inputs.items) attached.items }
+        instance.inputs) attached.items }
     requires readers { AreReaders (map listed_by readers.old.links.items)
         (map attachment instances.old.items) }
     requires writers { AreWriters (vec_len writers.old.ends) (map listed_by
