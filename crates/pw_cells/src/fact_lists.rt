@@ -229,7 +229,8 @@ fn is_subsumed<S: Support>(kept: &[Held<S>], bound: &Bound, fact: &Held<S>) -> b
     bound.info.implies(fact.info()) && is_subsumed_by(older, fact)
 }
 
-// Makes room for one more fact, unless the fact is known.
+// Makes room for one more fact, unless the fact is known. A list begins with room for two: a fact
+// mostly subsumes the one before it, so most lists have no more.
 fn reserve_unless<S: Support, A: Allocator>(
     facts: &mut Vec<Held<S>, A>,
     known: bool,
@@ -239,6 +240,9 @@ fn reserve_unless<S: Support, A: Allocator>(
 {
     if known {
         return Ok(());
+    }
+    if facts.is_empty() {
+        return facts.reserve_exact(2);
     }
     facts.reserve(1)
 }

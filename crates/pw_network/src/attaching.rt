@@ -8,7 +8,7 @@ ghost use Rattle.pw_network.specs.Network.{inner_cells_from};
 ghost use Rattle.pw_network.specs.Readers.{AreReaders};
 ghost use Rattle.pw_network.specs.Writers.{AreWriters};
 ghost use Rattle.pw_network.specs.inside.Held.{attached_on};
-ghost use Rattle.pw_network.specs.inside.Lists.{listed_by};
+ghost use Rattle.pw_network.specs.inside.Lists.{listed_by, no_place};
 
 use crate::instance::Instance;
 use crate::instance_lists::InstanceLists;
@@ -29,8 +29,11 @@ pub(crate) fn append_instance<A: Allocator + Copy>(
     requires room { vec_len instances.old < vec_capacity instances.old }
     requires reader_room { vec_len readers.old.links + 8 ≤ vec_capacity readers.old.links }
     requires writer_room { vec_len writers.old.links < vec_capacity writers.old.links }
-    requires few { length instance.inputs.items ≤ 8 }
-    requires here { All (λ cell. cell < vec_len readers.old.ends) instance.inputs.items }
+    requires number { vec_len instances.old < no_place }
+    requires reader_places { vec_len readers.old.links + 8 ≤ no_place }
+    requires writer_places { vec_len writers.old.links < no_place }
+    requires few { length instance.inputs ≤ 8 }
+    requires here { All (λ cell. cell < vec_len readers.old.ends) instance.inputs }
     requires readers { AreReaders (map listed_by readers.old.links.items)
         (map attachment instances.old.items) }
     requires writers { AreWriters (vec_len writers.old.ends) (map listed_by
@@ -49,8 +52,8 @@ pub(crate) fn append_instance<A: Allocator + Copy>(
     ensures len { vec_len instances.new ≡ vec_len instances.old + 1 }
     ensures room { vec_capacity instances.old ≤ vec_capacity instances.new }
 {
-    readers.append(instances.len(), instance.inputs.as_slice());
-    writers.append_to(instances.len(), instance.output);
+    readers.append(instances.len() as u32, instance.inputs.as_slice());
+    writers.append_to(instances.len() as u32, instance.output);
     let _ = instances.push(instance);
 }
 
@@ -70,12 +73,12 @@ pub(crate) fn instances_of<A: Allocator>(
     ensures items { IfOk result (λ made. map attachment made.items
         ≡ attached_on line support.now cells.now first calls.now) }
     ensures len { IfOk result (λ made. vec_len made ≡ length calls.now) }
-    ensures few { IfOk result (λ made. All (λ instance. length instance.inputs.items ≤ 8)
+    ensures few { IfOk result (λ made. All (λ instance. length instance.inputs ≤ 8)
         made.items) }
     ensures here { IfOk result (λ made. (many : ℕ)
         → All (λ call. All (λ place. at_place cells.now (λ j. first + j) place < many)
         (cells_of call.places)) calls.now
-        → All (λ instance. All (λ cell. cell < many) instance.inputs.items) made.items) }
+        → All (λ instance. All (λ cell. cell < many) instance.inputs) made.items) }
 {
     let mut made = Vec::with_capacity(alloc, calls.len())?;
     for call in calls {
@@ -98,9 +101,12 @@ pub(crate) fn append_instances<A: Allocator + Copy>(
         ≤ vec_capacity readers.old.links }
     requires writer_room { vec_len writers.old.links + vec_len attached
         ≤ vec_capacity writers.old.links }
-    requires few { All (λ instance. length instance.inputs.items ≤ 8) attached.items }
+    requires numbers { vec_len instances.old + vec_len attached ≤ no_place }
+    requires reader_places { vec_len readers.old.links + 8 * vec_len attached ≤ no_place }
+    requires writer_places { vec_len writers.old.links + vec_len attached ≤ no_place }
+    requires few { All (λ instance. length instance.inputs ≤ 8) attached.items }
     requires here { All (λ instance. All (λ cell. cell < vec_len readers.old.ends)
-        instance.inputs.items) attached.items }
+        instance.inputs) attached.items }
     requires readers { AreReaders (map listed_by readers.old.links.items)
         (map attachment instances.old.items) }
     requires writers { AreWriters (vec_len writers.old.ends) (map listed_by

@@ -5,9 +5,9 @@ ghost use Rattle.pw_decl.specs.Expansion.{instance_on};
 ghost use Rattle.pw_network.specs.inside.Held.{attachment};
 ghost use Rattle.pw_network.specs.Readers.{reads as reads_cell};
 
+use crate::inputs::Inputs;
 use pw_premises::{CompactSet, PremiseSet};
 use pw_procs::Arguments;
-use smallvec::SmallVec;
 use std::alloc::{AllocError, Global};
 
 // A procedure reads at most eight cells.
@@ -23,7 +23,7 @@ pub struct Instance {
     /// The line at which it was attached.
     pub line: u32,
     /// The cells that it reads.
-    pub inputs: SmallVec<u32, 8>,
+    pub inputs: Inputs,
     /// The premises under which it was attached.
     pub support: CompactSet,
 }
@@ -40,17 +40,15 @@ impl Instance {
     ) -> Result<Instance, AllocError>
         ensures instance { IfOk result (λ made. instance_on procedure (cells_of cells)
             ≡ (attachment made).instance ∷ []) }
-        ensures inputs { IfOk result (λ made. made.inputs.items
+        ensures inputs { IfOk result (λ made. made.inputs
             ≡ take (length (cells_of cells) - 1) (cells_of cells)) }
-        ensures few { IfOk result (λ made. length made.inputs.items ≤ 8) }
+        ensures few { IfOk result (λ made. length made.inputs ≤ 8) }
         ensures line { IfOk result (λ made. made.line ≡ line) }
         ensures support { IfOk result (λ made. made.support ≡ support.now) }
     {
         let cells = cells.cells();
         let last = cells.len() - 1;
-        let Ok(inputs) = SmallVec::from_slice(alloc, &cells[..last]) else {
-            unreachable!("a procedure reads eight cells at most");
-        };
+        let inputs = Inputs::of(alloc, &cells[..last])?;
         Ok(Instance {
             procedure,
             output: cells[last],

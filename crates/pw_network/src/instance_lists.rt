@@ -5,7 +5,7 @@ ghost use Rattle.std.specs.Prelude.{slice_set};
 ghost use Rattle.std.specs.Prelude.{IfOk, OnOk, nat_eq, vec_len, vec_capacity};
 ghost use Rattle.std.specs.List.{list_any};
 ghost use Rattle.pw_network.specs.inside.Lists.{AddsNumber, AddsNumberTo, AreLinked, IsWalk};
-ghost use Rattle.pw_network.specs.inside.Lists.{listed_by, next_of, numbers_for};
+ghost use Rattle.pw_network.specs.inside.Lists.{listed_by, next_of, no_place, numbers_for};
 
 use crate::instance_numbers::InstanceNumbers;
 use std::alloc::{AllocError, Allocator, Global};
@@ -14,26 +14,29 @@ use std::alloc::{AllocError, Allocator, Global};
 pub(crate) struct Link {
     pub(crate) cell: u32,
     // The number of the instance.
-    pub(crate) number: usize,
-    pub(crate) next: usize,
+    pub(crate) number: u32,
+    // The place of the next link of the cell.
+    pub(crate) next: u32,
 }
 
 // The places of the first and the last link of a cell. They are past the end if its list is empty.
 #[derive(Clone, Copy, Debug)]
 pub(crate) struct Ends {
-    pub(crate) first: usize,
-    pub(crate) last: usize,
+    pub(crate) first: u32,
+    pub(crate) last: u32,
 }
 
-// Means no link: no table is this long.
-const NONE: usize = usize::MAX;
+// Means no link: no table has a link at this place.
+const NONE: u32 = u32::MAX;
 
 // A list of instances for each cell, in the order in which they were appended. All lists are in one
-// table, so room in the table is room for any of them.
+// table, so room in the table is room for any of them. A table is so short that a place takes 32
+// bits.
 #[derive(Drop)]
 pub(crate) struct InstanceLists<A: Allocator = Global> {
     links: Vec<Link, A>,
     ends: Vec<Ends, A>,
+    ghost few: { vec_len links ≤ no_place },
     ghost linked: { AreLinked (map listed_by links.items) (map next_of links.items) ends.items } by { Prim.hlevel props },
 }
 
@@ -53,17 +56,18 @@ impl<A: Allocator + Copy> InstanceLists<A> {
         })
     }
 
-    // Makes room for this many more cells and this many more links. Fails only when out of memory.
-    // The lists are unchanged.
+    // Makes room for this many more cells and this many more links. Fails only when out of memory;
+    // links whose places would not fit 32 bits count as that. The lists are unchanged.
     pub(crate) fn reserve(&mut self, cells: usize, links: usize) -> Result<(), AllocError>
         ensures links { self.new.links.items ≡ self.old.links.items }
         ensures cells { vec_len self.new.ends ≡ vec_len self.old.ends }
         ensures room_for_links { OnOk result (vec_len self.new.links + links ≤ vec_capacity
             self.new.links) }
+        ensures few { OnOk result (vec_len self.new.links + links ≤ no_place) }
         ensures room_for_cells { OnOk result (vec_len self.new.ends + cells ≤ vec_capacity
             self.new.ends) }
     {
-        self.links.reserve(links)?;
+        reserve_numbered(&mut self.links, links)?;
         self.ends.reserve(cells)?;
         Ok(())
     }
@@ -82,9 +86,10 @@ impl<A: Allocator + Copy> InstanceLists<A> {
     }
 
     // Appends an instance to the list of each of these cells, only once if a cell is named twice.
-    pub(crate) fn append(&mut self, number: usize, cells: &[u32])
+    pub(crate) fn append(&mut self, number: u32, cells: &[u32])
         requires here { All (λ cell. cell < vec_len self.old.ends) cells.now }
         requires room { vec_len self.old.links + length cells.now ≤ vec_capacity self.old.links }
+        requires few { vec_len self.old.links + length cells.now ≤ no_place }
         ensures lists { AddsNumber cells.now number (map listed_by self.old.links.items) (map
             listed_by self.new.links.items) }
         ensures cells { vec_len self.new.ends ≡ vec_len self.old.ends }
@@ -102,8 +107,9 @@ impl<A: Allocator + Copy> InstanceLists<A> {
     }
 
     // Appends an instance to the list of a cell, if the cell has one.
-    pub(crate) fn append_to(&mut self, number: usize, cell: u32)
+    pub(crate) fn append_to(&mut self, number: u32, cell: u32)
         requires room { vec_len self.old.links < vec_capacity self.old.links }
+        requires few { vec_len self.old.links < no_place }
         ensures lists { AddsNumberTo (vec_len self.old.ends) cell number (map listed_by
             self.old.links.items) (map listed_by self.new.links.items) }
         ensures cells { vec_len self.new.ends ≡ vec_len self.old.ends }
@@ -116,9 +122,10 @@ impl<A: Allocator + Copy> InstanceLists<A> {
     }
 
     // Appends an instance to the list of a cell.
-    fn link(&mut self, number: usize, cell: u32)
+    fn link(&mut self, number: u32, cell: u32)
         requires here { cell < vec_len self.old.ends }
         requires room { vec_len self.old.links < vec_capacity self.old.links }
+        requires few { vec_len self.old.links < no_place }
         ensures listed { map listed_by self.new.links.items ≡ map listed_by
             self.old.links.items ++ record { cell = cell; number = number } ∷ [] }
         ensures cells { vec_len self.new.ends ≡ vec_len self.old.ends }
@@ -126,9 +133,9 @@ impl<A: Allocator + Copy> InstanceLists<A> {
         ensures links { vec_len self.new.links ≡ vec_len self.old.links + 1 }
         ensures room { vec_capacity self.old.links ≤ vec_capacity self.new.links }
     {
-        let at = self.links.len();
+        let at = self.links.len() as u32;
         let ends = self.ends[cell as usize];
-        lead(&mut self.links, ends.last, at);
+        lead(&mut self.links, ends.last as usize, at);
         self.ends[cell as usize] = Ends {
             first: ends.first.min(at),
             last: at,
@@ -150,7 +157,7 @@ impl<A: Allocator + Copy> InstanceLists<A> {
     }
 
     // The place of the first link of a cell.
-    fn first(&self, cell: u32) -> usize
+    fn first(&self, cell: u32) -> u32
         ensures walk { IsWalk (map listed_by self.now.links.items) (map next_of
             self.now.links.items) cell result }
         ensures all { numbers_for cell (drop result (map listed_by self.now.links.items))
@@ -163,6 +170,24 @@ impl<A: Allocator + Copy> InstanceLists<A> {
     }
 }
 
+// Makes room for this many more items. Fails only when out of memory; items whose places would not
+// fit 32 bits count as that. The items are unchanged.
+pub(crate) fn reserve_numbered<T, A: Allocator>(
+    list: &mut Vec<T, A>,
+    count: usize,
+) -> Result<(), AllocError>
+    ensures items { list.new.items ≡ list.old.items }
+    ensures len { vec_len list.new ≡ vec_len list.old }
+    ensures room { OnOk result (vec_len list.new + count ≤ vec_capacity list.new) }
+    ensures few { OnOk result (vec_len list.new + count ≤ no_place) }
+{
+    let most = u32::MAX as usize;
+    if count > most || list.len() > most - count {
+        return Err(AllocError);
+    }
+    list.reserve(count)
+}
+
 // Whether the cell is one of these.
 fn has(cells: &[u32], cell: u32) -> bool
     ensures { result ≡ list_any (nat_eq cell) cells.now }
@@ -171,7 +196,7 @@ fn has(cells: &[u32], cell: u32) -> bool
 }
 
 // Sets the next place of the link at a place, if there is a link at that place.
-fn lead<A: Allocator>(links: &mut Vec<Link, A>, place: usize, next: usize)
+fn lead<A: Allocator>(links: &mut Vec<Link, A>, place: usize, next: u32)
     ensures listed { map listed_by links.new.items ≡ map listed_by links.old.items }
     ensures nexts { map next_of links.new.items ≡ slice_set (map next_of links.old.items) place next }
     ensures len { vec_len links.new ≡ vec_len links.old }

@@ -12,7 +12,7 @@ pub struct InstanceNumbers<'n> {
     links: &'n [Link],
     cell: u32,
     // The place of the next link of the cell: past their end if none is left.
-    at: usize,
+    at: u32,
 }
 
 impl<'n> Model for InstanceNumbers<'n> {
@@ -30,7 +30,7 @@ impl<'n> Model for InstanceNumbers<'n> {
 impl<'n> InstanceNumbers<'n> {
     // The numbers of the instances that are listed for the cell, from this place on. It is the
     // place of one of them, if any is left.
-    pub(crate) fn new(links: &'n [Link], cell: u32, at: usize) -> InstanceNumbers<'n>
+    pub(crate) fn new(links: &'n [Link], cell: u32, at: u32) -> InstanceNumbers<'n>
         requires { IsWalk (map listed_by links.now) (map next_of links.now) cell at }
         ensures { result ≡ numbers_for cell (drop at (map listed_by links.now)) }
     {
@@ -46,10 +46,10 @@ impl Iterator for InstanceNumbers<'_> {
     ghost remaining = { item_count (λ left. left) };
 
     fn next(&mut self) -> Option<usize> {
-        if self.at < self.links.len() {
-            let link = self.links[self.at];
+        if (self.at as usize) < self.links.len() {
+            let link = self.links[self.at as usize];
             self.at = link.next;
-            Some(link.number)
+            Some(link.number as usize)
         } else {
             None
         }

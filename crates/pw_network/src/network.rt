@@ -27,7 +27,7 @@ ghost use Rattle.pw_network.specs.inside.Lists.{listed_by};
 
 use crate::attaching::{append_inner, append_instance, append_instances, instances_of};
 use crate::instance::{Instance, MOST_INPUTS};
-use crate::instance_lists::InstanceLists;
+use crate::instance_lists::{InstanceLists, reserve_numbered};
 use crate::instance_numbers::InstanceNumbers;
 use pw_decl::{Callable, Declaration, FlatCall};
 use pw_info::Kind;
@@ -231,7 +231,7 @@ impl<'d, 'r, A: Allocator + Copy> Network<'d, 'r, A> {
     {
         let global = self.declaration.registry().allocator();
         let instance = Instance::new(global, procedure, cells, &support, line)?;
-        self.instances.reserve(1)?;
+        reserve_numbered(&mut self.instances, 1)?;
         self.readers.reserve(0, MOST_INPUTS)?;
         self.writers.reserve(0, 1)?;
         append_instance(
@@ -272,7 +272,7 @@ impl<'d, 'r, A: Allocator + Copy> Network<'d, 'r, A> {
         let global = self.declaration.registry().allocator();
         let attached = instances_of(alloc, global, calls, cells.cells(), first, line, &support)?;
         self.inner.reserve(kinds.len())?;
-        self.instances.reserve(calls.len())?;
+        reserve_numbered(&mut self.instances, calls.len())?;
         self.readers
             .reserve(kinds.len(), calls.len() * MOST_INPUTS)?;
         self.writers.reserve(0, calls.len())?;

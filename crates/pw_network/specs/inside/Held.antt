@@ -16,7 +16,7 @@ attachment kept =
     record {
       instance = record {
         procedure = kept.procedure;
-        inputs = kept.inputs.items;
+        inputs = kept.inputs;
         output =
             kept.output;
       };

@@ -27,9 +27,9 @@ abbrev pub numbers_for : ℕ → List Listed → List ℕ
 numbers_for cell [] = []
 numbers_for cell (entry ∷ listed) = number_for cell entry ++ numbers_for cell listed
 
--- the place that means no place
+-- the place that means no place: no link is there, and no instance has this number
 abbrev pub no_place : ℕ
-no_place = 18446744073709551615
+no_place = 4294967295
 
 -- the first instance that is listed for the cell, from a place on, is at this place, or there is
 -- none

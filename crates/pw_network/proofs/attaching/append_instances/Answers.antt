@@ -25,16 +25,31 @@ append_instance-requires-clause-writer_room g c =
     let turn = YieldsList-turn (YieldsList-from_vec c.args.attached.items (search rules) (search rules)) c.loop-instance.yielded _ c.loop-instance.yielded_by _ c.next.new.self c.in-Some.instance c.in-Some.is c.next.ensures.steps in
     omega (arith, turn.0, c.args.attached.ok.0, c.requires.writer_room, c.loop-instance.invariant.writer_links, c.loop-instance.invariant.writer_room)
 
+pub append_instance-requires-clause-number : goal.append_instance-requires-clause-number
+append_instance-requires-clause-number g c =
+    let turn = YieldsList-turn (YieldsList-from_vec c.args.attached.items (search rules) (search rules)) c.loop-instance.yielded _ c.loop-instance.yielded_by _ c.next.new.self c.in-Some.instance c.in-Some.is c.next.ensures.steps in
+    omega (arith, turn.0, c.args.attached.ok.0, c.requires.numbers, c.loop-instance.invariant.len)
+
+pub append_instance-requires-clause-reader_places : goal.append_instance-requires-clause-reader_places
+append_instance-requires-clause-reader_places g c =
+    let turn = YieldsList-turn (YieldsList-from_vec c.args.attached.items (search rules) (search rules)) c.loop-instance.yielded _ c.loop-instance.yielded_by _ c.next.new.self c.in-Some.instance c.in-Some.is c.next.ensures.steps in
+    omega (arith, turn.0, c.args.attached.ok.0, c.requires.reader_places, c.loop-instance.invariant.reader_links)
+
+pub append_instance-requires-clause-writer_places : goal.append_instance-requires-clause-writer_places
+append_instance-requires-clause-writer_places g c =
+    let turn = YieldsList-turn (YieldsList-from_vec c.args.attached.items (search rules) (search rules)) c.loop-instance.yielded _ c.loop-instance.yielded_by _ c.next.new.self c.in-Some.instance c.in-Some.is c.next.ensures.steps in
+    omega (arith, turn.0, c.args.attached.ok.0, c.requires.writer_places, c.loop-instance.invariant.writer_links)
+
 pub append_instance-requires-clause-few : goal.append_instance-requires-clause-few
 append_instance-requires-clause-few g c =
     let turn = YieldsList-turn (YieldsList-from_vec c.args.attached.items (search rules) (search rules)) c.loop-instance.yielded _ c.loop-instance.yielded_by _ c.next.new.self c.in-Some.instance c.in-Some.is c.next.ensures.steps in
-    subst (λ (y : InstanceType). length y.inputs.items ≤ 8) (sym turn.1) (c.requires.few (length c.loop-instance.yielded) c.in-Some.instance turn.0)
+    subst (λ (y : InstanceType). length y.inputs ≤ 8) (sym turn.1) (c.requires.few (length c.loop-instance.yielded) c.in-Some.instance turn.0)
 
 pub append_instance-requires-clause-here : goal.append_instance-requires-clause-here
 append_instance-requires-clause-here g c =
     let turn = YieldsList-turn (YieldsList-from_vec c.args.attached.items (search rules) (search rules)) c.loop-instance.yielded _ c.loop-instance.yielded_by _ c.next.new.self c.in-Some.instance c.in-Some.is c.next.ensures.steps in
-    subst (λ n. All (λ cell. cell < n) c.in-Some.instance.inputs.items) (sym c.loop-instance.invariant.cells)
-    (subst (λ (y : InstanceType). All (λ cell. cell < c.args.readers.now.ends.len) y.inputs.items) (sym turn.1)
+    subst (λ n. All (λ cell. cell < n) c.in-Some.instance.inputs) (sym c.loop-instance.invariant.cells)
+    (subst (λ (y : InstanceType). All (λ cell. cell < c.args.readers.now.ends.len) y.inputs) (sym turn.1)
     (c.requires.here (length c.loop-instance.yielded) c.in-Some.instance turn.0))
 
 pub append_instance-requires-clause-readers : goal.append_instance-requires-clause-readers

@@ -24,10 +24,10 @@ loop-call-preserved g c =
           c.in_ok-instance.ensures.line c.in_ok-instance.ensures.support c.loop-call.invariant.items;
       len = let long = rw done at c.push.ensures.len in omega (arith, long, c.loop-call.invariant.len);
       room = omega (arith, c.loop-call.invariant.room, c.push.ensures.capacity);
-      few = All-same (λ (y : InstanceType). length y.inputs.items ≤ 8) after (before ++ x ∷ []) pushed
-          (All-push (λ (y : InstanceType). length y.inputs.items ≤ 8) before x c.loop-call.invariant.few c.in_ok-instance.ensures.few);
-      here = λ many here. All-same (λ (y : InstanceType). All (λ cell. cell < many) y.inputs.items) after (before ++ x ∷ []) pushed
-          (All-push (λ (y : InstanceType). All (λ cell. cell < many) y.inputs.items) before x (c.loop-call.invariant.here many here)
-          (inputs_here c.args.calls.now i c.call-item.result name placed x.inputs.items many many c.loop-call-test.true c.call-item.is
+      few = All-same (λ (y : InstanceType). length y.inputs ≤ 8) after (before ++ x ∷ []) pushed
+          (All-push (λ (y : InstanceType). length y.inputs ≤ 8) before x c.loop-call.invariant.few c.in_ok-instance.ensures.few);
+      here = λ many here. All-same (λ (y : InstanceType). All (λ cell. cell < many) y.inputs) after (before ++ x ∷ []) pushed
+          (All-push (λ (y : InstanceType). All (λ cell. cell < many) y.inputs) before x (c.loop-call.invariant.here many here)
+          (inputs_here c.args.calls.now i c.call-item.result name placed x.inputs many many c.loop-call-test.true c.call-item.is
           c.place_cells-placed.ensures c.in_ok-instance.ensures.inputs refl here));
     }

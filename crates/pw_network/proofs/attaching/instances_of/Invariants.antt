@@ -13,7 +13,7 @@ invariant-loop-call g l = record {
       ≡ map (attached_at l.line l.support) (map (renamed (at_place l.cells (λ j. l.first + j))) (instances_of (take l.call-index l.calls)));
   len : vec_len l.made ≡ l.call-index;
   room : length l.calls ≤ vec_capacity l.made;
-  few : All (λ instance. length instance.inputs.items ≤ 8) l.made.items;
+  few : All (λ instance. length instance.inputs ≤ 8) l.made.items;
   here : (many : ℕ) → All (λ call. All (λ place. at_place l.cells (λ j. l.first + j) place < many) (cells_of call.places)) l.calls
-      → All (λ instance. All (λ cell. cell < many) instance.inputs.items) l.made.items;
+      → All (λ instance. All (λ cell. cell < many) instance.inputs) l.made.items;
 }

@@ -1,4 +1,4 @@
-use Rattle.std.proofs.Common.{◌+◌, ◌<◌, refl, arith}
+use Rattle.std.proofs.Common.{◌+◌, refl, arith}
 use Rattle.pw_network.specs.declared.instance_lists.Ends.{Ends}
 use Rattle.pw_network.specs.inside.Lists.{no_place}
 use Rattle.pw_network.proofs.LinkLemmas.{linked_resized}
@@ -10,9 +10,9 @@ invariant_of-self g c =
     let ends = c.args.self.now.ends in
     let links = c.args.self.now.links in
     let done = c.resize.ensures.succeeds (omega (arith, c.requires.room, c.len.ensures)) in
-    let small : links.cap < 9223372036854775808 = links.small in
     record {
+      few = c.args.self.now.few;
       linked = linked_resized links.items ends.items c.resize.new.self.items none ends.len (c.len.result + c.args.count) c.args.count
-          (omega (arith, links.ok.0, links.ok.1)) refl refl ends.ok.0 (omega (arith, c.len.ensures))
+          (omega (arith, links.ok.0, c.args.self.now.few)) refl refl ends.ok.0 (omega (arith, c.len.ensures))
           (rw done at c.resize.ensures.items) c.args.self.now.linked;
     }

@@ -7,9 +7,8 @@ use Rattle.pw_network.proofs.instance_lists.InstanceLists.first.Goals as goal
 pub returns-then-cell-len-clause-all : goal.returns-then-cell-len-clause-all
 returns-then-cell-len-clause-all g c =
     let links = c.args.self.now.links.items in
-    let small : c.args.self.now.links.cap < 9223372036854775808 = c.args.self.now.links.small in
     past_all (map listed_by links) (map next_of links) c.args.self.now.ends.items c.args.self.now.linked c.args.cell no_place
-    (omega (arith, length-map links listed_by, c.args.self.now.links.ok.0, c.args.self.now.links.ok.1))
+    (omega (arith, length-map links listed_by, c.args.self.now.links.ok.0, c.args.self.now.few))
     (omega (arith, c.if-cell-len.true, c.len.ensures, c.args.self.now.ends.ok.0))
 
 pub returns : goal.returns

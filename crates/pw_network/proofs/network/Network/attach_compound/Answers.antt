@@ -13,17 +13,17 @@ append_instances-requires-clause-here g c =
     let here = calls_here (wiring c.args.self.now) c.args.line c.args.compound c.args.calls.now (cells_of c.args.cells) c.args.support c.args.self.now.well
     c.requires.calls c.requires.may (let few = c.requires.few in let long = ap length c.requires.kinds in omega arith)
     c.cells-first.result c.add_cells.new.self.ends.len c.cells-first.ensures.count
-    (let long = ap length c.requires.kinds in omega (arith, c.add_cells.ensures.cells, c.reserve-3.ensures.cells, c.args.self.now.cells)) in
+    (let long = ap length c.requires.kinds in omega (arith, c.add_cells.ensures.cells, c.reserve-2.ensures.cells, c.args.self.now.cells)) in
     let placed = rw (← c.cells.ensures.cells) at here in
     c.in_ok-attached.ensures.here c.add_cells.new.self.ends.len placed
 
 pub returns-clause-ok : goal.returns-clause-ok
 returns-clause-ok g c =
     compound_attached (declared c.args.self.now.declaration.now) c.args.self.now.inner.items c.reserve.new.self.items c.append_inner.new.inner.items
-    c.args.self.now.instances.items c.reserve-2.new.self.items c.in_ok-attached.attached.items c.append_instances.new.instances.items
+    c.args.self.now.instances.items c.reserve_numbered.new.list.items c.in_ok-attached.attached.items c.append_instances.new.instances.items
     c.args.self.now.last_line c.args.line c.args.compound c.args.calls.now c.args.kinds.now (cells_of c.args.cells) c.args.support
     c.args.self.now.well c.requires.calls c.requires.may c.requires.kinds c.requires.few c.cells-first.result c.cells-first.ensures.count
-    c.reserve.ensures.items c.append_inner.ensures c.reserve-2.ensures.items c.append_instances.ensures.items
+    c.reserve.ensures.items c.append_inner.ensures c.reserve_numbered.ensures.items c.append_instances.ensures.items
     (rw c.cells.ensures.cells at c.in_ok-attached.ensures.items)
 
 pub invariant_of-self-2 : goal.invariant_of-self-2
@@ -31,10 +31,10 @@ invariant_of-self-2 g c =
     let network = wiring c.args.self.now in
     let cells = cells_of c.args.cells in
     let after = compound_attached (declared c.args.self.now.declaration.now) c.args.self.now.inner.items c.reserve.new.self.items c.append_inner.new.inner.items
-    c.args.self.now.instances.items c.reserve-2.new.self.items c.in_ok-attached.attached.items c.append_instances.new.instances.items
+    c.args.self.now.instances.items c.reserve_numbered.new.list.items c.in_ok-attached.attached.items c.append_instances.new.instances.items
     c.args.self.now.last_line c.args.line c.args.compound c.args.calls.now c.args.kinds.now cells c.args.support
     c.args.self.now.well c.requires.calls c.requires.may c.requires.kinds c.requires.few c.cells-first.result c.cells-first.ensures.count
-    c.reserve.ensures.items c.append_inner.ensures c.reserve-2.ensures.items c.append_instances.ensures.items
+    c.reserve.ensures.items c.append_inner.ensures c.reserve_numbered.ensures.items c.append_instances.ensures.items
     (rw c.cells.ensures.cells at c.in_ok-attached.ensures.items) in
     let long = ap length c.requires.kinds in
     let more = cells_after network c.args.line (callables.Compound c.args.compound) cells c.args.support c.args.self.now.well in
@@ -43,8 +43,8 @@ invariant_of-self-2 g c =
       well = subst IsWellNetwork (sym after)
           (well_with_attached network c.args.line (callables.Compound c.args.compound) cells c.args.support c.args.self.now.well c.requires.may
           (let few = c.requires.few in omega (arith, long)));
-      cells = omega (arith, here, more, long, c.append_instances.ensures.cells, c.add_cells.ensures.cells, c.reserve-3.ensures.cells, c.args.self.now.cells);
-      declared_cells = omega (arith, c.append_instances.ensures.writer_cells, c.reserve-4.ensures.cells, c.args.self.now.declared_cells);
+      cells = omega (arith, here, more, long, c.append_instances.ensures.cells, c.add_cells.ensures.cells, c.reserve-2.ensures.cells, c.args.self.now.cells);
+      declared_cells = omega (arith, c.append_instances.ensures.writer_cells, c.reserve-3.ensures.cells, c.args.self.now.declared_cells);
       read = c.append_instances.ensures.readers;
       written = c.append_instances.ensures.writers;
     }
