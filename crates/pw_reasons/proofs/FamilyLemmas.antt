@@ -1,18 +1,20 @@
 -- Families of sets of premises: which premises a branch covers, and one more set.
-use Rattle.std.proofs.Common.{◌≡◌, ℕ, ◌<◌, Bool, true, false, not, ◌||◌, ◌&&◌, ◌⊎◌, List, [], ◌∷◌, ◌++◌, Contains, map, refl, sym, ap, ◌∙◌, subst, inl, inr, arith}
+use Rattle.std.proofs.Common.{◌≡◌, ℕ, ◌<◌, Bool, true, false, not, ◌||◌, ◌&&◌, ◌⊎◌, ◌↔◌, nat_eq, List, [], ◌∷◌, ◌++◌, Contains, map, refl, sym, ap, ◌∙◌, subst, inl, inr, arith}
 use Rattle.std.specs.Cmp.{nat_cmp_total, both_ways, unsigned_tied}
 use Rattle.std.specs.Ordering.{nat_cmp, eq_by_cmp}
-use Rattle.std.specs.FinSet.{FinSet, contains, contains-empty, contains-insert, contains-is_subset, contains-remove, empty, insert, is_subset, is_subset-contains, nat_cmp-IsAntisymmetric, remove, same_set}
+use Rattle.std.specs.FinSet.{contains, contains-from_list_nat, contains-insert, contains-is_subset, contains-remove, empty, from_list, from_list_push, insert, is_subset, is_subset-contains, nat_cmp-IsAntisymmetric, remove, same_set}
 use Rattle.std.specs.List.{list_any}
 use Rattle.std.proofs.lemmas.Bool.{cases_Bool, false≢true, or_cases}
 use Rattle.std.proofs.lemmas.Bool.Decides.{nat_tests}
 use Rattle.std.proofs.lemmas.List.Elements.{Contains-append_cases, Contains-append_left, Contains-append_right, Contains-push_cases}
-use Rattle.std.proofs.lemmas.List.Folds.{list_any-append}
-use Rattle.pw_premises.specs.Premises.{Premises}
+use Rattle.std.proofs.lemmas.List.Folds.{Any-from_list_any, list_any-append, list_any-from_Any}
+use Rattle.pw_premises.specs.Premises.{Premises, most_premises, numbers_of}
 use Rattle.pw_premises.specs.PremiseSubsets.{empty_is_subset}
+use Rattle.pw_premises.proofs.NumberLists.{numbers_of-members}
 use Rattle.pw_settle.proofs.Membership.{contains_first, contains_map, contains_more}
 use Rattle.pw_reasons.specs.Nogood.{covers}
-use Rattle.pw_reasons.specs.inside.Families.{HasOneMore}
+use Rattle.pw_reasons.specs.declared.family.Branch.{Branch}
+use Rattle.pw_reasons.specs.inside.Families.{HasOneMore, sets_of}
 
 -- ---- one more premise in a set
 
@@ -146,9 +148,9 @@ module _ (premise : ℕ) where
       by_test false b c = refl
 
   -- one more set among those with it
-  pub more_with : (old new others : List Premises) (part : Premises) → HasOneMore old new part →
-      HasOneMore (each_with old ++ others) (each_with new ++ others) (insert part premise)
-  more_with old new others part more = record {
+  pub more_with : (old new others : List Premises) (part premises : Premises) → insert part premise ≡ premises → HasOneMore old new part →
+      HasOneMore (each_with old ++ others) (each_with new ++ others) premises
+  more_with old new others part premises whole more = subst (HasOneMore (each_with old ++ others) (each_with new ++ others)) whole (record {
     covered = λ w. branch_covers new others w ∙ ap (λ b. (contains w premise && b) || covers others w) (more.covered w)
         ∙ by_test (contains w premise) (is_subset part w) (covers old w) (covers others w)
         ∙ (λ i. sym (inserted_within part w premise) i || sym (branch_covers old others w) i);
@@ -162,7 +164,7 @@ module _ (premise : ℕ) where
         ]
       | inr other ↦ inr (Contains-append_right (each_with old) others set other)
     ];
-  }
+  })
     where
       by_test : (b one more others : Bool) → ((b && (one || more)) || others) ≡ ((b && one) || ((b && more) || others))
       by_test true true more others = refl
@@ -207,3 +209,53 @@ neither = (first_fails, other_fails) where
   other_fails : (a b : Bool) → b ≡ false → (a && b) ≡ false
   other_fails true b fails = fails
   other_fails false b fails = refl
+
+-- ---- the numbers of a set
+
+-- each number of a set in the code is below the limit
+pub members_below : (premises : Premises) (numbers : List ℕ) → numbers ≡ numbers_of premises →
+    ((q : ℕ) → Contains numbers q ↔ (contains premises q ≡ true)) → (q : ℕ) → contains premises q ≡ true → q < most_premises
+members_below premises numbers are members q has =
+    ((numbers_of-members premises q).0 (subst (λ (l : List ℕ). Contains l q) are ((members q).1 has))).0
+
+-- a set is made of its numbers
+pub made_of_numbers : (premises : Premises) (numbers : List ℕ) → ((q : ℕ) → Contains numbers q ↔ (contains premises q ≡ true)) → from_list numbers ≡ premises
+made_of_numbers premises numbers members = same_set nat_cmp_total nat_cmp-IsAntisymmetric _ _ (λ q.
+    contains-from_list_nat numbers q
+    ∙ both_ways _ _
+      (λ found. (members q).0 (any_contained numbers q found))
+      (λ has. contained_any numbers q ((members q).1 has)))
+  where
+    any_contained : (numbers : List ℕ) (q : ℕ) → list_any (λ y. nat_eq y q) numbers ≡ true → Contains numbers q
+    any_contained numbers q found =
+        let some = Any-from_list_any (λ y. nat_eq y q) numbers found in
+        subst (Contains numbers) (let same = some.4 in grind (arith, nat_tests)) (some.0, some.2, some.3)
+
+    contained_any : (numbers : List ℕ) (q : ℕ) → Contains numbers q → list_any (λ y. nat_eq y q) numbers ≡ true
+    contained_any numbers q has = list_any-from_Any (λ y. nat_eq y q) numbers (has.0, q, has.1, has.2, grind (arith, nat_tests))
+
+-- ---- a chain of branches
+
+-- the sets of a branch
+abbrev pub sets_under : {A : Type 0} → Branch A → List Premises
+sets_under branch = map (λ set. insert set branch.premise) (sets_of branch.with) ++ sets_of branch.without
+
+-- the set of the premises so far, with one more
+pub chain_longer : (sets : List Premises) (so_far : List ℕ) (premise : ℕ) → sets ≡ from_list so_far ∷ [] →
+    map (λ (set : Premises). insert set premise) sets ++ [] ≡ from_list (so_far ++ premise ∷ []) ∷ []
+chain_longer sets so_far premise are =
+    ap (λ (l : List Premises). map (λ (set : Premises). insert set premise) l ++ []) are
+    ∙ (λ i. sym (from_list_push nat_cmp_total nat_cmp-IsAntisymmetric so_far premise) i ∷ [])
+
+-- ---- the last number of a set
+
+-- a set without a number is empty
+pub none_of_numbers : (premises : Premises) (numbers : List ℕ) → numbers ≡ [] → ((q : ℕ) → Contains numbers q ↔ (contains premises q ≡ true)) → premises ≡ empty
+none_of_numbers premises numbers none members = sym (made_of_numbers premises numbers members) ∙ ap from_list none
+
+-- the last number is a premise, and so the set is that of the others with it
+pub last_again : (premises : Premises) (numbers before : List ℕ) (last : ℕ) → numbers ≡ before ++ last ∷ [] →
+    ((q : ℕ) → Contains numbers q ↔ (contains premises q ≡ true)) → insert (remove premises last) last ≡ premises
+last_again premises numbers before last are members =
+    put_again premises last ((members last).0 (subst (λ (l : List ℕ). Contains l last) (sym are)
+    (Contains-append_right before (last ∷ []) last (contains_first last []))))

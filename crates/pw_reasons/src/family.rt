@@ -125,9 +125,12 @@ impl<A: Allocator + Copy> Family<A> {
             return Ok(());
         };
         match self {
-            Family::Split(branch) if branch.premise > last => branch.without.add(alloc, premises),
-            Family::Split(branch) if branch.premise == last => {
-                branch.with.add(alloc, &premises.without(last))
+            Family::Split(branch) if branch.premise >= last => {
+                if branch.premise == last {
+                    branch.with.add(alloc, &premises.without(last))
+                } else {
+                    branch.without.add(alloc, premises)
+                }
             }
             _ => self.add_first(alloc, last, &premises.without(last)),
         }
