@@ -1,10 +1,11 @@
 -- Families of sets of premises: which premises a branch covers, and one more set.
-use Rattle.std.proofs.Common.{◌≡◌, ℕ, ◌<◌, Bool, true, false, not, ◌||◌, ◌&&◌, ◌⊎◌, ◌↔◌, nat_eq, List, [], ◌∷◌, ◌++◌, Contains, map, refl, sym, ap, ◌∙◌, subst, inl, inr, arith}
+use Rattle.std.proofs.Common.{◌≡◌, ℕ, ◌<◌, Bool, true, false, not, ◌||◌, ◌&&◌, ◌⊎◌, ◌↔◌, nat_eq, List, [], ◌∷◌, ◌++◌, Contains, map, refl, sym, ap, ◌∙◌, subst, inl, inr, arith, Result, Ok, Err}
+use Rattle.std.specs.Prelude.{OnErr, OnOk}
 use Rattle.std.specs.Cmp.{nat_cmp_total, both_ways, unsigned_tied}
 use Rattle.std.specs.Ordering.{nat_cmp, eq_by_cmp}
 use Rattle.std.specs.FinSet.{contains, contains-from_list_nat, contains-insert, contains-is_subset, contains-remove, empty, from_list, from_list_push, insert, is_subset, is_subset-contains, nat_cmp-IsAntisymmetric, remove, same_set}
 use Rattle.std.specs.List.{list_any}
-use Rattle.std.proofs.lemmas.Bool.{cases_Bool, false≢true, or_cases}
+use Rattle.std.proofs.lemmas.Bool.{false≢true, or_cases}
 use Rattle.std.proofs.lemmas.Bool.Decides.{nat_tests}
 use Rattle.std.proofs.lemmas.List.Elements.{Contains-append_cases, Contains-append_left, Contains-append_right, Contains-push_cases}
 use Rattle.std.proofs.lemmas.List.Folds.{Any-from_list_any, list_any-append, list_any-from_Any}
@@ -14,6 +15,7 @@ use Rattle.pw_premises.proofs.NumberLists.{numbers_of-members}
 use Rattle.pw_settle.proofs.Membership.{contains_first, contains_map, contains_more}
 use Rattle.pw_reasons.specs.Nogood.{covers}
 use Rattle.pw_reasons.specs.declared.family.Branch.{Branch}
+use Rattle.pw_reasons.specs.declared.family.Family.{Family}
 use Rattle.pw_reasons.specs.inside.Families.{HasOneMore, sets_of}
 
 -- ---- one more premise in a set
@@ -47,14 +49,14 @@ and_both false b one other = absurd (false≢true one)
 pub inserted_within : (set w : Premises) (n : ℕ) → is_subset (insert set n) w ≡ (contains w n && is_subset set w)
 inserted_within set w n = both_ways _ _
     (λ all. and_both _ _
-      (is_subset-contains nat_cmp_total (insert set n) w all n (contains_inserted set n n ∙ or_left _ _ (self_tied n)))
-      (contains-is_subset nat_cmp_total set w (λ q one.
-        is_subset-contains nat_cmp_total (insert set n) w all q (contains_inserted set n q ∙ or_right _ _ one))))
+    (is_subset-contains nat_cmp_total (insert set n) w all n (contains_inserted set n n ∙ or_left _ _ (self_tied n)))
+    (contains-is_subset nat_cmp_total set w (λ q one.
+    is_subset-contains nat_cmp_total (insert set n) w all q (contains_inserted set n q ∙ or_right _ _ one))))
     (λ both. contains-is_subset nat_cmp_total (insert set n) w (λ q one.
-      elim (or_cases (eq_by_cmp nat_cmp q n) (contains set q) (sym (contains_inserted set n q) ∙ one)) [
-        | inl tied ↦ ap (contains w) (tied_same q n tied) ∙ (and_parts _ _ both).0
-        | inr old ↦ is_subset-contains nat_cmp_total set w (and_parts _ _ both).1 q old
-      ]))
+    elim (or_cases (eq_by_cmp nat_cmp q n) (contains set q) (sym (contains_inserted set n q) ∙ one)) [
+      | inl tied ↦ ap (contains w) (tied_same q n tied) ∙ (and_parts _ _ both).0
+      | inr old ↦ is_subset-contains nat_cmp_total set w (and_parts _ _ both).1 q old
+    ]))
 
 -- a premise of a set taken out and put in again
 pub put_again : (set : Premises) (n : ℕ) → contains set n ≡ true → insert (remove set n) n ≡ set
@@ -156,12 +158,12 @@ module _ (premise : ℕ) where
         ∙ (λ i. sym (inserted_within part w premise) i || sym (branch_covers old others w) i);
     within = λ set there. elim (Contains-append_cases (each_with new) others set there) [
       | inl one ↦
-        let found = each_from new set one in
-        elim (more.within found.0 found.1) [
-          | inl same ↦ inl (found.2 ∙ ap (λ (s : Premises). insert s premise) same)
-          | inr before ↦ inr (Contains-append_left (each_with old) others set
-              (subst (Contains (each_with old)) (sym found.2) (contains_map (λ (s : Premises). insert s premise) old found.0 before)))
-        ]
+          let found = each_from new set one in
+          elim (more.within found.0 found.1) [
+            | inl same ↦ inl (found.2 ∙ ap (λ (s : Premises). insert s premise) same)
+            | inr before ↦ inr (Contains-append_left (each_with old) others set
+                (subst (Contains (each_with old)) (sym found.2) (contains_map (λ (s : Premises). insert s premise) old found.0 before)))
+          ]
       | inr other ↦ inr (Contains-append_right (each_with old) others set other)
     ];
   })
@@ -187,8 +189,8 @@ more_first premises old = record {
 pub more_nil : (premises : Premises) (old : List Premises) → premises ≡ empty → HasOneMore old (empty ∷ []) premises
 more_nil premises old none = record {
   covered = λ w.
-    let all : is_subset {R = nat_cmp} empty w ≡ true = empty_is_subset w in
-    ap (λ b. b || false) all ∙ sym (ap (λ b. b || covers old w) (ap (λ (s : Premises). is_subset s w) none ∙ all));
+      let all : is_subset {R = nat_cmp} empty w ≡ true = empty_is_subset w in
+      ap (λ b. b || false) all ∙ sym (ap (λ b. b || covers old w) (ap (λ (s : Premises). is_subset s w) none ∙ all));
   within = λ set there. inl (only empty set there ∙ sym none);
 }
 
@@ -223,8 +225,8 @@ pub made_of_numbers : (premises : Premises) (numbers : List ℕ) → ((q : ℕ) 
 made_of_numbers premises numbers members = same_set nat_cmp_total nat_cmp-IsAntisymmetric _ _ (λ q.
     contains-from_list_nat numbers q
     ∙ both_ways _ _
-      (λ found. (members q).0 (any_contained numbers q found))
-      (λ has. contained_any numbers q ((members q).1 has)))
+    (λ found. (members q).0 (any_contained numbers q found))
+    (λ has. contained_any numbers q ((members q).1 has)))
   where
     any_contained : (numbers : List ℕ) (q : ℕ) → list_any (λ y. nat_eq y q) numbers ≡ true → Contains numbers q
     any_contained numbers q found =
@@ -259,3 +261,15 @@ pub last_again : (premises : Premises) (numbers before : List ℕ) (last : ℕ) 
 last_again premises numbers before last are members =
     put_again premises last ((members last).0 (subst (λ (l : List ℕ). Contains l last) (sym are)
     (Contains-append_right before (last ∷ []) last (contains_first last []))))
+
+-- ---- after a set was added, or not
+
+-- each set was there before, or is the one that was added
+pub more_within : {A T E : Type 0} (r : Result T E) (old new : Family A) (before : List Premises) (premises : Premises) → sets_of old ≡ before →
+    OnOk r (HasOneMore (sets_of old) (sets_of new) premises) → OnErr r (new ≡ old) → (set : Premises) → Contains (sets_of new) set →
+    (set ≡ premises) ⊎ Contains before set
+more_within (Ok x) old new before premises are more same set there = elim (more.within set there) [
+  | inl one ↦ inl one
+  | inr other ↦ inr (subst (λ (l : List Premises). Contains l set) are other)
+]
+more_within (Err e) old new before premises are more same set there = inr (subst (λ (l : List Premises). Contains l set) (ap sets_of same ∙ are) there)

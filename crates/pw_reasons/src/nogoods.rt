@@ -66,10 +66,9 @@ impl<A: Allocator + Copy> Nogoods<A> {
         Ok(true)
     }
 
-    // Notes a set of premises that no noted set covers. Fails only when out of memory; then nothing
-    // changes.
+    // Notes a set of premises, without a look at whether a noted set is a subset of it: the caller
+    // knows that none is. Fails only when out of memory; then nothing changes.
     pub(crate) fn note_new(&mut self, premises: &PremiseSet) -> Result<(), AllocError>
-        requires news { covers self.old premises.now ≡ false }
         ensures covered { OnOk result ((w : Premises)
             → covers self.new w ≡ (is_subset premises.now w || covers self.old w)) }
         ensures within { (noted : Premises) → Contains self.new noted

@@ -1,8 +1,8 @@
-use Rattle.std.proofs.Common.{◌≡◌, ◌∷◌, List, sym, subst, ap, ◌∙◌}
+use Rattle.std.proofs.Common.{◌≡◌, ◌∷◌, sym, ap, ◌∙◌}
 use Rattle.std.specs.FinSet.{insert}
 use Rattle.std.proofs.lemmas.Result.{on_ok_weaker}
 use Rattle.pw_premises.specs.Premises.{Premises}
-use Rattle.pw_reasons.specs.inside.Families.{HasOneMore, sets_of}
+use Rattle.pw_reasons.specs.inside.Families.{sets_of}
 use Rattle.pw_reasons.proofs.FamilyLemmas.{last_again, more_first, more_nil, more_with, more_without, none_of_numbers, sets_under}
 use Rattle.pw_reasons.proofs.family.Family.+add.Goals.{in_default-self-via-in-Split+else-deref-last, in_default-self-via-in_default-self}
 use Rattle.pw_reasons.proofs.family.Family.+add.Goals as goal
@@ -42,5 +42,5 @@ returns-in_default-self-clause-more g t c =
     ap (λ (s : Premises). insert s c.in-Some.last) c.without-in_default-self.ensures.removed
     ∙ last_again c.args.premises.now c.numbers.result c.next_back.new.self c.in-Some.last c.in-Some.ensures.steps c.numbers.ensures.members in
     on_ok_weaker c.add_first.result (λ first.
-      let new : sets_of c.add_first.new.self ≡ c.args.premises.now ∷ sets_of c.args.self.now = first ∙ (λ i. whole i ∷ sets_of (old i)) in
-      rw new (more_first c.args.premises.now (sets_of c.args.self.now))) c.add_first.ensures.first
+    let new : sets_of c.add_first.new.self ≡ c.args.premises.now ∷ sets_of c.args.self.now = first ∙ (λ i. whole i ∷ sets_of (old i)) in
+    rw new (more_first c.args.premises.now (sets_of c.args.self.now))) c.add_first.ensures.first

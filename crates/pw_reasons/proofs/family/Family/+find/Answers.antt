@@ -1,6 +1,5 @@
-use Rattle.std.proofs.Common.{◌≡◌, ◌&&◌, Bool, List, true, false, refl, sym, ap, ◌∙◌}
+use Rattle.std.proofs.Common.{◌≡◌, ◌&&◌, true, false, refl, sym, ◌∙◌}
 use Rattle.std.specs.FinSet.{contains, insert}
-use Rattle.pw_premises.specs.Premises.{Premises}
 use Rattle.pw_reasons.specs.Nogood.{covers}
 use Rattle.pw_reasons.specs.inside.Families.{sets_of}
 use Rattle.pw_reasons.proofs.FamilyLemmas.{found_with, found_without, neither, nil_within, not_covered}
@@ -24,8 +23,11 @@ returns-in-Nil-clause-some g t c = λ _. rw c.in-Nil.is (rw c.empty.ensures.noth
 pub returns-else-contains-clause-some : goal.returns-else-contains-clause-some
 returns-else-contains-clause-some g t c = λ is.
     let found = rw c.deref-in-Split.ensures at (c.find-in-Split.ensures.some is) in
-    rw c.in-Split.is (found_without c.in-Split.branch.value.premise (sets_of c.in-Split.branch.value.with) (sets_of c.in-Split.branch.value.without)
-    c.find-in-Split.new.found found.0, found.1)
+    rw c.in-Split.is (
+      found_without c.in-Split.branch.value.premise (sets_of c.in-Split.branch.value.with) (sets_of c.in-Split.branch.value.without)
+          c.find-in-Split.new.found found.0,
+      found.1,
+    )
 
 pub returns-else-contains-clause-none : goal.returns-else-contains-clause-none
 returns-else-contains-clause-none g t c = λ is.
