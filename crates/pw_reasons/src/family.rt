@@ -11,20 +11,21 @@ use pw_premises::PremiseSet;
 use std::alloc::{AllocError, Allocator};
 use std::mem;
 
-// A family of sets of premises. Sets with the same last premises share their branches, and a search
-// enters no branch whose premise is not believed.
+// A family of sets of premises: a tree, so that a search passes few of many sets. Sets that begin with
+// the same premises, from the last to the first, share their branches.
 #[cycle(family)]
 #[derive(Drop)]
 pub(crate) enum Family<A: Allocator> {
     // No set.
     Nothing,
-    // The set of no premise alone.
+    // The set of no premise, alone.
     Nil,
+    // The sets of a branch.
     Split(Box<Branch<A>, A>),
 }
 
-// The sets that have a premise, here without it, and the sets that lack it. The premises of both are
-// below it, so that branches are few.
+// The sets that have a premise, kept without it, and the sets that lack it. A set is added so that
+// the premises of both are below it: then no path is longer than the number of premises.
 #[cycle(family)]
 #[derive(Drop)]
 pub(crate) struct Branch<A: Allocator> {
@@ -65,8 +66,8 @@ impl<A: Allocator + Copy> Family<A> {
         }
     }
 
-    // Whether a set of the family is a subset of these premises; then `found` is one. (A result
-    // with the set in it would be cleared at each branch.)
+    // Whether a set of the family is a subset of these premises; then `found` is one. (As a result
+    // the set would take room, and be cleared, at each branch.)
     fn find(&self, premises: &PremiseSet, found: &mut PremiseSet) -> bool
         requires in_range { (q : ℕ) → contains premises.now q ≡ true → q < most_premises }
         ensures some { result ≡ true → Contains (sets_of self.now) found.new
@@ -89,7 +90,8 @@ impl<A: Allocator + Copy> Family<A> {
         }
     }
 
-    // The same for a set that has this premise. Others are not looked for.
+    // The same for a set that has this premise. Others are not looked for: branches of smaller
+    // premises are passed over.
     fn find_with(&self, premises: &PremiseSet, premise: u16, found: &mut PremiseSet) -> bool
         requires in_range { (q : ℕ) → contains premises.now q ≡ true → q < most_premises }
         ensures some { result ≡ true → Contains (sets_of self.now) found.new
@@ -136,7 +138,8 @@ impl<A: Allocator + Copy> Family<A> {
         }
     }
 
-    // Adds the set of a premise and those before it, as the first branch.
+    // Adds the set of a premise and those before it, as the first branch. It is made before anything
+    // changes.
     fn add_first(&mut self, alloc: A, last: u16, before: &PremiseSet) -> Result<(), AllocError>
         ensures first { OnOk result (sets_of self.new ≡ insert before.now last ∷ sets_of self.old) }
         ensures err { OnErr result (self.new ≡ self.old) }
