@@ -2,6 +2,7 @@ pub mod ChoiceLemmas
 pub mod CombinationLemmas
 pub mod ConflictLemmas
 pub mod EnoughLemmas
+pub mod FamilyLemmas
 pub mod GroupLemmas
 pub mod NogoodLemmas
 pub mod ReasonLemmas

@@ -1,11 +1,10 @@
 -- Premises that contradict themselves: they do so if more is believed, told and attached; and which
 -- sets are covered after one more is noted.
-use Rattle.std.proofs.Common.{◌≡◌, ℕ, ◌<◌, Bool, true, false, not, cond, ◌||◌, ◌⊎◌, None, Some, List, [], ◌∷◌, ◌++◌, Contains, filter, length, refl, sym, ap, ◌∙◌, subst, arith, inl, inr, length-append}
+use Rattle.std.proofs.Common.{◌≡◌, ℕ, ◌<◌, Bool, true, false, ◌||◌, ◌⊎◌, List, Contains, length, refl, sym, ap, ◌∙◌, subst, arith, inl, inr, length-append}
 use Rattle.std.specs.FinSet.{is_subset}
-use Rattle.std.specs.List.{find}
 use Rattle.std.proofs.lemmas.Bool.{cases_Bool, false≢true}
-use Rattle.std.proofs.lemmas.List.Elements.{All-contains, All-contains_itself, All-filter, All-weaker, Contains-push_cases}
-use Rattle.std.proofs.lemmas.List.Folds.{Any-from_list_any, list_any-append, list_any-from_Any}
+use Rattle.std.proofs.lemmas.List.Elements.{All-contains, All-weaker}
+use Rattle.std.proofs.lemmas.List.Folds.{Any-from_list_any, list_any-from_Any}
 use Rattle.pw_info.specs.declared.info.Info.{Info}
 use Rattle.pw_info.specs.Information.{allows, Implies, IsContradiction}
 use Rattle.pw_premises.specs.Premises.{Premises}
@@ -86,53 +85,10 @@ covers_grows nogoods part w within covered =
     let some = Any-from_list_any (λ noted. is_subset noted part) nogoods covered in
     list_any-from_Any (λ noted. is_subset noted w) nogoods (some.0, some.1, some.2, some.3, is_subset_trans some.1 part w some.4 within)
 
--- ---- the set that covers
-
-none_is_not_some : (nogood : Premises) → None ≡ Some nogood → ⊥
-none_is_not_some nogood same = (cc)
-
--- where some are covered, a noted set that lies within them is found
-pub covering_found : (nogoods : List Premises) (w : Premises) → covers nogoods w ≡ true →
-    (nogood : Premises) × (find (λ noted. is_subset noted w) nogoods ≡ Some nogood)
-covering_found [] w covered = absurd (false≢true covered)
-covering_found (noted ∷ nogoods) w covered = by_test (is_subset noted w) (covering_found nogoods w) covered
-  where
-    by_test : (b : Bool) → (covers nogoods w ≡ true → (nogood : Premises) × (find (λ other. is_subset other w) nogoods ≡ Some nogood)) →
-        (b || covers nogoods w) ≡ true → (nogood : Premises) × (cond b (Some noted) (find (λ other. is_subset other w) nogoods) ≡ Some nogood)
-    by_test true later one = (noted, refl)
-    by_test false later one = later one
-
--- and nothing where they are not
-pub covering_not_found : (nogoods : List Premises) (w : Premises) → find (λ noted. is_subset noted w) nogoods ≡ None → covers nogoods w ≡ true → ⊥
-covering_not_found nogoods w none covered =
-    let found = covering_found nogoods w covered in none_is_not_some found.0 (sym none ∙ found.1)
-
--- what a test finds passes it
-pub found_passes : (test : Premises → Bool) (nogoods : List Premises) (nogood : Premises) → find test nogoods ≡ Some nogood → test nogood ≡ true
-found_passes test [] nogood found = absurd (none_is_not_some nogood found)
-found_passes test (noted ∷ nogoods) nogood found = by_test (test noted) refl (found_passes test nogoods nogood) found
-  where
-    by_test : (b : Bool) → test noted ≡ b → (find test nogoods ≡ Some nogood → test nogood ≡ true) →
-        cond b (Some noted) (find test nogoods) ≡ Some nogood → test nogood ≡ true
-    by_test true passes later same = let one : noted ≡ nogood = cc in subst (λ (set : Premises). test set ≡ true) one passes
-    by_test false passes later same = later same
-
--- and covers each that includes it
-pub found_covers : (test : Premises → Bool) (nogoods : List Premises) (nogood : Premises) → find test nogoods ≡ Some nogood → (more : Premises) →
-    is_subset nogood more ≡ true → covers nogoods more ≡ true
-found_covers test [] nogood found more part = absurd (none_is_not_some nogood found)
-found_covers test (noted ∷ nogoods) nogood found more part = by_test (test noted) (λ same. found_covers test nogoods nogood same more part) found
-  where
-    or_true : (a : Bool) → (a || true) ≡ true
-    or_true true = refl
-    or_true false = refl
-
-    by_test : (b : Bool) → (find test nogoods ≡ Some nogood → covers nogoods more ≡ true) →
-        cond b (Some noted) (find test nogoods) ≡ Some nogood → (is_subset noted more || covers nogoods more) ≡ true
-    by_test true later same =
-        let one : noted ≡ nogood = cc in
-        ap (λ (set : Premises). is_subset set more || covers nogoods more) one ∙ ap (λ b. b || covers nogoods more) part
-    by_test false later same = ap (λ b. is_subset noted more || b) (later same) ∙ or_true (is_subset noted more)
+-- a noted set covers each that includes it
+pub noted_covers : (nogoods : List Premises) (nogood : Premises) → Contains nogoods nogood → (w : Premises) → is_subset nogood w ≡ true → covers nogoods w ≡ true
+noted_covers nogoods nogood there w within =
+    list_any-from_Any (λ noted. is_subset noted w) nogoods (there.0, nogood, there.1, there.2, within)
 
 -- ---- one more covered set
 
@@ -144,68 +100,7 @@ covers_already premises nogoods covered w = by_test (is_subset premises w) refl 
   by_test true within = covers_grows nogoods premises w within covered
   by_test false apart = refl
 
-module _ (premises : Premises) where
-  -- the sets that do not include this one
-  abbrev pub others : List Premises → List Premises
-  others nogoods = filter (λ noted. not (is_subset premises noted)) nogoods
-
-  -- what is noted is made by dropping the rest, and adding this one
-  pub noted_after : (nogoods reserved dropped new : List Premises) → reserved ≡ nogoods → dropped ≡ others reserved → new ≡ dropped ++ premises ∷ [] →
-      new ≡ others nogoods ++ premises ∷ []
-  noted_after nogoods reserved dropped new same less more =
-      more ∙ ap (λ (l : List Premises). l ++ premises ∷ []) (less ∙ ap others same)
-
-  -- if this is not a part, what the others cover is what all do: one that includes it is not a part
-  -- either
-  module _ (w : Premises) (apart : is_subset premises w ≡ false) where
-    or_false : (a b : Bool) → a ≡ false → (a || b) ≡ b
-    or_false a b none = ap (λ c. c || b) none
-
-    no_part : (noted : Premises) → is_subset premises noted ≡ true → is_subset noted w ≡ false
-    no_part noted includes =
-        elim (cases_Bool (is_subset noted w)) [
-          | inl part ↦ absurd (false≢true (sym apart ∙ is_subset_trans premises noted w includes part))
-          | inr not_part ↦ not_part
-        ]
-
-    one_dropped : (b : Bool) (noted : Premises) (rest all : List Premises) → is_subset premises noted ≡ b → covers rest w ≡ covers all w →
-        covers (cond (not b) (noted ∷ rest) rest) w ≡ (is_subset noted w || covers all w)
-    one_dropped true noted rest all includes same = same ∙ sym (or_false (is_subset noted w) (covers all w) (no_part noted includes))
-    one_dropped false noted rest all includes same = ap (λ c. is_subset noted w || c) same
-
-    others_cover : (nogoods : List Premises) → covers (others nogoods) w ≡ covers nogoods w
-    others_cover [] = refl
-    others_cover (noted ∷ nogoods) =
-        one_dropped (is_subset premises noted) noted (others nogoods) nogoods refl (others_cover nogoods)
-
-  -- with this set after the others, exactly what it covers is covered, and what was
-  pub covers_noted : (nogoods : List Premises) (w : Premises) →
-      covers (others nogoods ++ premises ∷ []) w ≡ (is_subset premises w || covers nogoods w)
-  covers_noted nogoods w =
-      list_any-append (λ noted. is_subset noted w) (others nogoods) (premises ∷ []) ∙ by_test (is_subset premises w) refl
-    where
-      or_true : (a : Bool) → (a || true) ≡ true
-      or_true true = refl
-      or_true false = refl
-
-      or_none : (a : Bool) → (a || false) ≡ a
-      or_none true = refl
-      or_none false = refl
-
-      by_test : (b : Bool) → is_subset premises w ≡ b → (covers (others nogoods) w || (b || false)) ≡ (b || covers nogoods w)
-      by_test true part = or_true (covers (others nogoods) w)
-      by_test false apart = or_none (covers (others nogoods) w) ∙ others_cover w apart nogoods
-
-  -- and each of them was there, or is this one
-  pub noted_within : (nogoods : List Premises) (noted : Premises) → Contains (others nogoods ++ premises ∷ []) noted →
-      (noted ≡ premises) ⊎ Contains nogoods noted
-  noted_within nogoods noted there =
-      elim (Contains-push_cases (others nogoods) premises noted there) [
-        | inl before ↦ inr (All-contains (Contains nogoods) (others nogoods) noted
-            (All-filter (λ noted. not (is_subset premises noted)) (Contains nogoods) nogoods (All-contains_itself nogoods)) before)
-        | inr same ↦ inl (sym same)
-      ]
-
-  -- it is covered
-  pub covers_itself : (old new : List Premises) → ((w : Premises) → covers new w ≡ (is_subset premises w || covers old w)) → covers new premises ≡ true
-  covers_itself old new more = more premises ∙ ap (λ b. b || covers old premises) (is_subset_refl premises)
+-- once a set is noted, it is covered
+pub covers_itself : (premises : Premises) (old new : List Premises) → ((w : Premises) → covers new w ≡ (is_subset premises w || covers old w)) →
+    covers new premises ≡ true
+covers_itself premises old new more = more premises ∙ ap (λ b. b || covers old premises) (is_subset_refl premises)

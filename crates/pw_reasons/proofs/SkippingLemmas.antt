@@ -3,7 +3,7 @@ use Rattle.std.proofs.Common.{◌≡◌, ℕ, zero, suc, ◌+◌, ◌-◌, ◌*�
 use Rattle.std.specs.Prelude.{slice_index_or}
 use Rattle.std.specs.Cmp.{nat_cmp_total}
 use Rattle.std.specs.FinSet.{contains, contains-from_list_nat, contains-is_subset, contains-union, from_list, is_subset, is_subset-contains, union}
-use Rattle.std.specs.List.{find, flat_map, list_any}
+use Rattle.std.specs.List.{flat_map, list_any}
 use Rattle.std.proofs.Math.Nat.{add-mul, mul_comm, div-add-mod', div-eq_of_lt-le}
 use Rattle.std.proofs.lemmas.Bool.{cases_Bool, eqb-true, false≢true}
 use Rattle.std.proofs.lemmas.Nat.{div_below, mod_below}
@@ -17,7 +17,6 @@ use Rattle.pw_reasons.specs.Groups.{AreGroups, IsGroup}
 use Rattle.pw_reasons.specs.Combinations.{combinations_of}
 use Rattle.pw_reasons.specs.inside.Skipping.{IsIncludedUntil}
 use Rattle.pw_reasons.proofs.CombinationLemmas.{count_of, in_pieces, left_of, length_of_pieces, most_of, number_of, some_of}
-use Rattle.pw_reasons.proofs.NogoodLemmas.{found_passes}
 
 -- ---- the combinations of groups and further groups
 
@@ -139,16 +138,10 @@ within_more part others place taken within =
     (subst (λ (xs : List ℕ). is_subset part (union others (from_list xs)) ≡ true) (sym (append-nil (take place taken))) within))
 
 -- so does a set that is found within them
-pub found_within : (nogoods : List Premises) (nogood others tried : Premises) (premise place : ℕ) (taken : List ℕ) →
-    find (λ noted. contains noted premise && is_subset noted tried) nogoods ≡ Some nogood → tried ≡ union others (from_list (take place taken)) →
-    is_subset nogood (union others (from_list taken)) ≡ true
-found_within nogoods nogood others tried premise place taken found is =
-    within_more nogood others place taken (subst (λ (set : Premises). is_subset nogood set ≡ true) is
-    (both (contains nogood premise) (is_subset nogood tried) (found_passes (λ noted. contains noted premise && is_subset noted tried) nogoods nogood found)))
-  where
-    both : (a b : Bool) → (a && b) ≡ true → b ≡ true
-    both true b are = are
-    both false b are = absurd (false≢true are)
+pub found_within : (nogood others tried : Premises) (place : ℕ) (taken : List ℕ) → is_subset nogood tried ≡ true →
+    tried ≡ union others (from_list (take place taken)) → is_subset nogood (union others (from_list taken)) ≡ true
+found_within nogood others tried place taken found is =
+    within_more nogood others place taken (subst (λ (set : Premises). is_subset nogood set ≡ true) is found)
 
 -- ---- up to which number a set lies within the worldviews
 

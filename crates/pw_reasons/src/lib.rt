@@ -4,6 +4,7 @@
 mod choosing;
 mod combinations;
 mod conflicts;
+mod family;
 mod group;
 mod groups;
 pub mod laws;

@@ -1,11 +1,11 @@
 //! Nogoods: noted sets of premises that contradict themselves.
-ghost use Rattle.std.specs.Prelude.{◌≡◌, ◌↔◌, ◌⊎◌, ◌||◌, [], true, false, not, filter, vec_len};
-ghost use Rattle.std.specs.Prelude.{vec_capacity, ◌≤◌, ◌&&◌, Contains, OnErr, OnOk};
-ghost use Rattle.std.specs.FinSet.{contains, is_subset};
-ghost use Rattle.std.specs.List.{find};
+ghost use Rattle.std.specs.Prelude.{◌≡◌, ◌↔◌, ◌⊎◌, ◌||◌, [], true, false, Contains};
+ghost use Rattle.std.specs.Prelude.{IfNone, IfSome, OnErr, OnOk};
+ghost use Rattle.std.specs.FinSet.{is_subset};
 ghost use Rattle.pw_premises.specs.Premises.{Premises};
 ghost use Rattle.pw_reasons.specs.Nogood.{covers};
 
+use crate::family::Family;
 use pw_premises::PremiseSet;
 use std::alloc::{AllocError, Allocator, Global};
 use std::marker::Model;
@@ -16,7 +16,8 @@ use std::marker::Model;
 /// (Radul and Sussman, *The Art of the Propagator*, on nogood sets.)
 #[derive(Drop)]
 pub struct Nogoods<A: Allocator = Global> {
-    sets: Vec<PremiseSet, A>,
+    alloc: A,
+    family: Family<A>,
 }
 
 impl<A: Allocator> Model for Nogoods<A> {
@@ -24,12 +25,13 @@ impl<A: Allocator> Model for Nogoods<A> {
     ghost use Rattle.std.specs.Coded.{coded_list, coded_ℕ};
     ghost use Rattle.std.specs.FinSet as set;
     ghost use Rattle.pw_premises.specs.Premises.{Premises};
+    ghost use Rattle.pw_reasons.specs.inside.Families.{sets_of};
 
     ghost Value = { List Premises };
 
     ghost coded = { coded_list (set.code coded_ℕ) };
 
-    ghost view = { λ a. a.sets.items };
+    ghost view = { λ a. sets_of a.family };
 }
 
 impl<A: Allocator + Copy> Nogoods<A> {
@@ -38,13 +40,14 @@ impl<A: Allocator + Copy> Nogoods<A> {
         ensures { result ≡ [] }
     {
         Nogoods {
-            sets: Vec::new(alloc),
+            alloc,
+            family: Family::Nothing,
         }
     }
 
     /// Notes a set of premises, and answers whether it was news. It was not news if a noted set is
-    /// a subset of it; then nothing changes, and no memory is taken. Noted sets that include it are
-    /// dropped, since it covers what they cover. Fails only when out of memory; then nothing
+    /// a subset of it; then nothing changes, and no memory is taken. Noted sets that include it may
+    /// stay or go, since it covers what they cover. Fails only when out of memory; then nothing
     /// changes.
     pub fn note(&mut self, premises: &PremiseSet) -> Result<bool, AllocError>
         ensures known { (result ≡ Ok false) ↔ (covers self.old premises.now ≡ true) }
@@ -59,48 +62,43 @@ impl<A: Allocator + Copy> Nogoods<A> {
         if self.covers(premises) {
             return Ok(false);
         }
-        self.sets.reserve(1)?;
-        drop_larger(&mut self.sets, premises);
-        let _ = self.sets.push(*premises);
+        self.note_new(premises)?;
         Ok(true)
+    }
+
+    // Notes a set of premises, without a look at whether a noted set is a subset of it: the caller
+    // knows that none is. Fails only when out of memory; then nothing changes.
+    pub(crate) fn note_new(&mut self, premises: &PremiseSet) -> Result<(), AllocError>
+        ensures covered { OnOk result ((w : Premises)
+            → covers self.new w ≡ (is_subset premises.now w || covers self.old w)) }
+        ensures within { (noted : Premises) → Contains self.new noted
+            → (noted ≡ premises.now) ⊎ Contains self.old noted }
+        ensures err { OnErr result (self.new ≡ self.old) }
+    {
+        self.family.add(self.alloc, premises)
     }
 
     /// Whether a noted set is a subset of these premises. Takes no memory.
     pub fn covers(&self, premises: &PremiseSet) -> bool
         ensures { result ≡ covers self.now premises.now }
     {
-        self.sets.iter().any(|noted| noted.is_subset(premises))
+        self.covering(premises).is_some()
     }
 
-    // The first noted set that is a subset of these premises, if there is one.
+    // A noted set that is a subset of these premises, if there is one.
     pub(crate) fn covering(&self, premises: &PremiseSet) -> Option<PremiseSet>
-        ensures { result ≡ find (λ noted. is_subset noted premises.now) self.now }
+        ensures some { IfSome result (λ noted. Contains self.now noted
+            × (is_subset noted premises.now ≡ true)) }
+        ensures none { IfNone result (covers self.now premises.now ≡ false) }
     {
-        self.sets
-            .iter()
-            .find(|noted| noted.is_subset(premises))
-            .copied()
+        self.family.within(premises)
     }
 
-    // The first noted set with this premise that is a subset of these premises, if there is one.
-    // Most sets lack the premise, which is quickly seen.
+    // The same for a noted set that has this premise. Others are not looked for.
     pub(crate) fn covering_with(&self, premises: &PremiseSet, premise: u16) -> Option<PremiseSet>
-        ensures { result ≡ find (λ noted. contains noted premise
-            && is_subset noted premises.now) self.now }
+        ensures some { IfSome result (λ noted. Contains self.now noted
+            × (is_subset noted premises.now ≡ true)) }
     {
-        self.sets
-            .iter()
-            .find(|noted| noted.contains(premise) && noted.is_subset(premises))
-            .copied()
+        self.family.within_with(premises, premise)
     }
-}
-
-// Drops the sets that include this one.
-fn drop_larger<A: Allocator>(sets: &mut Vec<PremiseSet, A>, premises: &PremiseSet)
-    ensures items { sets.new.items ≡ filter (λ noted. not (is_subset premises.now noted))
-        sets.old.items }
-    ensures len { vec_len sets.new ≤ vec_len sets.old }
-    ensures capacity { vec_capacity sets.new ≡ vec_capacity sets.old }
-{
-    sets.retain(|noted| !premises.is_subset(noted));
 }

@@ -1,5 +1,6 @@
 use Rattle.std.proofs.Common.{◌≡◌, ◌∙◌, true, refl, sym, ap, subst}
 use Rattle.std.specs.FinSet.{is_subset}
+use Rattle.std.proofs.lemmas.Bool.{false≢true}
 use Rattle.pw_premises.specs.Premises.{Premises}
 use Rattle.pw_cells.specs.Cells.{Store}
 use Rattle.pw_network.specs.Network.{Network}
@@ -7,7 +8,7 @@ use Rattle.pw_network.specs.Wiring.{wiring}
 use Rattle.pw_reasons.specs.Choice.{IsConsistent}
 use Rattle.pw_reasons.specs.Nogood.{IsNogood, covers}
 use Rattle.pw_reasons.proofs.ChoiceLemmas.{none_contradictory, support_nogood}
-use Rattle.pw_reasons.proofs.NogoodLemmas.{covering_not_found, found_covers, found_passes, nogoods_more}
+use Rattle.pw_reasons.proofs.NogoodLemmas.{noted_covers, nogoods_more}
 use Rattle.pw_reasons.proofs.choosing.contradict.Goals as goal
 
 pub returns-in-Some-clause-known : goal.returns-in-Some-clause-known
@@ -19,26 +20,23 @@ returns-in-Some-covering-clause-known g c _ = ((c.in-Some-covering.covering, ref
 pub returns-in-Some-covering-clause-part : goal.returns-in-Some-covering-clause-part
 returns-in-Some-covering-clause-part g c =
     subst (λ (w : Premises). is_subset c.in-Some-covering.covering w ≡ true) c.with_taken-premises.ensures
-    (found_passes (λ noted. is_subset noted c.with_taken-premises.result) c.args.nogoods.now c.in-Some-covering.covering (sym c.covering.ensures ∙ c.in-Some-covering.is))
+    c.in-Some-covering.ensures.some.1
 
 pub returns-in-Some-covering-clause-covered : goal.returns-in-Some-covering-clause-covered
 returns-in-Some-covering-clause-covered g c =
-    found_covers (λ noted. is_subset noted c.with_taken-premises.result) c.args.nogoods.now c.in-Some-covering.covering (sym c.covering.ensures ∙ c.in-Some-covering.is)
+    noted_covers c.args.nogoods.now c.in-Some-covering.covering c.in-Some-covering.ensures.some.0
 
 pub returns-in_err-settled-clause-known : goal.returns-in_err-settled-clause-known
 returns-in_err-settled-clause-known g c covered =
-    absurd (covering_not_found c.args.nogoods.now c.with_taken-premises.result (sym c.covering.ensures ∙ c.in_default-covering.is)
-    (ap (covers c.args.nogoods.now) c.with_taken-premises.ensures ∙ covered))
+    absurd (false≢true (sym c.in_default-covering.ensures.none ∙ ap (covers c.args.nogoods.now) c.with_taken-premises.ensures ∙ covered))
 
 pub returns-in_err-note-in-Some-contradictory_cell-clause-known : goal.returns-in_err-note-in-Some-contradictory_cell-clause-known
 returns-in_err-note-in-Some-contradictory_cell-clause-known g c covered =
-    absurd (covering_not_found c.args.nogoods.now c.with_taken-premises.result (sym c.covering.ensures ∙ c.in_default-covering.is)
-    (ap (covers c.args.nogoods.now) c.with_taken-premises.ensures ∙ covered))
+    absurd (false≢true (sym c.in_default-covering.ensures.none ∙ ap (covers c.args.nogoods.now) c.with_taken-premises.ensures ∙ covered))
 
 pub returns-in_ok-note-in-Some-contradictory_cell-clause-known : goal.returns-in_ok-note-in-Some-contradictory_cell-clause-known
 returns-in_ok-note-in-Some-contradictory_cell-clause-known g c covered =
-    absurd (covering_not_found c.args.nogoods.now c.with_taken-premises.result (sym c.covering.ensures ∙ c.in_default-covering.is)
-    (ap (covers c.args.nogoods.now) c.with_taken-premises.ensures ∙ covered))
+    absurd (false≢true (sym c.in_default-covering.ensures.none ∙ ap (covers c.args.nogoods.now) c.with_taken-premises.ensures ∙ covered))
 
 pub returns-in_ok-note-in-Some-contradictory_cell-clause-nogoods : goal.returns-in_ok-note-in-Some-contradictory_cell-clause-nogoods
 returns-in_ok-note-in-Some-contradictory_cell-clause-nogoods g c =
@@ -53,8 +51,7 @@ returns-in_ok-note-in-Some-contradictory_cell-clause-nogoods g c =
 
 pub returns-in-None-clause-known : goal.returns-in-None-clause-known
 returns-in-None-clause-known g c covered =
-    absurd (covering_not_found c.args.nogoods.now c.with_taken-premises.result (sym c.covering.ensures ∙ c.in_default-covering.is)
-    (ap (covers c.args.nogoods.now) c.with_taken-premises.ensures ∙ covered))
+    absurd (false≢true (sym c.in_default-covering.ensures.none ∙ ap (covers c.args.nogoods.now) c.with_taken-premises.ensures ∙ covered))
 
 pub returns-in-None-clause-consistent : goal.returns-in-None-clause-consistent
 returns-in-None-clause-consistent g c =
