@@ -13,11 +13,11 @@ use std::marker::Model;
 #[derive(Drop)]
 pub(crate) struct Agenda<A: Allocator = Global> {
     queued: Vec<bool, A>,
-    queue: VecDeque<usize, A>,
+    queue: VecDeque<u32, A>,
 }
 
 impl<A: Allocator> Model for Agenda<A> {
-    ghost use Rattle.std.specs.Prelude.{Bool, List};
+    ghost use Rattle.std.specs.Prelude.{◌≤◌, Bool, List, length};
     ghost use Rattle.std.specs.VecDeque.{deque_capacity};
     ghost use Rattle.pw_settle.specs.inside.Progress.{IsQueue};
 
@@ -25,15 +25,19 @@ impl<A: Allocator> Model for Agenda<A> {
 
     ghost view = { λ a. a.queued.items };
 
-    ghost invariant = { λ a. IsQueue a.queued.items a.queue.items (deque_capacity a.queue) };
+    ghost invariant = { λ a. IsQueue a.queued.items a.queue.items (deque_capacity a.queue)
+        × (length a.queued.items ≤ 4294967295) };
 }
 
 impl<A: Allocator + Copy> Agenda<A> {
     // An empty agenda for `count` instances, with room for all of them. Fails only when out of
-    // memory.
+    // memory; instances whose numbers would not fit 32 bits count as that.
     pub(crate) fn new(alloc: A, count: usize) -> Result<Agenda<A>, AllocError>
         ensures { IfOk result (λ agenda. agenda ≡ replicate count false) }
     {
+        if count > u32::MAX as usize {
+            return Err(AllocError);
+        }
         Ok(Agenda {
             queued: vec![in alloc; false; count]?,
             queue: VecDeque::with_capacity(alloc, count)?,
@@ -47,7 +51,7 @@ impl<A: Allocator + Copy> Agenda<A> {
     {
         if !self.queued[number] {
             self.queued[number] = true;
-            let _ = self.queue.push_back(number);
+            let _ = self.queue.push_back(number as u32);
         }
     }
 
@@ -58,7 +62,8 @@ impl<A: Allocator + Copy> Agenda<A> {
         ensures none { IfNone result ((number : ℕ) → is_set self.old number ≡ false) }
         ensures left { IfNone result (self.new ≡ self.old) }
     {
-        let number = self.queue.pop_front()?;
+        let first = self.queue.pop_front()?;
+        let number = first as usize;
         self.queued[number] = false;
         Some(number)
     }
