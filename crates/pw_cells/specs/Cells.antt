@@ -19,6 +19,10 @@ unfoldable pub does_subsume : Fact → Fact → Bool
 does_subsume a b = nat_eq (rank_of (meet a.info b.info)) (rank_of a.info)
     && is_subset a.support b.support
 
+-- this information on these premises
+abbrev pub fact_on : Info → Premises → Fact
+fact_on info support = record { info = info; support = support }
+
 -- the facts that this one does not subsume
 abbrev pub unsubsumed : Fact → List Fact → List Fact
 unsubsumed fact facts = filter (λ f. not (does_subsume fact f)) facts

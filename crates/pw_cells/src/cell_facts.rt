@@ -3,7 +3,7 @@
 ghost use Rattle.std.specs.Prelude.{◌≡◌, false, IfOk, OnOk, OnErr};
 ghost use Rattle.pw_info.specs.Information.{kind_of, Implies};
 ghost use Rattle.pw_facts.specs.Facts.{IsLeastAbove, IsMostBelow};
-ghost use Rattle.pw_cells.specs.Cells.{new_cell, told_of, kept_of};
+ghost use Rattle.pw_cells.specs.Cells.{fact_on, new_cell, told_of, kept_of};
 ghost use Rattle.pw_cells.specs.Changes.{GainsFact, Assimilates, TellsNews};
 ghost use Rattle.pw_cells.specs.inside.OneCell.{StandsFor};
 
@@ -112,15 +112,54 @@ impl<A: Allocator + Copy> CellFacts<A> {
         ensures kind { self.new.kind ≡ self.old.kind }
         ensures err { OnErr result (self.new ≡ self.old) }
     {
-        if let Lists::Narrow(lists) = &mut self.lists {
-            if let Some(support) = NarrowSet::of(&fact.support) {
-                return lists.keep(&Held::on(fact.info, support));
-            }
+        match NarrowSet::of(&fact.support) {
+            Some(support) => self.keep_narrow(fact.info, support),
+            None => self.keep_wide(fact),
         }
-        self.keep_wide(fact)
     }
 
-    // The same, in wide lists.
+    // The same, for information on premises below 64.
+    #[inline(always)]
+    pub(crate) fn keep_narrow(&mut self, info: Info, support: NarrowSet) -> Result<bool, AllocError>
+        requires { kind_of info ≡ self.old.kind }
+        ensures answer { IfOk result (λ news. TellsNews self.old.kept (fact_on info support) news) }
+        ensures known { IfOk result (λ news. news ≡ false → self.new ≡ self.old) }
+        ensures kept { OnOk result (GainsFact (fact_on info support) (kept_of self.old)
+            (kept_of self.new)) }
+        ensures assimilates { OnOk result (Assimilates (fact_on info support) self.old.kept
+            self.new.kept) }
+        ensures told { self.new.told ≡ self.old.told }
+        ensures kind { self.new.kind ≡ self.old.kind }
+        ensures err { OnErr result (self.new ≡ self.old) }
+    {
+        if let Lists::Narrow(lists) = &mut self.lists {
+            return lists.keep(&Held::on(info, support));
+        }
+        self.keep_widened(info, support)
+    }
+
+    // The same, in wide lists. Never inlined, like `keep_wide`, so that what is narrow makes no room
+    // for a wide fact.
+    #[inline(never)]
+    fn keep_widened(&mut self, info: Info, support: NarrowSet) -> Result<bool, AllocError>
+        requires { kind_of info ≡ self.old.kind }
+        ensures answer { IfOk result (λ news. TellsNews self.old.kept (fact_on info support) news) }
+        ensures known { IfOk result (λ news. news ≡ false → self.new ≡ self.old) }
+        ensures kept { OnOk result (GainsFact (fact_on info support) (kept_of self.old)
+            (kept_of self.new)) }
+        ensures assimilates { OnOk result (Assimilates (fact_on info support) self.old.kept
+            self.new.kept) }
+        ensures told { self.new.told ≡ self.old.told }
+        ensures kind { self.new.kind ≡ self.old.kind }
+        ensures err { OnErr result (self.new ≡ self.old) }
+    {
+        self.keep_wide(&Fact {
+            info,
+            support: support.widen(),
+        })
+    }
+
+    // Keeps a fact in wide lists.
     #[inline(never)]
     fn keep_wide(&mut self, fact: &Fact) -> Result<bool, AllocError>
         requires { kind_of fact.now.info ≡ self.old.kind }
