@@ -3,7 +3,7 @@
 ghost use Rattle.std.specs.Prelude.{◌≡◌, false, IfOk, OnOk, OnErr};
 ghost use Rattle.pw_info.specs.Information.{kind_of, Implies};
 ghost use Rattle.pw_facts.specs.Facts.{IsLeastAbove, IsMostBelow};
-ghost use Rattle.pw_cells.specs.Cells.{fact_on, new_cell, told_of, kept_of};
+ghost use Rattle.pw_cells.specs.Cells.{IsUnsaid, fact_on, new_cell, told_of, kept_of};
 ghost use Rattle.pw_cells.specs.Changes.{GainsFact, Assimilates, TellsNews};
 ghost use Rattle.pw_cells.specs.inside.OneCell.{StandsFor};
 
@@ -112,18 +112,20 @@ impl<A: Allocator + Copy> CellFacts<A> {
         ensures kind { self.new.kind ≡ self.old.kind }
         ensures err { OnErr result (self.new ≡ self.old) }
     {
-        match NarrowSet::of(&fact.support) {
-            Some(support) => self.keep_narrow(fact.info, support),
-            None => self.keep_wide(fact),
+        if let Lists::Narrow(lists) = &mut self.lists {
+            if let Some(support) = NarrowSet::of(&fact.support) {
+                return lists.keep(&Held::on(fact.info, support));
+            }
         }
+        self.keep_wide(fact)
     }
 
-    // The same, for information on premises below 64.
+    // Keeps information that says more than what is kept on these premises. If memory is refused,
+    // nothing changes.
     #[inline(always)]
-    pub(crate) fn keep_narrow(&mut self, info: Info, support: NarrowSet) -> Result<bool, AllocError>
-        requires { kind_of info ≡ self.old.kind }
-        ensures answer { IfOk result (λ news. TellsNews self.old.kept (fact_on info support) news) }
-        ensures known { IfOk result (λ news. news ≡ false → self.new ≡ self.old) }
+    pub(crate) fn keep_news(&mut self, info: Info, support: NarrowSet) -> Result<(), AllocError>
+        requires kind { kind_of info ≡ self.old.kind }
+        requires news { IsUnsaid (kept_of self.old support) info }
         ensures kept { OnOk result (GainsFact (fact_on info support) (kept_of self.old)
             (kept_of self.new)) }
         ensures assimilates { OnOk result (Assimilates (fact_on info support) self.old.kept
@@ -133,18 +135,17 @@ impl<A: Allocator + Copy> CellFacts<A> {
         ensures err { OnErr result (self.new ≡ self.old) }
     {
         if let Lists::Narrow(lists) = &mut self.lists {
-            return lists.keep(&Held::on(info, support));
+            return lists.keep_news(&Held::on(info, support));
         }
-        self.keep_widened(info, support)
+        self.keep_wide_news(info, support)
     }
 
     // The same, in wide lists. Never inlined, like `keep_wide`, so that what is narrow makes no room
     // for a wide fact.
     #[inline(never)]
-    fn keep_widened(&mut self, info: Info, support: NarrowSet) -> Result<bool, AllocError>
-        requires { kind_of info ≡ self.old.kind }
-        ensures answer { IfOk result (λ news. TellsNews self.old.kept (fact_on info support) news) }
-        ensures known { IfOk result (λ news. news ≡ false → self.new ≡ self.old) }
+    fn keep_wide_news(&mut self, info: Info, support: NarrowSet) -> Result<(), AllocError>
+        requires kind { kind_of info ≡ self.old.kind }
+        requires news { IsUnsaid (kept_of self.old support) info }
         ensures kept { OnOk result (GainsFact (fact_on info support) (kept_of self.old)
             (kept_of self.new)) }
         ensures assimilates { OnOk result (Assimilates (fact_on info support) self.old.kept
@@ -153,10 +154,12 @@ impl<A: Allocator + Copy> CellFacts<A> {
         ensures kind { self.new.kind ≡ self.old.kind }
         ensures err { OnErr result (self.new ≡ self.old) }
     {
-        self.keep_wide(&Fact {
+        let fact = Fact {
             info,
             support: support.widen(),
-        })
+        };
+        self.keep_wide(&fact)?;
+        Ok(())
     }
 
     // Keeps a fact in wide lists.

@@ -12,8 +12,8 @@ use Rattle.pw_premises.specs.Premises.{Premises}
 use Rattle.pw_facts.specs.declared.fact.Fact.{Fact}
 use Rattle.pw_facts.specs.Facts.{IsMerge}
 use Rattle.pw_facts.proofs.Merges.{merge_both, merge_rests, merge_second, merge_shows}
-use Rattle.pw_cells.specs.Cells.{fact_on}
-use Rattle.pw_settle.specs.inside.Known.{IsUnsaid, TakesIn}
+use Rattle.pw_cells.specs.Cells.{IsUnsaid, fact_on}
+use Rattle.pw_settle.specs.inside.Known.{TakesIn}
 use Rattle.pw_settle.specs.Settled.{info_at, support_at}
 
 module _ (infos : List Info) (supports : List Premises) (cell : ℕ) (info : Info) (support : Premises)

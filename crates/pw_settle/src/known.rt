@@ -1,12 +1,12 @@
 //! The kept information about each cell in a worldview, as a settling has it at hand.
 ghost use Rattle.std.specs.Prelude.{◌≡◌, ◌<◌, All, IfOk, IfSome, OnOk, OnErr, length};
 ghost use Rattle.pw_info.specs.Information.{kind_of};
-ghost use Rattle.pw_cells.specs.Cells.{fact_on};
+ghost use Rattle.pw_cells.specs.Cells.{IsUnsaid, fact_on};
 ghost use Rattle.pw_network.specs.inside.Held.{attachment};
 ghost use Rattle.pw_network.specs.Network.{Network as Networks};
 ghost use Rattle.pw_settle.specs.inside.Known.{AreKept, SaysTold, TakesIn, joined};
 ghost use Rattle.pw_settle.specs.Settled.{info_at};
-ghost use Rattle.pw_settle.specs.inside.Known.{IsUnsaid, ReadsUpstream, news_on};
+ghost use Rattle.pw_settle.specs.inside.Known.{ReadsUpstream, news_on};
 
 use crate::support_list::SupportList;
 use pw_cells::CellStore;

@@ -3,7 +3,7 @@ ghost use Rattle.std.specs.Prelude.{◌≡◌, ◌⊎◌, ◌+◌, ◌<◌, ◌�
 ghost use Rattle.std.specs.Prelude.{IfOk, OnOk, OnErr};
 ghost use Rattle.std.specs.List.{count_by};
 ghost use Rattle.pw_info.specs.Information.{kind_of};
-ghost use Rattle.pw_cells.specs.Cells.{kept_in, kind_in_store, kinds_of};
+ghost use Rattle.pw_cells.specs.Cells.{IsUnsaid, kept_in, kind_in_store, kinds_of};
 ghost use Rattle.pw_network.specs.Wiring.{wiring};
 ghost use Rattle.pw_network.specs.inside.Held.{attachment};
 ghost use Rattle.pw_network.specs.Network.{HaveSupportsByLine};
@@ -13,7 +13,7 @@ ghost use Rattle.pw_settle.specs.Calls.{gains, is_instance_visible, most_calls, 
 ghost use Rattle.pw_settle.specs.Calls.{visible_count};
 ghost use Rattle.pw_settle.specs.inside.Due.{QueuesReaders};
 ghost use Rattle.pw_settle.specs.Growth.{KeepsMore, StaysUpstream};
-ghost use Rattle.pw_settle.specs.inside.Known.{AreKept, IsUnsaid, Keeps, SaysTold, TakesIn};
+ghost use Rattle.pw_settle.specs.inside.Known.{AreKept, Keeps, SaysTold, TakesIn};
 ghost use Rattle.pw_settle.specs.inside.Known.{news_on};
 ghost use Rattle.pw_settle.specs.Settled.{info_at};
 ghost use Rattle.pw_settle.specs.inside.Progress.{AreOthersSatisfied};
@@ -118,6 +118,8 @@ fn keep_news<A: Allocator + Copy>(
         (attachment instance.now).instance.inputs }
     requires same_kind { kind_of info.now ≡ kind_of (info_at infos.old cell) }
     requires news { IsUnsaid (info_at infos.old cell) info.now }
+    requires unsaid { IsUnsaid (kept_in store.old cell
+        (news_on supports.old (attachment instance.now) info.now).support) info.now }
     ensures kept { OnOk result (Keeps cell
         (news_on supports.old (attachment instance.now) info.now) store.old store.new) }
     ensures taken { OnOk result (TakesIn cell
@@ -128,7 +130,7 @@ fn keep_news<A: Allocator + Copy>(
     ensures supports { OnErr result (supports.new ≡ supports.old) }
 {
     if let Some(support) = joined_narrow(instance, supports) {
-        store.keep_narrow(cell, *info, support)?;
+        store.keep_news(cell, *info, support)?;
         take_in_narrow(infos, supports, cell, info, support);
         return Ok(());
     }

@@ -55,10 +55,6 @@ joined supports support inputs = fold (λ all input.
 abbrev pub news_on : List Premises → Attached → Info → Fact
 news_on supports a info = fact_on info (joined supports a.support a.instance.inputs)
 
--- what is known does not say as much as the information
-abbrev pub IsUnsaid : Info → Info → Type 0
-IsUnsaid known info = Implies known info → ⊥
-
 -- the store keeps a fact about a cell
 pub record Keeps (cell : ℕ) (fact : Fact) (old new : Store) : Type 0 where
   pub told : (w : Premises) → told_in new cell w ≡ told_in old cell w

@@ -1,10 +1,10 @@
 use Rattle.std.proofs.Common.{◌≡◌, ◌<◌, Bool, List, ◌++◌, length, map, take, drop, refl, sym, ap, subst, ◌∙◌, inl, inr, arith}
 use Rattle.std.specs.List.{count_by}
-use Rattle.std.proofs.lemmas.List.{length-set}
+use Rattle.std.proofs.lemmas.List.{get_or_default, length-set}
 use Rattle.pw_info.specs.declared.info.Info.{Info}
 use Rattle.pw_info.specs.Information.{kind_of}
 use Rattle.pw_facts.specs.declared.fact.Fact.{Fact}
-use Rattle.pw_cells.specs.Cells.{Store, kept_in}
+use Rattle.pw_cells.specs.Cells.{IsUnsaid, Store, kept_in}
 use Rattle.pw_network.specs.Wiring.{wiring}
 use Rattle.pw_network.specs.inside.Held.{attachment}
 use Rattle.pw_network.specs.Network.{Attached}
@@ -12,13 +12,14 @@ use Rattle.pw_network.specs.Readers.{readers_of}
 use Rattle.pw_settle.specs.inside.Progress.{is_set}
 use Rattle.pw_settle.specs.Calls.{reader_count}
 use Rattle.pw_settle.specs.Growth.{KeepsMore}
-use Rattle.pw_settle.specs.inside.Known.{AreUpstream, IsUnsaid, TakesIn, news_on}
+use Rattle.pw_settle.specs.inside.Known.{AreUpstream, TakesIn, news_on}
 use Rattle.pw_settle.specs.inside.Progress.{IsNews}
 use Rattle.pw_settle.specs.Values.{IsSatisfied, attached_no}
 use Rattle.pw_settle.specs.Settled.{info_at}
 use Rattle.pw_settle.proofs.Growing.{keeps_more_same}
 use Rattle.pw_settle.proofs.KeptFacts.{kind-kept}
-use Rattle.pw_settle.proofs.KeptProgress.{IsAfterNews, after_news, keeps_news, keeps_upstream, kinds_at_hand, no_instance, satisfied_all, satisfied_kept, visible_below}
+use Rattle.pw_settle.proofs.KeptProgress.{IsAfterNews, after_news, keeps_news, keeps_upstream, kinds_at_hand, no_instance, satisfied_all, satisfied_kept, visible_below, visible_no}
+use Rattle.pw_settle.proofs.KeptNews.{unsaid}
 use Rattle.pw_settle.proofs.NewsLemmas.{inputs_there, kept_instance}
 use Rattle.pw_settle.proofs.SourceLists.{came_back}
 use Rattle.pw_settle.proofs.settling.call.Given as given
@@ -80,6 +81,14 @@ pub keep_news-requires-clause-news : goal.keep_news-requires-clause-news
 keep_news-requires-clause-news g c =
     let d = (goal.at.keep_news-requires-clause-news g c).After-deref_mut in
     subst (λ (l : List Info). IsUnsaid (info_at l c.in-Some.news.cell) c.in-Some.news.info) (sym c.deref_mut.ensures.value) (news_is g d).new
+
+pub keep_news-requires-clause-unsaid : goal.keep_news-requires-clause-unsaid
+keep_news-requires-clause-unsaid g c =
+    let d = (goal.at.keep_news-requires-clause-unsaid g c).After-deref_mut in
+    unsaid (wiring c.args.network.now) c.args.network.now.well c.args.store.now c.requires.kinds c.args.worldview.now
+    c.args.known.now.infos.items c.args.known.now.supports c.requires.kept (attached_no (wiring c.args.network.now) c.args.number no_instance)
+    (c.args.number, low g d, get_or_default (wiring c.args.network.now).attached c.args.number (attached_no (wiring c.args.network.now) c.args.number no_instance) no_instance (low g d))
+    (visible_no (wiring c.args.network.now) c.args.worldview.now c.args.number no_instance (low g d) ∙ c.requires.number) c.in-Some.news.cell (fact g d) (news_is g d)
 
 -- how they are taken in
 taken : (g : given.Over) (c : After-queue_readers g) →

@@ -9,7 +9,8 @@ use Rattle.pw_settle.specs.Calls.{reader_count}
 use Rattle.pw_settle.specs.Settled.{info_at}
 use Rattle.pw_settle.specs.Values.{IsSatisfied, attached_no}
 use Rattle.pw_settle.specs.inside.Aside.{AreFound, weight_of}
-use Rattle.pw_settle.specs.inside.Known.{IsUnsaid, TakesIn, news_on}
+use Rattle.pw_settle.specs.inside.Known.{TakesIn, news_on}
+use Rattle.pw_cells.specs.Cells.{IsUnsaid}
 use Rattle.pw_settle.specs.inside.Progress.{AreSatisfied, IsNews, is_set, tally}
 use Rattle.pw_settle.proofs.AsideNews.{IsAfterAside, after_aside}
 use Rattle.pw_settle.proofs.AsideStarts.{found_kinds}
