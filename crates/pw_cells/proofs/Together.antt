@@ -11,12 +11,13 @@ use Rattle.pw_kinds.proofs.Order.{both_true, true_both}
 use Rattle.pw_info.specs.declared.kind.Kind.{Kind}
 use Rattle.pw_info.specs.declared.info.Info.{Info}
 use Rattle.pw_info.specs.Information.{kind_of, is_value, allows, meet, nothing, Implies}
-use Rattle.pw_info.proofs.Informations.{kind-closest, kind-meet, allows-nothing, allows-meet, allows_value, meet_self, meet_nothing, meet_implied, Implies-antisym}
+use Rattle.pw_info.proofs.Informations.{kind-closest, kind-meet, allows-nothing, allows-meet, allows_value, meet_self, meet_nothing, meet_implied, implied_from_meet, Implies-antisym}
 use Rattle.pw_premises.specs.Premises.{Premises}
+use Rattle.pw_premises.specs.PremiseSubsets.{is_subset_refl}
 use Rattle.pw_facts.specs.declared.fact.Fact.{Fact}
 use Rattle.pw_facts.specs.Facts.{shows}
 use Rattle.pw_facts.proofs.Shown.{shows-supported, shows-unsupported, kind-shows, larger_shows, subsumption_shows}
-use Rattle.pw_cells.specs.Cells.{shown_by, IsSubsumedBy}
+use Rattle.pw_cells.specs.Cells.{shown_by, IsSubsumedBy, IsUnsaid}
 use Rattle.pw_cells.specs.inside.OneCell.{AreOfKind, IsRest}
 use Rattle.pw_cells.proofs.Closest.{meet_mono}
 
@@ -142,6 +143,13 @@ shown_known k w fs f all is known = meet_implied _ _ (kind_together k w fs f is)
     let held : Fact = known.0 in
     let of_kind : kind_of held.info ≡ k = All-contains (λ f. kind_of f.info ≡ k) fs held all known.1 in
     subsumption_shows w held f (of_kind ∙ sym is) known.2 v (All-contains (LeavesOpen w v) fs held (shown_allows k w v fs all h) known.1))
+
+-- where less is shown on a fact's own premises, none of them subsumes it
+pub unsaid_unsubsumed : (k : Kind) (fs : List Fact) (f : Fact) → AreOfKind k fs → kind_of f.info ≡ k → IsUnsaid (shown_by k f.support fs) f.info
+    → IsSubsumedBy fs f → ⊥
+unsaid_unsubsumed k fs f all is unsaid known =
+    unsaid (subst (λ (i : Info). Implies (shown_by k f.support fs) i) (shows-supported f.support f (is_subset_refl f.support))
+    (implied_from_meet (shown_by k f.support fs) (shows f.support f) (kind_together k f.support fs f is) (shown_known k f.support fs f all is known)))
 
 -- ---- a fact that subsumes others stands for them
 

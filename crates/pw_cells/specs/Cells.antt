@@ -3,7 +3,7 @@ use Rattle.std.specs.Prelude.{Bool, not, ◌&&◌, if◌then◌else◌, List, []
 use Rattle.std.specs.Prelude.{nat_eq, ◌≡◌, ℕ, true, Contains, map, slice_index_or}
 use Rattle.std.specs.List.{list_any}
 use Rattle.std.specs.FinSet.{is_subset, contains}
-use Rattle.pw_info.specs.Information.{meet, nothing}
+use Rattle.pw_info.specs.Information.{meet, nothing, Implies}
 use Rattle.pw_info.specs.Rank.{rank_of}
 use Rattle.pw_facts.specs.declared.fact.Fact.{Fact}
 use Rattle.pw_info.specs.declared.kind.Kind.{Kind}
@@ -18,6 +18,10 @@ use Rattle.pw_info.specs.declared.kind.Kind.TheVariants as kinds
 unfoldable pub does_subsume : Fact → Fact → Bool
 does_subsume a b = nat_eq (rank_of (meet a.info b.info)) (rank_of a.info)
     && is_subset a.support b.support
+
+-- this information on these premises
+abbrev pub fact_on : Info → Premises → Fact
+fact_on info support = record { info = info; support = support }
 
 -- the facts that this one does not subsume
 abbrev pub unsubsumed : Fact → List Fact → List Fact
@@ -91,6 +95,10 @@ kept_of cell worldview = shown_by cell.kind worldview cell.kept
 
 abbrev pub kept_in : Store → ℕ → Premises → Info
 kept_in store cell worldview = kept_of (cell_at store cell) worldview
+
+-- what is known does not say as much as the information
+abbrev pub IsUnsaid : Info → Info → Type 0
+IsUnsaid known info = Implies known info → ⊥
 
 -- a fact of the list subsumes this one
 abbrev pub IsSubsumedBy : List Fact → Fact → Type 0

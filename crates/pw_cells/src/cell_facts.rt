@@ -3,7 +3,7 @@
 ghost use Rattle.std.specs.Prelude.{◌≡◌, false, IfOk, OnOk, OnErr};
 ghost use Rattle.pw_info.specs.Information.{kind_of, Implies};
 ghost use Rattle.pw_facts.specs.Facts.{IsLeastAbove, IsMostBelow};
-ghost use Rattle.pw_cells.specs.Cells.{new_cell, told_of, kept_of};
+ghost use Rattle.pw_cells.specs.Cells.{IsUnsaid, fact_on, new_cell, told_of, kept_of};
 ghost use Rattle.pw_cells.specs.Changes.{GainsFact, Assimilates, TellsNews};
 ghost use Rattle.pw_cells.specs.inside.OneCell.{StandsFor};
 
@@ -120,7 +120,49 @@ impl<A: Allocator + Copy> CellFacts<A> {
         self.keep_wide(fact)
     }
 
-    // The same, in wide lists.
+    // Keeps information that says more than what is kept on these premises. If memory is refused,
+    // nothing changes.
+    #[inline(always)]
+    pub(crate) fn keep_news(&mut self, info: Info, support: NarrowSet) -> Result<(), AllocError>
+        requires kind { kind_of info ≡ self.old.kind }
+        requires news { IsUnsaid (kept_of self.old support) info }
+        ensures kept { OnOk result (GainsFact (fact_on info support) (kept_of self.old)
+            (kept_of self.new)) }
+        ensures assimilates { OnOk result (Assimilates (fact_on info support) self.old.kept
+            self.new.kept) }
+        ensures told { self.new.told ≡ self.old.told }
+        ensures kind { self.new.kind ≡ self.old.kind }
+        ensures err { OnErr result (self.new ≡ self.old) }
+    {
+        if let Lists::Narrow(lists) = &mut self.lists {
+            return lists.keep_news(&Held::on(info, support));
+        }
+        self.keep_wide_news(info, support)
+    }
+
+    // The same, in wide lists. Never inlined, like `keep_wide`, so that what is narrow makes no room
+    // for a wide fact.
+    #[inline(never)]
+    fn keep_wide_news(&mut self, info: Info, support: NarrowSet) -> Result<(), AllocError>
+        requires kind { kind_of info ≡ self.old.kind }
+        requires news { IsUnsaid (kept_of self.old support) info }
+        ensures kept { OnOk result (GainsFact (fact_on info support) (kept_of self.old)
+            (kept_of self.new)) }
+        ensures assimilates { OnOk result (Assimilates (fact_on info support) self.old.kept
+            self.new.kept) }
+        ensures told { self.new.told ≡ self.old.told }
+        ensures kind { self.new.kind ≡ self.old.kind }
+        ensures err { OnErr result (self.new ≡ self.old) }
+    {
+        let fact = Fact {
+            info,
+            support: support.widen(),
+        };
+        self.keep_wide(&fact)?;
+        Ok(())
+    }
+
+    // Keeps a fact in wide lists.
     #[inline(never)]
     fn keep_wide(&mut self, fact: &Fact) -> Result<bool, AllocError>
         requires { kind_of fact.now.info ≡ self.old.kind }

@@ -9,13 +9,14 @@ ghost use Rattle.pw_facts.specs.Facts.{IsLeastAbove, IsMostBelow};
 ghost use Rattle.pw_cells.specs.Changes.{GainsTold, GainsKept, TellsNews, AssimilatesAt};
 ghost use Rattle.pw_cells.specs.Changes.{LeavesOthers};
 ghost use Rattle.pw_cells.specs.Cells.{new_cell, kind_in_store, kinds_of, kept_at, told_in};
-ghost use Rattle.pw_cells.specs.Cells.{kept_in, most_store_cells, ArePremisesOf};
+ghost use Rattle.pw_cells.specs.Cells.{fact_on, kept_in, most_store_cells, ArePremisesOf};
+ghost use Rattle.pw_cells.specs.Cells.{IsUnsaid};
 
 use crate::cell_facts::CellFacts;
 use crate::recalled::{Answers, Recalled};
 use pw_facts::Fact;
 use pw_info::{Info, Kind};
-use pw_premises::PremiseSet;
+use pw_premises::{NarrowSet, PremiseSet};
 use std::alloc::{AllocError, Allocator, Global};
 use std::marker::Model;
 
@@ -138,6 +139,26 @@ impl<A: Allocator + Copy> CellStore<A> {
         ensures err { OnErr result (self.new ≡ self.old) }
     {
         self.cells[cell as usize].keep(&fact)
+    }
+
+    /// Assimilates information on premises that are all below 64, which says more than what is kept
+    /// on these premises. So no kept fact subsumes it, and none is examined for that. The cell must
+    /// exist, and the information must be of its kind. Fails only when out of memory; then nothing
+    /// changes.
+    pub fn keep_news(&mut self, cell: u32, info: Info, support: NarrowSet) -> Result<(), AllocError>
+        requires there { cell < length self.old.cells }
+        requires kind { kind_of info ≡ kind_in_store self.old cell }
+        requires news { IsUnsaid (kept_in self.old cell support) info }
+        ensures told { (w : Premises) → told_in self.new cell w ≡ told_in self.old cell w }
+        ensures kept { OnOk result (GainsKept cell (fact_on info support) self.old self.new) }
+        ensures assimilates { OnOk result (AssimilatesAt cell (fact_on info support) self.old
+            self.new) }
+        ensures others { LeavesOthers cell self.old self.new }
+        ensures kinds { kinds_of self.new ≡ kinds_of self.old }
+        ensures room { self.new.room ≡ self.old.room }
+        ensures err { OnErr result (self.new ≡ self.old) }
+    {
+        self.cells[cell as usize].keep_news(info, support)
     }
 
     /// The told information about the cell in a worldview: the merge of the told facts whose

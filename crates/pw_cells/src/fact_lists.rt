@@ -7,7 +7,7 @@ ghost use Rattle.pw_info.specs.Information.{kind_of, Implies};
 ghost use Rattle.pw_facts.specs.Facts.{IsMerge, MergesTo, visible_facts};
 ghost use Rattle.pw_facts.specs.Facts.{IsLeastAbove, IsMostBelow};
 ghost use Rattle.pw_cells.specs.inside.OneCell.{Bounds};
-ghost use Rattle.pw_cells.specs.Cells.{new_cell, told_of, kept_of, IsSubsumedBy};
+ghost use Rattle.pw_cells.specs.Cells.{new_cell, told_of, kept_of, IsSubsumedBy, IsUnsaid};
 ghost use Rattle.pw_cells.specs.Changes.{GainsFact, Assimilates, TellsNews};
 ghost use Rattle.pw_cells.specs.Cells.{assimilated, all_assimilated, unsubsumed};
 ghost use Rattle.pw_cells.specs.inside.OneCell.{AreApart, AreOfKind, StandsFor};
@@ -118,6 +118,23 @@ impl<S: Support, A: Allocator + Copy> FactLists<S, A> {
         reserve_unless(&mut self.kept, known)?;
         assimilate(&mut self.kept, &mut self.bound, known, fact);
         Ok(!known)
+    }
+
+    // Keeps a fact that says more than what is kept on its premises: so no kept fact subsumes it. If
+    // memory is refused, nothing changes.
+    pub(crate) fn keep_news(&mut self, fact: &Held<S>) -> Result<(), AllocError>
+        requires kind { kind_of fact.now.info ≡ self.old.kind }
+        requires news { IsUnsaid (kept_of self.old fact.now.support) fact.now.info }
+        ensures kept { OnOk result (GainsFact fact.now (kept_of self.old) (kept_of self.new)) }
+        ensures assimilates { OnOk result (Assimilates fact.now self.old.kept self.new.kept) }
+        ensures told { self.new.told ≡ self.old.told }
+        ensures kind { self.new.kind ≡ self.old.kind }
+        ensures err { OnErr result (self.new ≡ self.old) }
+    {
+        assimilate_late(self.kind, &mut self.kept, &mut self.bound, &mut self.late);
+        reserve_unless(&mut self.kept, false)?;
+        assimilate(&mut self.kept, &mut self.bound, false, fact);
+        Ok(())
     }
 
     // Whether there are few told facts to go over.
@@ -283,8 +300,33 @@ fn add_late<S: Support, A: Allocator>(late: &mut Vec<Held<S>, A>, known: bool, f
     append(late, fact);
 }
 
-// Assimilates the late facts; then none is late. The kept facts have room for them.
+// Assimilates the late facts; then none is late. The kept facts have room for them. Mostly none is
+// late: so the test is inlined, and the rest is not.
+#[inline(always)]
 fn assimilate_late<S: Support, A: Allocator>(
+    kind: Kind,
+    kept: &mut Vec<Held<S>, A>,
+    bound: &mut Bound,
+    late: &mut Vec<Held<S>, A>,
+)
+    requires kinds { AreOfKind kind kept.old.items }
+    requires late_kinds { AreOfKind kind late.old.items }
+    requires apart { AreApart kept.old.items }
+    requires bounds { Bounds kind kept.old.items bound.old }
+    requires room { vec_len kept.old + vec_len late.old ≤ vec_capacity kept.old }
+    ensures kept { kept.new.items ≡ all_assimilated kept.old.items late.old.items }
+    ensures bounds { Bounds kind kept.new.items bound.new }
+    ensures late { late.new.items ≡ [] }
+    ensures none { vec_len late.new ≡ 0 }
+{
+    if late.len() > 0 {
+        assimilate_all(kind, kept, bound, late);
+    }
+}
+
+// The same, where some fact may be late.
+#[inline(never)]
+fn assimilate_all<S: Support, A: Allocator>(
     kind: Kind,
     kept: &mut Vec<Held<S>, A>,
     bound: &mut Bound,
@@ -354,6 +396,7 @@ fn drop_subsumed<S: Support, A: Allocator>(kept: &mut Vec<Held<S>, A>, fact: &He
 }
 
 // Appends a fact where there is room.
+#[inline(always)]
 fn append<S: Support, A: Allocator>(facts: &mut Vec<Held<S>, A>, fact: &Held<S>)
     requires { vec_len facts.old < vec_capacity facts.old }
     ensures items { facts.new.items ≡ facts.old.items ++ fact.now ∷ [] }

@@ -1,5 +1,5 @@
 -- What is gained is no less if still more is kept afterwards.
-use Rattle.std.proofs.Common.{◌≡◌, ℕ, zero, suc, ◌+◌, ◌-◌, ◌*◌, ◌<◌, ◌≤◌, length, List, sym, ap, ◌∙◌, mul-le-mul_right, inl, inr, arith}
+use Rattle.std.proofs.Common.{◌≡◌, ℕ, zero, suc, ◌-◌, ◌*◌, ◌≤◌, length, List, sym, ap, ◌∙◌, mul-le-mul_right, inl, inr, arith}
 use Rattle.std.specs.Prelude.{slice_index_or}
 use Rattle.pw_info.specs.declared.info.Info.{Info}
 use Rattle.pw_info.specs.declared.kind.Kind.{Kind}

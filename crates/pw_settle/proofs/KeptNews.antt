@@ -10,7 +10,8 @@ use Rattle.pw_procs.specs.Procedure.{Procedure, value_by}
 use Rattle.pw_procs.specs.Signature.{output_slot_of}
 use Rattle.pw_procs.proofs.MeaningLaws.{value_mono}
 use Rattle.pw_facts.specs.declared.fact.Fact.{Fact}
-use Rattle.pw_cells.specs.Cells.{Store, kind_in_store, kinds_of}
+use Rattle.pw_cells.specs.Cells.{IsUnsaid, Store, kept_at, kept_in, kind_in_store, kinds_of}
+use Rattle.pw_cells.proofs.Together.{larger_shown}
 use Rattle.pw_network.specs.Network.{Attached, Network, IsWellNetwork}
 use Rattle.pw_settle.specs.Calls.{is_instance_visible}
 use Rattle.pw_settle.specs.inside.Known.{AreKept, LieUpstream}
@@ -93,7 +94,13 @@ module _ (network : Network) (well : IsWellNetwork network) (old : Store) (same 
   pub within : is_subset fact.support w ≡ true
   within = subst (λ (p : Premises). is_subset p w ≡ true) (sym is.rests) (joined_within supports w a.support a.instance.inputs visible kept.within)
 
-  -- and lie upstream of the output
+  -- so what is kept on them does not say as much
+  pub unsaid : IsUnsaid (kept_in old cell fact.support) fact.info
+  unsaid said = is.new (λ v possible.
+      said v (larger_shown (kind_in_store old cell) fact.support w (kept_at old cell) within v
+      (subst (λ (i : Info). allows i v ≡ true) (kept.infos_are cell) possible)))
+
+  -- they lie upstream of the output
   pub lies : (given : ℕ → ℕ → Bool) → LieUpstream network given supports → LiesUpstream network given cell fact.support
   lies given lie cells upstream has p one =
       let out : cells a.instance.output ≡ true = subst (λ (c : ℕ). cells c ≡ true) is.output has in

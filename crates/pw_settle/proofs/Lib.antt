@@ -13,6 +13,7 @@ pub mod Growing
 pub mod SumsBelow
 pub mod JoinedSupports
 pub mod KeptFacts
+pub mod TakenIn
 pub mod KeptNews
 pub mod KeptProgress
 pub mod SettledStores

@@ -1,6 +1,6 @@
 -- The number of procedure calls of a settling.
 use Rattle.std.specs.Prelude.{ℕ, zero, suc, ◌+◌, ◌-◌, ◌*◌, ◌^◌, Bool, false, length, map}
-use Rattle.std.specs.Prelude.{slice_index_or, ◌≡◌, List, ◌≤◌, ◌<◌, true}
+use Rattle.std.specs.Prelude.{slice_index_or, ◌≡◌, List, ◌≤◌}
 use Rattle.std.specs.FinSet.{is_subset}
 use Rattle.std.specs.List.{count_by}
 use Rattle.pw_info.specs.Rank.{rank_of}

@@ -45,6 +45,7 @@ impl<A: Allocator + Copy> Agenda<A> {
     }
 
     // Queues an instance, unless it is queued already.
+    #[inline(always)]
     pub(crate) fn add(&mut self, number: usize)
         requires { number < length self.old }
         ensures { self.new ≡ slice_set self.old number true }

@@ -1,18 +1,18 @@
 //! The kept information about each cell in a worldview, as a settling has it at hand.
-ghost use Rattle.std.specs.Prelude.{◌≡◌, ◌<◌, All, IfOk, OnOk, OnErr, length};
+ghost use Rattle.std.specs.Prelude.{◌≡◌, ◌<◌, All, IfOk, IfSome, OnOk, OnErr, length};
 ghost use Rattle.pw_info.specs.Information.{kind_of};
+ghost use Rattle.pw_cells.specs.Cells.{IsUnsaid, fact_on};
 ghost use Rattle.pw_network.specs.inside.Held.{attachment};
 ghost use Rattle.pw_network.specs.Network.{Network as Networks};
 ghost use Rattle.pw_settle.specs.inside.Known.{AreKept, SaysTold, TakesIn, joined};
 ghost use Rattle.pw_settle.specs.Settled.{info_at};
-ghost use Rattle.pw_settle.specs.inside.Known.{ReadsUpstream};
+ghost use Rattle.pw_settle.specs.inside.Known.{ReadsUpstream, news_on};
 
 use crate::support_list::SupportList;
 use pw_cells::CellStore;
-use pw_facts::{Fact, merge_facts};
 use pw_info::Info;
 use pw_network::Instance;
-use pw_premises::PremiseSet;
+use pw_premises::{NarrowSet, PremiseSet};
 use std::alloc::{AllocError, Allocator, Global};
 
 // For each cell, the information that is kept, and premises of the worldview that it rests on. So
@@ -64,29 +64,130 @@ pub(crate) fn joined_support<A: Allocator>(
     joined
 }
 
-// Merges a fact into what is known about a cell. If memory is refused, nothing changes.
+// The same, if all of them are below 64.
+#[inline(always)]
+pub(crate) fn joined_narrow<A: Allocator>(
+    instance: &Instance,
+    supports: &SupportList<A>,
+) -> Option<NarrowSet>
+    requires { All (λ input. input < length supports.now) (attachment instance.now).instance.inputs }
+    ensures { IfSome result (λ narrow. narrow ≡ joined supports.now instance.now.support
+        (attachment instance.now).instance.inputs) }
+{
+    let narrow = supports.narrow()?;
+    let mut joined = NarrowSet::of(&instance.support.widen())?;
+    for input in instance.inputs.as_slice() {
+        joined = joined.join(narrow[*input as usize]);
+    }
+    Some(joined)
+}
+
+// Merges news of an instance into what is known about its output. If memory is refused, nothing
+// changes.
+#[inline(always)]
+pub(crate) fn take_in_news<A: Allocator + Copy>(
+    infos: &mut [Info],
+    supports: &mut SupportList<A>,
+    cell: u32,
+    instance: &Instance,
+    info: &Info,
+) -> Result<(), AllocError>
+    requires there { cell < length infos.old }
+    requires as_many { length supports.old ≡ length infos.old }
+    requires inputs { All (λ input. input < length supports.old)
+        (attachment instance.now).instance.inputs }
+    requires kind { kind_of info.now ≡ kind_of (info_at infos.old cell) }
+    requires news { IsUnsaid (info_at infos.old cell) info.now }
+    ensures taken { OnOk result (TakesIn cell
+        (news_on supports.old (attachment instance.now) info.now) infos.old infos.new supports.old
+        supports.new) }
+    ensures infos { OnErr result (infos.new ≡ infos.old) }
+    ensures supports { OnErr result (supports.new ≡ supports.old) }
+{
+    if let Some(support) = joined_narrow(instance, supports) {
+        take_in_narrow(infos, supports, cell, info, support);
+        return Ok(());
+    }
+    take_in_wide_news(infos, supports, cell, instance, info)
+}
+
+// The same, on any premises. Never inlined, so that news on premises below 64 make no room for wide
+// sets.
+#[inline(never)]
+fn take_in_wide_news<A: Allocator + Copy>(
+    infos: &mut [Info],
+    supports: &mut SupportList<A>,
+    cell: u32,
+    instance: &Instance,
+    info: &Info,
+) -> Result<(), AllocError>
+    requires there { cell < length infos.old }
+    requires as_many { length supports.old ≡ length infos.old }
+    requires inputs { All (λ input. input < length supports.old)
+        (attachment instance.now).instance.inputs }
+    requires kind { kind_of info.now ≡ kind_of (info_at infos.old cell) }
+    requires news { IsUnsaid (info_at infos.old cell) info.now }
+    ensures taken { OnOk result (TakesIn cell
+        (news_on supports.old (attachment instance.now) info.now) infos.old infos.new supports.old
+        supports.new) }
+    ensures infos { OnErr result (infos.new ≡ infos.old) }
+    ensures supports { OnErr result (supports.new ≡ supports.old) }
+{
+    let support = joined_support(instance, supports);
+    take_in(infos, supports, cell, info, support)
+}
+
+// Merges news on premises below 64 into what is known about a cell.
+#[inline(always)]
+pub(crate) fn take_in_narrow<A: Allocator>(
+    infos: &mut [Info],
+    supports: &mut SupportList<A>,
+    cell: u32,
+    info: &Info,
+    support: NarrowSet,
+)
+    requires there { cell < length infos.old }
+    requires as_many { length supports.old ≡ length infos.old }
+    requires kind { kind_of info.now ≡ kind_of (info_at infos.old cell) }
+    requires news { IsUnsaid (info_at infos.old cell) info.now }
+    ensures { TakesIn cell (fact_on info.now support) infos.old infos.new supports.old supports.new }
+{
+    let place = cell as usize;
+    if info.implies(&infos[place]) {
+        infos[place] = *info;
+        supports.put_narrow(place, support);
+    } else {
+        infos[place] = infos[place].meet(info);
+        supports.join_narrow(place, support);
+    }
+}
+
+// Merges news into what is known about a cell. If memory is refused, nothing changes.
 #[inline(always)]
 pub(crate) fn take_in<A: Allocator + Copy>(
     infos: &mut [Info],
     supports: &mut SupportList<A>,
     cell: u32,
-    fact: &Fact,
+    info: &Info,
+    support: PremiseSet,
 ) -> Result<(), AllocError>
     requires there { cell < length infos.old }
     requires as_many { length supports.old ≡ length infos.old }
-    requires kind { kind_of fact.now.info ≡ kind_of (info_at infos.old cell) }
-    ensures taken { OnOk result (TakesIn cell fact.now infos.old infos.new supports.old
-        supports.new) }
+    requires kind { kind_of info.now ≡ kind_of (info_at infos.old cell) }
+    requires news { IsUnsaid (info_at infos.old cell) info.now }
+    ensures taken { OnOk result (TakesIn cell (fact_on info.now support) infos.old infos.new
+        supports.old supports.new) }
     ensures infos { OnErr result (infos.new ≡ infos.old) }
     ensures supports { OnErr result (supports.new ≡ supports.old) }
 {
     let place = cell as usize;
-    let known = Fact {
-        info: infos[place],
-        support: supports.get(place),
-    };
-    let merge = merge_facts(&known, fact);
-    supports.replace(place, merge.support)?;
-    infos[place] = merge.info;
+    if info.implies(&infos[place]) {
+        supports.replace(place, support)?;
+        infos[place] = *info;
+    } else {
+        let known = supports.get(place);
+        supports.replace(place, known.join(support))?;
+        infos[place] = infos[place].meet(info);
+    }
     Ok(())
 }

@@ -12,9 +12,6 @@ ghost use Rattle.pw_settle.specs.Values.{kinds_in, numbered};
 ghost use Rattle.pw_settle.specs.inside.Progress.{IsNewsOf};
 ghost use Rattle.pw_settle.specs.inside.Known.{Gives};
 
-use crate::known::joined_support;
-use crate::support_list::SupportList;
-use pw_facts::Fact;
 use pw_info::{Info, Kind};
 use pw_network::{Instance, Network};
 use pw_procs::Registry;
@@ -90,26 +87,30 @@ fn answer(registry: &Registry, instance: &Instance, known: &[Info], calls: &mut 
     }
 }
 
-// The value of an instance on what is known about its inputs, as a fact about its output, if it is
-// news there. Inlined, with what it calls: both settlings spend most of their time here.
+// News of an instance: the cell that it writes, and what it says about that.
+#[derive(Clone, Copy)]
+pub(crate) struct News {
+    pub(crate) cell: u32,
+    pub(crate) info: Info,
+}
+
+// The value of an instance on what is known about its inputs, if it is news about its output.
+// Inlined, with what it calls: both settlings spend most of their time here.
 #[inline(always)]
-pub(crate) fn news<A: Allocator + Copy>(
+pub(crate) fn news_of<A: Allocator + Copy>(
     network: &Network<'_, '_, A>,
     infos: &[Info],
-    supports: &SupportList<A>,
     number: usize,
     calls: &mut u128,
-) -> Option<(u32, Fact)>
+) -> Option<News>
     requires there { number < length (wiring network.now).attached }
     requires kinds { map kind_of infos.now ≡ kinds_in (wiring network.now) }
-    requires as_many { length supports.now ≡ length infos.now }
     requires room { calls.old < most_calls }
     ensures counted { calls.new ≡ calls.old + 1 }
-    ensures news { IfSome result (λ (cell, fact). IsNewsOf (wiring network.now) infos.now
-        supports.now number cell fact) }
-    ensures there { IfSome result (λ (cell, fact). cell < length infos.now) }
-    ensures kind { IfSome result (λ (cell, fact). kind_of fact.info ≡ kind_of (info_at infos.now
-        cell)) }
+    ensures news { IfSome result (λ news. IsNewsOf (wiring network.now) infos.now number news.cell
+        news.info) }
+    ensures there { IfSome result (λ news. news.cell < length infos.now) }
+    ensures kind { IfSome result (λ news. kind_of news.info ≡ kind_of (info_at infos.now news.cell)) }
     ensures none { IfNone result ((d : _)
         → IsSatisfied (wiring network.now) (info_at infos.now)
         (attached_no (wiring network.now) number d)) }
@@ -119,6 +120,8 @@ pub(crate) fn news<A: Allocator + Copy>(
     if infos[instance.output as usize].implies(&info) {
         return None;
     }
-    let support = joined_support(instance, supports);
-    Some((instance.output, Fact { info, support }))
+    Some(News {
+        cell: instance.output,
+        info,
+    })
 }

@@ -1,7 +1,9 @@
 //! Settling: the values of all cells of a network in a worldview.
-ghost use Rattle.std.specs.Prelude.{◌≡◌, ◌+◌, ◌<◌, ◌≤◌, ℕ, true, false, All, length, map, IfOk, OnOk};
+ghost use Rattle.std.specs.Prelude.{◌≡◌, ◌⊎◌, ◌+◌, ◌<◌, ◌≤◌, ℕ, true, false, All, length, map};
+ghost use Rattle.std.specs.Prelude.{IfOk, OnOk, OnErr};
 ghost use Rattle.std.specs.List.{count_by};
-ghost use Rattle.pw_cells.specs.Cells.{kept_in, kinds_of};
+ghost use Rattle.pw_info.specs.Information.{kind_of};
+ghost use Rattle.pw_cells.specs.Cells.{IsUnsaid, kept_in, kind_in_store, kinds_of};
 ghost use Rattle.pw_network.specs.Wiring.{wiring};
 ghost use Rattle.pw_network.specs.inside.Held.{attachment};
 ghost use Rattle.pw_network.specs.Network.{HaveSupportsByLine};
@@ -11,7 +13,9 @@ ghost use Rattle.pw_settle.specs.Calls.{gains, is_instance_visible, most_calls, 
 ghost use Rattle.pw_settle.specs.Calls.{visible_count};
 ghost use Rattle.pw_settle.specs.inside.Due.{QueuesReaders};
 ghost use Rattle.pw_settle.specs.Growth.{KeepsMore, StaysUpstream};
-ghost use Rattle.pw_settle.specs.inside.Known.{AreKept, SaysTold};
+ghost use Rattle.pw_settle.specs.inside.Known.{AreKept, Keeps, SaysTold, TakesIn};
+ghost use Rattle.pw_settle.specs.inside.Known.{news_on};
+ghost use Rattle.pw_settle.specs.Settled.{info_at};
 ghost use Rattle.pw_settle.specs.inside.Progress.{AreOthersSatisfied};
 ghost use Rattle.pw_settle.specs.Values.{kinds_in};
 ghost use Rattle.pw_settle.specs.inside.Progress.{AreMet, AreQueuedVisible, CallsNoMore};
@@ -22,10 +26,13 @@ ghost use Rattle.pw_settle.specs.Calls.{AreVisible, CallsAtMost};
 ghost use Rattle.pw_settle.specs.Growth.{HasValues};
 
 use crate::agenda::Agenda;
-use crate::known::{Known, read_kept, take_in};
-use crate::propagating::news;
+use crate::known::{Known, joined_narrow, joined_support, read_kept, take_in, take_in_narrow};
+use crate::propagating::news_of;
 use crate::settled::Settled;
+use crate::support_list::SupportList;
 use pw_cells::CellStore;
+use pw_facts::Fact;
+use pw_info::Info;
 use pw_network::{Instance, Network};
 use pw_premises::PremiseSet;
 use std::alloc::{AllocError, Allocator};
@@ -92,6 +99,81 @@ pub(crate) fn queue_readers<A: Allocator + Copy>(
     }
 }
 
+// Keeps news of an instance in the store, and merges them into what is known about its output. Fails
+// only when out of memory; then perhaps the store keeps them, but nothing else changes.
+#[inline(always)]
+fn keep_news<A: Allocator + Copy>(
+    store: &mut CellStore<A>,
+    infos: &mut [Info],
+    supports: &mut SupportList<A>,
+    cell: u32,
+    instance: &Instance,
+    info: &Info,
+) -> Result<(), AllocError>
+    requires cell { cell < length store.old.cells }
+    requires kind { kind_of info.now ≡ kind_in_store store.old cell }
+    requires there { cell < length infos.old }
+    requires as_many { length supports.old ≡ length infos.old }
+    requires inputs { All (λ input. input < length supports.old)
+        (attachment instance.now).instance.inputs }
+    requires same_kind { kind_of info.now ≡ kind_of (info_at infos.old cell) }
+    requires news { IsUnsaid (info_at infos.old cell) info.now }
+    requires unsaid { IsUnsaid (kept_in store.old cell
+        (news_on supports.old (attachment instance.now) info.now).support) info.now }
+    ensures kept { OnOk result (Keeps cell
+        (news_on supports.old (attachment instance.now) info.now) store.old store.new) }
+    ensures taken { OnOk result (TakesIn cell
+        (news_on supports.old (attachment instance.now) info.now) infos.old infos.new supports.old
+        supports.new) }
+    ensures store { OnErr result ((store.new ≡ store.old) ⊎ Keeps cell
+        (news_on supports.old (attachment instance.now) info.now) store.old store.new) }
+    ensures supports { OnErr result (supports.new ≡ supports.old) }
+{
+    if let Some(support) = joined_narrow(instance, supports) {
+        store.keep_news(cell, *info, support)?;
+        take_in_narrow(infos, supports, cell, info, support);
+        return Ok(());
+    }
+    keep_wide_news(store, infos, supports, cell, instance, info)
+}
+
+// The same, on any premises. Never inlined, so that news on premises below 64 make no room for wide
+// sets.
+#[inline(never)]
+fn keep_wide_news<A: Allocator + Copy>(
+    store: &mut CellStore<A>,
+    infos: &mut [Info],
+    supports: &mut SupportList<A>,
+    cell: u32,
+    instance: &Instance,
+    info: &Info,
+) -> Result<(), AllocError>
+    requires cell { cell < length store.old.cells }
+    requires kind { kind_of info.now ≡ kind_in_store store.old cell }
+    requires there { cell < length infos.old }
+    requires as_many { length supports.old ≡ length infos.old }
+    requires inputs { All (λ input. input < length supports.old)
+        (attachment instance.now).instance.inputs }
+    requires same_kind { kind_of info.now ≡ kind_of (info_at infos.old cell) }
+    requires news { IsUnsaid (info_at infos.old cell) info.now }
+    ensures kept { OnOk result (Keeps cell
+        (news_on supports.old (attachment instance.now) info.now) store.old store.new) }
+    ensures taken { OnOk result (TakesIn cell
+        (news_on supports.old (attachment instance.now) info.now) infos.old infos.new supports.old
+        supports.new) }
+    ensures store { OnErr result ((store.new ≡ store.old) ⊎ Keeps cell
+        (news_on supports.old (attachment instance.now) info.now) store.old store.new) }
+    ensures supports { OnErr result (supports.new ≡ supports.old) }
+{
+    let support = joined_support(instance, supports);
+    let fact = Fact {
+        info: *info,
+        support,
+    };
+    store.keep(cell, fact)?;
+    take_in(infos, supports, cell, info, support)
+}
+
 // Calls the procedure of an instance, which is visible and not queued. If the value is news, the
 // store keeps it, and the visible readers of the output are queued. Fails only when out of memory.
 fn call<A: Allocator + Copy>(
@@ -127,10 +209,17 @@ fn call<A: Allocator + Copy>(
     ensures most { OnOk result (LeavesNoMore (wiring network.now) worldview.now store.old
         agenda.old store.new agenda.new) }
 {
-    if let Some((cell, fact)) = news(network, &known.infos, &known.supports, number, calls) {
-        store.keep(cell, fact)?;
-        take_in(&mut known.infos, &mut known.supports, cell, &fact)?;
-        queue_readers(network, visible, agenda, cell);
+    if let Some(news) = news_of(network, &known.infos, number, calls) {
+        let instance = &network.instances()[number];
+        keep_news(
+            store,
+            &mut known.infos,
+            &mut known.supports,
+            news.cell,
+            instance,
+            &news.info,
+        )?;
+        queue_readers(network, visible, agenda, news.cell);
     }
     Ok(())
 }

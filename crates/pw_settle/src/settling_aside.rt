@@ -13,8 +13,8 @@ ghost use Rattle.pw_settle.specs.inside.Progress.{AreOthersSatisfied, AreQueuedV
 ghost use Rattle.pw_settle.specs.inside.Progress.{AreSatisfied, tally};
 
 use crate::agenda::Agenda;
-use crate::known::{Known, take_in};
-use crate::propagating::news;
+use crate::known::{Known, take_in_news};
+use crate::propagating::news_of;
 use crate::resettling::queue_changed;
 use crate::settled::Settled;
 use crate::settling::{queue_readers, seen};
@@ -192,9 +192,16 @@ fn call_aside<A: Allocator + Copy>(
         ≤ tally agenda.old
         + weight_of (wiring network.now) worldview.now known.old.infos.items) }
 {
-    if let Some((cell, fact)) = news(network, &known.infos, &known.supports, number, calls) {
-        take_in(&mut known.infos, &mut known.supports, cell, &fact)?;
-        queue_readers(network, visible, agenda, cell);
+    if let Some(news) = news_of(network, &known.infos, number, calls) {
+        let instance = &network.instances()[number];
+        take_in_news(
+            &mut known.infos,
+            &mut known.supports,
+            news.cell,
+            instance,
+            &news.info,
+        )?;
+        queue_readers(network, visible, agenda, news.cell);
     }
     Ok(())
 }

@@ -1,7 +1,7 @@
 //! A list of premises for each cell, in one width or the other.
 
-ghost use Rattle.std.specs.Prelude.{◌≡◌, ◌<◌, ◌++◌, ◌∷◌, [], length, set, IfOk, OnOk, OnErr};
-ghost use Rattle.std.specs.FinSet.{is_subset};
+ghost use Rattle.std.specs.Prelude.{◌≡◌, ◌<◌, ◌++◌, ◌∷◌, [], length, set, IfOk, IfSome, OnOk, OnErr};
+ghost use Rattle.std.specs.FinSet.{is_subset, union};
 ghost use Rattle.pw_settle.specs.Settled.{support_at};
 
 use pw_premises::{NarrowSet, PremiseSet};
@@ -89,6 +89,41 @@ impl<A: Allocator + Copy> SupportList<A> {
 }
 
 impl<A: Allocator> SupportList<A> {
+    // The premises of the cells, if each list takes one word.
+    #[inline(always)]
+    pub(crate) fn narrow(&self) -> Option<&[NarrowSet]>
+        ensures { IfSome result (λ list. list.now ≡ self.now) }
+    {
+        match &self.lists {
+            Widths::Narrow(list) => Some(list.as_slice()),
+            Widths::Wide(_) => None,
+        }
+    }
+
+    // Puts these premises, which are below 64, in place of those of a cell.
+    #[inline(always)]
+    pub(crate) fn put_narrow(&mut self, place: usize, support: NarrowSet)
+        requires { place < length self.old }
+        ensures { self.new ≡ set self.old place support }
+    {
+        match &mut self.lists {
+            Widths::Narrow(list) => list[place] = support,
+            Widths::Wide(list) => list[place] = support.widen(),
+        }
+    }
+
+    // Adds these premises, which are below 64, to those of a cell.
+    #[inline(always)]
+    pub(crate) fn join_narrow(&mut self, place: usize, support: NarrowSet)
+        requires { place < length self.old }
+        ensures { self.new ≡ set self.old place (union (support_at self.old place) support) }
+    {
+        match &mut self.lists {
+            Widths::Narrow(list) => list[place] = list[place].join(support),
+            Widths::Wide(list) => list[place] = list[place].join(support.widen()),
+        }
+    }
+
     // The premises of the cell at this place.
     #[inline(always)]
     pub(crate) fn get(&self, place: usize) -> PremiseSet

@@ -6,7 +6,8 @@ use Rattle.pw_info.specs.Information.{Implies, meet}
 use Rattle.pw_premises.specs.Premises.{Premises}
 use Rattle.pw_facts.specs.declared.fact.Fact.{Fact}
 use Rattle.pw_facts.specs.Facts.{ShowTogether, IsLeastAbove}
-use Rattle.pw_cells.specs.Cells.{Store, kept_in, told_in}
+use Rattle.pw_cells.specs.Cells.{Store, fact_on, kept_in, kinds_of, told_in}
+use Rattle.pw_cells.specs.Changes.{AssimilatesAt, GainsKept, LeavesOthers}
 use Rattle.pw_network.specs.Network.{Network, Attached}
 use Rattle.pw_settle.specs.Settled.{info_at, support_at, Settled}
 use Rattle.pw_settle.specs.Sound.{LiesUpstream, RestsUpstream}
@@ -48,6 +49,19 @@ pub record AreUpstream (network : Network) (given : ℕ → ℕ → Bool) (store
 abbrev pub joined : List Premises → Premises → List ℕ → Premises
 joined supports support inputs = fold (λ all input.
     union all (support_at supports input)) support inputs
+
+-- an information that an instance makes of what is at hand, on the premises of the instance and
+-- those at hand for its inputs
+abbrev pub news_on : List Premises → Attached → Info → Fact
+news_on supports a info = fact_on info (joined supports a.support a.instance.inputs)
+
+-- the store keeps a fact about a cell
+pub record Keeps (cell : ℕ) (fact : Fact) (old new : Store) : Type 0 where
+  pub told : (w : Premises) → told_in new cell w ≡ told_in old cell w
+  pub kept : GainsKept cell fact old new
+  pub assimilates : AssimilatesAt cell fact old new
+  pub others : LeavesOthers cell old new
+  pub kinds : kinds_of new ≡ kinds_of old
 
 -- a fact is merged into what is at hand for a cell: the informations are merged, and the new
 -- premises are among the old ones and the fact's, and are enough for the merge

@@ -1,108 +1,164 @@
-use Rattle.std.proofs.Common.{◌≡◌, ◌<◌, Bool, List, ◌++◌, length, map, take, drop, refl, sym, ap, subst, ◌∙◌, arith}
+use Rattle.std.proofs.Common.{◌≡◌, ◌<◌, Bool, List, ◌++◌, length, map, take, drop, refl, sym, ap, subst, ◌∙◌, inl, inr, arith}
 use Rattle.std.specs.List.{count_by}
-use Rattle.std.proofs.lemmas.List.{length-set}
+use Rattle.std.proofs.lemmas.List.{get_or_default, length-set}
 use Rattle.pw_info.specs.declared.info.Info.{Info}
 use Rattle.pw_info.specs.Information.{kind_of}
-use Rattle.pw_cells.specs.Cells.{kept_in}
+use Rattle.pw_facts.specs.declared.fact.Fact.{Fact}
+use Rattle.pw_cells.specs.Cells.{IsUnsaid, Store, kept_in}
 use Rattle.pw_network.specs.Wiring.{wiring}
+use Rattle.pw_network.specs.inside.Held.{attachment}
+use Rattle.pw_network.specs.Network.{Attached}
 use Rattle.pw_network.specs.Readers.{readers_of}
 use Rattle.pw_settle.specs.inside.Progress.{is_set}
 use Rattle.pw_settle.specs.Calls.{reader_count}
-use Rattle.pw_settle.specs.inside.Known.{AreUpstream, TakesIn}
+use Rattle.pw_settle.specs.Growth.{KeepsMore}
+use Rattle.pw_settle.specs.inside.Known.{AreUpstream, TakesIn, news_on}
 use Rattle.pw_settle.specs.inside.Progress.{IsNews}
 use Rattle.pw_settle.specs.Values.{IsSatisfied, attached_no}
 use Rattle.pw_settle.specs.Settled.{info_at}
+use Rattle.pw_settle.proofs.Growing.{keeps_more_same}
 use Rattle.pw_settle.proofs.KeptFacts.{kind-kept}
-use Rattle.pw_settle.proofs.KeptProgress.{IsAfterNews, after_news, keeps_news, keeps_upstream, kinds_at_hand, no_instance, satisfied_all, satisfied_kept}
+use Rattle.pw_settle.proofs.KeptProgress.{IsAfterNews, after_news, keeps_news, keeps_upstream, kinds_at_hand, no_instance, satisfied_all, satisfied_kept, visible_below, visible_no}
+use Rattle.pw_settle.proofs.KeptNews.{unsaid}
+use Rattle.pw_settle.proofs.NewsLemmas.{inputs_there, kept_instance}
 use Rattle.pw_settle.proofs.SourceLists.{came_back}
 use Rattle.pw_settle.proofs.settling.call.Given as given
 use Rattle.pw_settle.proofs.settling.call.Goals as goal
-use Rattle.pw_settle.proofs.settling.call.Goals.{After-take_in}
+use Rattle.pw_settle.proofs.settling.call.Goals.{After-deref_mut, After-queue_readers, In_err-keep_news}
 
-pub news-requires-clause-kinds : goal.news-requires-clause-kinds
-news-requires-clause-kinds g c =
+pub news_of-requires-clause-kinds : goal.news_of-requires-clause-kinds
+news_of-requires-clause-kinds g c =
     ap (map kind_of) c.deref.ensures.value
     ∙ kinds_at_hand c.args.store.now c.args.worldview.now c.args.known.now.infos.items c.args.known.now.supports c.requires.kept ∙ c.requires.kinds
 
-pub keep-requires-clause-kind : goal.keep-requires-clause-kind
-keep-requires-clause-kind g c =
-    c.in-Some.ensures.kind ∙ ap (λ (l : List Info). kind_of (info_at l c.in-Some.cell)) c.deref.ensures.value
-    ∙ ap kind_of (c.requires.kept.infos_are c.in-Some.cell) ∙ kind-kept c.args.store.now c.in-Some.cell c.args.worldview.now
+-- its number is one of the instances'
+low : (g : given.Over) (c : After-deref_mut g) → c.args.number < length (wiring c.args.network.now).attached
+low g c = visible_below (wiring c.args.network.now) c.args.worldview.now c.args.number c.requires.number
 
--- the news, of what is at hand
-news_is : (g : given.Over) (c : After-take_in g) →
+-- the instance that is called
+called : (g : given.Over) (c : After-deref_mut g) (d : Attached) →
+    attached_no (wiring c.args.network.now) c.args.number d ≡ attachment c.index-instances-number.result
+called g c d =
+    kept_instance (wiring c.args.network.now) c.instances.result.now c.args.number c.index-instances-number.result d c.instances.ensures.instances
+    (low g c) c.index-instances-number.is
+
+-- its news, as a fact on what is at hand
+abbrev fact : (g : given.Over) (c : After-deref_mut g) → Fact
+fact g c = news_on c.args.known.now.supports (attachment c.index-instances-number.result) c.in-Some.news.info
+
+news_is : (g : given.Over) (c : After-deref_mut g) →
     IsNews (wiring c.args.network.now) c.args.known.now.infos.items c.args.known.now.supports
-    (attached_no (wiring c.args.network.now) c.args.number no_instance) c.in-Some.cell c.in-Some.fact
+    (attached_no (wiring c.args.network.now) c.args.number no_instance) c.in-Some.news.cell (fact g c)
 news_is g c =
-    subst (λ (l : List Info). IsNews (wiring c.args.network.now) l c.args.known.now.supports
-    (attached_no (wiring c.args.network.now) c.args.number no_instance) c.in-Some.cell c.in-Some.fact) c.deref.ensures.value
-    (c.in-Some.ensures.news no_instance)
+    subst (λ (a : Attached). IsNews (wiring c.args.network.now) c.args.known.now.infos.items c.args.known.now.supports
+    (attached_no (wiring c.args.network.now) c.args.number no_instance) c.in-Some.news.cell (news_on c.args.known.now.supports a c.in-Some.news.info)) (called g c no_instance)
+    (subst (λ (l : List Info). IsNews (wiring c.args.network.now) l c.args.known.now.supports
+    (attached_no (wiring c.args.network.now) c.args.number no_instance) c.in-Some.news.cell
+    (news_on c.args.known.now.supports (attached_no (wiring c.args.network.now) c.args.number no_instance) c.in-Some.news.info)) c.deref.ensures.value
+    (c.in-Some.ensures.news c.args.known.now.supports no_instance))
+
+-- it is about a cell, and of its kind
+below : (g : given.Over) (c : After-deref_mut g) → c.in-Some.news.cell < length c.args.known.now.infos.items
+below g c = subst (λ (l : List Info). c.in-Some.news.cell < length l) c.deref.ensures.value c.in-Some.ensures.there
+
+of_kind : (g : given.Over) (c : After-deref_mut g) → kind_of c.in-Some.news.info ≡ kind_of (info_at c.args.known.now.infos.items c.in-Some.news.cell)
+of_kind g c = c.in-Some.ensures.kind ∙ ap (λ (l : List Info). kind_of (info_at l c.in-Some.news.cell)) c.deref.ensures.value
+
+pub keep_news-requires-clause-kind : goal.keep_news-requires-clause-kind
+keep_news-requires-clause-kind g c =
+    let d = (goal.at.keep_news-requires-clause-kind g c).After-deref_mut in
+    of_kind g d ∙ ap kind_of (c.requires.kept.infos_are c.in-Some.news.cell) ∙ kind-kept c.args.store.now c.in-Some.news.cell c.args.worldview.now
+
+pub keep_news-requires-clause-inputs : goal.keep_news-requires-clause-inputs
+keep_news-requires-clause-inputs g c =
+    let d = (goal.at.keep_news-requires-clause-inputs g c).After-deref_mut in
+    inputs_there (wiring c.args.network.now) c.args.network.now.well c.args.known.now.infos.items (wiring c.args.network.now).declared.procedures c.args.number
+    (attachment c.index-instances-number.result) refl
+    (kinds_at_hand c.args.store.now c.args.worldview.now c.args.known.now.infos.items c.args.known.now.supports c.requires.kept ∙ c.requires.kinds)
+    (low g d) (called g d) (length c.args.known.now.supports) (c.requires.kept.as_many ∙ sym c.requires.kept.many)
+
+pub keep_news-requires-clause-news : goal.keep_news-requires-clause-news
+keep_news-requires-clause-news g c =
+    let d = (goal.at.keep_news-requires-clause-news g c).After-deref_mut in
+    subst (λ (l : List Info). IsUnsaid (info_at l c.in-Some.news.cell) c.in-Some.news.info) (sym c.deref_mut.ensures.value) (news_is g d).new
+
+pub keep_news-requires-clause-unsaid : goal.keep_news-requires-clause-unsaid
+keep_news-requires-clause-unsaid g c =
+    let d = (goal.at.keep_news-requires-clause-unsaid g c).After-deref_mut in
+    unsaid (wiring c.args.network.now) c.args.network.now.well c.args.store.now c.requires.kinds c.args.worldview.now
+    c.args.known.now.infos.items c.args.known.now.supports c.requires.kept (attached_no (wiring c.args.network.now) c.args.number no_instance)
+    (c.args.number, low g d, get_or_default (wiring c.args.network.now).attached c.args.number (attached_no (wiring c.args.network.now) c.args.number no_instance) no_instance (low g d))
+    (visible_no (wiring c.args.network.now) c.args.worldview.now c.args.number no_instance (low g d) ∙ c.requires.number) c.in-Some.news.cell (fact g d) (news_is g d)
 
 -- how they are taken in
-taken : (g : given.Over) (c : goal.After-queue_readers g) →
-    TakesIn c.in-Some.cell c.in-Some.fact c.args.known.now.infos.items c.take_in.new.infos c.args.known.now.supports c.take_in.new.supports
+taken : (g : given.Over) (c : After-queue_readers g) →
+    TakesIn c.in-Some.news.cell (fact g (goal.at.returns-in_ok-keep_news-clause-grows g c).After-deref_mut) c.args.known.now.infos.items c.keep_news.new.infos c.args.known.now.supports c.keep_news.new.supports
 taken g c =
-    subst (λ (l : List Info). TakesIn c.in-Some.cell c.in-Some.fact l c.take_in.new.infos c.args.known.now.supports c.take_in.new.supports)
-    c.deref_mut.ensures.value c.in_ok-take_in.ensures.taken
+    subst (λ (l : List Info). TakesIn c.in-Some.news.cell (fact g (goal.at.returns-in_ok-keep_news-clause-grows g c).After-deref_mut) l c.keep_news.new.infos c.args.known.now.supports c.keep_news.new.supports)
+    c.deref_mut.ensures.value c.in_ok-keep_news.ensures.taken
 
 -- and what there is afterwards
-after : (g : given.Over) (c : goal.After-queue_readers g) →
-    IsAfterNews (wiring c.args.network.now) c.args.store.now c.keep.new.self c.args.worldview.now c.take_in.new.infos
-    c.args.known.now.supports c.take_in.new.supports c.args.number c.in-Some.cell
+after : (g : given.Over) (c : After-queue_readers g) →
+    IsAfterNews (wiring c.args.network.now) c.args.store.now c.keep_news.new.store c.args.worldview.now c.keep_news.new.infos
+    c.args.known.now.supports c.keep_news.new.supports c.args.number c.in-Some.news.cell
 after g c =
-    after_news (wiring c.args.network.now) c.args.network.now.well c.args.store.now c.keep.new.self c.requires.kinds c.args.worldview.now
-    c.args.known.now.infos.items c.args.known.now.supports c.requires.kept c.args.number c.requires.number c.in-Some.cell c.in-Some.fact (news_is g (goal.at.returns-in_ok-take_in-clause-grows g c).After-take_in)
-    (subst (λ (l : List Info). c.in-Some.cell < length l) c.deref.ensures.value c.in-Some.ensures.there)
-    (c.in-Some.ensures.kind ∙ ap (λ (l : List Info). kind_of (info_at l c.in-Some.cell)) c.deref.ensures.value)
-    c.in_ok-keep.ensures.told c.in_ok-keep.ensures.kept c.in_ok-keep.ensures.assimilates c.in_ok-keep.ensures.others c.in_ok-keep.ensures.kinds
-    c.take_in.new.infos c.take_in.new.supports (taken g c)
+    let kept = c.in_ok-keep_news.ensures.kept in
+    after_news (wiring c.args.network.now) c.args.network.now.well c.args.store.now c.keep_news.new.store c.requires.kinds c.args.worldview.now
+    c.args.known.now.infos.items c.args.known.now.supports c.requires.kept c.args.number c.requires.number c.in-Some.news.cell (fact g (goal.at.returns-in_ok-keep_news-clause-grows g c).After-deref_mut) (news_is g (goal.at.returns-in_ok-keep_news-clause-grows g c).After-deref_mut)
+    (below g (goal.at.returns-in_ok-keep_news-clause-grows g c).After-deref_mut) (of_kind g (goal.at.returns-in_ok-keep_news-clause-grows g c).After-deref_mut) kept.told kept.kept kept.assimilates kept.others kept.kinds c.keep_news.new.infos c.keep_news.new.supports (taken g c)
 
 -- the informations at hand come back whole
-infos_back : (g : given.Over) (c : goal.After-queue_readers g) →
-    take c.args.known.now.infos.len (c.take_in.new.infos ++ drop (length c.take_in.new.infos) c.args.known.now.infos.items) ≡ c.take_in.new.infos
+infos_back : (g : given.Over) (c : After-queue_readers g) →
+    take c.args.known.now.infos.len (c.keep_news.new.infos ++ drop (length c.keep_news.new.infos) c.args.known.now.infos.items) ≡ c.keep_news.new.infos
 infos_back g c =
-    came_back c.take_in.new.infos c.args.known.now.infos.items c.args.known.now.infos.len
-    (sym c.deref.ensures.len ∙ ap length c.deref.ensures.value) (ap length (taken g c).infos_are ∙ length-set c.args.known.now.infos.items c.in-Some.cell _)
+    came_back c.keep_news.new.infos c.args.known.now.infos.items c.args.known.now.infos.len
+    (sym c.deref.ensures.len ∙ ap length c.deref.ensures.value) (ap length (taken g c).infos_are ∙ length-set c.args.known.now.infos.items c.in-Some.news.cell _)
 
--- where the fact is not taken in, the store has kept it all the same
-pub returns-in_err-take_in-clause-grows : goal.returns-in_err-take_in-clause-grows
-returns-in_err-take_in-clause-grows g c =
-    keeps_news (wiring c.args.network.now) c.args.network.now.well c.args.store.now c.keep.new.self c.requires.kinds c.args.worldview.now
-    c.args.known.now.infos.items c.args.known.now.supports c.requires.kept c.args.number c.requires.number c.in-Some.cell c.in-Some.fact (news_is g (goal.at.returns-in_err-take_in-clause-grows g c).After-take_in)
-    (subst (λ (l : List Info). c.in-Some.cell < length l) c.deref.ensures.value c.in-Some.ensures.there)
-    (c.in-Some.ensures.kind ∙ ap (λ (l : List Info). kind_of (info_at l c.in-Some.cell)) c.deref.ensures.value)
-    c.in_ok-keep.ensures.told c.in_ok-keep.ensures.kept c.in_ok-keep.ensures.assimilates c.in_ok-keep.ensures.others c.in_ok-keep.ensures.kinds
+-- where they are not taken in, the store has kept them all the same, or is as it was
+pub returns-in_err-keep_news-clause-grows : goal.returns-in_err-keep_news-clause-grows
+returns-in_err-keep_news-clause-grows g c =
+    let d = (goal.at.returns-in_err-keep_news-clause-grows g c).After-deref_mut in
+    elim c.in_err-keep_news.ensures.store [
+      | inl same ↦ subst (λ (s : Store). KeepsMore (wiring c.args.network.now) c.args.store.now s) (sym {A = Store} same) (keeps_more_same (wiring c.args.network.now) c.args.store.now)
+      | inr kept ↦
+          keeps_news (wiring c.args.network.now) c.args.network.now.well c.args.store.now c.keep_news.new.store c.requires.kinds c.args.worldview.now
+          c.args.known.now.infos.items c.args.known.now.supports c.requires.kept c.args.number c.requires.number c.in-Some.news.cell (fact g d) (news_is g d)
+          (below g d) (of_kind g d) kept.told kept.kept kept.assimilates kept.others kept.kinds
+    ]
 
-pub returns-in_err-take_in-clause-upstream : goal.returns-in_err-take_in-clause-upstream
-returns-in_err-take_in-clause-upstream g c given are =
-    subst (AreUpstream (wiring c.args.network.now) given c.keep.new.self) (sym c.in_err-take_in.ensures.supports)
-    (keeps_upstream (wiring c.args.network.now) c.args.network.now.well c.args.store.now c.keep.new.self c.requires.kinds c.args.worldview.now
-    c.args.known.now.infos.items c.args.known.now.supports c.requires.kept c.args.number c.requires.number c.in-Some.cell c.in-Some.fact (news_is g (goal.at.returns-in_err-take_in-clause-upstream g c).After-take_in)
-    (subst (λ (l : List Info). c.in-Some.cell < length l) c.deref.ensures.value c.in-Some.ensures.there)
-    (c.in-Some.ensures.kind ∙ ap (λ (l : List Info). kind_of (info_at l c.in-Some.cell)) c.deref.ensures.value)
-    c.in_ok-keep.ensures.told c.in_ok-keep.ensures.kept c.in_ok-keep.ensures.assimilates c.in_ok-keep.ensures.others c.in_ok-keep.ensures.kinds given are)
+pub returns-in_err-keep_news-clause-upstream : goal.returns-in_err-keep_news-clause-upstream
+returns-in_err-keep_news-clause-upstream g c given are =
+    let d = (goal.at.returns-in_err-keep_news-clause-upstream g c).After-deref_mut in
+    subst (AreUpstream (wiring c.args.network.now) given c.keep_news.new.store) (sym c.in_err-keep_news.ensures.supports)
+    (elim c.in_err-keep_news.ensures.store [
+      | inl same ↦ subst (λ (s : Store). AreUpstream (wiring c.args.network.now) given s c.args.known.now.supports) (sym {A = Store} same) are
+      | inr kept ↦
+          keeps_upstream (wiring c.args.network.now) c.args.network.now.well c.args.store.now c.keep_news.new.store c.requires.kinds c.args.worldview.now
+          c.args.known.now.infos.items c.args.known.now.supports c.requires.kept c.args.number c.requires.number c.in-Some.news.cell (fact g d) (news_is g d)
+          (below g d) (of_kind g d) kept.told kept.kept kept.assimilates kept.others kept.kinds given are
+    ])
 
-pub returns-in_ok-take_in-clause-grows : goal.returns-in_ok-take_in-clause-grows
-returns-in_ok-take_in-clause-grows g c = (after g c).grows
+pub returns-in_ok-keep_news-clause-grows : goal.returns-in_ok-keep_news-clause-grows
+returns-in_ok-keep_news-clause-grows g c = (after g c).grows
 
-pub returns-in_ok-take_in-clause-upstream : goal.returns-in_ok-take_in-clause-upstream
-returns-in_ok-take_in-clause-upstream g c given are = (after g c).upstream given are
+pub returns-in_ok-keep_news-clause-upstream : goal.returns-in_ok-keep_news-clause-upstream
+returns-in_ok-keep_news-clause-upstream g c given are = (after g c).upstream given are
 
-pub returns-in_ok-take_in-clause-kept : goal.returns-in_ok-take_in-clause-kept
-returns-in_ok-take_in-clause-kept g c =
+pub returns-in_ok-keep_news-clause-kept : goal.returns-in_ok-keep_news-clause-kept
+returns-in_ok-keep_news-clause-kept g c =
     rw (infos_back g c) (after g c).kept
 
-pub returns-in_ok-take_in-clause-satisfied : goal.returns-in_ok-take_in-clause-satisfied
-returns-in_ok-take_in-clause-satisfied g c =
+pub returns-in_ok-keep_news-clause-satisfied : goal.returns-in_ok-keep_news-clause-satisfied
+returns-in_ok-keep_news-clause-satisfied g c =
     (after g c).satisfied c.args.agenda.now c.queue_readers.new.agenda c.requires.others
-    (λ n reader seen. c.queue_readers.ensures.readers.readers c.in-Some.cell n refl reader (ap (λ l. is_set l n) c.requires.visible ∙ seen))
+    (λ n reader seen. c.queue_readers.ensures.readers.readers c.in-Some.news.cell n refl reader (ap (λ l. is_set l n) c.requires.visible ∙ seen))
     c.queue_readers.ensures.readers.stay
 
-pub returns-in_ok-take_in-clause-most : goal.returns-in_ok-take_in-clause-most
-returns-in_ok-take_in-clause-most g c =
-    let readers : count_by (is_set c.args.visible.now) (readers_of (wiring c.args.network.now) c.in-Some.cell)
-    ≡ reader_count (wiring c.args.network.now) c.args.worldview.now c.in-Some.cell =
-    ap (λ (l : List Bool). count_by (is_set l) (readers_of (wiring c.args.network.now) c.in-Some.cell)) c.requires.visible in
+pub returns-in_ok-keep_news-clause-most : goal.returns-in_ok-keep_news-clause-most
+returns-in_ok-keep_news-clause-most g c =
+    let readers : count_by (is_set c.args.visible.now) (readers_of (wiring c.args.network.now) c.in-Some.news.cell)
+    ≡ reader_count (wiring c.args.network.now) c.args.worldview.now c.in-Some.news.cell =
+    ap (λ (l : List Bool). count_by (is_set l) (readers_of (wiring c.args.network.now) c.in-Some.news.cell)) c.requires.visible in
     omega (arith, c.queue_readers.ensures.most, readers, (after g c).weight_is)
 
 pub returns-in_default-clause-satisfied : goal.returns-in_default-clause-satisfied

@@ -9,71 +9,113 @@ use Rattle.pw_settle.specs.Calls.{reader_count}
 use Rattle.pw_settle.specs.Settled.{info_at}
 use Rattle.pw_settle.specs.Values.{IsSatisfied, attached_no}
 use Rattle.pw_settle.specs.inside.Aside.{AreFound, weight_of}
-use Rattle.pw_settle.specs.inside.Known.{TakesIn}
+use Rattle.pw_settle.specs.inside.Known.{TakesIn, news_on}
+use Rattle.pw_cells.specs.Cells.{IsUnsaid}
 use Rattle.pw_settle.specs.inside.Progress.{AreSatisfied, IsNews, is_set, tally}
 use Rattle.pw_settle.proofs.AsideNews.{IsAfterAside, after_aside}
 use Rattle.pw_settle.proofs.AsideStarts.{found_kinds}
-use Rattle.pw_settle.proofs.KeptProgress.{no_instance, satisfied_all}
+use Rattle.pw_settle.proofs.KeptProgress.{no_instance, satisfied_all, visible_below}
+use Rattle.pw_settle.proofs.NewsLemmas.{inputs_there, kept_instance}
+use Rattle.pw_facts.specs.declared.fact.Fact.{Fact}
+use Rattle.pw_network.specs.inside.Held.{attachment}
+use Rattle.pw_network.specs.Network.{Attached}
 use Rattle.pw_settle.proofs.SourceLists.{came_back}
 use Rattle.pw_settle.proofs.settling_aside.call_aside.Given as given
 use Rattle.pw_settle.proofs.settling_aside.call_aside.Goals as goal
+use Rattle.pw_settle.proofs.settling_aside.call_aside.Goals.{After-deref_mut, After-queue_readers}
 
-pub news-requires-clause-kinds : goal.news-requires-clause-kinds
-news-requires-clause-kinds g c =
+pub news_of-requires-clause-kinds : goal.news_of-requires-clause-kinds
+news_of-requires-clause-kinds g c =
     ap (map kind_of) c.deref.ensures.value
     ∙ found_kinds (wiring c.args.network.now) c.args.store.now c.args.worldview.now c.args.known.now.infos.items c.args.known.now.supports c.requires.found
 
--- the news, of what is at hand
-news_is : (g : given.Over) (c : goal.After-queue_readers g) →
+-- its number is one of the instances'
+low : (g : given.Over) (c : After-deref_mut g) → c.args.number < length (wiring c.args.network.now).attached
+low g c = visible_below (wiring c.args.network.now) c.args.worldview.now c.args.number c.requires.number
+
+-- the instance that is called
+called : (g : given.Over) (c : After-deref_mut g) (d : Attached) →
+    attached_no (wiring c.args.network.now) c.args.number d ≡ attachment c.index-instances-number.result
+called g c d =
+    kept_instance (wiring c.args.network.now) c.instances.result.now c.args.number c.index-instances-number.result d c.instances.ensures.instances
+    (low g c) c.index-instances-number.is
+
+-- its news, as a fact on what is at hand
+abbrev fact : (g : given.Over) (c : After-deref_mut g) → Fact
+fact g c = news_on c.args.known.now.supports (attachment c.index-instances-number.result) c.in-Some.news.info
+
+news_is : (g : given.Over) (c : After-deref_mut g) →
     IsNews (wiring c.args.network.now) c.args.known.now.infos.items c.args.known.now.supports
-    (attached_no (wiring c.args.network.now) c.args.number no_instance) c.in-Some.cell c.in-Some.fact
+    (attached_no (wiring c.args.network.now) c.args.number no_instance) c.in-Some.news.cell (fact g c)
 news_is g c =
-    subst (λ (l : List Info). IsNews (wiring c.args.network.now) l c.args.known.now.supports
-    (attached_no (wiring c.args.network.now) c.args.number no_instance) c.in-Some.cell c.in-Some.fact) c.deref.ensures.value
-    (c.in-Some.ensures.news no_instance)
+    subst (λ (a : Attached). IsNews (wiring c.args.network.now) c.args.known.now.infos.items c.args.known.now.supports
+    (attached_no (wiring c.args.network.now) c.args.number no_instance) c.in-Some.news.cell (news_on c.args.known.now.supports a c.in-Some.news.info)) (called g c no_instance)
+    (subst (λ (l : List Info). IsNews (wiring c.args.network.now) l c.args.known.now.supports
+    (attached_no (wiring c.args.network.now) c.args.number no_instance) c.in-Some.news.cell
+    (news_on c.args.known.now.supports (attached_no (wiring c.args.network.now) c.args.number no_instance) c.in-Some.news.info)) c.deref.ensures.value
+    (c.in-Some.ensures.news c.args.known.now.supports no_instance))
+
+-- it is about a cell, and of its kind
+below : (g : given.Over) (c : After-deref_mut g) → c.in-Some.news.cell < length c.args.known.now.infos.items
+below g c = subst (λ (l : List Info). c.in-Some.news.cell < length l) c.deref.ensures.value c.in-Some.ensures.there
+
+of_kind : (g : given.Over) (c : After-deref_mut g) → kind_of c.in-Some.news.info ≡ kind_of (info_at c.args.known.now.infos.items c.in-Some.news.cell)
+of_kind g c = c.in-Some.ensures.kind ∙ ap (λ (l : List Info). kind_of (info_at l c.in-Some.news.cell)) c.deref.ensures.value
+
+pub take_in_news-requires-clause-inputs : goal.take_in_news-requires-clause-inputs
+take_in_news-requires-clause-inputs g c =
+    let d = (goal.at.take_in_news-requires-clause-inputs g c).After-deref_mut in
+    inputs_there (wiring c.args.network.now) c.args.network.now.well c.args.known.now.infos.items (wiring c.args.network.now).declared.procedures c.args.number
+    (attachment c.index-instances-number.result) refl
+    (found_kinds (wiring c.args.network.now) c.args.store.now c.args.worldview.now c.args.known.now.infos.items c.args.known.now.supports c.requires.found)
+    (low g d) (called g d) (length c.args.known.now.supports) c.requires.found.as_many
+
+pub take_in_news-requires-clause-news : goal.take_in_news-requires-clause-news
+take_in_news-requires-clause-news g c =
+    let d = (goal.at.take_in_news-requires-clause-news g c).After-deref_mut in
+    subst (λ (l : List Info). IsUnsaid (info_at l c.in-Some.news.cell) c.in-Some.news.info) (sym c.deref_mut.ensures.value) (news_is g d).new
 
 -- how they are taken in
-taken : (g : given.Over) (c : goal.After-queue_readers g) →
-    TakesIn c.in-Some.cell c.in-Some.fact c.args.known.now.infos.items c.take_in.new.infos c.args.known.now.supports c.take_in.new.supports
+taken : (g : given.Over) (c : After-queue_readers g) →
+    TakesIn c.in-Some.news.cell (fact g (goal.at.returns-in_ok-take_in_news-clause-satisfied g c).After-deref_mut) c.args.known.now.infos.items c.take_in_news.new.infos c.args.known.now.supports c.take_in_news.new.supports
 taken g c =
-    subst (λ (l : List Info). TakesIn c.in-Some.cell c.in-Some.fact l c.take_in.new.infos c.args.known.now.supports c.take_in.new.supports)
-    c.deref_mut.ensures.value c.in_ok-take_in.ensures.taken
+    subst (λ (l : List Info). TakesIn c.in-Some.news.cell (fact g (goal.at.returns-in_ok-take_in_news-clause-satisfied g c).After-deref_mut) l c.take_in_news.new.infos c.args.known.now.supports c.take_in_news.new.supports)
+    c.deref_mut.ensures.value c.in_ok-take_in_news.ensures.taken
 
 -- and what there is afterwards
-after : (g : given.Over) (c : goal.After-queue_readers g) →
-    IsAfterAside (wiring c.args.network.now) c.args.store.now c.args.worldview.now c.args.known.now.infos.items c.take_in.new.infos c.take_in.new.supports
-    c.args.number c.in-Some.cell
+after : (g : given.Over) (c : After-queue_readers g) →
+    IsAfterAside (wiring c.args.network.now) c.args.store.now c.args.worldview.now c.args.known.now.infos.items c.take_in_news.new.infos c.take_in_news.new.supports
+    c.args.number c.in-Some.news.cell
 after g c =
     after_aside (wiring c.args.network.now) c.args.network.now.well c.args.store.now c.requires.kinds c.args.worldview.now
-    c.args.known.now.infos.items c.args.known.now.supports c.requires.found c.args.number c.requires.number c.in-Some.cell c.in-Some.fact (news_is g c)
-    (subst (λ (l : List Info). c.in-Some.cell < length l) c.deref.ensures.value c.in-Some.ensures.there)
-    (c.in-Some.ensures.kind ∙ ap (λ (l : List Info). kind_of (info_at l c.in-Some.cell)) c.deref.ensures.value)
-    c.take_in.new.infos c.take_in.new.supports (taken g c)
+    c.args.known.now.infos.items c.args.known.now.supports c.requires.found c.args.number c.requires.number c.in-Some.news.cell (fact g (goal.at.returns-in_ok-take_in_news-clause-satisfied g c).After-deref_mut) (news_is g (goal.at.returns-in_ok-take_in_news-clause-satisfied g c).After-deref_mut)
+    (below g (goal.at.returns-in_ok-take_in_news-clause-satisfied g c).After-deref_mut) (of_kind g (goal.at.returns-in_ok-take_in_news-clause-satisfied g c).After-deref_mut)
+    c.take_in_news.new.infos c.take_in_news.new.supports (taken g c)
 
 -- the informations at hand come back whole
-infos_back : (g : given.Over) (c : goal.After-queue_readers g) →
-    take c.args.known.now.infos.len (c.take_in.new.infos ++ drop (length c.take_in.new.infos) c.args.known.now.infos.items) ≡ c.take_in.new.infos
+infos_back : (g : given.Over) (c : After-queue_readers g) →
+    take c.args.known.now.infos.len (c.take_in_news.new.infos ++ drop (length c.take_in_news.new.infos) c.args.known.now.infos.items) ≡ c.take_in_news.new.infos
 infos_back g c =
-    came_back c.take_in.new.infos c.args.known.now.infos.items c.args.known.now.infos.len
-    (sym c.deref.ensures.len ∙ ap length c.deref.ensures.value) (ap length (taken g c).infos_are ∙ length-set c.args.known.now.infos.items c.in-Some.cell _)
+    came_back c.take_in_news.new.infos c.args.known.now.infos.items c.args.known.now.infos.len
+    (sym c.deref.ensures.len ∙ ap length c.deref.ensures.value) (ap length (taken g c).infos_are ∙ length-set c.args.known.now.infos.items c.in-Some.news.cell _)
 
-pub returns-in_ok-take_in-clause-found : goal.returns-in_ok-take_in-clause-found
-returns-in_ok-take_in-clause-found g c =
-    subst (λ (l : List Info). AreFound (wiring c.args.network.now) c.args.store.now c.args.worldview.now l c.take_in.new.supports) (sym (infos_back g c))
+pub returns-in_ok-take_in_news-clause-found : goal.returns-in_ok-take_in_news-clause-found
+returns-in_ok-take_in_news-clause-found g c =
+    subst (λ (l : List Info). AreFound (wiring c.args.network.now) c.args.store.now c.args.worldview.now l c.take_in_news.new.supports) (sym (infos_back g c))
     (after g c).found
 
-pub returns-in_ok-take_in-clause-satisfied : goal.returns-in_ok-take_in-clause-satisfied
-returns-in_ok-take_in-clause-satisfied g c =
+pub returns-in_ok-take_in_news-clause-satisfied : goal.returns-in_ok-take_in_news-clause-satisfied
+returns-in_ok-take_in_news-clause-satisfied g c =
     subst (λ (l : List Info). AreSatisfied (wiring c.args.network.now) c.args.worldview.now (info_at l) c.queue_readers.new.agenda) (sym (infos_back g c))
     ((after g c).satisfied c.args.agenda.now c.queue_readers.new.agenda c.requires.others
-    (λ n reader seen. c.queue_readers.ensures.readers.readers c.in-Some.cell n refl reader (ap (λ l. is_set l n) c.requires.visible ∙ seen))
+    (λ n reader seen. c.queue_readers.ensures.readers.readers c.in-Some.news.cell n refl reader (ap (λ l. is_set l n) c.requires.visible ∙ seen))
     c.queue_readers.ensures.readers.stay)
 
-pub returns-in_ok-take_in-clause-most : goal.returns-in_ok-take_in-clause-most
-returns-in_ok-take_in-clause-most g c =
-    let readers : count_by (is_set c.args.visible.now) (readers_of (wiring c.args.network.now) c.in-Some.cell)
-    ≡ reader_count (wiring c.args.network.now) c.args.worldview.now c.in-Some.cell =
-    ap (λ (l : List Bool). count_by (is_set l) (readers_of (wiring c.args.network.now) c.in-Some.cell)) c.requires.visible in
+pub returns-in_ok-take_in_news-clause-most : goal.returns-in_ok-take_in_news-clause-most
+returns-in_ok-take_in_news-clause-most g c =
+    let readers : count_by (is_set c.args.visible.now) (readers_of (wiring c.args.network.now) c.in-Some.news.cell)
+    ≡ reader_count (wiring c.args.network.now) c.args.worldview.now c.in-Some.news.cell =
+    ap (λ (l : List Bool). count_by (is_set l) (readers_of (wiring c.args.network.now) c.in-Some.news.cell)) c.requires.visible in
     let falls = (after g c).weight_is in
     subst (λ (l : List Info). tally c.queue_readers.new.agenda + weight_of (wiring c.args.network.now) c.args.worldview.now l
     ≤ tally c.args.agenda.now + weight_of (wiring c.args.network.now) c.args.worldview.now c.args.known.now.infos.items) (sym (infos_back g c))

@@ -9,7 +9,7 @@ use Rattle.pw_cells.specs.Cells.{IsSubsumedBy}
 use Rattle.pw_cells.specs.Cells.{assimilated, all_assimilated}
 use Rattle.pw_cells.specs.inside.OneCell.{AreApart, AreOfKind}
 use Rattle.pw_cells.proofs.Late.{assimilation, late_push}
-use Rattle.pw_cells.proofs.fact_lists.assimilate_late.Goals as goal
+use Rattle.pw_cells.proofs.fact_lists.assimilate_all.Goals as goal
 
 pub assimilate-requires-clause-known : goal.assimilate-requires-clause-known
 assimilate-requires-clause-known g c =

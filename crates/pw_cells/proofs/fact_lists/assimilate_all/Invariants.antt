@@ -2,7 +2,7 @@ use Rattle.std.proofs.Common.{◌≡◌, ◌+◌, ◌≤◌, length, take, vec_l
 use Rattle.pw_cells.specs.Cells.{all_assimilated}
 use Rattle.pw_cells.specs.inside.OneCell.{Bounds}
 use Rattle.pw_cells.specs.inside.OneCell.{AreApart, AreOfKind}
-use Rattle.pw_cells.proofs.fact_lists.assimilate_late.Given as goal
+use Rattle.pw_cells.proofs.fact_lists.assimilate_all.Given as goal
 
 abbrev pub invariant-loop-fact : goal.invariant-loop-fact
 invariant-loop-fact g l = record {

@@ -1,13 +1,12 @@
-use Rattle.std.proofs.Common.{length, subst, sym, ap, ◌∙◌}
+use Rattle.std.proofs.Common.{refl, subst, sym, ap, ◌∙◌}
 use Rattle.pw_info.specs.declared.info.Info.{Info}
 use Rattle.pw_info.specs.Information.{Implies, kind_of}
 use Rattle.pw_network.specs.Wiring.{wiring}
 use Rattle.pw_network.specs.inside.Held.{attachment}
 use Rattle.pw_network.specs.Network.{Attached}
 use Rattle.pw_procs.specs.Registry.{procedures_in}
-use Rattle.pw_settle.specs.inside.Known.{joined}
-use Rattle.pw_settle.proofs.NewsLemmas.{inputs_there, kept_instance, output_kind, output_read, output_there, placed_here, said_here, satisfied_here}
-use Rattle.pw_settle.proofs.propagating.news.Goals as goal
+use Rattle.pw_settle.proofs.NewsLemmas.{kept_instance, output_kind, output_read, output_there, placed_here, said_here, satisfied_here}
+use Rattle.pw_settle.proofs.propagating.news_of.Goals as goal
 
 pub answer-info-requires-clause-placed : goal.answer-info-requires-clause-placed
 answer-info-requires-clause-placed g c =
@@ -46,15 +45,8 @@ returns-then-implies-clause-none g c =
     c.requires.there c.index-instances-number.is) c.answer-info.result c.answer-info.ensures.says
     (subst (λ (i : Info). Implies i c.answer-info.result) read (c.implies.ensures.0 c.if-implies.true))
 
-pub joined_support-support-requires : goal.joined_support-support-requires
-joined_support-support-requires g c =
-    inputs_there (wiring c.args.network.now) c.args.network.now.well c.args.infos.now (procedures_in c.registry.result.now) c.args.number
-    (attachment c.index-instances-number.result) (c.registry.ensures ∙ ap (λ d. d.procedures) c.declaration.ensures) c.requires.kinds c.requires.there
-    (λ d. kept_instance (wiring c.args.network.now) c.instances.result.now c.args.number c.index-instances-number.result d c.instances.ensures.instances
-    c.requires.there c.index-instances-number.is) (length c.args.supports.now) c.requires.as_many
-
 pub returns-clause-news : goal.returns-clause-news
-returns-clause-news g c d =
+returns-clause-news g c supports d =
     let read = c.index-infos-instance.is ∙ output_read (wiring c.args.network.now) c.args.network.now.well c.args.infos.now (procedures_in c.registry.result.now) c.args.number
     (attachment c.index-instances-number.result) (c.registry.ensures ∙ ap (λ d. d.procedures) c.declaration.ensures) c.requires.kinds c.requires.there
     (λ d. kept_instance (wiring c.args.network.now) c.instances.result.now c.args.number c.index-instances-number.result d c.instances.ensures.instances
@@ -67,7 +59,7 @@ returns-clause-news g c d =
           (attachment c.index-instances-number.result) (c.registry.ensures ∙ ap (λ d. d.procedures) c.declaration.ensures) c.requires.kinds c.requires.there
           (λ d. kept_instance (wiring c.args.network.now) c.instances.result.now c.args.number c.index-instances-number.result d c.instances.ensures.instances
           c.requires.there c.index-instances-number.is) c.answer-info.result c.answer-info.ensures.says d;
-      rests = c.joined_support-support.ensures ∙ ap (λ (a : Attached). joined c.args.supports.now a.support a.instance.inputs) (sym same);
+      rests = refl;
       new = λ implied.
           let wrong = c.implies.ensures.1 (subst (λ (i : Info). Implies i c.answer-info.result) (sym read) implied) in
           let not = c.if-implies.false in absurd (cc);

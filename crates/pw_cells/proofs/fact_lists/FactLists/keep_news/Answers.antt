@@ -1,0 +1,81 @@
+use Rattle.std.proofs.Common.{◌≡◌, List, refl, sym, ◌∙◌, ap, subst, arith}
+use Rattle.pw_info.specs.Information.{kind_of}
+use Rattle.pw_facts.specs.declared.fact.Fact.{Fact}
+use Rattle.pw_cells.specs.Cells.{assimilated, all_assimilated}
+use Rattle.pw_cells.specs.inside.OneCell.{Bounds}
+use Rattle.pw_info.specs.declared.info.Info.{Info}
+use Rattle.pw_cells.specs.Cells.{Cell, IsSubsumedBy, IsUnsaid, kept_of, shown_by}
+use Rattle.pw_cells.proofs.Together.{unsaid_unsubsumed}
+use Rattle.pw_cells.specs.inside.OneCell.{AreOfKind}
+use Rattle.pw_cells.proofs.Tells.{KeepsMore, keeps_more, whole_caught_up, whole_kept}
+use Rattle.pw_cells.proofs.fact_lists.FactLists.keep_news.Given as given
+use Rattle.pw_cells.proofs.fact_lists.FactLists.keep_news.Goals as goal
+use Rattle.pw_cells.proofs.fact_lists.FactLists.keep_news.Goals.{After-assimilate_late}
+
+-- once the late facts are assimilated, the fact is of the kind of those kept, and the bound is one
+-- of theirs
+caught_up : (g : given.Over) (c : After-assimilate_late g) → AreOfKind (kind_of c.args.fact.now.info) c.assimilate_late.new.kept.items
+    × Bounds (kind_of c.args.fact.now.info) c.assimilate_late.new.kept.items c.assimilate_late.new.bound
+caught_up g c =
+    let is : kind_of c.args.fact.now.info ≡ c.self.inside.kind = c.requires.kind ∙ sym (ap (λ (cell : Cell). cell.kind) c.self.view_is) in
+    subst (λ (k : _). AreOfKind k c.assimilate_late.new.kept.items × Bounds k c.assimilate_late.new.kept.items c.assimilate_late.new.bound) (sym is)
+    (subst (AreOfKind c.self.inside.kind) (sym {A = List Fact} c.assimilate_late.ensures.kept) (whole_caught_up _ _ _ _ c.self.invariant.0).kept_kinds, c.assimilate_late.ensures.bounds)
+
+pub invariant_of-self : goal.invariant_of-self
+invariant_of-self g c = (
+  rw (c.reserve_unless.ensures.items, c.assimilate_late.ensures.kept, c.assimilate_late.ensures.late) (whole_caught_up _ _ _ _ c.self.invariant.0),
+  omega (arith, c.assimilate_late.ensures.none, c.reserve_unless.new.facts.ok),
+  subst (λ (l : List Fact). Bounds c.self.inside.kind l c.assimilate_late.new.bound) (sym {A = List Fact} c.reserve_unless.ensures.items) c.assimilate_late.ensures.bounds,
+)
+
+pub assimilate-requires-clause-kinds : goal.assimilate-requires-clause-kinds
+assimilate-requires-clause-kinds g c =
+    rw c.reserve_unless.ensures.items (caught_up g (goal.at.assimilate-requires-clause-kinds g c).After-assimilate_late).0
+
+pub assimilate-requires-clause-bounds : goal.assimilate-requires-clause-bounds
+assimilate-requires-clause-bounds g c =
+    rw c.reserve_unless.ensures.items (caught_up g (goal.at.assimilate-requires-clause-bounds g c).After-assimilate_late).1
+
+-- the fact is of the kind of the facts inside
+of_kind : (g : given.Over) (c : goal.After-assimilate g) → kind_of c.args.fact.now.info ≡ c.self.inside.kind
+of_kind g c = c.requires.kind ∙ sym (ap (λ (cell : Cell). cell.kind) c.self.view_is)
+
+pub invariant_of-self-2 : goal.invariant_of-self-2
+invariant_of-self-2 g c = (
+  rw (c.assimilate.ensures.assimilated, c.reserve_unless.ensures.items, c.assimilate_late.ensures.kept, c.assimilate_late.ensures.late) (whole_kept _ _ _ _ (of_kind g c) (whole_caught_up _ _ _ _ c.self.invariant.0)),
+  omega (arith, c.assimilate_late.ensures.none, c.assimilate.new.kept.ok),
+  subst (λ (k : _). Bounds k c.assimilate.new.kept.items c.assimilate.new.bound) (of_kind g c) c.assimilate.ensures.bounds,
+)
+
+-- what is kept afterwards
+kept_is : (g : given.Over) (c : goal.After-assimilate g) → all_assimilated c.assimilate.new.kept.items c.assimilate_late.new.late.items
+    ≡ assimilated (all_assimilated c.self.inside.kept.items c.self.inside.late.items) c.args.fact.now
+kept_is g c =
+    (λ i. all_assimilated (c.assimilate.ensures.assimilated i) (c.assimilate_late.ensures.late i))
+    ∙ ap (λ (l : List Fact). assimilated l c.args.fact.now) (c.reserve_unless.ensures.items ∙ c.assimilate_late.ensures.kept)
+
+kept_then : (g : given.Over) (c : goal.After-assimilate g) →
+    KeepsMore c.args.fact.now c.args.self.now c.self.inside.kind (all_assimilated c.assimilate.new.kept.items c.assimilate_late.new.late.items)
+kept_then g c = keeps_more _ _ _ _ _ _ _ c.self.view_is (of_kind g c) c.self.invariant.0 (kept_is g c)
+
+-- no kept fact subsumes it
+is_new : (g : given.Over) (c : After-assimilate_late g) → IsSubsumedBy c.assimilate_late.new.kept.items c.args.fact.now → ⊥
+is_new g c =
+    unsaid_unsubsumed (kind_of c.args.fact.now.info) c.assimilate_late.new.kept.items c.args.fact.now (caught_up g c).0 refl
+    (subst (λ (i : Info). IsUnsaid i c.args.fact.now.info) (sym {A = Info} shown) c.requires.news)
+  where
+    shown : shown_by (kind_of c.args.fact.now.info) c.args.fact.now.support c.assimilate_late.new.kept.items ≡ kept_of c.args.self.now c.args.fact.now.support
+    shown i = shown_by (c.requires.kind i) c.args.fact.now.support ((c.assimilate_late.ensures.kept ∙ ap (λ (cell : Cell). cell.kept) c.self.view_is) i)
+
+pub assimilate-requires-clause-known : goal.assimilate-requires-clause-known
+assimilate-requires-clause-known g c = (
+  λ true_is. absurd (cc),
+  λ known. absurd (is_new g (goal.at.assimilate-requires-clause-known g c).After-assimilate_late
+      (subst (λ (l : List Fact). IsSubsumedBy l c.args.fact.now) c.reserve_unless.ensures.items known)),
+)
+
+pub returns-clause-kept : goal.returns-clause-kept
+returns-clause-kept g c = (kept_then g c).gains
+
+pub returns-clause-assimilates : goal.returns-clause-assimilates
+returns-clause-assimilates g c = (kept_then g c).assimilates
