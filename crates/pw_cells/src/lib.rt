@@ -7,6 +7,7 @@ mod cell_store;
 mod fact_lists;
 mod held;
 pub mod laws;
+mod merged_facts;
 mod recalled;
 mod support;
 mod told_facts;

@@ -1,7 +1,7 @@
 use Rattle.std.proofs.Common.{◌≡◌, take, reverse}
 use Rattle.pw_info.specs.Information.{kind_of}
 use Rattle.pw_facts.specs.Facts.{MergesTo, visible_facts}
-use Rattle.pw_cells.proofs.fact_lists.merge_all_in.Given as goal
+use Rattle.pw_cells.proofs.merged_facts.merge_all_in.Given as goal
 
 abbrev pub invariant-loop-back : goal.invariant-loop-back
 invariant-loop-back g l = record {

@@ -6,8 +6,8 @@ use Rattle.pw_info.proofs.Informations.{kind-meet}
 use Rattle.pw_facts.specs.declared.fact.Fact.{Fact}
 use Rattle.pw_facts.specs.Facts.{MergesTo, visible_facts}
 use Rattle.pw_cells.proofs.MergesTogether.{merges_visible, merges_hidden}
-use Rattle.pw_cells.proofs.fact_lists.merge_all_in.Goals as goal
-use Rattle.pw_cells.proofs.fact_lists.merge_all_in.Goals.{then-is_visible, else-is_visible}
+use Rattle.pw_cells.proofs.merged_facts.merge_all_in.Goals as goal
+use Rattle.pw_cells.proofs.merged_facts.merge_all_in.Goals.{then-is_visible, else-is_visible}
 
 -- one more of the facts, the last first
 one_more : {X : Type 0} (xs : List X) (i : ℕ) (x : X) → i < length xs → x ≡ get_or xs (length xs - 1 - i) x

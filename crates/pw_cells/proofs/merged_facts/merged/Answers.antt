@@ -2,9 +2,9 @@ use Rattle.std.proofs.Common.{drop, reverse, take, subst}
 use Rattle.pw_info.specs.Information.{Implies}
 use Rattle.pw_facts.specs.Facts.{MergesTo, nothing_known, visible_facts}
 use Rattle.pw_cells.proofs.Bounds.{merged_later, merged_stands}
-use Rattle.pw_cells.proofs.fact_lists.merged.Given as given
-use Rattle.pw_cells.proofs.fact_lists.merged.Goals as goal
-use Rattle.pw_cells.proofs.fact_lists.merged.Goals.{After-merge_all_in}
+use Rattle.pw_cells.proofs.merged_facts.merged.Given as given
+use Rattle.pw_cells.proofs.merged_facts.merged.Goals as goal
+use Rattle.pw_cells.proofs.merged_facts.merged.Goals.{After-merge_all_in}
 
 -- the newer facts are merged first
 newer : (g : given.Over) (c : After-merge_all_in g) →

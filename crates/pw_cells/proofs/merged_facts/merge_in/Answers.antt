@@ -5,8 +5,8 @@ use Rattle.pw_info.specs.Information.{Implies}
 use Rattle.pw_facts.specs.declared.fact.Fact.{Fact}
 use Rattle.pw_facts.specs.Facts.{IsMerge}
 use Rattle.pw_facts.proofs.Merges.{merge_is_first, merge_is_second, merge_both}
-use Rattle.pw_cells.proofs.fact_lists.merge_in.Goals as goal
-use Rattle.pw_cells.proofs.fact_lists.merge_in.Goals.{else-rests_within-via-then-rests_within+else-implies-2, else-rests_within-via-else-rests_within}
+use Rattle.pw_cells.proofs.merged_facts.merge_in.Goals as goal
+use Rattle.pw_cells.proofs.merged_facts.merge_in.Goals.{else-rests_within-via-then-rests_within+else-implies-2, else-rests_within-via-else-rests_within}
 
 pub returns-then-implies : goal.returns-then-implies
 returns-then-implies g c =
