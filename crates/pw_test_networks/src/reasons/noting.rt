@@ -39,10 +39,19 @@ fn a_refused_note_notes_nothing(rt: HostRuntime) -> Result<(), Fail> {
 }
 
 #[test]
+fn a_note_refused_midway_notes_nothing(rt: HostRuntime) -> Result<(), Fail> {
+    let refusing = Refusing::nth(rt.alloc(), 2);
+    let mut nogoods = Nogoods::new(&refusing);
+    assert!(rt; nogoods.note(&PremiseSet::first(2)).is_err());
+    assert!(rt; !nogoods.covers(&PremiseSet::first(512)));
+    Ok(())
+}
+
+#[test]
 fn what_is_covered_takes_no_memory(rt: HostRuntime) -> Result<(), Fail> {
     let refusing = Refusing::all_from(rt.alloc(), 2);
     let mut nogoods = Nogoods::new(&refusing);
-    assert_eq!(rt; nogoods.note(&PremiseSet::first(2))?, true);
+    assert_eq!(rt; nogoods.note(&PremiseSet::one(1))?, true);
     assert_eq!(rt; nogoods.note(&PremiseSet::first(3))?, false);
     assert_eq!(rt; refusing.calls(), 1);
     Ok(())
