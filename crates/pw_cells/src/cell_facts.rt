@@ -207,6 +207,7 @@ impl<A: Allocator + Copy> CellFacts<A> {
     }
 
     // The merge of the kept facts, in a worldview, with premises that it rests on.
+    #[inline(always)]
     pub(crate) fn kept(&mut self, worldview: &PremiseSet) -> Fact
         ensures same { self.new ≡ self.old }
         ensures stands { StandsFor self.old.kind worldview.now self.old.kept result }

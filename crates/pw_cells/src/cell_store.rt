@@ -145,6 +145,7 @@ impl<A: Allocator + Copy> CellStore<A> {
     /// on these premises. So no kept fact subsumes it, and none is examined for that. The cell must
     /// exist, and the information must be of its kind. Fails only when out of memory; then nothing
     /// changes.
+    #[inline(always)]
     pub fn keep_news(&mut self, cell: u32, info: Info, support: NarrowSet) -> Result<(), AllocError>
         requires there { cell < length self.old.cells }
         requires kind { kind_of info ≡ kind_in_store self.old cell }
@@ -216,6 +217,7 @@ impl<A: Allocator + Copy> CellStore<A> {
     /// The cell must exist.
     ///
     /// Facts told since are assimilated only now. This never changes an answer.
+    #[inline(always)]
     pub fn kept(&mut self, cell: u32, worldview: &PremiseSet) -> Fact
         requires { cell < length self.old.cells }
         ensures unchanged { self.new ≡ self.old }

@@ -122,6 +122,7 @@ impl<S: Support, A: Allocator + Copy> FactLists<S, A> {
 
     // Keeps a fact that says more than what is kept on its premises: so no kept fact subsumes it. If
     // memory is refused, nothing changes.
+    #[inline(always)]
     pub(crate) fn keep_news(&mut self, fact: &Held<S>) -> Result<(), AllocError>
         requires kind { kind_of fact.now.info ≡ self.old.kind }
         requires news { IsUnsaid (kept_of self.old fact.now.support) fact.now.info }
@@ -154,6 +155,7 @@ impl<S: Support, A: Allocator + Copy> FactLists<S, A> {
 
     // The merge of the kept facts, in a worldview, with premises that it rests on. The late facts
     // are assimilated first.
+    #[inline(always)]
     pub(crate) fn kept(&mut self, worldview: &PremiseSet) -> Held<S>
         ensures same { self.new ≡ self.old }
         ensures stands { StandsFor self.old.kind worldview.now self.old.kept result }

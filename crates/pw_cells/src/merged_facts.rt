@@ -12,6 +12,7 @@ use pw_info::Kind;
 use pw_premises::PremiseSet;
 
 // A fact that stands for those that rest only on premises of the worldview: it says their merge.
+#[inline(always)]
 pub(crate) fn merged<S: Support>(
     kind: Kind,
     facts: &[Held<S>],

@@ -57,6 +57,7 @@ impl<A: Allocator + Copy> Agenda<A> {
     }
 
     // Takes a queued instance, if there is one.
+    #[inline(always)]
     pub(crate) fn take(&mut self) -> Option<usize>
         ensures some { IfSome result (λ number. (is_set self.old number ≡ true)
             × (self.new ≡ slice_set self.old number false)) }

@@ -78,6 +78,7 @@ fn agenda_of<A: Allocator + Copy>(alloc: A, visible: &[bool]) -> Result<Agenda<A
 }
 
 // Queues the visible readers of a cell.
+#[inline(always)]
 pub(crate) fn queue_readers<A: Allocator + Copy>(
     network: &Network<'_, '_, A>,
     visible: &[bool],
