@@ -240,8 +240,8 @@ impl<A: Allocator + Copy> CellStore<A> {
         self.cells[cell as usize].kept(worldview)
     }
 
-    /// What `kept` answers, in little room, if all premises that came to the cell are below 64. None
-    /// if one from 64 on did. Takes no memory. The cell must exist.
+    /// What `kept` answers, in little room. None if a premise from 64 on came to the cell; no clause
+    /// says when. Takes no memory. The cell must exist.
     #[inline(always)]
     pub fn kept_narrow(&mut self, cell: u32, worldview: &PremiseSet) -> Option<NarrowFact>
         requires { cell < length self.old.cells }
