@@ -7,11 +7,10 @@ ghost use Rattle.pw_cells.specs.Cells.{IsUnsaid, new_cell, told_of, kept_of};
 ghost use Rattle.pw_cells.specs.Changes.{GainsFact, Assimilates};
 ghost use Rattle.pw_cells.specs.inside.OneCell.{StandsFor};
 
-use crate::bound::Bound;
 use crate::fact_lists::{append, drop_subsumed, reserve_unless};
 use crate::held::Held;
 use crate::many_facts::ManyFacts;
-use crate::merged_facts::merged;
+use crate::merged_facts::merged_few;
 use pw_info::Kind;
 use pw_premises::{NarrowSet, PremiseSet};
 use std::alloc::{AllocError, Allocator};
@@ -101,12 +100,7 @@ impl<A: Allocator + Copy> FewFacts<A> {
         ensures larger { IsLeastAbove result.support (kept_of self.now) result.info }
         ensures smaller { IsMostBelow worldview.now (kept_of self.now) result.info }
     {
-        merged(
-            self.kind,
-            self.kept.as_slice(),
-            &Bound::none(self.kind),
-            worldview,
-        )
+        merged_few(self.kind, self.kept.as_slice(), worldview)
     }
 
     // The same cell, in lists. Fails only when out of memory.
