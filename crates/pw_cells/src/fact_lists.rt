@@ -398,7 +398,7 @@ fn assimilate<S: Support, A: Allocator>(
     }
 }
 
-// Drops the facts that this one subsumes. Mostly it subsumes the last one alone, or none: so that is
+// Drops the facts that this one subsumes. Mostly it subsumes the last one alone, or none: that is
 // inlined, and the rest is not.
 #[inline(always)]
 pub(crate) fn drop_subsumed<S: Support, A: Allocator>(kept: &mut Vec<Held<S>, A>, fact: &Held<S>)
@@ -415,8 +415,9 @@ pub(crate) fn drop_subsumed<S: Support, A: Allocator>(kept: &mut Vec<Held<S>, A>
     }
 }
 
-// The place of the first fact that this one subsumes. If it subsumes none, the number of facts.
-#[inline(always)]
+// The place of the first fact that this one subsumes. If it subsumes none, the number of facts. Never
+// inlined: a loop of its own is short.
+#[inline(never)]
 fn first_subsumed<S: Support>(facts: &[Held<S>], fact: &Held<S>) -> usize
     requires { AreOfKind (kind_of fact.now.info) facts.now }
     ensures within { result ≤ length facts.now }
