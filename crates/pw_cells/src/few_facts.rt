@@ -7,10 +7,11 @@ ghost use Rattle.pw_cells.specs.Cells.{IsUnsaid, new_cell, told_of, kept_of};
 ghost use Rattle.pw_cells.specs.Changes.{GainsFact, Assimilates};
 ghost use Rattle.pw_cells.specs.inside.OneCell.{StandsFor};
 
-use crate::fact_lists::{append, drop_subsumed, reserve_unless};
+use crate::fact_lists::{append, reserve_unless};
 use crate::held::Held;
 use crate::many_facts::ManyFacts;
 use crate::merged_facts::merged_few;
+use crate::subsumed_facts::drop_subsumed;
 use pw_info::Kind;
 use pw_premises::{NarrowSet, PremiseSet};
 use std::alloc::{AllocError, Allocator};

@@ -11,6 +11,7 @@ pub mod laws;
 mod many_facts;
 mod merged_facts;
 mod recalled;
+mod subsumed_facts;
 mod support;
 mod told_facts;
 

@@ -6,7 +6,7 @@ use Rattle.pw_cells.specs.Cells.{does_subsume}
 use Rattle.pw_cells.specs.inside.OneCell.{AreOfKind}
 use Rattle.pw_cells.proofs.Late.{unsubsumed_test, subsume_test}
 use Rattle.pw_cells.proofs.Rests.{AreSifted, next_of_all, one_dropped, one_stays}
-use Rattle.pw_cells.proofs.fact_lists.drop_from.Goals as goal
+use Rattle.pw_cells.proofs.subsumed_facts.drop_from.Goals as goal
 
 -- the next one is of the fact's kind
 kind_of_next : (f x : Fact) (all left : List Fact) (place : ℕ) → AreOfKind (kind_of f.info) all → AreSifted f all left place → place < length left

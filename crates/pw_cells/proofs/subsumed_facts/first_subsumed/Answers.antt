@@ -6,7 +6,7 @@ use Rattle.pw_facts.specs.declared.fact.Fact.{Fact}
 use Rattle.pw_cells.specs.Cells.{does_subsume, unsubsumed}
 use Rattle.pw_cells.proofs.Late.{subsume_test, unsubsumed_test}
 use Rattle.pw_cells.proofs.Rests.{unsubsumed_stays}
-use Rattle.pw_cells.proofs.fact_lists.first_subsumed.Goals as goal
+use Rattle.pw_cells.proofs.subsumed_facts.first_subsumed.Goals as goal
 
 pub returns-then-subsumes-clause-at : goal.returns-then-subsumes-clause-at
 returns-then-subsumes-clause-at g c = λ below f.
