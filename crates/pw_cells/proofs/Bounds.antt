@@ -110,11 +110,17 @@ merges_whole k w n fs a m first rest =
     ∙ ap (visible_facts w) (sym (reverse-append (take n fs) (drop n fs)) ∙ ap reverse (take-append-drop n fs)))
     (merges_on (nothing_known k) a m (visible_facts w (reverse (drop n fs))) (visible_facts w (reverse (take n fs))) first rest)
 
+-- the merge of all facts, from the last one on, stands for them
+pub all_merged_stand : (k : Kind) (w : Premises) (fs : List Fact) (m : Fact) → AreOfKind k fs → MergesTo (nothing_known k) (visible_facts w (reverse fs)) m
+    → StandsFor k w fs m
+all_merged_stand k w fs m kinds merges =
+    stands_reversed k w fs m kinds (merges_stand k w [] (reverse fs) (nothing_known k) m (all_reversed (λ f. kind_of f.info ≡ k) fs kinds) (merge_none k w)
+    merges)
+
 pub merged_stands : (k : Kind) (w : Premises) (n : ℕ) (fs : List Fact) (a m : Fact) → AreOfKind k fs
     → MergesTo (nothing_known k) (visible_facts w (reverse (drop n fs))) a → MergesTo a (visible_facts w (reverse (take n fs))) m → StandsFor k w fs m
 merged_stands k w n fs a m kinds first rest =
-    stands_reversed k w fs m kinds (merges_stand k w [] (reverse fs) (nothing_known k) m (all_reversed (λ f. kind_of f.info ≡ k) fs kinds) (merge_none k w)
-    (merges_whole k w n fs a m first rest))
+    all_merged_stand k w fs m kinds (merges_whole k w n fs a m first rest)
 
 -- the later facts are merged, and what they come to says as much as each of the older ones
 pub merged_later : (k : Kind) (w : Premises) (fs : List Fact) (b : Bound) (a : Fact) → AreOfKind k fs → Bounds k fs b

@@ -8,8 +8,9 @@ ghost use Rattle.pw_cells.specs.Changes.{GainsFact, Assimilates, TellsNews};
 ghost use Rattle.pw_cells.specs.Shown.{IsKeptOf};
 ghost use Rattle.pw_cells.specs.inside.OneCell.{StandsFor};
 
-use crate::fact_lists::FactLists;
+use crate::few_facts::FewFacts;
 use crate::held::Held;
+use crate::many_facts::ManyFacts;
 use crate::narrow_fact::NarrowFact;
 use pw_facts::Fact;
 use pw_info::{Info, Kind};
@@ -17,17 +18,18 @@ use pw_premises::{NarrowSet, PremiseSet};
 use std::alloc::{AllocError, Allocator};
 use std::marker::Model;
 
-// The facts of a cell. As long as no premise from 64 on came to it, each support takes one word.
+// The facts of a cell. Most cells are never told anything, and keep few facts on premises below 64.
+// What other cells need is in a box, so that these take little room.
 #[derive(Drop)]
 pub(crate) struct CellFacts<A: Allocator> {
-    lists: Lists<A>,
+    all: Facts<A>,
 }
 
-// The lists of a cell's facts, in one width or the other.
+// The facts of a cell, as few or as many.
 #[derive(Drop)]
-enum Lists<A: Allocator> {
-    Narrow(FactLists<NarrowSet, A>),
-    Wide(FactLists<PremiseSet, A>),
+enum Facts<A: Allocator> {
+    Few(FewFacts<A>),
+    Many(Box<ManyFacts<A>, A>),
 }
 
 impl<A: Allocator> Model for CellFacts<A> {
@@ -40,9 +42,9 @@ impl<A: Allocator> Model for CellFacts<A> {
 
     ghost coded = { cell_code kinds.the_row.coded facts.the_row.coded };
 
-    ghost use Rattle.pw_cells.specs.inside.Widths.{cell_in};
+    ghost use Rattle.pw_cells.specs.inside.Widths.{cell_of};
 
-    ghost view = { λ a. cell_in a.lists };
+    ghost view = { λ a. cell_of a.all };
 }
 
 impl<A: Allocator + Copy> CellFacts<A> {
@@ -51,16 +53,16 @@ impl<A: Allocator + Copy> CellFacts<A> {
         ensures { result ≡ new_cell kind }
     {
         CellFacts {
-            lists: Lists::Narrow(FactLists::new(alloc, kind)),
+            all: Facts::Few(FewFacts::new(alloc, kind)),
         }
     }
 
     pub(crate) fn kind(&self) -> Kind
         ensures { result ≡ self.now.kind }
     {
-        match &self.lists {
-            Lists::Narrow(lists) => lists.kind(),
-            Lists::Wide(lists) => lists.kind(),
+        match &self.all {
+            Facts::Few(few) => few.kind(),
+            Facts::Many(many) => many.kind(),
         }
     }
 
@@ -73,33 +75,14 @@ impl<A: Allocator + Copy> CellFacts<A> {
         ensures kind { self.new.kind ≡ self.old.kind }
         ensures err { OnErr result (self.new ≡ self.old) }
     {
-        if let Lists::Narrow(lists) = &mut self.lists {
-            if let Some(support) = NarrowSet::of(&fact.support) {
-                return lists.tell(&Held::on(fact.info, support));
-            }
-        }
-        self.tell_wide(fact)
-    }
-
-    // The same, in wide lists. Never inlined, like `keep_wide`, so that cells with narrow lists make
-    // no room for wide ones.
-    #[inline(never)]
-    fn tell_wide(&mut self, fact: &Fact) -> Result<(), AllocError>
-        requires { kind_of fact.now.info ≡ self.old.kind }
-        ensures told { OnOk result (GainsFact fact.now (told_of self.old) (told_of self.new)) }
-        ensures kept { OnOk result (GainsFact fact.now (kept_of self.old) (kept_of self.new)) }
-        ensures assimilates { OnOk result (Assimilates fact.now self.old.kept self.new.kept) }
-        ensures kind { self.new.kind ≡ self.old.kind }
-        ensures err { OnErr result (self.new ≡ self.old) }
-    {
-        match &mut self.lists {
-            Lists::Narrow(lists) => {
-                let mut wide = lists.widened()?;
-                wide.tell(&Held::on(fact.info, fact.support))?;
-                self.lists = Lists::Wide(wide);
+        match &mut self.all {
+            Facts::Few(few) => {
+                let mut many = boxed(few)?;
+                many.tell(fact)?;
+                self.all = Facts::Many(many);
                 Ok(())
             }
-            Lists::Wide(lists) => lists.tell(&Held::on(fact.info, fact.support)),
+            Facts::Many(many) => many.tell(fact),
         }
     }
 
@@ -114,12 +97,15 @@ impl<A: Allocator + Copy> CellFacts<A> {
         ensures kind { self.new.kind ≡ self.old.kind }
         ensures err { OnErr result (self.new ≡ self.old) }
     {
-        if let Lists::Narrow(lists) = &mut self.lists {
-            if let Some(support) = NarrowSet::of(&fact.support) {
-                return lists.keep(&Held::on(fact.info, support));
+        match &mut self.all {
+            Facts::Few(few) => {
+                let mut many = boxed(few)?;
+                let news = many.keep(fact)?;
+                self.all = Facts::Many(many);
+                Ok(news)
             }
+            Facts::Many(many) => many.keep(fact),
         }
-        self.keep_wide(fact)
     }
 
     // Keeps information that says more than what is kept on these premises. If memory is refused,
@@ -136,16 +122,15 @@ impl<A: Allocator + Copy> CellFacts<A> {
         ensures kind { self.new.kind ≡ self.old.kind }
         ensures err { OnErr result (self.new ≡ self.old) }
     {
-        if let Lists::Narrow(lists) = &mut self.lists {
-            return lists.keep_news(&Held::on(info, support));
+        if let Facts::Many(many) = &mut self.all {
+            return many.keep_news(info, support);
         }
-        self.keep_wide_news(info, support)
+        self.keep_few_news(info, support)
     }
 
-    // The same, in wide lists. Never inlined, like `keep_wide`, so that what is narrow makes no room
-    // for a wide fact.
+    // The same, where few facts are kept. Never inlined: news of many facts are the ones in a hurry.
     #[inline(never)]
-    fn keep_wide_news(&mut self, info: Info, support: NarrowSet) -> Result<(), AllocError>
+    fn keep_few_news(&mut self, info: Info, support: NarrowSet) -> Result<(), AllocError>
         requires kind { kind_of info ≡ self.old.kind }
         requires news { IsUnsaid (kept_of self.old support) info }
         ensures kept { OnOk result (GainsFact (fact_on info support) (kept_of self.old)
@@ -156,43 +141,26 @@ impl<A: Allocator + Copy> CellFacts<A> {
         ensures kind { self.new.kind ≡ self.old.kind }
         ensures err { OnErr result (self.new ≡ self.old) }
     {
-        let fact = Fact {
-            info,
-            support: support.widen(),
-        };
-        self.keep_wide(&fact)?;
-        Ok(())
-    }
-
-    // Keeps a fact in wide lists.
-    #[inline(never)]
-    fn keep_wide(&mut self, fact: &Fact) -> Result<bool, AllocError>
-        requires { kind_of fact.now.info ≡ self.old.kind }
-        ensures answer { IfOk result (λ news. TellsNews self.old.kept fact.now news) }
-        ensures known { IfOk result (λ news. news ≡ false → self.new ≡ self.old) }
-        ensures kept { OnOk result (GainsFact fact.now (kept_of self.old) (kept_of self.new)) }
-        ensures assimilates { OnOk result (Assimilates fact.now self.old.kept self.new.kept) }
-        ensures told { self.new.told ≡ self.old.told }
-        ensures kind { self.new.kind ≡ self.old.kind }
-        ensures err { OnErr result (self.new ≡ self.old) }
-    {
-        match &mut self.lists {
-            Lists::Narrow(lists) => {
-                let mut wide = lists.widened()?;
-                let news = wide.keep(&Held::on(fact.info, fact.support))?;
-                self.lists = Lists::Wide(wide);
-                Ok(news)
+        match &mut self.all {
+            Facts::Few(few) => {
+                if few.has_room() {
+                    return few.keep_news(&Held::on(info, support));
+                }
+                let mut many = boxed(few)?;
+                many.keep_news(info, support)?;
+                self.all = Facts::Many(many);
+                Ok(())
             }
-            Lists::Wide(lists) => lists.keep(&Held::on(fact.info, fact.support)),
+            Facts::Many(many) => many.keep_news(info, support),
         }
     }
 
     // Whether there are few told facts to go over.
     #[inline(always)]
     pub(crate) fn is_told_little(&self) -> bool {
-        match &self.lists {
-            Lists::Narrow(lists) => lists.is_told_little(),
-            Lists::Wide(lists) => lists.is_told_little(),
+        match &self.all {
+            Facts::Few(_) => true,
+            Facts::Many(many) => many.is_told_little(),
         }
     }
 
@@ -202,9 +170,9 @@ impl<A: Allocator + Copy> CellFacts<A> {
         ensures kind { kind_of result ≡ self.now.kind }
         ensures larger { IsLeastAbove worldview.now (told_of self.now) result }
     {
-        match &self.lists {
-            Lists::Narrow(lists) => lists.told(worldview),
-            Lists::Wide(lists) => lists.told(worldview),
+        match &self.all {
+            Facts::Few(few) => Info::nothing(few.kind()),
+            Facts::Many(many) => many.told(worldview),
         }
     }
 
@@ -218,26 +186,31 @@ impl<A: Allocator + Copy> CellFacts<A> {
         ensures larger { IsLeastAbove result.support (kept_of self.old) result.info }
         ensures smaller { IsMostBelow worldview.now (kept_of self.old) result.info }
     {
-        match &mut self.lists {
-            Lists::Narrow(lists) => lists.kept(worldview).fact(),
-            Lists::Wide(lists) => lists.kept(worldview).fact(),
+        match &mut self.all {
+            Facts::Few(few) => few.kept(worldview).fact(),
+            Facts::Many(many) => many.kept(worldview),
         }
     }
 
-    // The same, if the cell's lists are narrow.
+    // The same, if no wide premise came to the cell.
     #[inline(always)]
     pub(crate) fn kept_narrow(&mut self, worldview: &PremiseSet) -> Option<NarrowFact>
         ensures same { self.new ≡ self.old }
         ensures kept { IfSome result (λ fact. IsKeptOf self.old worldview.now
             (fact_on fact.info fact.support)) }
     {
-        let Lists::Narrow(lists) = &mut self.lists else {
-            return None;
-        };
-        let held = lists.kept(worldview);
-        Some(NarrowFact {
-            info: *held.info(),
-            support: held.support(),
-        })
+        match &mut self.all {
+            Facts::Few(few) => Some(few.kept_narrow(worldview)),
+            Facts::Many(many) => many.kept_narrow(worldview),
+        }
     }
+}
+
+// The same cell, in lists, in a box. Fails only when out of memory.
+#[inline(never)]
+fn boxed<A: Allocator + Copy>(few: &FewFacts<A>) -> Result<Box<ManyFacts<A>, A>, AllocError>
+    ensures { IfOk result (λ many. many.value ≡ few.now) }
+{
+    let many = few.listed()?;
+    Ok(Box::new(few.allocator(), many)?)
 }

@@ -6,14 +6,16 @@ ghost use Rattle.std.specs.Prelude.{length, vec_len, vec_capacity, IsTrue, IfOk,
 ghost use Rattle.pw_info.specs.Information.{kind_of, Implies};
 ghost use Rattle.pw_facts.specs.Facts.{IsLeastAbove, IsMostBelow};
 ghost use Rattle.pw_cells.specs.inside.OneCell.{Bounds};
-ghost use Rattle.pw_cells.specs.Cells.{new_cell, told_of, kept_of, IsSubsumedBy, IsUnsaid};
+ghost use Rattle.pw_cells.specs.Cells.{told_of, kept_of, IsSubsumedBy, IsUnsaid};
 ghost use Rattle.pw_cells.specs.Changes.{GainsFact, Assimilates, TellsNews};
-ghost use Rattle.pw_cells.specs.Cells.{assimilated, all_assimilated, unsubsumed};
-ghost use Rattle.pw_cells.specs.inside.OneCell.{AreApart, AreOfKind, StandsFor};
+ghost use Rattle.pw_cells.specs.Cells.{assimilated, all_assimilated};
+ghost use Rattle.pw_cells.specs.inside.OneCell.{AreApart, AreOfKind, IsCellWhole, StandsFor};
+ghost use Rattle.pw_cells.specs.inside.OneCell.{cell_keeping};
 
 use crate::bound::Bound;
 use crate::held::Held;
 use crate::merged_facts::merged;
+use crate::subsumed_facts::drop_subsumed;
 use crate::support::Support;
 use crate::told_facts::ToldFacts;
 use pw_info::{Info, Kind};
@@ -66,17 +68,23 @@ impl<S: Support, A: Allocator> Model for FactLists<S, A> {
 }
 
 impl<S: Support, A: Allocator + Copy> FactLists<S, A> {
-    // A cell about which nothing was told. Takes no memory.
-    pub(crate) fn new(alloc: A, kind: Kind) -> FactLists<S, A>
-        ensures { result ≡ new_cell kind }
+    // A cell of which these facts of its kind, none of which subsumes another, are kept, and about
+    // which nothing was told. Fails only when out of memory.
+    pub(crate) fn keeping(
+        alloc: A,
+        kind: Kind,
+        kept: &[Held<S>],
+    ) -> Result<FactLists<S, A>, AllocError>
+        requires { IsCellWhole kind [] kept.now [] }
+        ensures { IfOk result (λ lists. lists ≡ cell_keeping kind kept.now) }
     {
-        FactLists {
+        Ok(FactLists {
             kind,
             told: ToldFacts::new(alloc),
-            kept: Vec::new(alloc),
+            kept: copied(alloc, kept)?,
             bound: Bound::none(kind),
             late: Vec::new(alloc),
-        }
+        })
     }
 
     pub(crate) fn kind(&self) -> Kind
@@ -187,6 +195,18 @@ impl<S: Support, A: Allocator + Copy> FactLists<S, A> {
     }
 }
 
+// The same facts. Fails only when out of memory.
+fn copied<S: Support, A: Allocator>(
+    alloc: A,
+    facts: &[Held<S>],
+) -> Result<Vec<Held<S>, A>, AllocError>
+    ensures { IfOk result (λ copy. copy.items ≡ facts.now) }
+{
+    let mut copy = Vec::new(alloc);
+    copy.extend_from_slice(facts)?;
+    Ok(copy)
+}
+
 // The same facts, with supports of any premises, and room for this many. Fails only when out of
 // memory.
 fn all_widened<S: Support, A: Allocator>(
@@ -250,7 +270,7 @@ fn is_subsumed<S: Support>(kept: &[Held<S>], bound: &Bound, fact: &Held<S>) -> b
 
 // Makes room for one more fact, unless the fact is known. A list begins with room for two: a fact
 // mostly subsumes the one before it, so most lists have no more.
-fn reserve_unless<S: Support, A: Allocator>(
+pub(crate) fn reserve_unless<S: Support, A: Allocator>(
     facts: &mut Vec<Held<S>, A>,
     known: bool,
 ) -> Result<(), AllocError>
@@ -378,28 +398,9 @@ fn assimilate<S: Support, A: Allocator>(
     }
 }
 
-// Drops the facts that this one subsumes. (`retain` takes no test that may be asked of facts of one
-// kind alone.) Few facts are dropped at a time, so the later ones move down together and not one by
-// one.
-fn drop_subsumed<S: Support, A: Allocator>(kept: &mut Vec<Held<S>, A>, fact: &Held<S>)
-    requires { AreOfKind (kind_of fact.now.info) kept.old.items }
-    ensures rest { kept.new.items ≡ unsubsumed fact.now kept.old.items }
-    ensures len { vec_len kept.new ≤ vec_len kept.old }
-    ensures capacity { vec_capacity kept.new ≡ vec_capacity kept.old }
-{
-    let mut place = 0;
-    while place < kept.len() {
-        if fact.subsumes(&kept[place]) {
-            kept.remove(place);
-        } else {
-            place += 1;
-        }
-    }
-}
-
 // Appends a fact where there is room.
 #[inline(always)]
-fn append<S: Support, A: Allocator>(facts: &mut Vec<Held<S>, A>, fact: &Held<S>)
+pub(crate) fn append<S: Support, A: Allocator>(facts: &mut Vec<Held<S>, A>, fact: &Held<S>)
     requires { vec_len facts.old < vec_capacity facts.old }
     ensures items { facts.new.items ≡ facts.old.items ++ fact.now ∷ [] }
     ensures capacity { vec_capacity facts.old ≤ vec_capacity facts.new }

@@ -5,11 +5,14 @@ mod bound;
 mod cell_facts;
 mod cell_store;
 mod fact_lists;
+mod few_facts;
 mod held;
 pub mod laws;
+mod many_facts;
 mod merged_facts;
 mod narrow_fact;
 mod recalled;
+mod subsumed_facts;
 mod support;
 mod told_facts;
 

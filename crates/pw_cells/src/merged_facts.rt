@@ -34,6 +34,21 @@ pub(crate) fn merged<S: Support>(
     merge
 }
 
+// The same for few facts, which are all gone over.
+#[inline(always)]
+pub(crate) fn merged_few<S: Support>(
+    kind: Kind,
+    facts: &[Held<S>],
+    worldview: &PremiseSet,
+) -> Held<S>
+    requires { AreOfKind kind facts.now }
+    ensures { StandsFor kind worldview.now facts.now result }
+{
+    let mut merge = Held::nothing(kind);
+    merge_all_in(&mut merge, facts, worldview);
+    merge
+}
+
 // Merges the facts that rest only on premises of the worldview into what is merged so far. The last
 // facts come first: they mostly say the most, and then one look at each of the others is enough.
 fn merge_all_in<S: Support>(merge: &mut Held<S>, facts: &[Held<S>], worldview: &PremiseSet)

@@ -1,6 +1,6 @@
 -- The facts of one cell in the code: how they are listed, what bounds the older ones, which answers
 -- are remembered.
-use Rattle.std.specs.Prelude.{◌≡◌, ◌≤◌, List, All, length, take, refl, ◌⊎◌, ℕ, true, if◌then◌else◌}
+use Rattle.std.specs.Prelude.{◌≡◌, ◌≤◌, List, [], All, length, take, refl, ◌⊎◌, ℕ, true, if◌then◌else◌}
 use Rattle.std.specs.Prelude.{Contains, map, position, Option, ◌<◌, ◌&&◌}
 use Rattle.std.specs.Prelude.{nat_eq}
 use Rattle.pw_info.specs.declared.kind.Kind.{Kind}
@@ -60,6 +60,10 @@ pub record IsCellWhole (kind : Kind) (told kept late : List Fact) : Type 0 where
   pub says : (w : Premises) → Implies (shown_by kind w (all_assimilated kept late))
       (shown_by kind w told)
   pub apart : AreApart kept
+
+-- a cell about which nothing was told, and of which these facts are kept
+abbrev pub cell_keeping : Kind → List Fact → Cell
+cell_keeping kind kept = record { kind = kind; told = []; kept = kept }
 
 -- facts of the fact's kind show more: in every worldview they show what they showed before, merged
 -- with what the fact shows there

@@ -1,12 +1,19 @@
--- The cell that lists of facts show, in one width of supports or the other.
+-- The cell that the facts of the code show, whether they are few or many, and in one width of
+-- supports or the other.
 --
 -- Contracts see a cell through its lists, and see the same cell in both widths: a support of one
 -- word and a support of eight words both stand for the set of their premises. So turning the lists
 -- wide changes nothing that a contract speaks of.
 use Rattle.pw_cells.specs.Cells.{Cell}
-use Rattle.pw_cells.specs.declared.cell_facts.Lists.{Lists}
-use Rattle.pw_cells.specs.declared.cell_facts.Lists.TheVariants.{Narrow, Wide}
+use Rattle.pw_cells.specs.declared.many_facts.Lists.{Lists}
+use Rattle.pw_cells.specs.declared.many_facts.Lists.TheVariants.{Narrow, Wide}
+use Rattle.pw_cells.specs.declared.cell_facts.Facts.{Facts}
+use Rattle.pw_cells.specs.declared.cell_facts.Facts.TheVariants.{Few, Many}
 
 abbrev pub cell_in : {A : _} → Lists A → Cell
 cell_in (Narrow lists) = lists
 cell_in (Wide lists) = lists
+
+abbrev pub cell_of : {A : _} → Facts A → Cell
+cell_of (Few few) = few
+cell_of (Many many) = many.value

@@ -1,16 +1,9 @@
 use Rattle.std.proofs.Common.{◌≡◌, sym, ◌∙◌, ap}
 use Rattle.pw_cells.specs.Cells.{Cell}
-use Rattle.pw_cells.specs.inside.Widths.{cell_in}
+use Rattle.pw_cells.specs.inside.Widths.{cell_of}
 use Rattle.pw_cells.proofs.cell_facts.CellFacts.keep.Goals as goal
 
-pub returns-in-Some-clause-answer : goal.returns-in-Some-clause-answer
-returns-in-Some-clause-answer g c =
-    let cell : c.in-Narrow.lists ≡ c.args.self.now = ap cell_in (sym c.in-Narrow.is) ∙ c.self.view_is in
-    let held : c.on.result ≡ c.args.fact.now = λ j. record { info = c.on.ensures.info j; support = (c.on.ensures.support ∙ c.in-Some.ensures.some) j } in
-    rw (held, ap (λ (cell : Cell). cell.kept) cell) at c.keep.ensures.answer
-
-pub returns-in-Some-clause-assimilates : goal.returns-in-Some-clause-assimilates
-returns-in-Some-clause-assimilates g c =
-    let cell : c.in-Narrow.lists ≡ c.args.self.now = ap cell_in (sym c.in-Narrow.is) ∙ c.self.view_is in
-    let held : c.on.result ≡ c.args.fact.now = λ j. record { info = c.on.ensures.info j; support = (c.on.ensures.support ∙ c.in-Some.ensures.some) j } in
-    rw (held, ap (λ (cell : Cell). cell.kept) cell) at c.keep.ensures.assimilates
+pub returns-in_ok-news-in-Few-clause-answer : goal.returns-in_ok-news-in-Few-clause-answer
+returns-in_ok-news-in-Few-clause-answer g c =
+    let cell : c.deref_mut.result.now ≡ c.args.self.now = c.deref_mut.ensures.value ∙ c.in_ok-many-in-Few.ensures ∙ ap cell_of (sym c.in-Few.is) ∙ c.self.view_is in
+    rw (ap (λ (cell : Cell). cell.kept) cell) at c.in_ok-news-in-Few.ensures.answer

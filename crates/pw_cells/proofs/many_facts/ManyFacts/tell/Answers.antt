@@ -1,7 +1,7 @@
 use Rattle.std.proofs.Common.{◌≡◌, sym, ◌∙◌, ap}
 use Rattle.pw_cells.specs.Cells.{Cell}
 use Rattle.pw_cells.specs.inside.Widths.{cell_in}
-use Rattle.pw_cells.proofs.cell_facts.CellFacts.tell.Goals as goal
+use Rattle.pw_cells.proofs.many_facts.ManyFacts.tell.Goals as goal
 
 pub returns-in-Some-clause-assimilates : goal.returns-in-Some-clause-assimilates
 returns-in-Some-clause-assimilates g c =

@@ -2,7 +2,7 @@ use Rattle.std.proofs.Common.{◌≡◌, sym, ◌∙◌, ap, subst}
 use Rattle.pw_cells.specs.Cells.{Cell, fact_on}
 use Rattle.pw_cells.specs.Shown.{IsKeptOf}
 use Rattle.pw_cells.specs.inside.Widths.{cell_in}
-use Rattle.pw_cells.proofs.cell_facts.CellFacts.kept_narrow.Goals as goal
+use Rattle.pw_cells.proofs.many_facts.ManyFacts.kept_narrow.Goals as goal
 
 pub returns-clause-kept : goal.returns-clause-kept
 returns-clause-kept g c =

@@ -6,7 +6,7 @@ use Rattle.pw_cells.specs.Cells.{does_subsume}
 use Rattle.pw_cells.specs.inside.OneCell.{AreOfKind}
 use Rattle.pw_cells.proofs.Late.{unsubsumed_test, subsume_test}
 use Rattle.pw_cells.proofs.Rests.{AreSifted, next_of_all, one_dropped, one_stays}
-use Rattle.pw_cells.proofs.fact_lists.drop_subsumed.Goals as goal
+use Rattle.pw_cells.proofs.subsumed_facts.drop_from.Goals as goal
 
 -- the next one is of the fact's kind
 kind_of_next : (f x : Fact) (all left : List Fact) (place : ℕ) → AreOfKind (kind_of f.info) all → AreSifted f all left place → place < length left
@@ -17,7 +17,7 @@ kind_of_next f x all left place kinds sifted below is =
 
 pub subsumes-requires : goal.subsumes-requires
 subsumes-requires g c =
-    kind_of_next c.args.fact.now c.index.result.now c.args.kept.now.items c.loop-place.kept.items c.loop-place.place c.requires c.loop-place.invariant.sifted
+    kind_of_next c.args.fact.now c.index.result.now c.args.kept.now.items c.loop-place.kept.items c.loop-place.place c.requires.kinds c.loop-place.invariant.sifted
     (omega arith) c.index.ensures
 
 pub loop-place-preserved-then-subsumes : goal.loop-place-preserved-then-subsumes
@@ -29,7 +29,7 @@ loop-place-preserved-then-subsumes g c =
     let place = c.loop-place.place in
     let sifted = c.loop-place.invariant.sifted in
     let below : place < length left = omega arith in
-    let one = kind_of_next fact held all left place c.requires sifted below c.index.ensures in
+    let one = kind_of_next fact held all left place c.requires.kinds sifted below c.index.ensures in
     let subsumed : does_subsume fact held ≡ true = subsume_test fact held one (c.subsumes.ensures.answer.0 c.if-subsumes.true) in
     record {
       sifted =
@@ -48,7 +48,7 @@ loop-place-preserved g c =
     let place = c.loop-place.place in
     let sifted = c.loop-place.invariant.sifted in
     let below : place < length left = omega arith in
-    let one = kind_of_next fact held all left place c.requires sifted below c.index.ensures in
+    let one = kind_of_next fact held all left place c.requires.kinds sifted below c.index.ensures in
     let other : does_subsume fact held ≡ false =
     unsubsumed_test fact held one (λ subsumed. not_both _ (c.subsumes.ensures.answer.1 subsumed) c.if-subsumes.false) in
     record {

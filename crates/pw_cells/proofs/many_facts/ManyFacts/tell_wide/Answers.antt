@@ -1,7 +1,7 @@
 use Rattle.std.proofs.Common.{◌≡◌, sym, ◌∙◌, ap}
 use Rattle.pw_cells.specs.Cells.{Cell}
 use Rattle.pw_cells.specs.inside.Widths.{cell_in}
-use Rattle.pw_cells.proofs.cell_facts.CellFacts.tell_wide.Goals as goal
+use Rattle.pw_cells.proofs.many_facts.ManyFacts.tell_wide.Goals as goal
 
 pub returns-in-Wide-clause-assimilates : goal.returns-in-Wide-clause-assimilates
 returns-in-Wide-clause-assimilates g c =

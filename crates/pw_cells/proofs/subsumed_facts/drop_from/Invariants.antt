@@ -1,6 +1,6 @@
 use Rattle.std.proofs.Common.{◌≡◌, ◌≤◌, ◌-◌, length, vec_len, vec_capacity}
 use Rattle.pw_cells.proofs.Rests.{AreSifted}
-use Rattle.pw_cells.proofs.fact_lists.drop_subsumed.Given as goal
+use Rattle.pw_cells.proofs.subsumed_facts.drop_from.Given as goal
 
 abbrev pub invariant-loop-place : goal.invariant-loop-place
 invariant-loop-place g l = record {

@@ -1,7 +1,7 @@
 use Rattle.std.proofs.Common.{◌≡◌, sym, ◌∙◌, ap}
 use Rattle.pw_cells.specs.Cells.{Cell}
 use Rattle.pw_cells.specs.inside.Widths.{cell_in}
-use Rattle.pw_cells.proofs.cell_facts.CellFacts.keep_wide.Goals as goal
+use Rattle.pw_cells.proofs.many_facts.ManyFacts.keep_wide.Goals as goal
 
 pub returns-in_ok-news-in-Narrow-clause-answer : goal.returns-in_ok-news-in-Narrow-clause-answer
 returns-in_ok-news-in-Narrow-clause-answer g c =

@@ -1,0 +1,127 @@
+//! The few facts kept of a cell about which nothing was told.
+
+ghost use Rattle.std.specs.Prelude.{◌≡◌, [], IfOk, OnOk, OnErr};
+ghost use Rattle.pw_info.specs.Information.{kind_of, nothing, Implies};
+ghost use Rattle.pw_facts.specs.Facts.{IsLeastAbove, IsMostBelow};
+ghost use Rattle.pw_cells.specs.Cells.{IsUnsaid, fact_on, new_cell, told_of, kept_of};
+ghost use Rattle.pw_cells.specs.Changes.{GainsFact, Assimilates};
+ghost use Rattle.pw_cells.specs.Shown.{IsKeptOf};
+ghost use Rattle.pw_cells.specs.inside.OneCell.{StandsFor};
+
+use crate::fact_lists::{append, reserve_unless};
+use crate::held::Held;
+use crate::many_facts::ManyFacts;
+use crate::merged_facts::merged_few;
+use crate::narrow_fact::NarrowFact;
+use crate::subsumed_facts::drop_subsumed;
+use pw_info::Kind;
+use pw_premises::{NarrowSet, PremiseSet};
+use std::alloc::{AllocError, Allocator};
+use std::marker::Model;
+
+// This many facts are few.
+const FEW: usize = 8;
+
+// The facts kept of a cell about which nothing was told. They are few: so they need no bound.
+#[derive(Drop)]
+pub(crate) struct FewFacts<A: Allocator> {
+    kept: Vec<Held<NarrowSet>, A>,
+    kind: Kind,
+}
+
+impl<A: Allocator> Model for FewFacts<A> {
+    ghost use Rattle.std.specs.Prelude.{[]};
+    ghost use Rattle.pw_info.specs.contracts.kind.Kind as kinds;
+    ghost use Rattle.pw_facts.specs.contracts.fact.Fact as facts;
+    ghost use Rattle.pw_cells.specs.Cells.{Cell};
+    ghost use Rattle.pw_cells.specs.inside.OneCell.{cell_code};
+    ghost use Rattle.pw_cells.specs.inside.OneCell.{IsCellWhole};
+
+    ghost Value = { Cell };
+
+    ghost coded = { cell_code kinds.the_row.coded facts.the_row.coded };
+
+    ghost view = { λ a. record { kind = a.kind; told = []; kept = a.kept.items } };
+
+    ghost invariant = { λ a. IsCellWhole a.kind [] a.kept.items [] };
+}
+
+impl<A: Allocator + Copy> FewFacts<A> {
+    // A cell about which nothing was told. Takes no memory.
+    pub(crate) fn new(alloc: A, kind: Kind) -> FewFacts<A>
+        ensures { result ≡ new_cell kind }
+    {
+        FewFacts {
+            kept: Vec::new(alloc),
+            kind,
+        }
+    }
+
+    pub(crate) fn allocator(&self) -> A {
+        *self.kept.allocator()
+    }
+
+    #[inline(always)]
+    pub(crate) fn kind(&self) -> Kind
+        ensures kind { result ≡ self.now.kind }
+        // Nothing was told.
+        ensures told { self.now.told ≡ [] }
+    {
+        self.kind
+    }
+
+    // Whether they are still few with one more.
+    #[inline(always)]
+    pub(crate) fn has_room(&self) -> bool {
+        self.kept.len() < FEW
+    }
+
+    // Keeps a fact that says more than what is kept on its premises. If memory is refused, nothing
+    // changes.
+    #[inline(always)]
+    pub(crate) fn keep_news(&mut self, fact: &Held<NarrowSet>) -> Result<(), AllocError>
+        requires kind { kind_of fact.now.info ≡ self.old.kind }
+        requires news { IsUnsaid (kept_of self.old fact.now.support) fact.now.info }
+        ensures kept { OnOk result (GainsFact fact.now (kept_of self.old) (kept_of self.new)) }
+        ensures assimilates { OnOk result (Assimilates fact.now self.old.kept self.new.kept) }
+        ensures told { self.new.told ≡ self.old.told }
+        ensures kind { self.new.kind ≡ self.old.kind }
+        ensures err { OnErr result (self.new ≡ self.old) }
+    {
+        reserve_unless(&mut self.kept, false)?;
+        drop_subsumed(&mut self.kept, fact);
+        append(&mut self.kept, fact);
+        Ok(())
+    }
+
+    // The merge of the kept facts, in a worldview, with premises that it rests on.
+    #[inline(always)]
+    pub(crate) fn kept(&self, worldview: &PremiseSet) -> Held<NarrowSet>
+        ensures stands { StandsFor self.now.kind worldview.now self.now.kept result }
+        ensures kind { kind_of result.info ≡ self.now.kind }
+        ensures told { Implies result.info (told_of self.now worldview.now) }
+        ensures larger { IsLeastAbove result.support (kept_of self.now) result.info }
+        ensures smaller { IsMostBelow worldview.now (kept_of self.now) result.info }
+    {
+        merged_few(self.kind, self.kept.as_slice(), worldview)
+    }
+
+    // The same, in little room.
+    #[inline(always)]
+    pub(crate) fn kept_narrow(&self, worldview: &PremiseSet) -> NarrowFact
+        ensures { IsKeptOf self.now worldview.now (fact_on result.info result.support) }
+    {
+        let held = self.kept(worldview);
+        NarrowFact {
+            info: *held.info(),
+            support: held.support(),
+        }
+    }
+
+    // The same cell, in lists. Fails only when out of memory.
+    pub(crate) fn listed(&self) -> Result<ManyFacts<A>, AllocError>
+        ensures { IfOk result (λ many. many ≡ self.now) }
+    {
+        ManyFacts::keeping(self.allocator(), self.kind, self.kept.as_slice())
+    }
+}

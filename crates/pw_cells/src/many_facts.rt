@@ -1,0 +1,249 @@
+//! The facts of a cell about which something was told, or of which several are kept.
+
+ghost use Rattle.std.specs.Prelude.{◌≡◌, [], false, IfOk, IfSome, OnOk, OnErr};
+ghost use Rattle.pw_info.specs.Information.{kind_of, Implies};
+ghost use Rattle.pw_facts.specs.Facts.{IsLeastAbove, IsMostBelow};
+ghost use Rattle.pw_cells.specs.Cells.{IsUnsaid, fact_on, told_of, kept_of};
+ghost use Rattle.pw_cells.specs.Changes.{GainsFact, Assimilates, TellsNews};
+ghost use Rattle.pw_cells.specs.Shown.{IsKeptOf};
+ghost use Rattle.pw_cells.specs.inside.OneCell.{IsCellWhole, StandsFor, cell_keeping};
+
+use crate::fact_lists::FactLists;
+use crate::held::Held;
+use crate::narrow_fact::NarrowFact;
+use pw_facts::Fact;
+use pw_info::{Info, Kind};
+use pw_premises::{NarrowSet, PremiseSet};
+use std::alloc::{AllocError, Allocator};
+use std::marker::Model;
+
+// The facts of a cell. As long as no premise from 64 on came to it, each support takes one word.
+#[derive(Drop)]
+pub(crate) struct ManyFacts<A: Allocator> {
+    lists: Lists<A>,
+}
+
+// The lists of a cell's facts, in one width or the other.
+#[derive(Drop)]
+enum Lists<A: Allocator> {
+    Narrow(FactLists<NarrowSet, A>),
+    Wide(FactLists<PremiseSet, A>),
+}
+
+impl<A: Allocator> Model for ManyFacts<A> {
+    ghost use Rattle.pw_info.specs.contracts.kind.Kind as kinds;
+    ghost use Rattle.pw_facts.specs.contracts.fact.Fact as facts;
+    ghost use Rattle.pw_cells.specs.Cells.{Cell};
+    ghost use Rattle.pw_cells.specs.inside.OneCell.{cell_code};
+
+    ghost Value = { Cell };
+
+    ghost coded = { cell_code kinds.the_row.coded facts.the_row.coded };
+
+    ghost use Rattle.pw_cells.specs.inside.Widths.{cell_in};
+
+    ghost view = { λ a. cell_in a.lists };
+}
+
+impl<A: Allocator + Copy> ManyFacts<A> {
+    // A cell of which these facts of its kind, none of which subsumes another, are kept, and about
+    // which nothing was told. Fails only when out of memory.
+    pub(crate) fn keeping(
+        alloc: A,
+        kind: Kind,
+        kept: &[Held<NarrowSet>],
+    ) -> Result<ManyFacts<A>, AllocError>
+        requires { IsCellWhole kind [] kept.now [] }
+        ensures { IfOk result (λ many. many ≡ cell_keeping kind kept.now) }
+    {
+        Ok(ManyFacts {
+            lists: Lists::Narrow(FactLists::keeping(alloc, kind, kept)?),
+        })
+    }
+
+    pub(crate) fn kind(&self) -> Kind
+        ensures { result ≡ self.now.kind }
+    {
+        match &self.lists {
+            Lists::Narrow(lists) => lists.kind(),
+            Lists::Wide(lists) => lists.kind(),
+        }
+    }
+
+    // Records that a fact was told, and keeps it. If memory is refused, nothing changes.
+    pub(crate) fn tell(&mut self, fact: &Fact) -> Result<(), AllocError>
+        requires { kind_of fact.now.info ≡ self.old.kind }
+        ensures told { OnOk result (GainsFact fact.now (told_of self.old) (told_of self.new)) }
+        ensures kept { OnOk result (GainsFact fact.now (kept_of self.old) (kept_of self.new)) }
+        ensures assimilates { OnOk result (Assimilates fact.now self.old.kept self.new.kept) }
+        ensures kind { self.new.kind ≡ self.old.kind }
+        ensures err { OnErr result (self.new ≡ self.old) }
+    {
+        if let Lists::Narrow(lists) = &mut self.lists {
+            if let Some(support) = NarrowSet::of(&fact.support) {
+                return lists.tell(&Held::on(fact.info, support));
+            }
+        }
+        self.tell_wide(fact)
+    }
+
+    // The same, in wide lists. Never inlined, like `keep_wide`, so that cells with narrow lists make
+    // no room for wide ones.
+    #[inline(never)]
+    fn tell_wide(&mut self, fact: &Fact) -> Result<(), AllocError>
+        requires { kind_of fact.now.info ≡ self.old.kind }
+        ensures told { OnOk result (GainsFact fact.now (told_of self.old) (told_of self.new)) }
+        ensures kept { OnOk result (GainsFact fact.now (kept_of self.old) (kept_of self.new)) }
+        ensures assimilates { OnOk result (Assimilates fact.now self.old.kept self.new.kept) }
+        ensures kind { self.new.kind ≡ self.old.kind }
+        ensures err { OnErr result (self.new ≡ self.old) }
+    {
+        match &mut self.lists {
+            Lists::Narrow(lists) => {
+                let mut wide = lists.widened()?;
+                wide.tell(&Held::on(fact.info, fact.support))?;
+                self.lists = Lists::Wide(wide);
+                Ok(())
+            }
+            Lists::Wide(lists) => lists.tell(&Held::on(fact.info, fact.support)),
+        }
+    }
+
+    // Keeps a fact, and answers whether it was news. If memory is refused, nothing changes.
+    pub(crate) fn keep(&mut self, fact: &Fact) -> Result<bool, AllocError>
+        requires { kind_of fact.now.info ≡ self.old.kind }
+        ensures answer { IfOk result (λ news. TellsNews self.old.kept fact.now news) }
+        ensures known { IfOk result (λ news. news ≡ false → self.new ≡ self.old) }
+        ensures kept { OnOk result (GainsFact fact.now (kept_of self.old) (kept_of self.new)) }
+        ensures assimilates { OnOk result (Assimilates fact.now self.old.kept self.new.kept) }
+        ensures told { self.new.told ≡ self.old.told }
+        ensures kind { self.new.kind ≡ self.old.kind }
+        ensures err { OnErr result (self.new ≡ self.old) }
+    {
+        if let Lists::Narrow(lists) = &mut self.lists {
+            if let Some(support) = NarrowSet::of(&fact.support) {
+                return lists.keep(&Held::on(fact.info, support));
+            }
+        }
+        self.keep_wide(fact)
+    }
+
+    // Keeps information that says more than what is kept on these premises. If memory is refused,
+    // nothing changes.
+    #[inline(always)]
+    pub(crate) fn keep_news(&mut self, info: Info, support: NarrowSet) -> Result<(), AllocError>
+        requires kind { kind_of info ≡ self.old.kind }
+        requires news { IsUnsaid (kept_of self.old support) info }
+        ensures kept { OnOk result (GainsFact (fact_on info support) (kept_of self.old)
+            (kept_of self.new)) }
+        ensures assimilates { OnOk result (Assimilates (fact_on info support) self.old.kept
+            self.new.kept) }
+        ensures told { self.new.told ≡ self.old.told }
+        ensures kind { self.new.kind ≡ self.old.kind }
+        ensures err { OnErr result (self.new ≡ self.old) }
+    {
+        if let Lists::Narrow(lists) = &mut self.lists {
+            return lists.keep_news(&Held::on(info, support));
+        }
+        self.keep_wide_news(info, support)
+    }
+
+    // The same, in wide lists. Never inlined, like `keep_wide`, so that what is narrow makes no room
+    // for a wide fact.
+    #[inline(never)]
+    fn keep_wide_news(&mut self, info: Info, support: NarrowSet) -> Result<(), AllocError>
+        requires kind { kind_of info ≡ self.old.kind }
+        requires news { IsUnsaid (kept_of self.old support) info }
+        ensures kept { OnOk result (GainsFact (fact_on info support) (kept_of self.old)
+            (kept_of self.new)) }
+        ensures assimilates { OnOk result (Assimilates (fact_on info support) self.old.kept
+            self.new.kept) }
+        ensures told { self.new.told ≡ self.old.told }
+        ensures kind { self.new.kind ≡ self.old.kind }
+        ensures err { OnErr result (self.new ≡ self.old) }
+    {
+        let fact = Fact {
+            info,
+            support: support.widen(),
+        };
+        self.keep_wide(&fact)?;
+        Ok(())
+    }
+
+    // Keeps a fact in wide lists.
+    #[inline(never)]
+    fn keep_wide(&mut self, fact: &Fact) -> Result<bool, AllocError>
+        requires { kind_of fact.now.info ≡ self.old.kind }
+        ensures answer { IfOk result (λ news. TellsNews self.old.kept fact.now news) }
+        ensures known { IfOk result (λ news. news ≡ false → self.new ≡ self.old) }
+        ensures kept { OnOk result (GainsFact fact.now (kept_of self.old) (kept_of self.new)) }
+        ensures assimilates { OnOk result (Assimilates fact.now self.old.kept self.new.kept) }
+        ensures told { self.new.told ≡ self.old.told }
+        ensures kind { self.new.kind ≡ self.old.kind }
+        ensures err { OnErr result (self.new ≡ self.old) }
+    {
+        match &mut self.lists {
+            Lists::Narrow(lists) => {
+                let mut wide = lists.widened()?;
+                let news = wide.keep(&Held::on(fact.info, fact.support))?;
+                self.lists = Lists::Wide(wide);
+                Ok(news)
+            }
+            Lists::Wide(lists) => lists.keep(&Held::on(fact.info, fact.support)),
+        }
+    }
+
+    // Whether there are few told facts to go over.
+    #[inline(always)]
+    pub(crate) fn is_told_little(&self) -> bool {
+        match &self.lists {
+            Lists::Narrow(lists) => lists.is_told_little(),
+            Lists::Wide(lists) => lists.is_told_little(),
+        }
+    }
+
+    // The merge of the told facts, in a worldview.
+    pub(crate) fn told(&self, worldview: &PremiseSet) -> Info
+        ensures value { result ≡ told_of self.now worldview.now }
+        ensures kind { kind_of result ≡ self.now.kind }
+        ensures larger { IsLeastAbove worldview.now (told_of self.now) result }
+    {
+        match &self.lists {
+            Lists::Narrow(lists) => lists.told(worldview),
+            Lists::Wide(lists) => lists.told(worldview),
+        }
+    }
+
+    // The merge of the kept facts, in a worldview, with premises that it rests on.
+    #[inline(always)]
+    pub(crate) fn kept(&mut self, worldview: &PremiseSet) -> Fact
+        ensures same { self.new ≡ self.old }
+        ensures stands { StandsFor self.old.kind worldview.now self.old.kept result }
+        ensures kind { kind_of result.info ≡ self.old.kind }
+        ensures told { Implies result.info (told_of self.old worldview.now) }
+        ensures larger { IsLeastAbove result.support (kept_of self.old) result.info }
+        ensures smaller { IsMostBelow worldview.now (kept_of self.old) result.info }
+    {
+        match &mut self.lists {
+            Lists::Narrow(lists) => lists.kept(worldview).fact(),
+            Lists::Wide(lists) => lists.kept(worldview).fact(),
+        }
+    }
+
+    // The same, if the lists are narrow.
+    #[inline(always)]
+    pub(crate) fn kept_narrow(&mut self, worldview: &PremiseSet) -> Option<NarrowFact>
+        ensures same { self.new ≡ self.old }
+        ensures kept { IfSome result (λ fact. IsKeptOf self.old worldview.now
+            (fact_on fact.info fact.support)) }
+    {
+        let Lists::Narrow(lists) = &mut self.lists else {
+            return None;
+        };
+        let held = lists.kept(worldview);
+        Some(NarrowFact {
+            info: *held.info(),
+            support: held.support(),
+        })
+    }
+}

@@ -1,0 +1,69 @@
+//! Dropping the kept facts that a new one subsumes.
+
+ghost use Rattle.std.specs.Prelude.{◌≡◌, ◌+◌, ◌<◌, ◌≤◌, true, length, take, slice_index_or};
+ghost use Rattle.std.specs.Prelude.{vec_len, vec_capacity};
+ghost use Rattle.pw_info.specs.Information.{kind_of};
+ghost use Rattle.pw_facts.specs.declared.fact.Fact.{Fact};
+ghost use Rattle.pw_cells.specs.Cells.{does_subsume, unsubsumed};
+ghost use Rattle.pw_cells.specs.inside.OneCell.{AreOfKind};
+
+use crate::held::Held;
+use crate::support::Support;
+use std::alloc::Allocator;
+
+// Drops the facts that this one subsumes. Mostly it subsumes the last one alone, or none: that is
+// inlined, and the rest is not.
+#[inline(always)]
+pub(crate) fn drop_subsumed<S: Support, A: Allocator>(kept: &mut Vec<Held<S>, A>, fact: &Held<S>)
+    requires { AreOfKind (kind_of fact.now.info) kept.old.items }
+    ensures rest { kept.new.items ≡ unsubsumed fact.now kept.old.items }
+    ensures len { vec_len kept.new ≤ vec_len kept.old }
+    ensures capacity { vec_capacity kept.new ≡ vec_capacity kept.old }
+{
+    let first = first_subsumed(kept.as_slice(), fact);
+    if first + 1 < kept.len() {
+        drop_from(kept, fact, first);
+    } else if first < kept.len() {
+        let _ = kept.pop();
+    }
+}
+
+// The place of the first fact that this one subsumes. If it subsumes none, the number of facts. Never
+// inlined: a loop of its own is short.
+#[inline(never)]
+fn first_subsumed<S: Support>(facts: &[Held<S>], fact: &Held<S>) -> usize
+    requires { AreOfKind (kind_of fact.now.info) facts.now }
+    ensures within { result ≤ length facts.now }
+    // It subsumes none before that place.
+    ensures before { take result facts.now ≡ unsubsumed fact.now (take result facts.now) }
+    ensures at { result < length facts.now → (f : Fact) → does_subsume fact.now (slice_index_or
+        facts.now result f) ≡ true }
+{
+    for place in 0..facts.len() {
+        if fact.subsumes(&facts[place]) {
+            return place;
+        }
+    }
+    facts.len()
+}
+
+// Drops the facts that this one subsumes, where it subsumes none before the place. (`retain` takes no
+// test that may be asked of facts of one kind alone.) Few facts are dropped at a time, so the later
+// ones move down together and not one by one.
+#[inline(never)]
+fn drop_from<S: Support, A: Allocator>(kept: &mut Vec<Held<S>, A>, fact: &Held<S>, first: usize)
+    requires kinds { AreOfKind (kind_of fact.now.info) kept.old.items }
+    requires before { take first kept.old.items ≡ unsubsumed fact.now (take first kept.old.items) }
+    ensures rest { kept.new.items ≡ unsubsumed fact.now kept.old.items }
+    ensures len { vec_len kept.new ≤ vec_len kept.old }
+    ensures capacity { vec_capacity kept.new ≡ vec_capacity kept.old }
+{
+    let mut place = first;
+    while place < kept.len() {
+        if fact.subsumes(&kept[place]) {
+            kept.remove(place);
+        } else {
+            place += 1;
+        }
+    }
+}
