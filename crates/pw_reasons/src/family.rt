@@ -10,8 +10,8 @@ ghost use Rattle.pw_reasons.specs.inside.Families.{HasOneMore, joined_with, sets
 use pw_premises::PremiseSet;
 use std::alloc::{AllocError, Allocator};
 
-// A family of sets of premises: a tree, so that a search passes few of many sets. Sets that begin with
-// the same premises, from the last to the first, share their branches.
+// A family of sets of premises: a tree, so that a search passes few of many sets. Sets that have the
+// same premises along a path share its branches.
 #[cycle(family)]
 #[derive(Drop)]
 pub(crate) enum Family<A: Allocator> {
@@ -23,8 +23,8 @@ pub(crate) enum Family<A: Allocator> {
     Split(Box<Branch<A>, A>),
 }
 
-// The sets that have a premise, kept without it, and the sets that lack it. A set is added so that
-// the premises of both are below it: then no path is longer than the number of premises.
+// The sets that have a premise, kept without it, and the sets that lack it. A set is added where its
+// path ends, so no premise comes twice on a path, and no path is longer than the number of premises.
 #[cycle(family)]
 #[derive(Drop)]
 pub(crate) struct Branch<A: Allocator> {
@@ -132,7 +132,7 @@ impl<A: Allocator + Copy> Family<A> {
         }
     }
 
-    // Adds a set. Fails only when out of memory; then nothing changes.
+    // Adds a set at the end of its path. Fails only when out of memory; then nothing changes.
     pub(crate) fn add(&mut self, alloc: A, premises: &PremiseSet) -> Result<(), AllocError>
         ensures more { OnOk result (HasOneMore (sets_of self.old) (sets_of self.new) premises.now) }
         ensures err { OnErr result (self.new ≡ self.old) }
