@@ -14,4 +14,4 @@ mod support_list;
 pub use resettling::{resettle, resettle_from};
 pub use settled::Settled;
 pub use settling::settle;
-pub use settling_aside::settle_aside;
+pub use settling_aside::{settle_aside, value_aside};

@@ -1,12 +1,13 @@
 //! Settling beside the store: the values of another worldview, from values at hand.
 ghost use Rattle.std.specs.Prelude.{◌≡◌, ◌↔◌, ◌+◌, ◌<◌, ◌≤◌, true, IsTrue, IfOk, OnOk, length, map};
-ghost use Rattle.pw_info.specs.Information.{kind_of};
-ghost use Rattle.pw_cells.specs.Cells.{kinds_of};
+ghost use Rattle.std.specs.FinSet.{is_subset};
+ghost use Rattle.pw_info.specs.Information.{kind_of, Implies};
+ghost use Rattle.pw_cells.specs.Cells.{kind_in_store, kinds_of};
 ghost use Rattle.pw_network.specs.Wiring.{wiring};
 ghost use Rattle.pw_settle.specs.Calls.{AreVisible, most_calls, visible_at};
 ghost use Rattle.pw_settle.specs.Settled.{IsSettled, info_at};
 ghost use Rattle.pw_settle.specs.Sound.{IsSound};
-ghost use Rattle.pw_settle.specs.Values.{kinds_in};
+ghost use Rattle.pw_settle.specs.Values.{kinds_in, value_in};
 ghost use Rattle.pw_settle.specs.inside.Aside.{AreFound, AreOthersMet, IsFound, StaysMet};
 ghost use Rattle.pw_settle.specs.inside.Aside.{AreAllSatisfied, weight_of};
 ghost use Rattle.pw_settle.specs.inside.Progress.{AreOthersSatisfied, AreQueuedVisible};
@@ -29,6 +30,7 @@ use std::alloc::{AllocError, Allocator};
 // What is known about a cell at the start: its earlier value, if that rests on premises of the
 // worldview alone, and what is kept of it there. In a part of the earlier worldview the earlier
 // value says what is kept.
+#[inline(always)]
 fn start_value<A: Allocator + Copy>(
     before: &Settled<A>,
     network: &Network<'_, '_, A>,
@@ -54,6 +56,34 @@ fn start_value<A: Allocator + Copy>(
         return earlier;
     }
     merge_facts(&earlier, &store.kept(cell, worldview))
+}
+
+/// What at least follows at a cell in a worldview, found without a call of any procedure: from the
+/// value at hand in any other worldview, and from what is kept of the cell. It comes with premises
+/// of the worldview that by themselves say as much there. So if it is a contradiction, these
+/// premises contradict themselves. The store stays as it is. Takes no memory.
+///
+/// The store is sound, and the earlier values are those of all cells and instances that there are
+/// now, as for `settle_aside`. The cell must exist.
+pub fn value_aside<A: Allocator + Copy>(
+    before: &Settled<A>,
+    network: &Network<'_, '_, A>,
+    store: &mut CellStore<A>,
+    cell: u32,
+    worldview: &PremiseSet,
+) -> Fact
+    requires kinds { kinds_of store.old ≡ kinds_in (wiring network.now) }
+    requires sound { IsSound (wiring network.now) store.old }
+    requires before { IsSettled (wiring network.now) store.old before.now.worldview before.now }
+    requires cell { cell < length store.old.cells }
+    ensures unchanged { store.new ≡ store.old }
+    ensures kind { kind_of result.info ≡ kind_in_store store.old cell }
+    ensures within { is_subset result.support worldview.now ≡ true }
+    // A user who believed exactly these premises would find out as much.
+    ensures follows { Implies (value_in (wiring network.now) store.old result.support cell)
+        result.info }
+{
+    start_value(before, network, store, cell, worldview)
 }
 
 // What is known about the cells at the start. Fails only when out of memory.
