@@ -9,4 +9,4 @@ pub mod ReasonLemmas
 pub mod SameInfoLemmas
 pub mod ValueGrows
 pub mod SetLemmas
-pub mod SkippingLemmas
+pub mod SearchLemmas

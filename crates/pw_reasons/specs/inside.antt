@@ -3,4 +3,4 @@ pub mod Families
 pub mod GroupsHeld
 pub mod Held
 pub mod Reasoning
-pub mod Skipping
+pub mod Searching

@@ -12,6 +12,7 @@ mod listing;
 mod nogoods;
 mod picks;
 mod reasoning;
+mod trying;
 
 pub use choosing::choose;
 pub use combinations::worldview_with;

@@ -1,8 +1,8 @@
 //! Nogoods: noted sets of premises that contradict themselves.
-ghost use Rattle.std.specs.Prelude.{◌≡◌, ◌↔◌, ◌⊎◌, ◌||◌, [], true, false, Contains};
+ghost use Rattle.std.specs.Prelude.{◌≡◌, ◌↔◌, ◌⊎◌, ◌||◌, ◌<◌, [], true, false, Contains};
 ghost use Rattle.std.specs.Prelude.{IfNone, IfSome, OnErr, OnOk};
-ghost use Rattle.std.specs.FinSet.{is_subset};
-ghost use Rattle.pw_premises.specs.Premises.{Premises};
+ghost use Rattle.std.specs.FinSet.{insert, is_subset};
+ghost use Rattle.pw_premises.specs.Premises.{Premises, most_premises};
 ghost use Rattle.pw_reasons.specs.Nogood.{covers};
 
 use crate::family::Family;
@@ -100,5 +100,17 @@ impl<A: Allocator + Copy> Nogoods<A> {
             × (is_subset noted premises.now ≡ true)) }
     {
         self.family.within_with(premises, premise)
+    }
+
+    // Whether a noted set is a subset of these premises with one more. None is a subset of them
+    // without it.
+    pub(crate) fn covers_with(&self, before: &PremiseSet, premise: u16) -> bool
+        requires premise { premise < most_premises }
+        requires before { covers self.now before.now ≡ false }
+        ensures { result ≡ covers self.now (insert before.now premise) }
+    {
+        let mut more = *before;
+        more.insert(premise);
+        self.covers(&more)
     }
 }
