@@ -1,14 +1,16 @@
 //! The facts of one cell.
 
-ghost use Rattle.std.specs.Prelude.{◌≡◌, false, IfOk, OnOk, OnErr};
+ghost use Rattle.std.specs.Prelude.{◌≡◌, false, IfOk, IfSome, OnOk, OnErr};
 ghost use Rattle.pw_info.specs.Information.{kind_of, Implies};
 ghost use Rattle.pw_facts.specs.Facts.{IsLeastAbove, IsMostBelow};
 ghost use Rattle.pw_cells.specs.Cells.{IsUnsaid, fact_on, new_cell, told_of, kept_of};
 ghost use Rattle.pw_cells.specs.Changes.{GainsFact, Assimilates, TellsNews};
+ghost use Rattle.pw_cells.specs.Shown.{IsKeptOf};
 ghost use Rattle.pw_cells.specs.inside.OneCell.{StandsFor};
 
 use crate::fact_lists::FactLists;
 use crate::held::Held;
+use crate::narrow_fact::NarrowFact;
 use pw_facts::Fact;
 use pw_info::{Info, Kind};
 use pw_premises::{NarrowSet, PremiseSet};
@@ -220,5 +222,22 @@ impl<A: Allocator + Copy> CellFacts<A> {
             Lists::Narrow(lists) => lists.kept(worldview).fact(),
             Lists::Wide(lists) => lists.kept(worldview).fact(),
         }
+    }
+
+    // The same, if the cell's lists are narrow.
+    #[inline(always)]
+    pub(crate) fn kept_narrow(&mut self, worldview: &PremiseSet) -> Option<NarrowFact>
+        ensures same { self.new ≡ self.old }
+        ensures kept { IfSome result (λ fact. IsKeptOf self.old worldview.now
+            (fact_on fact.info fact.support)) }
+    {
+        let Lists::Narrow(lists) = &mut self.lists else {
+            return None;
+        };
+        let held = lists.kept(worldview);
+        Some(NarrowFact {
+            info: *held.info(),
+            support: held.support(),
+        })
     }
 }

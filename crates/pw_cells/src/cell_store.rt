@@ -1,7 +1,7 @@
 //! The store: cells by number, each with the facts told about it and the facts kept of it.
 
 ghost use Rattle.std.specs.Prelude.{◌≡◌, ◌+◌, ◌≤◌, ◌<◌, ◌++◌, [], true, false, length, map, IsOk};
-ghost use Rattle.std.specs.Prelude.{IfOk, vec_len, vec_capacity, OnOk, OnErr};
+ghost use Rattle.std.specs.Prelude.{IfOk, IfSome, vec_len, vec_capacity, OnOk, OnErr};
 ghost use Rattle.std.specs.FinSet.{is_subset};
 ghost use Rattle.pw_info.specs.Information.{kind_of, Implies};
 ghost use Rattle.pw_premises.specs.Premises.{Premises};
@@ -11,8 +11,10 @@ ghost use Rattle.pw_cells.specs.Changes.{LeavesOthers};
 ghost use Rattle.pw_cells.specs.Cells.{new_cell, kind_in_store, kinds_of, kept_at, told_in};
 ghost use Rattle.pw_cells.specs.Cells.{fact_on, kept_in, most_store_cells, ArePremisesOf};
 ghost use Rattle.pw_cells.specs.Cells.{IsUnsaid};
+ghost use Rattle.pw_cells.specs.Shown.{IsKeptIn};
 
 use crate::cell_facts::CellFacts;
+use crate::narrow_fact::NarrowFact;
 use crate::recalled::{Answers, Recalled};
 use pw_facts::Fact;
 use pw_info::{Info, Kind};
@@ -236,6 +238,18 @@ impl<A: Allocator + Copy> CellStore<A> {
         ensures smaller { IsMostBelow worldview.now (kept_in self.old cell) result.info }
     {
         self.cells[cell as usize].kept(worldview)
+    }
+
+    /// What `kept` answers, in little room. None if a premise from 64 on came to the cell; no clause
+    /// says when. Takes no memory. The cell must exist.
+    #[inline(always)]
+    pub fn kept_narrow(&mut self, cell: u32, worldview: &PremiseSet) -> Option<NarrowFact>
+        requires { cell < length self.old.cells }
+        ensures unchanged { self.new ≡ self.old }
+        ensures kept { IfSome result (λ fact. IsKeptIn self.old cell worldview.now
+            (fact_on fact.info fact.support)) }
+    {
+        self.cells[cell as usize].kept_narrow(worldview)
     }
 }
 

@@ -8,8 +8,10 @@ mod fact_lists;
 mod held;
 pub mod laws;
 mod merged_facts;
+mod narrow_fact;
 mod recalled;
 mod support;
 mod told_facts;
 
 pub use cell_store::CellStore;
+pub use narrow_fact::NarrowFact;

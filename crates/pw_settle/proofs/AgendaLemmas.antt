@@ -1,12 +1,12 @@
 -- Queues of the numbers whose flags are set.
-use Rattle.std.proofs.Common.{◌≡◌, ◌≢◌, ℕ, ◌+◌, ◌<◌, suc, Bool, true, false, cond, eqb, inl, inr, List, [], ◌∷◌, ◌++◌, length, set, get_or, refl, sym, ap, ◌∙◌, subst, arith, length-append}
+use Rattle.std.proofs.Common.{◌≡◌, ◌≢◌, ℕ, ◌+◌, ◌<◌, ◌≤◌, suc, Bool, true, false, cond, eqb, inl, inr, List, [], ◌∷◌, ◌++◌, length, set, get_or, refl, sym, ap, ◌∙◌, subst, arith, length-append, append_assoc}
 use Rattle.std.proofs.lemmas.Bool.{cases_Bool, eqb-false, eqb-true}
 use Rattle.std.proofs.lemmas.List.{get_or-set_other, get_or-set_same, length-set}
 use Rattle.std.proofs.lemmas.List.Elements.{All-append, All-cons, All-head, All-nil, All-tail, All-weaker}
 use Rattle.std.proofs.lemmas.List.Quantifiers.{all_pairs_push}
 use Rattle.std.proofs.lemmas.List.Sums.{count_by-le-length, sum_by-set}
 use Rattle.pw_settle.specs.inside.Progress.{IsQueue, is_set, tally}
-use Rattle.pw_settle.proofs.TakenFlags.{taken_less}
+use Rattle.pw_settle.proofs.TakenFlags.{set_below, taken_less}
 
 -- one more flag
 pub tally_more : (flags : List Bool) (one : ℕ) → one < length flags → is_set flags one ≡ false → tally (set flags one true) ≡ tally flags + 1
@@ -46,6 +46,15 @@ queue_more flags queue capacity one below free is = record {
   counted : length queue + length (one ∷ []) ≡ tally (set flags one true)
   counted = omega (arith, is.count, tally_more flags one below free)
 
+-- the same where the queue goes on in a second list, and has perhaps more room than it had
+pub queue_later : (flags : List Bool) (queue next : List ℕ) (capacity more one : ℕ) → one < length flags → is_set flags one ≡ false → capacity ≤ more →
+    IsQueue flags (queue ++ next) capacity → IsQueue (set flags one true) (queue ++ (next ++ one ∷ [])) more
+queue_later flags queue next capacity more one below free room is =
+    let both : IsQueue (set flags one true) ((queue ++ next) ++ one ∷ []) capacity = queue_more flags (queue ++ next) capacity one below free is in
+    let last : IsQueue (set flags one true) (queue ++ (next ++ one ∷ [])) capacity =
+    subst (λ (l : List ℕ). IsQueue (set flags one true) l capacity) (append_assoc queue next (one ∷ [])) both in
+    record { flagged = last.flagged; once = last.once; count = last.count; room = omega (arith, last.room, room) }
+
 -- the first number leaves the queue, and its flag is cleared
 pub queue_less : (flags : List Bool) (queue rest : List ℕ) (capacity one : ℕ) → queue ≡ one ∷ rest → IsQueue flags queue capacity →
     IsQueue (set flags one false) rest capacity
@@ -60,3 +69,15 @@ queue_less flags queue rest capacity one is_first is_queue =
       count = let many = is.count in omega (arith, many, taken_less flags (set flags one false) one refl flag);
       room = omega (arith, is.room, length-set flags one false);
     }
+
+-- the same where there is other room
+pub queue_taken : (flags : List Bool) (queue rest : List ℕ) (capacity more one : ℕ) → queue ≡ one ∷ rest → IsQueue flags queue capacity → length flags ≤ more →
+    IsQueue (set flags one false) rest more
+queue_taken flags queue rest capacity more one is_first is room =
+    let less = queue_less flags queue rest capacity one is_first is in
+    record { flagged = less.flagged; once = less.once; count = less.count; room = omega (arith, room, length-set flags one false) }
+
+-- the first number of a queue is that of a flag
+pub first_below : (flags : List Bool) (queue rest : List ℕ) (capacity one : ℕ) → queue ≡ one ∷ rest → IsQueue flags queue capacity → one < length flags
+first_below flags queue rest capacity one is_first is =
+    set_below flags one (All-head (λ n. is_set flags n ≡ true) one rest (subst (λ (l : List ℕ). IsQueue flags l capacity) is_first is).flagged)

@@ -1,7 +1,8 @@
 -- The values that a settling beside the store ends with, and which instances are satisfied at its
 -- start.
-use Rattle.std.proofs.Common.{◌≡◌, ℕ, ◌*◌, ◌<◌, ◌≤◌, Bool, true, false, List, [], ◌∷◌, All, Contains, length, map, refl, sym, ap, ◌∙◌, subst, arith, inl, inr}
+use Rattle.std.proofs.Common.{◌≡◌, ℕ, zero, suc, ◌*◌, ◌<◌, ◌≤◌, Bool, true, false, List, [], ◌∷◌, All, Contains, length, map, refl, sym, ap, ◌∙◌, subst, arith, inl, inr}
 use Rattle.std.specs.Prelude.{nat_eq}
+use Rattle.std.specs.FinSet.{is_subset}
 use Rattle.std.specs.List.{list_any, range_with_len}
 use Rattle.std.proofs.Math.Nat.{mul-le-mul}
 use Rattle.std.proofs.lemmas.Bool.{cases_Bool, or_cases, or_left, or_right}
@@ -15,7 +16,7 @@ use Rattle.pw_info.specs.Rank.{rank_of}
 use Rattle.pw_info.proofs.Informations.{Implies-antisym}
 use Rattle.pw_info.proofs.Ranks.{rank_most_of_all}
 use Rattle.pw_premises.specs.Premises.{Premises}
-use Rattle.pw_premises.specs.PremiseSubsets.{is_subset_refl}
+use Rattle.pw_premises.specs.PremiseSubsets.{is_subset_refl, is_subset_trans}
 use Rattle.pw_procs.specs.Procedure.{Procedure}
 use Rattle.pw_cells.specs.Cells.{Store, kinds_of, told_in}
 use Rattle.pw_decl.proofs.FlatKept.{range_below}
@@ -109,6 +110,13 @@ read_here P c (d ∷ inputs) all reading =
     same_number : nat_eq c d ≡ true → d ≡ c
     same_number is = grind (arith, nat_tests)
 
+-- a flag that is set is set where no fewer are
+raised : (f g : Attached → Bool) → ((a : Attached) → f a ≡ true → g a ≡ true) → (attached : List Attached) (n : ℕ) →
+    is_set (map f attached) n ≡ true → is_set (map g attached) n ≡ true
+raised f g more [] n shown = absurd (cc)
+raised f g more (a ∷ attached) zero shown = more a shown
+raised f g more (a ∷ attached) (suc n) shown = raised f g more attached n shown
+
 module _ (network : Network) (well : IsWellNetwork network) (store : Store) (same : kinds_of store ≡ kinds_in network) (w : Premises)
     (before : Settled) (is : IsSettled network store before.worldview before)
     (infos : List Info) (supports : List Premises) (found : AreFound network store w infos supports) where
@@ -196,3 +204,45 @@ module _ (network : Network) (well : IsWellNetwork network) (store : Store) (sam
         (subst (λ (l : List Info). AreOthersMet network visible was earlier l first) is_now met))
         (subst (λ (e : List Info). QueuesReaders network visible (λ cell. (cell < length infos) × HasChanged e infos cell) first queued) is_earlier
         (subst (λ (l : List Info). QueuesReaders network visible (λ cell. (cell < length l) × HasChanged earlier l cell) first queued) is_now queues))
+
+  -- in a part of the earlier worldview no cell says more than before, and what is visible was
+  module _ (part : is_subset w before.worldview ≡ true) where
+    unchanged : (cell : ℕ) → cell < length infos → Implies (found_of before.infos infos cell) (info_at infos cell)
+    unchanged cell below u possible =
+        (found.each cell).follows before.worldview (is_subset_trans (support_at supports cell) w before.worldview (found.each cell).within part) u
+        (subst (λ (i : Info). allows i u ≡ true) (found_before cell below) possible)
+
+    no_readers : (visible first : List Bool) →
+        QueuesReaders network visible (λ cell. (cell < length infos) × HasChanged before.infos infos cell) first first
+    no_readers visible first = record {
+      flags = refl;
+      stay = λ n flag. flag;
+      readers = λ cell n one reading shown. absurd (one.1 (unchanged cell one.0));
+      others = λ n flag. inl flag;
+    }
+
+    was_visible : (visible : List Bool) → visible ≡ map (is_instance_visible w) network.attached → (n : ℕ) → is_set visible n ≡ true →
+        is_set (map (is_instance_visible before.worldview) network.attached) n ≡ true
+    was_visible visible now_seen n shown =
+        raised (is_instance_visible w) (is_instance_visible before.worldview) (λ a within. is_subset_trans a.support w before.worldview within part)
+        network.attached n (sym (ap (λ (l : List Bool). is_set l n) now_seen) ∙ shown)
+
+    pub satisfied_in_part : (earlier now : List Info) → earlier ≡ before.infos → now ≡ infos → (visible queued : List Bool) →
+        visible ≡ map (is_instance_visible w) network.attached → AreOthersMet network visible visible earlier now queued →
+        AreSatisfied network w (info_at infos) queued
+    satisfied_in_part earlier now is_earlier is_now visible queued now_seen met =
+        start_satisfied visible (map (is_instance_visible before.worldview) network.attached) queued queued now_seen refl
+        (subst (λ (e : List Info). AreOthersMet network visible (map (is_instance_visible before.worldview) network.attached) e infos queued) is_earlier
+        (subst (λ (l : List Info). AreOthersMet network visible (map (is_instance_visible before.worldview) network.attached) earlier l queued) is_now met_before))
+        (no_readers visible queued)
+      where
+        met_before : AreOthersMet network visible (map (is_instance_visible before.worldview) network.attached) earlier now queued
+        met_before = record {
+          flags = met.flags;
+          seen = met.seen;
+          unmet = λ n flag stays. met.unmet n flag (record { visible = met.seen n flag; output = stays.output });
+          others = λ n below shown free. record {
+            visible = was_visible visible now_seen n shown;
+            output = (met.others n below shown free).output;
+          };
+        }

@@ -1,32 +1,38 @@
 //! The instances that wait to be called.
-ghost use Rattle.std.specs.Prelude.{◌≡◌, ◌<◌, false, true, length, IfNone, IfOk, IfSome, replicate};
-ghost use Rattle.std.specs.Prelude.{slice_set, ℕ};
+ghost use Rattle.std.specs.Prelude.{◌≡◌, ◌≤◌, ◌<◌, ◌++◌, ◌∷◌, [], false, true, drop, length};
+ghost use Rattle.std.specs.Prelude.{IfNone, IfOk, IfSome, replicate, slice_set, vec_capacity, ℕ};
 ghost use Rattle.pw_settle.specs.inside.Progress.{is_set};
 
 use std::alloc::{AllocError, Allocator, Global};
-use std::collections::VecDeque;
 use std::marker::Model;
+use std::mem::swap;
 
 // Numbers of instances, each at most once, in the order in which they came. Which one is taken next
 // is free: no contract depends on it. (First in, first out calls an instance once for the news of
 // several of its inputs.)
+//
+// It goes in turns, which is faster than a ring: those that come in one turn are taken in the next.
 #[derive(Drop)]
 pub(crate) struct Agenda<A: Allocator = Global> {
     queued: Vec<bool, A>,
-    queue: VecDeque<u32, A>,
+    // The instances of this turn, of which so many were taken.
+    turn: Vec<u32, A>,
+    taken: usize,
+    // Those of the next one.
+    next: Vec<u32, A>,
 }
 
 impl<A: Allocator> Model for Agenda<A> {
-    ghost use Rattle.std.specs.Prelude.{◌≤◌, Bool, List, length};
-    ghost use Rattle.std.specs.VecDeque.{deque_capacity};
+    ghost use Rattle.std.specs.Prelude.{◌≤◌, ◌++◌, Bool, List, drop, length, vec_capacity};
     ghost use Rattle.pw_settle.specs.inside.Progress.{IsQueue};
 
     ghost Value = { List Bool };
 
     ghost view = { λ a. a.queued.items };
 
-    ghost invariant = { λ a. IsQueue a.queued.items a.queue.items (deque_capacity a.queue)
-        × (length a.queued.items ≤ 4294967295) };
+    ghost invariant = { λ a. IsQueue a.queued.items (drop a.taken a.turn.items ++ a.next.items)
+        (vec_capacity a.next) × (length a.queued.items ≤ 4294967295)
+        × (a.taken ≤ length a.turn.items) × (length a.queued.items ≤ vec_capacity a.turn) };
 }
 
 impl<A: Allocator + Copy> Agenda<A> {
@@ -40,7 +46,9 @@ impl<A: Allocator + Copy> Agenda<A> {
         }
         Ok(Agenda {
             queued: vec![in alloc; false; count]?,
-            queue: VecDeque::with_capacity(alloc, count)?,
+            turn: Vec::with_capacity(alloc, count)?,
+            taken: 0,
+            next: Vec::with_capacity(alloc, count)?,
         })
     }
 
@@ -52,7 +60,7 @@ impl<A: Allocator + Copy> Agenda<A> {
     {
         if !self.queued[number] {
             self.queued[number] = true;
-            let _ = self.queue.push_back(number as u32);
+            let _ = self.next.push(number as u32);
         }
     }
 
@@ -64,9 +72,57 @@ impl<A: Allocator + Copy> Agenda<A> {
         ensures none { IfNone result ((number : ℕ) → is_set self.old number ≡ false) }
         ensures left { IfNone result (self.new ≡ self.old) }
     {
-        let first = self.queue.pop_front()?;
+        let first = first_waiting(&mut self.turn, &mut self.taken, &mut self.next)?;
         let number = first as usize;
         self.queued[number] = false;
         Some(number)
     }
+}
+
+// Takes the first of those that wait: of this turn, or else of the next one.
+#[inline(always)]
+fn first_waiting<A: Allocator>(
+    turn: &mut Vec<u32, A>,
+    taken: &mut usize,
+    next: &mut Vec<u32, A>,
+) -> Option<u32>
+    requires { taken.old ≤ length turn.old.items }
+    ensures some { IfSome result (λ first. drop taken.old turn.old.items ++ next.old.items
+        ≡ first ∷ (drop taken.new turn.new.items ++ next.new.items)) }
+    ensures none { IfNone result (drop taken.old turn.old.items ++ next.old.items ≡ []) }
+    ensures left { IfNone result (drop taken.new turn.new.items ++ next.new.items ≡ []) }
+    ensures place { taken.new ≤ length turn.new.items }
+    ensures room { (count : ℕ) → count ≤ vec_capacity turn.old → count ≤ vec_capacity next.old
+        → (count ≤ vec_capacity turn.new) × (count ≤ vec_capacity next.new) }
+{
+    if *taken == turn.len() {
+        return first_of_next(turn, taken, next);
+    }
+    let first = turn[*taken];
+    *taken += 1;
+    Some(first)
+}
+
+// The same, where all of this turn were taken: the next one begins.
+#[inline(always)]
+fn first_of_next<A: Allocator>(
+    turn: &mut Vec<u32, A>,
+    taken: &mut usize,
+    next: &mut Vec<u32, A>,
+) -> Option<u32>
+    requires { taken.old ≡ length turn.old.items }
+    ensures some { IfSome result (λ first. drop taken.old turn.old.items ++ next.old.items
+        ≡ first ∷ (drop taken.new turn.new.items ++ next.new.items)) }
+    ensures none { IfNone result (drop taken.old turn.old.items ++ next.old.items ≡ []) }
+    ensures left { IfNone result (drop taken.new turn.new.items ++ next.new.items ≡ []) }
+    ensures place { taken.new ≤ length turn.new.items }
+    ensures room { (count : ℕ) → count ≤ vec_capacity turn.old → count ≤ vec_capacity next.old
+        → (count ≤ vec_capacity turn.new) × (count ≤ vec_capacity next.new) }
+{
+    turn.clear();
+    *taken = 0;
+    swap(turn, next);
+    let first = *turn.first()?;
+    *taken = 1;
+    Some(first)
 }

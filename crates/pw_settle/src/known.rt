@@ -4,7 +4,8 @@ ghost use Rattle.pw_info.specs.Information.{kind_of};
 ghost use Rattle.pw_cells.specs.Cells.{IsUnsaid, fact_on};
 ghost use Rattle.pw_network.specs.inside.Held.{attachment};
 ghost use Rattle.pw_network.specs.Network.{Network as Networks};
-ghost use Rattle.pw_settle.specs.inside.Known.{AreKept, SaysTold, TakesIn, joined};
+ghost use Rattle.pw_cells.specs.Shown.{IsKeptIn};
+ghost use Rattle.pw_settle.specs.inside.Known.{AreKept, ListsOneMore, SaysTold, TakesIn, joined};
 ghost use Rattle.pw_settle.specs.Settled.{info_at};
 ghost use Rattle.pw_settle.specs.inside.Known.{ReadsUpstream, news_on};
 
@@ -40,11 +41,53 @@ pub(crate) fn read_kept<A: Allocator + Copy>(
     let mut infos = Vec::with_capacity(alloc, store.cells() as usize)?;
     let mut supports = SupportList::with_capacity(alloc, store.cells() as usize)?;
     for cell in 0..store.cells() {
-        let fact = store.kept(cell, worldview);
-        let _ = infos.push(fact.info);
-        supports.push(fact.support)?;
+        push_kept(store, cell, worldview, &mut infos, &mut supports)?;
     }
     Ok(Known { infos, supports })
+}
+
+// Appends what is kept of one cell more. Fails only when out of memory.
+#[inline(always)]
+fn push_kept<A: Allocator + Copy>(
+    store: &mut CellStore<A>,
+    cell: u32,
+    worldview: &PremiseSet,
+    infos: &mut Vec<Info, A>,
+    supports: &mut SupportList<A>,
+) -> Result<(), AllocError>
+    requires { cell < length store.old.cells }
+    ensures unchanged { store.new ≡ store.old }
+    ensures kept { OnOk result (ListsOneMore (λ info support.
+        IsKeptIn store.old cell worldview.now (fact_on info support)) infos.old.items
+        infos.new.items supports.old supports.new) }
+{
+    if let Some(fact) = store.kept_narrow(cell, worldview) {
+        infos.push(fact.info)?;
+        supports.push_narrow(fact.support)?;
+        return Ok(());
+    }
+    push_wide_kept(store, cell, worldview, infos, supports)
+}
+
+// The same, on any premises. Never inlined, so that what is narrow makes no room for wide sets.
+#[inline(never)]
+fn push_wide_kept<A: Allocator + Copy>(
+    store: &mut CellStore<A>,
+    cell: u32,
+    worldview: &PremiseSet,
+    infos: &mut Vec<Info, A>,
+    supports: &mut SupportList<A>,
+) -> Result<(), AllocError>
+    requires { cell < length store.old.cells }
+    ensures unchanged { store.new ≡ store.old }
+    ensures kept { OnOk result (ListsOneMore (λ info support.
+        IsKeptIn store.old cell worldview.now (fact_on info support)) infos.old.items
+        infos.new.items supports.old supports.new) }
+{
+    let fact = store.kept(cell, worldview);
+    infos.push(fact.info)?;
+    supports.push(fact.support)?;
+    Ok(())
 }
 
 // The premises of an instance, and those of what is known about its inputs.

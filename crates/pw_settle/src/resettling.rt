@@ -74,11 +74,11 @@ fn has_changed(before: &[Info], now: &[Info], cell: usize) -> bool
     requires kind { kind_of (found_of before.now now.now cell) ≡ kind_of (info_at now.now cell) }
     ensures { IsTrue result ↔ HasChanged before.now now.now cell }
 {
-    let found = match before.get(cell) {
-        Some(info) => *info,
-        None => Info::nothing(now[cell].kind()),
-    };
-    !found.implies(&now[cell])
+    // By reference, so that nothing is copied.
+    match before.get(cell) {
+        Some(found) => !found.implies(&now[cell]),
+        None => !Info::nothing(now[cell].kind()).implies(&now[cell]),
+    }
 }
 
 // Queues the visible readers of the cells of which more is kept now than was found before.

@@ -1,9 +1,10 @@
 //! The values of cells in a worldview.
-ghost use Rattle.std.specs.Prelude.{◌≡◌, ◌<◌, length};
+ghost use Rattle.std.specs.Prelude.{◌≡◌, ◌<◌, IfSome, length};
 ghost use Rattle.std.specs.FinSet.{is_subset};
 ghost use Rattle.pw_settle.specs.Settled.{info_at, support_at};
 
 use crate::known::Known;
+use pw_cells::NarrowFact;
 use pw_facts::Fact;
 use pw_info::Info;
 use pw_premises::PremiseSet;
@@ -52,6 +53,18 @@ impl<A: Allocator> Settled<A> {
             info: self.known.infos[cell as usize],
             support: self.known.supports.get(cell as usize),
         }
+    }
+
+    // The same, if the premises of all values are below 64.
+    #[inline(always)]
+    pub(crate) fn narrow_value(&self, cell: u32) -> Option<NarrowFact>
+        requires { cell < length self.now.infos }
+        ensures info { IfSome result (λ fact. fact.info ≡ info_at self.now.infos cell) }
+        ensures support { IfSome result (λ fact. fact.support ≡ support_at self.now.supports cell) }
+    {
+        let support = self.known.supports.narrow()?[cell as usize];
+        let info = self.known.infos[cell as usize];
+        Some(NarrowFact { info, support })
     }
 
     // Whether the value of the cell rests on premises of the worldview alone.

@@ -1,8 +1,10 @@
 //! Settling beside the store: the values of another worldview, from values at hand.
-ghost use Rattle.std.specs.Prelude.{◌≡◌, ◌↔◌, ◌+◌, ◌<◌, ◌≤◌, true, IsTrue, IfOk, OnOk, length, map};
+ghost use Rattle.std.specs.Prelude.{◌≡◌, ◌↔◌, ◌+◌, ◌<◌, ◌≤◌, true, IsTrue, IfOk, IfSome, OnOk, length};
+ghost use Rattle.std.specs.Prelude.{map};
 ghost use Rattle.std.specs.FinSet.{is_subset};
 ghost use Rattle.pw_info.specs.Information.{kind_of, Implies};
-ghost use Rattle.pw_cells.specs.Cells.{kind_in_store, kinds_of};
+ghost use Rattle.pw_facts.specs.Facts.{IsMerge};
+ghost use Rattle.pw_cells.specs.Cells.{fact_on, kind_in_store, kinds_of};
 ghost use Rattle.pw_network.specs.Wiring.{wiring};
 ghost use Rattle.pw_settle.specs.Calls.{AreVisible, most_calls, visible_at};
 ghost use Rattle.pw_settle.specs.Settled.{IsSettled, info_at};
@@ -10,6 +12,7 @@ ghost use Rattle.pw_settle.specs.Sound.{IsSound};
 ghost use Rattle.pw_settle.specs.Values.{kinds_in, value_in};
 ghost use Rattle.pw_settle.specs.inside.Aside.{AreFound, AreOthersMet, IsFound, StaysMet};
 ghost use Rattle.pw_settle.specs.inside.Aside.{AreAllSatisfied, weight_of};
+ghost use Rattle.pw_settle.specs.inside.Known.{ListsOneMore};
 ghost use Rattle.pw_settle.specs.inside.Progress.{AreOthersSatisfied, AreQueuedVisible};
 ghost use Rattle.pw_settle.specs.inside.Progress.{AreSatisfied, tally};
 
@@ -20,7 +23,7 @@ use crate::resettling::queue_changed;
 use crate::settled::Settled;
 use crate::settling::{queue_readers, seen};
 use crate::support_list::SupportList;
-use pw_cells::CellStore;
+use pw_cells::{CellStore, NarrowFact};
 use pw_facts::{Fact, merge_facts};
 use pw_info::Info;
 use pw_network::Network;
@@ -86,6 +89,114 @@ pub fn value_aside<A: Allocator + Copy>(
     start_value(before, network, store, cell, worldview)
 }
 
+// The merge of two facts of one kind, as `merge_facts` gives it.
+#[inline(always)]
+fn merged_narrow(a: NarrowFact, b: NarrowFact) -> NarrowFact
+    requires { kind_of a.info ≡ kind_of b.info }
+    ensures { IsMerge (fact_on a.info a.support) (fact_on b.info b.support)
+        (fact_on result.info result.support) }
+{
+    if a.info.implies(&b.info) {
+        if b.support.is_subset(&a.support) && b.info.implies(&a.info) {
+            return b;
+        }
+        return a;
+    }
+    if b.info.implies(&a.info) {
+        return b;
+    }
+    NarrowFact {
+        info: a.info.meet(&b.info),
+        support: a.support.join(b.support),
+    }
+}
+
+// What `start_value` answers, if all premises at hand are below 64.
+#[inline(always)]
+fn start_narrow<A: Allocator + Copy>(
+    before: &Settled<A>,
+    network: &Network<'_, '_, A>,
+    store: &mut CellStore<A>,
+    cell: u32,
+    worldview: &PremiseSet,
+    is_part: bool,
+) -> Option<NarrowFact>
+    requires kinds { kinds_of store.old ≡ kinds_in (wiring network.now) }
+    requires sound { IsSound (wiring network.now) store.old }
+    requires before { IsSettled (wiring network.now) store.old before.now.worldview before.now }
+    requires cell { cell < length store.old.cells }
+    requires part { is_part ≡ true → is_subset worldview.now before.now.worldview ≡ true }
+    ensures unchanged { store.new ≡ store.old }
+    ensures found { IfSome result (λ fact. IsFound (wiring network.now) store.old worldview.now cell
+        fact.info fact.support) }
+{
+    // The network belongs to the store.
+    let _instances = network.instances();
+    let earlier = before.narrow_value(cell)?;
+    if !earlier.support.is_within(worldview) {
+        return store.kept_narrow(cell, worldview);
+    }
+    if is_part {
+        return Some(earlier);
+    }
+    let kept = store.kept_narrow(cell, worldview)?;
+    Some(merged_narrow(earlier, kept))
+}
+
+// Appends what is known about one cell more at the start. Fails only when out of memory.
+#[inline(always)]
+fn push_start<A: Allocator + Copy>(
+    before: &Settled<A>,
+    network: &Network<'_, '_, A>,
+    store: &mut CellStore<A>,
+    cell: u32,
+    worldview: &PremiseSet,
+    is_part: bool,
+    infos: &mut Vec<Info, A>,
+    supports: &mut SupportList<A>,
+) -> Result<(), AllocError>
+    requires kinds { kinds_of store.old ≡ kinds_in (wiring network.now) }
+    requires sound { IsSound (wiring network.now) store.old }
+    requires before { IsSettled (wiring network.now) store.old before.now.worldview before.now }
+    requires cell { cell < length store.old.cells }
+    requires part { is_part ≡ true → is_subset worldview.now before.now.worldview ≡ true }
+    ensures unchanged { store.new ≡ store.old }
+    ensures found { OnOk result (ListsOneMore (IsFound (wiring network.now) store.old worldview.now
+        cell) infos.old.items infos.new.items supports.old supports.new) }
+{
+    if let Some(fact) = start_narrow(before, network, store, cell, worldview, is_part) {
+        infos.push(fact.info)?;
+        supports.push_narrow(fact.support)?;
+        return Ok(());
+    }
+    push_wide_start(before, network, store, cell, worldview, infos, supports)
+}
+
+// The same, on any premises. Never inlined, so that what is narrow makes no room for wide sets.
+#[inline(never)]
+fn push_wide_start<A: Allocator + Copy>(
+    before: &Settled<A>,
+    network: &Network<'_, '_, A>,
+    store: &mut CellStore<A>,
+    cell: u32,
+    worldview: &PremiseSet,
+    infos: &mut Vec<Info, A>,
+    supports: &mut SupportList<A>,
+) -> Result<(), AllocError>
+    requires kinds { kinds_of store.old ≡ kinds_in (wiring network.now) }
+    requires sound { IsSound (wiring network.now) store.old }
+    requires before { IsSettled (wiring network.now) store.old before.now.worldview before.now }
+    requires cell { cell < length store.old.cells }
+    ensures unchanged { store.new ≡ store.old }
+    ensures found { OnOk result (ListsOneMore (IsFound (wiring network.now) store.old worldview.now
+        cell) infos.old.items infos.new.items supports.old supports.new) }
+{
+    let fact = start_value(before, network, store, cell, worldview);
+    infos.push(fact.info)?;
+    supports.push(fact.support)?;
+    Ok(())
+}
+
 // What is known about the cells at the start. Fails only when out of memory.
 fn start_values<A: Allocator + Copy>(
     alloc: A,
@@ -103,10 +214,18 @@ fn start_values<A: Allocator + Copy>(
 {
     let mut infos = Vec::with_capacity(alloc, store.cells() as usize)?;
     let mut supports = SupportList::with_capacity(alloc, store.cells() as usize)?;
+    let is_part = worldview.is_subset(before.worldview());
     for cell in 0..store.cells() {
-        let fact = start_value(before, network, store, cell, worldview);
-        let _ = infos.push(fact.info);
-        supports.push(fact.support)?;
+        push_start(
+            before,
+            network,
+            store,
+            cell,
+            worldview,
+            is_part,
+            &mut infos,
+            &mut supports,
+        )?;
     }
     Ok(Known { infos, supports })
 }
@@ -182,6 +301,10 @@ fn unmet_instances<A: Allocator + Copy>(
 {
     let earlier = before.infos();
     let now = known.infos.as_slice();
+    if worldview.is_subset(before.worldview()) {
+        // What is visible was visible, and of no cell more is known.
+        return fallen_instances(alloc, network, visible, visible, earlier, now);
+    }
     let was_visible = seen(alloc, network.instances(), before.worldview())?;
     let mut agenda = fallen_instances(alloc, network, visible, &was_visible, earlier, now)?;
     queue_changed(network, visible, earlier, now, &mut agenda);

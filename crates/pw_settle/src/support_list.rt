@@ -66,6 +66,19 @@ impl<A: Allocator + Copy> SupportList<A> {
         Ok(())
     }
 
+    // Appends premises below 64 of one cell more. If memory is refused, nothing changes.
+    #[inline(always)]
+    pub(crate) fn push_narrow(&mut self, support: NarrowSet) -> Result<(), AllocError>
+        ensures ok { OnOk result (self.new ≡ self.old ++ support ∷ []) }
+        ensures err { OnErr result (self.new ≡ self.old) }
+    {
+        match &mut self.lists {
+            Widths::Narrow(list) => list.push(support)?,
+            Widths::Wide(list) => list.push(support.widen())?,
+        }
+        Ok(())
+    }
+
     // Puts these premises in place of those of a cell. If memory is refused, nothing changes.
     #[inline(always)]
     pub(crate) fn replace(&mut self, place: usize, support: PremiseSet) -> Result<(), AllocError>

@@ -1,5 +1,5 @@
 -- What is kept of each cell in a worldview, as a settling has it at hand.
-use Rattle.std.specs.Prelude.{◌≡◌, ℕ, ◌<◌, Bool, true, List, length, fold, set, refl, [], ◌∷◌, All}
+use Rattle.std.specs.Prelude.{◌≡◌, ℕ, ◌<◌, Bool, true, List, length, fold, set, refl, [], ◌∷◌, ◌++◌, All}
 use Rattle.std.specs.FinSet.{union, is_subset, code}
 use Rattle.pw_info.specs.declared.info.Info.{Info}
 use Rattle.pw_info.specs.Information.{Implies, meet}
@@ -28,6 +28,14 @@ pub record AreKept (store : Store) (w : Premises) (infos : List Info) (supports 
   pub within : (cell : ℕ) → is_subset (support_at supports cell) w ≡ true
   pub enough : (cell : ℕ) → IsLeastAbove (support_at supports cell) (kept_in store cell)
       (info_at infos cell)
+
+-- one cell more is listed: an information of which this holds, with its premises
+pub record ListsOneMore (Is : Info → Premises → Type 0) (infos more_infos : List Info)
+    (supports more_supports : List Premises) : Type 0 where
+  pub fact : Fact
+  pub is : Is fact.info fact.support
+  pub infos_are : more_infos ≡ infos ++ fact.info ∷ []
+  pub supports_are : more_supports ≡ supports ++ fact.support ∷ []
 
 -- what is kept says at least what was told
 abbrev pub SaysTold : Store → Premises → Type 0

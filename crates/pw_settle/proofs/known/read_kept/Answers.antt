@@ -1,4 +1,5 @@
 use Rattle.std.proofs.Common.{◌≡◌, ℕ, ◌+◌, [], ◌∷◌, ◌++◌, length, refl, sym, ◌∙◌, subst, arith}
+use Rattle.pw_facts.specs.declared.fact.Fact.{Fact}
 use Rattle.pw_cells.specs.Cells.{Store}
 use Rattle.pw_settle.proofs.KeptLemmas.{IsReadTo, all_kept, lie_upstream, read_more, read_none, says_told}
 use Rattle.pw_settle.proofs.known.read_kept.Given as given
@@ -8,31 +9,24 @@ pub loop-cell-init : goal.loop-cell-init
 loop-cell-init g c = record {
   same = refl;
   read = read_none c.args.store.now c.args.worldview.now c.in_ok-infos.infos.items c.in_ok-supports.supports c.in_ok-infos.ensures.items c.in_ok-supports.ensures;
-  room = omega (arith, c.in_ok-infos.ensures.len, c.in_ok-infos.ensures.exact, c.cells.ensures);
 }
 
 pub loop-cell-preserved : goal.loop-cell-preserved
 loop-cell-preserved g c =
-    let done = c.push.ensures.succeeds (omega (arith, c.loop-cell.invariant.room, c.loop-cell-test.true, c.cells-cell-end.ensures)) in
     let infos = c.loop-cell.infos.items in
     let supports = c.loop-cell.supports in
     let same = c.loop-cell.invariant.same in
+    let more = c.in_ok-push_kept.ensures.kept in
+    let fact : Fact = more.fact in
     let so_far : IsReadTo c.loop-cell.store c.args.worldview.now c.loop-cell.cell infos supports =
     subst (λ (s : Store). IsReadTo s c.args.worldview.now c.loop-cell.cell infos supports) (sym {A = Store} same) c.loop-cell.invariant.read in
-    let one : IsReadTo c.args.store.now c.args.worldview.now (c.loop-cell.cell + 1) (infos ++ c.kept-fact.result.info ∷ []) (supports ++ c.kept-fact.result.support ∷ []) =
-    subst (λ (s : Store). IsReadTo s c.args.worldview.now (c.loop-cell.cell + 1) (infos ++ c.kept-fact.result.info ∷ []) (supports ++ c.kept-fact.result.support ∷ [])) same
-    (read_more c.loop-cell.store c.args.worldview.now c.loop-cell.cell infos supports c.kept-fact.result.info c.kept-fact.result.support so_far
-    (record {
-      info_is = c.kept-fact.ensures.info;
-      within = c.kept-fact.ensures.within;
-      enough = c.kept-fact.ensures.larger;
-      rests = c.kept-fact.ensures.rests;
-      told = c.kept-fact.ensures.told;
-    })) in
+    let one : IsReadTo c.args.store.now c.args.worldview.now (c.loop-cell.cell + 1) (infos ++ fact.info ∷ []) (supports ++ fact.support ∷ []) =
+    subst (λ (s : Store). IsReadTo s c.args.worldview.now (c.loop-cell.cell + 1) (infos ++ fact.info ∷ []) (supports ++ fact.support ∷ [])) same
+    (read_more c.loop-cell.store c.args.worldview.now c.loop-cell.cell infos supports fact.info fact.support so_far
+    (record { info_is = more.is.info; within = more.is.within; enough = more.is.larger; rests = more.is.rests; told = more.is.told })) in
     record {
-      same = c.kept-fact.ensures.unchanged ∙ same;
-      read = rw ((rw done at c.push.ensures.items), c.in_ok-push.ensures.ok) one;
-      room = omega (arith, c.loop-cell.invariant.room, c.push.ensures.upper_bound, c.push.ensures.capacity);
+      same = c.push_kept.ensures.unchanged ∙ same;
+      read = rw (more.infos_are, more.supports_are) one;
     }
 
 -- after the last cell all were read

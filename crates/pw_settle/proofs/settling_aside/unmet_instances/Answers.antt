@@ -1,9 +1,11 @@
-use Rattle.std.proofs.Common.{map, ap, ◌∙◌}
+use Rattle.std.proofs.Common.{◌≡◌, true, map, sym, ap, ◌∙◌}
+use Rattle.std.specs.FinSet.{is_subset}
+use Rattle.std.proofs.lemmas.Result.{IfOk-weaker}
 use Rattle.pw_info.specs.Information.{kind_of}
 use Rattle.pw_premises.specs.Premises.{Premises}
 use Rattle.pw_network.specs.Wiring.{wiring}
 use Rattle.pw_settle.specs.Calls.{is_instance_visible}
-use Rattle.pw_settle.proofs.AsideEnds.{kinds_looked_at, satisfied_by}
+use Rattle.pw_settle.proofs.AsideEnds.{kinds_looked_at, satisfied_by, satisfied_in_part}
 use Rattle.pw_settle.proofs.AsideStarts.{found_kinds, settled_kinds}
 use Rattle.pw_settle.proofs.settling_aside.unmet_instances.Goals as goal
 
@@ -12,8 +14,18 @@ fallen_instances-requires-clause-before g c =
     ap (map kind_of) c.infos-earlier.ensures
     ∙ settled_kinds (wiring c.args.network.now) c.args.network.now.well c.args.store.now c.args.before.now c.requires.before
 
+pub fallen_instances-requires-2-clause-before : goal.fallen_instances-requires-2-clause-before
+fallen_instances-requires-2-clause-before g c =
+    ap (map kind_of) c.infos-earlier.ensures
+    ∙ settled_kinds (wiring c.args.network.now) c.args.network.now.well c.args.store.now c.args.before.now c.requires.before
+
 pub fallen_instances-requires-clause-now : goal.fallen_instances-requires-clause-now
 fallen_instances-requires-clause-now g c =
+    ap (map kind_of) c.as_slice-now.ensures.value
+    ∙ found_kinds (wiring c.args.network.now) c.args.store.now c.args.worldview.now c.args.known.now.infos.items c.args.known.now.supports c.requires.found
+
+pub fallen_instances-requires-2-clause-now : goal.fallen_instances-requires-2-clause-now
+fallen_instances-requires-2-clause-now g c =
     ap (map kind_of) c.as_slice-now.ensures.value
     ∙ found_kinds (wiring c.args.network.now) c.args.store.now c.args.worldview.now c.args.known.now.infos.items c.args.known.now.supports c.requires.found
 
@@ -23,11 +35,20 @@ queue_changed-requires-clause-kinds g c =
     c.args.known.now.infos.items c.args.known.now.supports c.requires.found c.infos-earlier.result.now c.as_slice-now.result.now c.infos-earlier.ensures
     c.as_slice-now.ensures.value
 
+pub returns-then-is_subset-clause-satisfied : goal.returns-then-is_subset-clause-satisfied
+returns-then-is_subset-clause-satisfied g c =
+    let part : is_subset c.args.worldview.now c.args.before.now.worldview ≡ true =
+    ap (λ (s : Premises). is_subset c.args.worldview.now s) (sym c.worldview.ensures) ∙ sym c.is_subset.ensures.subset ∙ c.if-is_subset.true in
+    IfOk-weaker c.fallen_instances.result _ _ (λ queued met.
+    satisfied_in_part (wiring c.args.network.now) c.args.network.now.well c.args.store.now c.requires.kinds c.args.worldview.now c.args.before.now c.requires.before
+    c.args.known.now.infos.items c.args.known.now.supports c.requires.found part c.infos-earlier.result.now c.as_slice-now.result.now c.infos-earlier.ensures
+    c.as_slice-now.ensures.value c.args.visible.now queued c.requires.visible met) c.fallen_instances.ensures
+
 pub returns-clause-satisfied : goal.returns-clause-satisfied
 returns-clause-satisfied g c =
     satisfied_by (wiring c.args.network.now) c.args.network.now.well c.args.store.now c.requires.kinds c.args.worldview.now c.args.before.now c.requires.before
     c.args.known.now.infos.items c.args.known.now.supports c.requires.found c.infos-earlier.result.now c.as_slice-now.result.now c.infos-earlier.ensures
     c.as_slice-now.ensures.value c.args.visible.now c.deref.result.now c.in_ok-agenda.agenda c.queue_changed.new.agenda c.requires.visible
-    (c.deref.ensures.value ∙ c.in_ok-was_visible.ensures ∙ ap (map (is_instance_visible c.worldview.result.now)) c.instances.ensures.instances
-    ∙ ap (λ (w : Premises). map (is_instance_visible w) (wiring c.args.network.now).attached) c.worldview.ensures)
+    (c.deref.ensures.value ∙ c.in_ok-was_visible.ensures ∙ ap (map (is_instance_visible c.worldview-2.result.now)) c.instances.ensures.instances
+    ∙ ap (λ (w : Premises). map (is_instance_visible w) (wiring c.args.network.now).attached) c.worldview-2.ensures)
     c.in_ok-agenda.ensures c.queue_changed.ensures

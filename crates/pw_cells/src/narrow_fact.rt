@@ -1,0 +1,13 @@
+//! A fact on premises below 64.
+
+use pw_info::Info;
+use pw_premises::NarrowSet;
+
+/// A fact that rests on premises below 64, in little room.
+#[derive(Clone, Copy, Debug)]
+pub struct NarrowFact {
+    /// What it says about a value.
+    pub info: Info,
+    /// The premises that it rests on.
+    pub support: NarrowSet,
+}
