@@ -5,6 +5,7 @@ pub mod EnoughLemmas
 pub mod FamilyLemmas
 pub mod GroupLemmas
 pub mod NogoodLemmas
+pub mod PairLemmas
 pub mod ReasonLemmas
 pub mod SameInfoLemmas
 pub mod ValueGrows

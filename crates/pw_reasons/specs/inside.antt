@@ -2,5 +2,6 @@
 pub mod Families
 pub mod GroupsHeld
 pub mod Held
+pub mod PairRows
 pub mod Reasoning
 pub mod Searching

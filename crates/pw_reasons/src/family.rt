@@ -5,14 +5,13 @@ ghost use Rattle.std.specs.Prelude.{Contains, IfNone, IfOk, IfSome, OnErr, OnOk}
 ghost use Rattle.std.specs.FinSet.{contains, insert, is_subset};
 ghost use Rattle.pw_premises.specs.Premises.{most_premises};
 ghost use Rattle.pw_reasons.specs.Nogood.{covers};
-ghost use Rattle.pw_reasons.specs.inside.Families.{HasOneMore, sets_of};
+ghost use Rattle.pw_reasons.specs.inside.Families.{HasOneMore, joined_with, sets_of};
 
 use pw_premises::PremiseSet;
 use std::alloc::{AllocError, Allocator};
-use std::mem;
 
-// A family of sets of premises: a tree, so that a search passes few of many sets. Sets that begin with
-// the same premises, from the last to the first, share their branches.
+// A family of sets of premises: a tree, so that a search passes few of many sets. Sets that have the
+// same premises along a path share its branches.
 #[cycle(family)]
 #[derive(Drop)]
 pub(crate) enum Family<A: Allocator> {
@@ -24,8 +23,8 @@ pub(crate) enum Family<A: Allocator> {
     Split(Box<Branch<A>, A>),
 }
 
-// The sets that have a premise, kept without it, and the sets that lack it. A set is added so that
-// the premises of both are below it: then no path is longer than the number of premises.
+// The sets that have a premise, kept without it, and the sets that lack it. A set is added where its
+// path ends, so no premise comes twice on a path, and no path is longer than the number of premises.
 #[cycle(family)]
 #[derive(Drop)]
 pub(crate) struct Branch<A: Allocator> {
@@ -117,46 +116,78 @@ impl<A: Allocator + Copy> Family<A> {
         branch.without.find_with(premises, premise, found)
     }
 
-    // Adds a set. Those that include it may go. Fails only when out of memory; then nothing changes.
+    // Whether a set of the family is a subset of these premises.
+    pub(crate) fn covers(&self, premises: &PremiseSet) -> bool
+        ensures { result ≡ covers (sets_of self.now) premises.now }
+    {
+        match self {
+            Family::Nothing => false,
+            Family::Nil => true,
+            Family::Split(branch) => {
+                if premises.contains(branch.premise) && branch.with.covers(premises) {
+                    return true;
+                }
+                branch.without.covers(premises)
+            }
+        }
+    }
+
+    // Adds a set at the end of its path. Fails only when out of memory; then nothing changes.
     pub(crate) fn add(&mut self, alloc: A, premises: &PremiseSet) -> Result<(), AllocError>
         ensures more { OnOk result (HasOneMore (sets_of self.old) (sets_of self.new) premises.now) }
         ensures err { OnErr result (self.new ≡ self.old) }
     {
-        let Some(last) = premises.numbers().next_back() else {
-            *self = Family::Nil;
-            return Ok(());
-        };
-        match self {
-            Family::Split(branch) if branch.premise >= last => {
-                if branch.premise == last {
-                    branch.with.add(alloc, &premises.without(last))
-                } else {
-                    branch.without.add(alloc, premises)
-                }
-            }
-            _ => self.add_first(alloc, last, &premises.without(last)),
-        }
+        // As in `within`.
+        let _numbers = premises.numbers();
+        self.add_past(alloc, premises, &mut PremiseSet::empty())
     }
 
-    // Adds the set of a premise and those before it, as the first branch. It is made before anything
-    // changes.
-    fn add_first(&mut self, alloc: A, last: u16, before: &PremiseSet) -> Result<(), AllocError>
-        ensures first { OnOk result (sets_of self.new ≡ insert before.now last ∷ sets_of self.old) }
+    // The same where each set of the family stands for itself with the premises passed, which are
+    // some of those of the new set. (A copy of the set without them would cost more at each branch.)
+    fn add_past(
+        &mut self,
+        alloc: A,
+        premises: &PremiseSet,
+        passed: &mut PremiseSet,
+    ) -> Result<(), AllocError>
+        requires in_range { (q : ℕ) → contains premises.now q ≡ true → q < most_premises }
+        requires passed { is_subset passed.old premises.now ≡ true }
+        ensures more { OnOk result (HasOneMore (joined_with passed.old (sets_of self.old))
+            (joined_with passed.old (sets_of self.new)) premises.now) }
         ensures err { OnErr result (self.new ≡ self.old) }
     {
-        let with = chain(alloc, before)?;
-        let mut branch = Box::new(
-            alloc,
-            Branch {
-                premise: last,
-                with,
-                without: Family::Nothing,
-            },
-        )?;
-        branch.without = mem::replace(self, Family::Nothing);
-        *self = Family::Split(branch);
-        Ok(())
+        match self {
+            Family::Nothing => {
+                *self = chain(alloc, &premises.difference(*passed))?;
+                Ok(())
+            }
+            Family::Nil => Ok(()),
+            Family::Split(branch) => {
+                if passes(premises, branch.premise, passed) {
+                    branch.with.add_past(alloc, premises, passed)
+                } else {
+                    branch.without.add_past(alloc, premises, passed)
+                }
+            }
+        }
     }
+}
+
+// Counts the premise among those passed, if the set has it, and answers whether it does.
+#[inline(always)]
+#[tactic(auto, using(crate::proofs::FamilyLemmas::one_more_passed))]
+fn passes(premises: &PremiseSet, premise: u16, passed: &mut PremiseSet) -> bool
+    requires in_range { (q : ℕ) → contains premises.now q ≡ true → q < most_premises }
+    requires part { is_subset passed.old premises.now ≡ true }
+    ensures part { is_subset passed.new premises.now ≡ true }
+    ensures more { result ≡ true → passed.new ≡ insert passed.old premise }
+    ensures same { result ≡ false → passed.new ≡ passed.old }
+{
+    let has = premises.contains(premise);
+    if has {
+        passed.insert(premise);
+    }
+    has
 }
 
 // The family of this set alone.

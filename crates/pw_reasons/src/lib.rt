@@ -10,6 +10,7 @@ mod groups;
 pub mod laws;
 mod listing;
 mod nogoods;
+mod pairs;
 mod picks;
 mod reasoning;
 mod trying;

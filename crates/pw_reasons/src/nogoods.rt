@@ -1,11 +1,13 @@
 //! Nogoods: noted sets of premises that contradict themselves.
-ghost use Rattle.std.specs.Prelude.{◌≡◌, ◌↔◌, ◌⊎◌, ◌||◌, ◌<◌, [], true, false, Contains};
+ghost use Rattle.std.specs.Prelude.{◌≡◌, ◌<◌, ◌↔◌, ◌⊎◌, ◌||◌, [], true, false, Contains};
 ghost use Rattle.std.specs.Prelude.{IfNone, IfSome, OnErr, OnOk};
 ghost use Rattle.std.specs.FinSet.{insert, is_subset};
 ghost use Rattle.pw_premises.specs.Premises.{Premises, most_premises};
+ghost use Rattle.pw_reasons.specs.inside.PairRows.{pair};
 ghost use Rattle.pw_reasons.specs.Nogood.{covers};
 
 use crate::family::Family;
+use crate::pairs::Pairs;
 use pw_premises::PremiseSet;
 use std::alloc::{AllocError, Allocator, Global};
 use std::marker::Model;
@@ -17,11 +19,14 @@ use std::marker::Model;
 #[derive(Drop)]
 pub struct Nogoods<A: Allocator = Global> {
     alloc: A,
+    // Those of exactly two premises.
+    pairs: Pairs<A>,
+    // The others.
     family: Family<A>,
 }
 
 impl<A: Allocator> Model for Nogoods<A> {
-    ghost use Rattle.std.specs.Prelude.{List};
+    ghost use Rattle.std.specs.Prelude.{◌++◌, List};
     ghost use Rattle.std.specs.Coded.{coded_list, coded_ℕ};
     ghost use Rattle.std.specs.FinSet as set;
     ghost use Rattle.pw_premises.specs.Premises.{Premises};
@@ -31,7 +36,7 @@ impl<A: Allocator> Model for Nogoods<A> {
 
     ghost coded = { coded_list (set.code coded_ℕ) };
 
-    ghost view = { λ a. sets_of a.family };
+    ghost view = { λ a. a.pairs ++ sets_of a.family };
 }
 
 impl<A: Allocator + Copy> Nogoods<A> {
@@ -41,6 +46,7 @@ impl<A: Allocator + Copy> Nogoods<A> {
     {
         Nogoods {
             alloc,
+            pairs: Pairs::new(alloc),
             family: Family::Nothing,
         }
     }
@@ -75,7 +81,10 @@ impl<A: Allocator + Copy> Nogoods<A> {
             → (noted ≡ premises.now) ⊎ Contains self.old noted }
         ensures err { OnErr result (self.new ≡ self.old) }
     {
-        self.family.add(self.alloc, premises)
+        match two_of(premises) {
+            Some((lesser, greater)) => self.pairs.add(lesser, greater),
+            None => self.family.add(self.alloc, premises),
+        }
     }
 
     /// Whether a noted set is a subset of these premises. Takes no memory.
@@ -91,7 +100,10 @@ impl<A: Allocator + Copy> Nogoods<A> {
             × (is_subset noted premises.now ≡ true)) }
         ensures none { IfNone result (covers self.now premises.now ≡ false) }
     {
-        self.family.within(premises)
+        match self.pairs.within(premises) {
+            Some(pair) => Some(pair),
+            None => self.family.within(premises),
+        }
     }
 
     // The same for a noted set that has this premise. Others are not looked for.
@@ -109,8 +121,26 @@ impl<A: Allocator + Copy> Nogoods<A> {
         requires before { covers self.now before.now ≡ false }
         ensures { result ≡ covers self.now (insert before.now premise) }
     {
-        let mut more = *before;
-        more.insert(premise);
-        self.covers(&more)
+        if self.pairs.covers_with(before, premise) {
+            return true;
+        }
+        let mut premises = *before;
+        premises.insert(premise);
+        self.family.covers(&premises)
+    }
+}
+
+// The two premises of the set, the lesser one first, if it has exactly two.
+fn two_of(premises: &PremiseSet) -> Option<(u16, u16)>
+    ensures same { IfSome result (λ two. pair two.0 two.1 ≡ premises.now) }
+    ensures rise { IfSome result (λ two. two.0 < two.1) }
+    ensures in_range { IfSome result (λ two. two.1 < most_premises) }
+{
+    let mut numbers = premises.numbers();
+    let lesser = numbers.next()?;
+    let greater = numbers.next()?;
+    match numbers.next() {
+        Some(_) => None,
+        None => Some((lesser, greater)),
     }
 }
