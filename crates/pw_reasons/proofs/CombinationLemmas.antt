@@ -98,7 +98,7 @@ most_of groups each few = few_of 6 groups each few
 -- ---- group after group
 
 -- the groups from a place on are the group there and those after it
-cut : (groups : List (List ℕ)) (place : ℕ) (group : List ℕ) → place < length groups → group ≡ slice_index_or groups place [] →
+pub cut : (groups : List (List ℕ)) (place : ℕ) (group : List ℕ) → place < length groups → group ≡ slice_index_or groups place [] →
     drop place groups ≡ group ∷ drop (place + 1) groups
 cut groups place group within is = drop_more groups place [] within ∙ ap (λ g. g ∷ drop (place + 1) groups) (sym is)
 

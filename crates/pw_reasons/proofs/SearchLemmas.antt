@@ -1,7 +1,7 @@
 -- Searching combinations group by group: the worldviews beside what is believed, which of them are
 -- covered, and the first that is consistent.
-use Rattle.std.proofs.Common.{◌≡◌, ℕ, ◌+◌, ◌<◌, ◌≤◌, zero, suc, Bool, true, false, inl, inr, ◌||◌, Option, List, [], ◌∷◌, ◌++◌, All, length, map, take, drop, refl, sym, ap, ◌∙◌, subst, arith, append_assoc, append-nil}
-use Rattle.std.specs.Prelude.{slice_index_or}
+use Rattle.std.proofs.Common.{◌≡◌, ℕ, ◌+◌, ◌<◌, ◌≤◌, zero, suc, Bool, true, false, inl, inr, ◌||◌, Option, None, Result, Ok, Err, List, [], ◌∷◌, ◌++◌, All, length, map, take, drop, refl, sym, ap, ◌∙◌, subst, arith, append_assoc, append-nil, length-append}
+use Rattle.std.specs.Prelude.{IfNone, IfSome, slice_index_or}
 use Rattle.std.specs.List.{flat_map}
 use Rattle.std.specs.Cmp.{nat_cmp_total}
 use Rattle.std.specs.Ordering.{nat_cmp, eq_by_cmp}
@@ -14,15 +14,20 @@ use Rattle.pw_premises.specs.Premises.{Premises}
 use Rattle.pw_premises.specs.PremiseSubsets.{is_subset_trans, is_subset_union_left, union_is_subset}
 use Rattle.pw_cells.specs.Cells.{Store, kinds_of}
 use Rattle.pw_network.specs.Network.{Network, IsWellNetwork}
+use Rattle.pw_settle.specs.Growth.{KeepsMore}
 use Rattle.pw_settle.specs.Settled.{Settled}
 use Rattle.pw_settle.specs.Values.{kinds_in}
 use Rattle.pw_settle.proofs.Growing.{keeps_more_then}
 use Rattle.pw_reasons.specs.Choice.{IsConsistent, IsFirstConsistent}
-use Rattle.pw_reasons.specs.Combinations.{combinations_of, worldview_of, worldviews_of}
+use Rattle.pw_reasons.specs.Combinations.{combinations_of, picked_in, worldview_of, worldviews_of}
 use Rattle.pw_reasons.specs.Groups.{all_of}
 use Rattle.pw_reasons.specs.Nogood.{AreNogoods, IsNogood, covers}
-use Rattle.pw_reasons.specs.inside.Searching.{AreCovered, IsFirstBeside, LeavesSound, Refutes, worldviews_beside}
-use Rattle.pw_reasons.proofs.ChoiceLemmas.{covered_nogoods, last_then, nogoods_then}
+use Rattle.pw_reasons.specs.inside.Searching.{AreCovered, IsFirstBeside, IsFoundBeside, LeavesSound, Refutes, chosen_in, ends_search, worldviews_beside}
+use Rattle.pw_reasons.specs.declared.choosing.Found.{Found}
+use Rattle.pw_reasons.specs.declared.picks.Picks.{Picks}
+use Rattle.pw_reasons.specs.declared.choosing.Found.TheVariants.{Chosen, Nogood, Nothing}
+use Rattle.pw_reasons.proofs.ChoiceLemmas.{consistent_then, covered_nogoods, last_then, nogoods_then}
+use Rattle.pw_reasons.proofs.CombinationLemmas.{cut}
 use Rattle.pw_reasons.proofs.NogoodLemmas.{covers_grows}
 use Rattle.pw_reasons.proofs.SetLemmas.{from_both}
 
@@ -64,17 +69,17 @@ same_test false false c = refl
 pub believed_already : (w : Premises) (p : ℕ) (taken : List ℕ) → union w (from_list (p ∷ taken)) ≡ union (insert w p) (from_list taken)
 believed_already w p taken = same_set nat_cmp_total nat_cmp-IsAntisymmetric _ _ (λ q.
     contains-union nat_cmp_total w (from_list (p ∷ taken)) q
-    ∙ ap (λ b. contains w q || b) (ap (λ s. contains s q) (from_both (p ∷ []) taken)
+    ∙ ap (λ b. contains w q || b) (ap (λ s. contains {R = nat_cmp} s q) (from_both (p ∷ []) taken)
     ∙ contains-union nat_cmp_total (from_list (p ∷ [])) (from_list taken) q
-    ∙ ap (λ b. b || contains (from_list taken) q) (just_one q))
+    ∙ ap (λ b. b || contains {R = nat_cmp} (from_list taken) q) (just_one q))
     ∙ same_test (contains w q) (eq_by_cmp nat_cmp q p) (contains (from_list taken) q)
     ∙ sym (contains-union nat_cmp_total (insert w p) (from_list taken) q
-    ∙ ap (λ b. b || contains (from_list taken) q) (contains-insert nat_cmp_total w p q)))
+    ∙ ap (λ b. b || contains {R = nat_cmp} (from_list taken) q) (contains-insert nat_cmp_total w p q)))
   where
     -- a list of one is a set of one
     just_one : (q : ℕ) → contains (from_list {R = nat_cmp} (p ∷ [])) q ≡ (eq_by_cmp nat_cmp q p || false)
     just_one q =
-        ap (λ s. contains s q) (from_list_push nat_cmp_total nat_cmp-IsAntisymmetric [] p)
+        ap (λ s. contains {R = nat_cmp} s q) (from_list_push nat_cmp_total nat_cmp-IsAntisymmetric [] p)
         ∙ contains-insert nat_cmp_total (from_list []) p q ∙ ap (λ b. eq_by_cmp nat_cmp q p || b) (contains-from_list_nat [] q)
 
 -- nothing taken adds nothing
@@ -173,6 +178,15 @@ refutes old new w nogood more uncovered part = record {
   only = λ v within covered. only_left (is_subset nogood v) (covers old v) (part_uncovered old v w within uncovered) (sym (more v) ∙ covered);
 }
 
+-- and what was covered still is
+pub more_still : (old new : List Premises) (w nogood : Premises) → ((v : Premises) → covers new v ≡ (is_subset nogood v || covers old v)) →
+    covers old w ≡ true → covers new w ≡ true
+more_still old new w nogood more covered = more w ∙ ap (λ b. is_subset nogood w || b) covered ∙ either (is_subset nogood w)
+  where
+    either : (b : Bool) → (b || true) ≡ true
+    either true = refl
+    either false = refl
+
 -- where there is no group, what is not covered is not among what is
 pub none_left : (nogoods : List Premises) (w : Premises) → covers nogoods w ≡ false → AreCovered nogoods (worldviews_beside w []) → ⊥
 none_left nogoods w uncovered all =
@@ -254,3 +268,154 @@ leaves_then network old middle new before between after first last one other = r
   grows = keeps_more_then network old middle new one.grows other.grows;
   upstream = λ given rests. other.upstream given (one.upstream given rests);
 }
+
+-- what was found is one thing
+pub goes_on : {E : Type 0} (result : Result Found E) (found : Found) (noted believed : Premises) → result ≡ Ok Nothing → result ≡ Ok found →
+    ends_search noted believed found ≡ true → ⊥
+goes_on result found noted believed nothing was ends =
+    let same : found ≡ Nothing = cc in
+    false≢true (sym (ap (ends_search noted believed) same) ∙ ends)
+
+-- nothing found is none chosen
+pub same_answer : {E : Type 0} (result : Result Found E) (found : Found) (picks : Option Picks) → result ≡ Ok Nothing → result ≡ Ok found →
+    picks ≡ chosen_in found → ◌≡◌ {A = Result (Option Picks) E} (Ok picks) (Ok None)
+same_answer result found picks nothing was is =
+    let same : found ≡ Nothing = cc in
+    ap Ok (is ∙ ap chosen_in same)
+
+-- an answer is no failure
+pub not_refused : {T E : Type 0} (result : Result T E) (x : T) (e : E) → result ≡ Ok x → result ≡ Err e → ⊥
+not_refused result x e answered refused = cc
+
+-- ---- a premise of the next group is taken
+
+-- the groups that are left are the next one and those after it
+pub group_left : (groups : List (List ℕ)) (picked seen group : List ℕ) → seen ≡ picked → length picked < length groups →
+    group ≡ slice_index_or groups (length seen) [] → drop (length picked) groups ≡ group ∷ drop (length picked + 1) groups
+group_left groups picked seen group is within at = cut groups (length picked) group within (at ∙ ap (λ xs. slice_index_or groups (length xs) []) is)
+
+-- where a premise p of the next group is taken: what is believed then, and what is picked
+module _ (w more : Premises) (groups : List (List ℕ)) (picked with group : List ℕ) (i : ℕ)
+    (left : drop (length picked) groups ≡ group ∷ drop (length picked + 1) groups) (within : i < length group)
+    (believed : more ≡ insert w (slice_index_or group i 0)) (pushed : with ≡ picked ++ slice_index_or group i 0 ∷ []) where
+  rest_is : drop (length with) groups ≡ drop (length picked + 1) groups
+  rest_is = ap (λ n. drop n groups) (ap length pushed ∙ length-append picked (slice_index_or group i 0 ∷ []))
+
+  worldviews_then : worldviews_beside more (drop (length with) groups) ≡ beside w (drop (length picked + 1) groups) (slice_index_or group i 0)
+  worldviews_then = λ k. worldviews_beside (believed k) (rest_is k)
+
+  pub part_of_more : is_subset w more ≡ true
+  part_of_more = subst (λ v. is_subset w v ≡ true) (sym believed) (less_than_more w (slice_index_or group i 0))
+
+  -- if all were covered at the start, those behind the premise are
+  pub covered_then : (old now : List Premises) → ((v : Premises) → covers old v ≡ true → covers now v ≡ true) →
+      AreCovered old (worldviews_beside w (drop (length picked) groups)) → AreCovered now (worldviews_beside more (drop (length with) groups))
+  covered_then old now grows all =
+      subst (AreCovered now) (sym worldviews_then)
+      (All-weaker (λ v. covers old v ≡ true) (λ v. covers now v ≡ true) grows (beside w (drop (length picked + 1) groups) (slice_index_or group i 0))
+      (covered_behind w (drop (length picked + 1) groups) old group i within (subst (λ gs. AreCovered old (worldviews_beside w gs)) left all)))
+
+  module _ (network : Network) (old store : Store) (grows : KeepsMore network old store) (noted : Premises) (before after : List Premises) where
+    first_now : (all : List ℕ) → IsFirstBeside network store more (drop (length with) groups) with all →
+        IsFirstBeside network old (insert w (slice_index_or group i 0)) (drop (length picked + 1) groups) (picked ++ slice_index_or group i 0 ∷ []) all
+    first_now all first =
+        subst (λ v. IsFirstBeside network old v (drop (length picked + 1) groups) (picked ++ slice_index_or group i 0 ∷ []) all) believed
+        (subst (λ gs. IsFirstBeside network old more gs (picked ++ slice_index_or group i 0 ∷ []) all) rest_is
+        (subst (λ xs. IsFirstBeside network old more (drop (length with) groups) xs all) pushed
+        (record {
+          earlier = first.earlier;
+          taken = first.taken;
+          later = first.later;
+          order = first.order;
+          made = first.made;
+          nogoods = nogoods_then network old store grows (map (λ others. union more (from_list others)) first.earlier) first.nogoods;
+          consistent = consistent_then network old store grows (union more (from_list first.taken)) first.consistent;
+        })))
+
+    -- what ends the search there ends it here
+    pub found_then : (found : Found) → IsWellNetwork network → kinds_of old ≡ kinds_in network → AreNogoods network old before →
+        AreCovered before (flat_map (beside w (drop (length picked + 1) groups)) (take i group)) → ends_search noted w found ≡ true →
+        IsFoundBeside network store after noted more (drop (length with) groups) with found →
+        IsFoundBeside network old after noted w (drop (length picked) groups) picked found
+    found_then (Chosen picks) well same are covered ends first =
+        subst (λ gs. IsFirstBeside network old w gs picked (picked_in picks)) (sym left)
+        (first_behind network old w (drop (length picked + 1) groups) group i within well same before are covered picked (picked_in picks)
+        (first_now (picked_in picks) first))
+    found_then Nogood well same are covered ends refuted = record {
+      part = ends;
+      covered = refuted.covered;
+      only = λ v within_w is. refuted.only v (is_subset_trans v w more within_w part_of_more) is;
+    }
+    found_then Nothing well same are covered ends found = absurd (false≢true ends)
+
+    -- if nothing ends it, what is believed is still not covered
+    pub uncovered_then : (found : Found) → ends_search noted w found ≡ false →
+        IsFoundBeside network store after noted more (drop (length with) groups) with found → covers after w ≡ false
+    uncovered_then (Chosen picks) goes first = absurd (false≢true (sym goes))
+    uncovered_then Nogood goes refuted =
+        elim (cases_Bool (covers after w)) [
+          | inl covered ↦ absurd (false≢true (sym goes ∙ refuted.only w part_of_more covered))
+          | inr not_covered ↦ not_covered
+        ]
+    uncovered_then Nothing goes found = part_uncovered after w more part_of_more found.0
+
+    -- and those behind the premise are covered
+    behind_then : (found : Found) → ends_search noted w found ≡ false →
+        IsFoundBeside network store after noted more (drop (length with) groups) with found →
+        AreCovered after (worldviews_beside more (drop (length with) groups))
+    behind_then (Chosen picks) goes first = absurd (false≢true (sym goes))
+    behind_then Nogood goes refuted = all_refuted after noted more (drop (length with) groups) refuted.part refuted.covered
+    behind_then Nothing goes found = found.1
+
+    pub done_then : (found : Found) → ends_search noted w found ≡ false →
+        IsFoundBeside network store after noted more (drop (length with) groups) with found →
+        ((v : Premises) → covers before v ≡ true → covers after v ≡ true) →
+        AreCovered before (flat_map (beside w (drop (length picked + 1) groups)) (take i group)) →
+        AreCovered after (flat_map (beside w (drop (length picked + 1) groups)) (take (i + 1) group))
+    done_then found goes is more_covered done =
+        more_behind w (drop (length picked + 1) groups) before after group i within more_covered done
+        (subst (AreCovered after) worldviews_then (behind_then found goes is))
+
+-- ---- a whole search
+
+module _ (network : Network) (store : Store) (beliefs others : Premises) (groups : List (List ℕ)) (none : List ℕ)
+    (is : others ≡ difference beliefs (from_list (all_of groups))) (empty : none ≡ []) where
+  all_left : drop (length none) groups ≡ groups
+  all_left = ap (λ xs. drop (length xs) groups) empty
+
+  worldviews_left : worldviews_beside others (drop (length none) groups) ≡ worldviews_of beliefs groups
+  worldviews_left = ap (worldviews_beside others) all_left ∙ worldviews_are beliefs others groups is
+
+  pub left_covered : (nogoods : List Premises) → All (λ w. covers nogoods w ≡ true) (worldviews_of beliefs groups) →
+      AreCovered nogoods (worldviews_beside others (drop (length none) groups))
+  left_covered nogoods all = subst (AreCovered nogoods) (sym worldviews_left) all
+
+  -- the first consistent combination, if one was found
+  pub chosen_first : (nogoods : List Premises) (noted : Premises) (found : Found) →
+      IsFoundBeside network store nogoods noted others (drop (length none) groups) none found →
+      IfSome (chosen_in found) (λ picks. IsFirstConsistent network store beliefs groups (picked_in picks))
+  chosen_first nogoods noted (Chosen picks) first =
+      first_of_all network store beliefs others groups (picked_in picks) is
+      (subst (λ gs. IsFirstBeside network store others gs [] (picked_in picks)) all_left
+      (subst (λ xs. IsFirstBeside network store others (drop (length none) groups) xs (picked_in picks)) empty first))
+  chosen_first nogoods noted Nogood found = tt
+  chosen_first nogoods noted Nothing found = tt
+
+  -- otherwise all are covered
+  pub none_uncovered : (nogoods : List Premises) (noted : Premises) (found : Found) →
+      IsFoundBeside network store nogoods noted others (drop (length none) groups) none found →
+      IfNone (chosen_in found) (All (λ w. covers nogoods w ≡ true) (worldviews_of beliefs groups))
+  none_uncovered nogoods noted (Chosen picks) first = tt
+  none_uncovered nogoods noted Nogood refuted =
+      subst (AreCovered nogoods) (worldviews_are beliefs others groups is) (all_refuted nogoods noted others groups refuted.part refuted.covered)
+  none_uncovered nogoods noted Nothing found = subst (AreCovered nogoods) worldviews_left found.1
+
+  -- and nogoods
+  pub none_consistent : (nogoods : List Premises) (noted : Premises) (found : Found) → IsWellNetwork network → kinds_of store ≡ kinds_in network →
+      AreNogoods network store nogoods → IsFoundBeside network store nogoods noted others (drop (length none) groups) none found →
+      IfNone (chosen_in found) (AreNogoods network store (worldviews_of beliefs groups))
+  none_consistent nogoods noted (Chosen picks) well same are first = tt
+  none_consistent nogoods noted Nogood well same are refuted =
+      covered_nogoods network store well same nogoods are (worldviews_of beliefs groups) (none_uncovered nogoods noted Nogood refuted)
+  none_consistent nogoods noted Nothing well same are found =
+      covered_nogoods network store well same nogoods are (worldviews_of beliefs groups) (none_uncovered nogoods noted Nothing found)

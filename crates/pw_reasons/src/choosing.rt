@@ -11,6 +11,7 @@ ghost use Rattle.pw_reasons.specs.Nogood.{AreNogoods, covers};
 ghost use Rattle.pw_settle.specs.Growth.{KeepsMore, StaysUpstream};
 ghost use Rattle.pw_reasons.specs.inside.Reasoning.{AreSettledLast};
 ghost use Rattle.pw_reasons.specs.inside.Searching.{AreCovered, IsFoundBeside, LeavesSound};
+ghost use Rattle.pw_reasons.specs.inside.Searching.{chosen_in, ends_search};
 ghost use Rattle.pw_reasons.specs.inside.Searching.{worldviews_beside};
 ghost use Rattle.pw_reasons.specs.declared.choosing.Found.TheVariants.{Nothing};
 ghost use Rattle.pw_settle.specs.Sound.{IsSound};
@@ -35,6 +36,29 @@ enum Found {
     Nogood,
     // No combination is consistent: noted sets cover each, but not what is believed.
     Nothing,
+}
+
+impl Found {
+    // Whether a search ends here. A nogood ends it only where it is within what is believed.
+    fn ends(&self, noted: &PremiseSet, believed: &PremiseSet) -> bool
+        ensures { result ≡ ends_search noted.now believed.now self.now }
+    {
+        match self {
+            Found::Chosen(_) => true,
+            Found::Nogood => noted.is_subset(believed),
+            Found::Nothing => false,
+        }
+    }
+
+    // The first consistent combination, if one was found.
+    fn picks(self) -> Option<Picks>
+        ensures { result ≡ chosen_in self }
+    {
+        match self {
+            Found::Chosen(picks) => Some(picks),
+            _ => None,
+        }
+    }
 }
 
 // Tries a combination, with a premise from each group: its worldview, and the part of it without the
@@ -127,14 +151,8 @@ fn search<A: Allocator + Copy>(
             &picks.with(premise),
             tried,
         )?;
-        match found {
-            Found::Chosen(chosen) => return Ok(Found::Chosen(chosen)),
-            Found::Nogood => {
-                if tried.noted.is_subset(worldview) {
-                    return Ok(Found::Nogood);
-                }
-            }
-            Found::Nothing => {}
+        if found.ends(&tried.noted, worldview) {
+            return Ok(found);
         }
     }
     Ok(Found::Nothing)
@@ -198,8 +216,5 @@ pub fn choose<A: Allocator + Copy>(
         &Picks::none(),
         &mut tried,
     )?;
-    match found {
-        Found::Chosen(picks) => Ok(Some(picks)),
-        _ => Ok(None),
-    }
+    Ok(found.picks())
 }

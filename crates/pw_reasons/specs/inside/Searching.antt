@@ -1,6 +1,6 @@
 -- What a search for a consistent combination has shown where it stands: some premises are believed,
 -- and of each of some groups one is still to be taken.
-use Rattle.std.specs.Prelude.{◌≡◌, ℕ, true, false, List, Option, ◌∷◌, ◌++◌, All, map}
+use Rattle.std.specs.Prelude.{◌≡◌, ℕ, Bool, true, false, Some, None, List, Option, ◌∷◌, ◌++◌, All, map}
 use Rattle.std.specs.FinSet.{from_list, is_subset, union}
 use Rattle.pw_premises.specs.Premises.{Premises}
 use Rattle.pw_cells.specs.Cells.{Store}
@@ -12,6 +12,7 @@ use Rattle.pw_reasons.specs.Combinations.{combinations_of, picked_in}
 use Rattle.pw_reasons.specs.Nogood.{AreNogoods, IsNogood, covers}
 use Rattle.pw_reasons.specs.inside.Reasoning.{AreSettledLast}
 use Rattle.pw_reasons.specs.declared.choosing.Found.{Found}
+use Rattle.pw_reasons.specs.declared.picks.Picks.{Picks}
 use Rattle.pw_reasons.specs.declared.choosing.Found.TheVariants.{Chosen, Nogood, Nothing}
 
 -- what is believed, together with the premises of each combination of the groups
@@ -65,3 +66,15 @@ IsFoundBeside network store nogoods noted believed groups before (Chosen picks) 
 IsFoundBeside network store nogoods noted believed groups before Nogood = Refutes nogoods believed noted
 IsFoundBeside network store nogoods noted believed groups before Nothing =
     (covers nogoods believed ≡ false) × AreCovered nogoods (worldviews_beside believed groups)
+
+-- whether this ends a search beside what is believed: a nogood only where it is within that
+abbrev pub ends_search : Premises → Premises → Found → Bool
+ends_search noted believed (Chosen picks) = true
+ends_search noted believed Nogood = is_subset noted believed
+ends_search noted believed Nothing = false
+
+-- the combination that was chosen, if one was
+abbrev pub chosen_in : Found → Option Picks
+chosen_in (Chosen picks) = Some picks
+chosen_in Nogood = None
+chosen_in Nothing = None
