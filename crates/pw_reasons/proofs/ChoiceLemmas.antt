@@ -1,11 +1,9 @@
 -- Choosing: what settled values and noted sets say of a worldview, and what stays where a store keeps
 -- more.
-use Rattle.std.proofs.Common.{◌≡◌, ℕ, ◌+◌, ◌<◌, ◌≤◌, true, inl, inr, Option, None, Some, Result, Ok, Err, min, List, [], ◌∷◌, ◌++◌, All, length, take, drop, sym, ap, ◌∙◌, subst, arith}
+use Rattle.std.proofs.Common.{◌≡◌, ℕ, ◌<◌, true, Option, None, Some, Result, Ok, Err, List, All, sym, ◌∙◌, subst}
 use Rattle.std.specs.Prelude.{IfNone, IfOk, IfSome}
-use Rattle.std.specs.FinSet.{difference, empty, from_list, is_subset, union}
-use Rattle.std.proofs.lemmas.List.{drop_more, get_or-map, get_or-take, length-map, length-take, take-append-drop, take-map, take_all}
-use Rattle.std.proofs.lemmas.Bool.{cases_lt}
-use Rattle.std.proofs.lemmas.List.Elements.{All-from_get_or, All-get_or, All-weaker}
+use Rattle.std.specs.FinSet.{is_subset}
+use Rattle.std.proofs.lemmas.List.Elements.{All-weaker}
 use Rattle.std.proofs.lemmas.List.Folds.{Any-from_list_any}
 use Rattle.pw_info.specs.Information.{IsContradiction}
 use Rattle.pw_premises.specs.Premises.{Premises}
@@ -16,11 +14,9 @@ use Rattle.pw_settle.specs.Growth.{KeepsMore}
 use Rattle.pw_settle.specs.Settled.{IsSettled, Settled, info_at, support_at}
 use Rattle.pw_settle.specs.Values.{kinds_in}
 use Rattle.pw_settle.proofs.Growing.{same_value, settled_still}
-use Rattle.pw_reasons.specs.Choice.{IsConsistent, IsFirstConsistent}
-use Rattle.pw_reasons.specs.Groups.{all_of}
+use Rattle.pw_reasons.specs.Choice.{IsConsistent}
 use Rattle.pw_reasons.specs.inside.Reasoning.{AreSettledLast}
 use Rattle.pw_reasons.specs.inside.Searching.{IsNogoodWithin}
-use Rattle.pw_reasons.specs.Combinations.{combinations_of, worldview_of, worldviews_of}
 use Rattle.pw_reasons.specs.Nogood.{AreNogoods, IsNogood, covers}
 use Rattle.pw_reasons.proofs.NogoodLemmas.{larger_nogood, nogoods_same}
 

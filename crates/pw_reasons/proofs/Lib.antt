@@ -1,5 +1,4 @@
 pub mod ChoiceLemmas
-pub mod CombinationLemmas
 pub mod ConflictLemmas
 pub mod EnoughLemmas
 pub mod FamilyLemmas

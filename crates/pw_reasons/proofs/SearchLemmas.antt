@@ -11,7 +11,7 @@ use Rattle.std.proofs.lemmas.Grind.{flat_map-append}
 use Rattle.std.proofs.lemmas.List.{drop_more, map-append, take-append-drop, take_all, take_more}
 use Rattle.std.proofs.lemmas.List.Elements.{All-append, All-cons, All-from_get_or, All-head, All-map, All-nil, All-tail, All-weaker}
 use Rattle.pw_premises.specs.Premises.{Premises}
-use Rattle.pw_premises.specs.PremiseSubsets.{is_subset_trans, is_subset_union_left, union_is_subset}
+use Rattle.pw_premises.specs.PremiseSubsets.{is_subset_trans, is_subset_union_left}
 use Rattle.pw_cells.specs.Cells.{Store, kinds_of}
 use Rattle.pw_network.specs.Network.{Network, IsWellNetwork}
 use Rattle.pw_settle.specs.Growth.{KeepsMore}
@@ -27,7 +27,6 @@ use Rattle.pw_reasons.specs.declared.choosing.Found.{Found}
 use Rattle.pw_reasons.specs.declared.picks.Picks.{Picks}
 use Rattle.pw_reasons.specs.declared.choosing.Found.TheVariants.{Chosen, Nogood, Nothing}
 use Rattle.pw_reasons.proofs.ChoiceLemmas.{consistent_then, covered_nogoods, last_then, nogoods_then}
-use Rattle.pw_reasons.proofs.CombinationLemmas.{cut}
 use Rattle.pw_reasons.proofs.NogoodLemmas.{covers_grows}
 use Rattle.pw_reasons.proofs.SetLemmas.{from_both}
 
@@ -288,6 +287,11 @@ pub not_refused : {T E : Type 0} (result : Result T E) (x : T) (e : E) → resul
 not_refused result x e answered refused = cc
 
 -- ---- a premise of the next group is taken
+
+-- the groups from a place on are the group there and those after it
+cut : (groups : List (List ℕ)) (place : ℕ) (group : List ℕ) → place < length groups → group ≡ slice_index_or groups place [] →
+    drop place groups ≡ group ∷ drop (place + 1) groups
+cut groups place group within is = drop_more groups place [] within ∙ ap (λ g. g ∷ drop (place + 1) groups) (sym is)
 
 -- the groups that are left are the next one and those after it
 pub group_left : (groups : List (List ℕ)) (picked seen group : List ℕ) → seen ≡ picked → length picked < length groups →

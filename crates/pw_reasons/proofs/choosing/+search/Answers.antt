@@ -1,9 +1,8 @@
-use Rattle.std.proofs.Common.{◌≡◌, ◌+◌, ◌-◌, ◌<◌, ◌≤◌, ◌++◌, ◌∷◌, [], ℕ, true, false, List, length, drop, sym, ap, ◌∙◌, subst, arith, rules, length-append}
+use Rattle.std.proofs.Common.{◌≡◌, ◌+◌, ◌-◌, ◌<◌, ◌≤◌, ◌∷◌, [], ℕ, false, List, length, drop, sym, ap, ◌∙◌, subst, arith, rules, length-append}
 use Rattle.std.specs.Prelude.{slice_index_or}
 use Rattle.std.specs.FinSet.{insert}
 use Rattle.std.proofs.lemmas.Bool.Decides.{nat_tests}
 use Rattle.std.proofs.lemmas.List.{drop_all}
-use Rattle.pw_cells.specs.Cells.{Store}
 use Rattle.pw_network.specs.Network.{Network}
 use Rattle.pw_network.specs.Wiring.{wiring}
 use Rattle.pw_premises.specs.Premises.{Premises}
@@ -61,17 +60,34 @@ search-requires g t c = λ lives out.
     let shorter : length groups - length with < length groups - length picked = omega (arith, longer, here) in
     let uncovered : covers c.loop-index.nogoods more ≡ false =
     ap (covers c.loop-index.nogoods) c.insert.ensures.inserted ∙ sym c.covers_with.ensures ∙ c.if-covers_with.false in
-    let leaves = c.loop-index.invariant.leaves in
-    (search (rules, shorter),
-    (search rules,
-    (search (rules, c.requires.kinds, leaves.grows),
-    (search (rules, c.requires.sound, leaves.grows),
-    (nogoods_now network c.args.store.now c.loop-index.store leaves.grows c.loop-index.nogoods leaves.are,
-    (c.requires.premises,
-    (part_of_more w more groups picked with group i left inside c.insert.ensures.inserted c.with.ensures,
-    (uncovered,
-    (few,
-    last_now network c.args.store.now c.loop-index.store leaves.grows c.loop-index.tried.last leaves.last_are)))))))))
+    let leaves = c.loop-index.invariant.leaves in (
+      search (rules, shorter),
+      (
+        search rules,
+        (
+          search (rules, c.requires.kinds, leaves.grows),
+          (
+            search (rules, c.requires.sound, leaves.grows),
+            (
+              nogoods_now network c.args.store.now c.loop-index.store leaves.grows c.loop-index.nogoods leaves.are,
+              (
+                c.requires.premises,
+                (
+                  part_of_more w more groups picked with group i left inside c.insert.ensures.inserted c.with.ensures,
+                  (
+                    uncovered,
+                    (
+                      few,
+                      last_now network c.args.store.now c.loop-index.store leaves.grows c.loop-index.tried.last leaves.last_are,
+                    ),
+                  ),
+                ),
+              ),
+            ),
+          ),
+        ),
+      ),
+    )
 
 pub returns-in_err-found-clause-known : goal.returns-in_err-found-clause-known
 returns-in_err-found-clause-known g t c = λ all.
@@ -171,9 +187,8 @@ returns-clause-found g t c =
     let group : List ℕ = c.group-group.result.now in
     let here : length picked < length groups = grind (arith, nat_tests, c.requires.few, c.if-place-len.false, c.len.ensures.len, ap length c.premises-place.ensures.premises) in
     let left = group_left groups picked c.premises-place.result.now group c.premises-place.ensures.premises here c.group-group.ensures in
-    let past : length group ≤ c.loop-index.index = omega (arith, c.loop-index-test.false) in
-    (
+    let past : length group ≤ c.loop-index.index = omega (arith, c.loop-index-test.false) in (
       c.loop-index.invariant.uncovered,
       subst (λ gs. AreCovered c.loop-index.nogoods (worldviews_beside w gs)) (sym left)
-      (all_behind w (drop (length picked + 1) groups) c.loop-index.nogoods group c.loop-index.index past c.loop-index.invariant.done),
+          (all_behind w (drop (length picked + 1) groups) c.loop-index.nogoods group c.loop-index.index past c.loop-index.invariant.done),
     )

@@ -1,5 +1,4 @@
-use Rattle.std.proofs.Common.{subst, rules, sym}
-use Rattle.std.specs.Prelude.{IsTrue}
+use Rattle.std.proofs.Common.{rules}
 use Rattle.pw_info.specs.Information.{IsContradiction}
 use Rattle.pw_network.specs.Network.{Network}
 use Rattle.pw_network.specs.Wiring.{wiring}

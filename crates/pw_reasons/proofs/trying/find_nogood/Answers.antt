@@ -1,4 +1,3 @@
-use Rattle.pw_network.specs.Network.{Network}
 use Rattle.pw_network.specs.Wiring.{wiring}
 use Rattle.pw_settle.proofs.Growing.{keeps_more_then}
 use Rattle.pw_reasons.specs.inside.Searching.{IsNogoodWithin}
