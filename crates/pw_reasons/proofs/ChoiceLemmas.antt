@@ -1,115 +1,26 @@
--- Choosing: what the turns of its loop show, and what settled values and noted sets say of a
--- worldview.
-use Rattle.std.proofs.Common.{◌≡◌, ℕ, ◌+◌, ◌<◌, ◌≤◌, true, inl, inr, Option, None, Some, Result, Ok, Err, min, List, [], ◌∷◌, ◌++◌, All, length, take, drop, sym, ap, ◌∙◌, subst, arith}
-use Rattle.std.specs.Prelude.{IfNone, IfSome, slice_index_or}
-use Rattle.std.specs.FinSet.{difference, empty, from_list, is_subset, union}
-use Rattle.std.proofs.lemmas.List.{drop_more, get_or-map, get_or-take, length-map, length-take, take-append-drop, take-map, take_all}
-use Rattle.std.proofs.lemmas.Bool.{cases_lt}
-use Rattle.std.proofs.lemmas.List.Elements.{All-from_get_or, All-get_or, All-weaker}
+-- Choosing: what settled values and noted sets say of a worldview, and what stays where a store keeps
+-- more.
+use Rattle.std.proofs.Common.{◌≡◌, ℕ, ◌<◌, true, Option, None, Some, Result, Ok, Err, List, All, sym, ◌∙◌, subst}
+use Rattle.std.specs.Prelude.{IfNone, IfOk, IfSome}
+use Rattle.std.specs.FinSet.{is_subset}
+use Rattle.std.proofs.lemmas.List.Elements.{All-weaker}
 use Rattle.std.proofs.lemmas.List.Folds.{Any-from_list_any}
 use Rattle.pw_info.specs.Information.{IsContradiction}
 use Rattle.pw_premises.specs.Premises.{Premises}
+use Rattle.pw_premises.specs.PremiseSubsets.{is_subset_trans}
 use Rattle.pw_cells.specs.Cells.{Store, kinds_of}
 use Rattle.pw_network.specs.Network.{Network, IsWellNetwork, cells_in}
 use Rattle.pw_settle.specs.Growth.{KeepsMore}
 use Rattle.pw_settle.specs.Settled.{IsSettled, Settled, info_at, support_at}
 use Rattle.pw_settle.specs.Values.{kinds_in}
 use Rattle.pw_settle.proofs.Growing.{same_value, settled_still}
-use Rattle.pw_reasons.specs.Choice.{IsConsistent, IsFirstConsistent}
-use Rattle.pw_reasons.specs.Groups.{all_of}
+use Rattle.pw_reasons.specs.Choice.{IsConsistent}
 use Rattle.pw_reasons.specs.inside.Reasoning.{AreSettledLast}
-use Rattle.pw_reasons.specs.inside.Skipping.{IsIncludedUntil}
-use Rattle.pw_reasons.specs.Combinations.{combinations_of, worldview_of, worldviews_of}
+use Rattle.pw_reasons.specs.inside.Searching.{IsNogoodWithin}
 use Rattle.pw_reasons.specs.Nogood.{AreNogoods, IsNogood, covers}
 use Rattle.pw_reasons.proofs.NogoodLemmas.{larger_nogood, nogoods_same}
 
--- ---- the worldviews of combinations
-
-module _ (beliefs : Premises) (groups : List (List ℕ)) where
-  many : length (worldviews_of beliefs groups) ≡ length (combinations_of groups)
-  many = length-map (combinations_of groups) (worldview_of beliefs groups)
-
-  -- where something holds of each worldview, it holds of that of the combination of a number
-  pub holds_of : (P : Premises → Type 0) (number : ℕ) (taken : List ℕ) → number < length (combinations_of groups) →
-      taken ≡ slice_index_or (combinations_of groups) number [] → All P (worldviews_of beliefs groups) → P (worldview_of beliefs groups taken)
-  holds_of P number taken within is all =
-      subst P (get_or-map (worldview_of beliefs groups) (combinations_of groups) number [] empty within ∙ ap (worldview_of beliefs groups) (sym is))
-      (all number empty (omega (arith, many)))
-
-  -- what is tried is the worldview of the premises taken
-  pub tried_is : (others tried : Premises) (taken : List ℕ) → others ≡ difference beliefs (from_list (all_of groups)) →
-      tried ≡ union others (from_list taken) → tried ≡ worldview_of beliefs groups taken
-  tried_is others tried taken is made = made ∙ ap (λ (s : Premises). union s (from_list taken)) is
-
-  -- where all were covered at the start, and the same sets are noted, what is tried is covered
-  pub still_covered : (old now : List Premises) (number : ℕ) (taken : List ℕ) (tried : Premises) → now ≡ old →
-      number < length (combinations_of groups) → taken ≡ slice_index_or (combinations_of groups) number [] → tried ≡ worldview_of beliefs groups taken →
-      All (λ w. covers old w ≡ true) (worldviews_of beliefs groups) → covers now tried ≡ true
-  still_covered old now number taken tried same within is made all =
-      (λ i. covers (same i) (made i)) ∙ holds_of (λ w. covers old w ≡ true) number taken within is all
-
-  -- it holds of those before a number, and of those from it to a further number: so of those before
-  -- that
-  pub more_hold : (P : Premises → Type 0) (number next : ℕ) → All P (take number (worldviews_of beliefs groups)) →
-      ((later : ℕ) → number ≤ later → later < next → later < length (combinations_of groups) →
-      P (worldview_of beliefs groups (slice_index_or (combinations_of groups) later []))) →
-      All P (take next (worldviews_of beliefs groups))
-  more_hold P number next before from =
-      All-from_get_or P (take next (worldviews_of beliefs groups)) empty (λ i within.
-      let long : length (take next (worldviews_of beliefs groups)) ≡ min next (length (worldviews_of beliefs groups)) =
-      length-take next (worldviews_of beliefs groups) in
-      let below : i < next = omega arith in
-      let here : i < length (combinations_of groups) = omega (arith, many) in
-      subst P (sym (get_or-take next (worldviews_of beliefs groups) i empty below)) (at i below here))
-    where
-      at : (i : ℕ) → i < next → i < length (combinations_of groups) → P (slice_index_or (worldviews_of beliefs groups) i empty)
-      at i below here =
-          elim (cases_lt i number) [
-            | inl less ↦ subst P (get_or-take number (worldviews_of beliefs groups) i empty less)
-                (All-get_or P (take number (worldviews_of beliefs groups)) i empty (omega (arith, length-take number (worldviews_of beliefs groups), many)) before)
-            | inr more ↦ subst P (sym (get_or-map (worldview_of beliefs groups) (combinations_of groups) i [] empty here)) (from i more below here)
-          ]
-
-  -- where a set is in what is tried, and covers each worldview that includes it, those up to the
-  -- next number are covered
-  pub more_covered : (old new : List Premises) (nogood tried : Premises) (number next : ℕ) (taken : List ℕ) →
-      taken ≡ slice_index_or (combinations_of groups) number [] → tried ≡ worldview_of beliefs groups taken →
-      All (λ w. covers old w ≡ true) (take number (worldviews_of beliefs groups)) →
-      ((w : Premises) → covers old w ≡ true → covers new w ≡ true) →
-      is_subset nogood tried ≡ true → ((w : Premises) → is_subset nogood w ≡ true → covers new w ≡ true) →
-      IsIncludedUntil (combinations_of groups) nogood number next →
-      All (λ w. covers new w ≡ true) (take next (worldviews_of beliefs groups))
-  more_covered old new nogood tried number next taken is made before grows part covered until =
-      more_hold (λ w. covers new w ≡ true) number next
-      (All-weaker (λ w. covers old w ≡ true) (λ w. covers new w ≡ true) grows (take number (worldviews_of beliefs groups)) before)
-      (λ later from to below. covered (worldview_of beliefs groups (slice_index_or (combinations_of groups) later []))
-      (until (difference beliefs (from_list (all_of groups))) later from to below
-      (subst (λ w. is_subset nogood w ≡ true) (made ∙ ap (worldview_of beliefs groups) is) part)))
-
-  -- those before the last and the last are all
-  pub all_hold : (P : Premises → Type 0) (number : ℕ) → length (combinations_of groups) ≤ number →
-      All P (take number (worldviews_of beliefs groups)) → All P (worldviews_of beliefs groups)
-  all_hold P number past = subst (All P) (take_all number (worldviews_of beliefs groups) (omega (arith, many)))
-
-  -- the combination of a number is the first consistent one, where those before are nogoods
-  pub first_consistent : (network : Network) (store : Store) (number : ℕ) (taken : List ℕ) → number < length (combinations_of groups) →
-      taken ≡ slice_index_or (combinations_of groups) number [] → AreNogoods network store (take number (worldviews_of beliefs groups)) →
-      IsConsistent network store (worldview_of beliefs groups taken) → IsFirstConsistent network store beliefs groups taken
-  first_consistent network store number taken within is before consistent = record {
-    earlier = take number (combinations_of groups);
-    later = drop (number + 1) (combinations_of groups);
-    order = sym (take-append-drop number (combinations_of groups))
-        ∙ ap (λ xs. take number (combinations_of groups) ++ xs)
-        (drop_more (combinations_of groups) number [] within ∙ ap (λ x. x ∷ drop (number + 1) (combinations_of groups)) (sym is));
-    nogoods = subst (AreNogoods network store) (take-map (worldview_of beliefs groups) number (combinations_of groups)) before;
-    consistent = consistent;
-  }
-
 -- ---- answers
-
--- what is answered is not refused
-pub not_refused : {T E : Type 0} (result : Result T E) (x : T) (e : E) → result ≡ Ok x → result ≡ Err e → ⊥
-not_refused result x e answered refused = cc
 
 -- what is said of the one case holds in it
 pub if_some : {X : Type 0} (P : X → Type 0) (found : Option X) (x : X) → found ≡ Some x → IfSome found P → P x
@@ -117,10 +28,6 @@ if_some P found x is holds = subst (λ o. IfSome o P) is holds
 
 pub if_none : {X : Type 0} (P : Type 0) (found : Option X) → found ≡ None → IfNone found P → P
 if_none P found is holds = subst (λ o. IfNone o P) is holds
-
--- and is one answer
-pub not_both : {T E : Type 0} (result : Result (Option T) E) (found : Option T) (x : T) → result ≡ Ok (Some x) → result ≡ Ok found → found ≡ None → ⊥
-not_both result found x answered also is = cc
 
 -- ---- covered sets, and settled values
 
@@ -187,3 +94,34 @@ module _ (network : Network) (old new : Store) (grows : KeepsMore network old ne
         sym (same_value network old new grows.told (support_at values.supports cell) cell) ∙ are.enough cell below
         ∙ same_value network old new grows.told values.worldview cell;
   }
+
+  -- and what is found of nogoods and of what is consistent
+  pub nogood_then : (w nogood : Premises) → IsNogoodWithin network new w nogood → IsNogoodWithin network old w nogood
+  nogood_then w nogood is = record {
+    part = is.part;
+    contradicts = record {
+      cell = is.contradicts.cell;
+      here = is.contradicts.here;
+      contradictory = subst IsContradiction (same_value network old new grows.told nogood is.contradicts.cell) is.contradicts.contradictory;
+    };
+  }
+
+  pub some_then : {E : Type 0} (w : Premises) (result : Result (Option Premises) E) → IfOk result (λ found. IfSome found (IsNogoodWithin network new w)) →
+      IfOk result (λ found. IfSome found (IsNogoodWithin network old w))
+  some_then w (Ok (Some nogood)) is = nogood_then w nogood is
+  some_then w (Ok None) is = is
+  some_then w (Err e) is = is
+
+  pub none_then : {E : Type 0} (w : Premises) (result : Result (Option Premises) E) → IfOk result (λ found. IfNone found (IsConsistent network new w)) →
+      IfOk result (λ found. IfNone found (IsConsistent network old w))
+  none_then w (Ok (Some nogood)) is = is
+  none_then w (Ok None) is = consistent_then w is
+  none_then w (Err e) is = is
+
+-- a nogood within a part is within the whole
+pub within_whole : (network : Network) (store : Store) (part w nogood : Premises) → is_subset part w ≡ true → IsNogoodWithin network store part nogood →
+    IsNogoodWithin network store w nogood
+within_whole network store part w nogood within is = record {
+  part = is_subset_trans nogood part w is.part within;
+  contradicts = is.contradicts;
+}

@@ -1,5 +1,4 @@
 pub mod ChoiceLemmas
-pub mod CombinationLemmas
 pub mod ConflictLemmas
 pub mod EnoughLemmas
 pub mod FamilyLemmas
@@ -10,4 +9,4 @@ pub mod ReasonLemmas
 pub mod SameInfoLemmas
 pub mod ValueGrows
 pub mod SetLemmas
-pub mod SkippingLemmas
+pub mod SearchLemmas

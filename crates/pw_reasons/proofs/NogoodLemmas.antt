@@ -80,7 +80,7 @@ nogoods_more network store premises old new are is within =
     ])
 
 -- what covers a part covers the whole
-covers_grows : (nogoods : List Premises) (part w : Premises) → is_subset part w ≡ true → covers nogoods part ≡ true → covers nogoods w ≡ true
+pub covers_grows : (nogoods : List Premises) (part w : Premises) → is_subset part w ≡ true → covers nogoods part ≡ true → covers nogoods w ≡ true
 covers_grows nogoods part w within covered =
     let some = Any-from_list_any (λ noted. is_subset noted part) nogoods covered in
     list_any-from_Any (λ noted. is_subset noted w) nogoods (some.0, some.1, some.2, some.3, is_subset_trans some.1 part w some.4 within)

@@ -4,4 +4,4 @@ pub mod GroupsHeld
 pub mod Held
 pub mod PairRows
 pub mod Reasoning
-pub mod Skipping
+pub mod Searching

@@ -1,158 +1,161 @@
 //! The first consistent combination of groups of premises.
 
-ghost use Rattle.std.specs.Prelude.{◌≡◌, ◌<◌, ℕ, true, All, Ok, None, Some, IfOk, IfNone, IfSome, length};
-ghost use Rattle.std.specs.FinSet.{from_list, is_subset, union};
+ghost use Rattle.std.specs.Prelude.{◌≡◌, ◌<◌, ◌≤◌, ℕ, true, false, All, Ok, None, [], IfOk, IfNone, IfSome, drop, length};
+ghost use Rattle.std.specs.FinSet.{is_subset};
 ghost use Rattle.pw_cells.specs.Cells.{kinds_of};
-ghost use Rattle.pw_info.specs.Information.{IsContradiction};
 ghost use Rattle.pw_network.specs.Wiring.{wiring};
-ghost use Rattle.pw_network.specs.Network.{cells_in};
 ghost use Rattle.pw_premises.specs.Premises.{Premises, most_premises};
-ghost use Rattle.pw_reasons.specs.Choice.{IsConsistent, IsFirstConsistent};
+ghost use Rattle.pw_reasons.specs.Choice.{IsFirstConsistent};
 ghost use Rattle.pw_reasons.specs.Combinations.{groups_of, picked_in, worldviews_of};
 ghost use Rattle.pw_reasons.specs.Nogood.{AreNogoods, covers};
 ghost use Rattle.pw_settle.specs.Growth.{KeepsMore, StaysUpstream};
 ghost use Rattle.pw_reasons.specs.inside.Reasoning.{AreSettledLast};
-ghost use Rattle.pw_settle.specs.Settled.{IsSettled, info_at};
+ghost use Rattle.pw_reasons.specs.inside.Searching.{AreCovered, IsFoundBeside, LeavesSound};
+ghost use Rattle.pw_reasons.specs.inside.Searching.{chosen_in, ends_search};
+ghost use Rattle.pw_reasons.specs.inside.Searching.{worldviews_beside};
+ghost use Rattle.pw_reasons.specs.declared.choosing.Found.TheVariants.{Nothing};
 ghost use Rattle.pw_settle.specs.Sound.{IsSound};
 ghost use Rattle.pw_settle.specs.Values.{kinds_in};
 
-use crate::combinations::{
-    believed_beside, combination, count_combinations, next_number, with_taken,
-};
+use crate::combinations::believed_beside;
 use crate::groups::Groups;
 use crate::nogoods::Nogoods;
 use crate::picks::Picks;
+use crate::trying::{Tried, find_nogood};
 use pw_cells::CellStore;
 use pw_network::Network;
 use pw_premises::PremiseSet;
-use pw_settle::{Settled, settle, settle_aside};
 use std::alloc::{AllocError, Allocator};
 
-// A cell of the network whose settled value is a contradiction, if there is one.
-fn contradictory_cell<A: Allocator + Copy>(
-    network: &Network<'_, '_, A>,
-    settled: &Settled<A>,
-) -> Option<u32>
-    requires { length settled.now.infos ≡ cells_in (wiring network.now) }
-    ensures some { IfSome result (λ cell. (cell < cells_in (wiring network.now))
-        × IsContradiction (info_at settled.now.infos cell)) }
-    ensures none { IfNone result ((cell : ℕ) → cell < cells_in (wiring network.now)
-        → IsContradiction (info_at settled.now.infos cell) → ⊥) }
-{
-    for cell in 0..network.cells() {
-        if settled.value(cell).info.is_contradiction() {
-            return Some(cell);
-        }
-    }
-    None
+// What a search comes to beside what is believed.
+#[derive(Drop)]
+enum Found {
+    // The first consistent combination.
+    Chosen(Picks),
+    // What is believed includes the set noted last: so no combination is consistent.
+    Nogood,
+    // No combination is consistent: noted sets cover each, but not what is believed.
+    Nothing,
 }
 
-// A noted set within these premises and those taken, if one is found. The premises taken come one
-// after the other, and a set is looked for that has the last one: so of two sets it is the one
-// whose last premise comes first. The first picks that both have were looked at before.
-fn refuting<A: Allocator + Copy>(
-    nogoods: &Nogoods<A>,
-    others: &PremiseSet,
-    before: &Picks,
-    picks: &Picks,
-) -> Option<PremiseSet>
-    requires { All (λ premise. premise < most_premises) (picked_in picks.now) }
-    ensures part { IfSome result (λ nogood.
-        is_subset nogood (union others.now (from_list (picked_in picks.now))) ≡ true) }
-    ensures covered { IfSome result (λ nogood. (w : Premises)
-        → is_subset nogood w ≡ true → covers nogoods.now w ≡ true) }
-{
-    let seen = before.premises();
-    let taken = picks.premises();
-    let mut same = true;
-    let mut set = PremiseSet::empty();
-    for place in 0..taken.len() {
-        let premise = taken[place];
-        set.insert(premise);
-        same = same && place < seen.len() && seen[place] == premise;
-        if same {
-            continue;
-        }
-        if let Some(nogood) = nogoods.covering_with(&others.join(set), premise) {
-            return Some(nogood);
+impl Found {
+    // Whether a search ends here. A nogood ends it only where it is within what is believed.
+    fn ends(&self, noted: &PremiseSet, believed: &PremiseSet) -> bool
+        ensures { result ≡ ends_search noted.now believed.now self.now }
+    {
+        match self {
+            Found::Chosen(_) => true,
+            Found::Nogood => noted.is_subset(believed),
+            Found::Nothing => false,
         }
     }
-    None
-}
 
-// The values of the worldview, found from those found last if there are any. Otherwise the network is
-// settled. Fails only when out of memory.
-fn settle_next<A: Allocator + Copy>(
-    alloc: A,
-    network: &Network<'_, '_, A>,
-    store: &mut CellStore<A>,
-    last: &Option<Settled<A>>,
-    worldview: &PremiseSet,
-) -> Result<Settled<A>, AllocError>
-    requires kinds { kinds_of store.old ≡ kinds_in (wiring network.now) }
-    requires sound { IsSound (wiring network.now) store.old }
-    requires last { AreSettledLast (wiring network.now) store.old last.now }
-    ensures settled { IfOk result (IsSettled (wiring network.now) store.old worldview.now) }
-    ensures grows { KeepsMore (wiring network.now) store.old store.new }
-    ensures upstream { StaysUpstream (wiring network.now) store.old store.new }
-{
-    match last {
-        Some(values) => settle_aside(alloc, values, network, store, worldview),
-        None => settle(alloc, network, store, worldview),
+    // The first consistent combination, if one was found.
+    fn picks(self) -> Option<Picks>
+        ensures { result ≡ chosen_in self }
+    {
+        match self {
+            Found::Chosen(picks) => Some(picks),
+            _ => None,
+        }
     }
 }
 
-// A set of these premises and those taken that contradicts itself, if something is contradictory
-// when exactly these are believed: then a noted set covers each worldview that includes it. If a
-// noted set covers the premises, it is one that does, and no values are found. Otherwise their values
-// are found, and the support of a contradiction is noted. Fails only when out of memory.
-fn contradict<A: Allocator + Copy>(
+// Tries a combination, with a premise from each group: its worldview, and the part of it without the
+// last premise. What contradicts itself is noted. Fails only when out of memory.
+fn try_combination<A: Allocator + Copy>(
     alloc: A,
     network: &Network<'_, '_, A>,
     store: &mut CellStore<A>,
     nogoods: &mut Nogoods<A>,
-    others: &PremiseSet,
-    before: &Picks,
+    part: &PremiseSet,
+    worldview: &PremiseSet,
     picks: &Picks,
-    last: &mut Option<Settled<A>>,
-) -> Result<Option<PremiseSet>, AllocError>
+    tried: &mut Tried<A>,
+) -> Result<Found, AllocError>
     requires kinds { kinds_of store.old ≡ kinds_in (wiring network.now) }
     requires sound { IsSound (wiring network.now) store.old }
     requires nogoods { AreNogoods (wiring network.now) store.old nogoods.old }
-    requires last { AreSettledLast (wiring network.now) store.old last.old }
-    requires picks { All (λ premise. premise < most_premises) (picked_in picks.now) }
-    ensures known { covers nogoods.old (union others.now (from_list (picked_in picks.now))) ≡ true
-        → ((nogood : Premises) × (result ≡ Ok (Some nogood)))
-        × (store.new ≡ store.old) × (nogoods.new ≡ nogoods.old) }
-    ensures part { IfOk result (λ found. IfSome found (λ nogood.
-        is_subset nogood (union others.now (from_list (picked_in picks.now))) ≡ true)) }
-    ensures covered { IfOk result (λ found. IfSome found (λ nogood. (w : Premises)
-        → is_subset nogood w ≡ true → covers nogoods.new w ≡ true)) }
-    ensures consistent { IfOk result (λ found. IfNone found (IsConsistent (wiring network.now)
-        store.old (union others.now (from_list (picked_in picks.now))))) }
-    ensures last { AreSettledLast (wiring network.now) store.old last.new }
-    ensures nogoods { AreNogoods (wiring network.now) store.old nogoods.new }
-    ensures covers { (w : Premises) → covers nogoods.old w ≡ true → covers nogoods.new w ≡ true }
-    ensures grows { KeepsMore (wiring network.now) store.old store.new }
-    ensures upstream { StaysUpstream (wiring network.now) store.old store.new }
+    requires part { is_subset part.now worldview.now ≡ true }
+    requires uncovered { covers nogoods.old worldview.now ≡ false }
+    requires last { AreSettledLast (wiring network.now) store.old tried.old.last }
+    ensures found { IfOk result (IsFoundBeside (wiring network.now) store.old nogoods.new
+        tried.new.noted worldview.now [] (picked_in picks.now)) }
+    ensures leaves { LeavesSound (wiring network.now) store.old nogoods.old store.new nogoods.new
+        tried.new.last }
 {
-    if let Some(noted) = refuting(nogoods, others, before, picks) {
-        return Ok(Some(noted));
-    }
-    let premises = with_taken(others, picks);
-    if let Some(covering) = nogoods.covering(&premises) {
-        return Ok(Some(covering));
-    }
-    let settled = settle_next(alloc, network, store, last, &premises)?;
-    match contradictory_cell(network, &settled) {
-        Some(cell) => {
-            let support = settled.value(cell).support;
-            nogoods.note(&support)?;
-            *last = Some(settled);
-            Ok(Some(support))
+    match find_nogood(alloc, network, store, part, worldview, tried)? {
+        Some(nogood) => {
+            nogoods.note_new(&nogood)?;
+            tried.noted = nogood;
+            Ok(Found::Nogood)
         }
-        None => Ok(None),
+        None => Ok(Found::Chosen(*picks)),
     }
+}
+
+// Searches the combinations that begin with these picks, one from each of the first groups, in their
+// order. The worldview is what is believed with them, and the part is without the last of them. A
+// premise is passed over, with all combinations behind it, if a noted set covers the worldview with
+// it. Fails only when out of memory.
+fn search<A: Allocator + Copy>(
+    alloc: A,
+    network: &Network<'_, '_, A>,
+    store: &mut CellStore<A>,
+    nogoods: &mut Nogoods<A>,
+    groups: &Groups,
+    part: &PremiseSet,
+    worldview: &PremiseSet,
+    picks: &Picks,
+    tried: &mut Tried<A>,
+) -> Result<Found, AllocError>
+    requires kinds { kinds_of store.old ≡ kinds_in (wiring network.now) }
+    requires sound { IsSound (wiring network.now) store.old }
+    requires nogoods { AreNogoods (wiring network.now) store.old nogoods.old }
+    requires premises { All (All (λ premise. premise < most_premises)) (groups_of groups.now) }
+    requires part { is_subset part.now worldview.now ≡ true }
+    requires uncovered { covers nogoods.old worldview.now ≡ false }
+    requires few { length (picked_in picks.now) ≤ length (groups_of groups.now) }
+    requires last { AreSettledLast (wiring network.now) store.old tried.old.last }
+    ensures found { IfOk result (IsFoundBeside (wiring network.now) store.old nogoods.new
+        tried.new.noted worldview.now (drop (length (picked_in picks.now)) (groups_of groups.now))
+        (picked_in picks.now)) }
+    ensures known { AreCovered nogoods.old (worldviews_beside worldview.now
+        (drop (length (picked_in picks.now)) (groups_of groups.now)))
+        → (result ≡ Ok Nothing) × (store.new ≡ store.old) × (nogoods.new ≡ nogoods.old) }
+    ensures leaves { LeavesSound (wiring network.now) store.old nogoods.old store.new nogoods.new
+        tried.new.last }
+{
+    let place = picks.premises().len();
+    if place == groups.len() {
+        return try_combination(
+            alloc, network, store, nogoods, part, worldview, picks, tried,
+        );
+    }
+    let group = groups.group(place);
+    for index in 0..group.len() {
+        let premise = group[index];
+        if nogoods.covers_with(worldview, premise) {
+            continue;
+        }
+        let mut more = *worldview;
+        more.insert(premise);
+        let found = search(
+            alloc,
+            network,
+            store,
+            nogoods,
+            groups,
+            worldview,
+            &more,
+            &picks.with(premise),
+            tried,
+        )?;
+        if found.ends(&tried.noted, worldview) {
+            return Ok(found);
+        }
+    }
+    Ok(Found::Nothing)
 }
 
 /// The first combination of the groups under which nothing is contradictory: one premise from each
@@ -198,21 +201,20 @@ pub fn choose<A: Allocator + Copy>(
     ensures upstream { StaysUpstream (wiring network.now) store.old store.new }
 {
     let others = believed_beside(worldview, groups);
-    let count = count_combinations(groups);
-    let mut number = 0;
-    let mut before = Picks::none();
-    // The values of the combination before, if they were found.
-    let mut last = None;
-    while number < count {
-        let picks = combination(groups, number);
-        let found = contradict(
-            alloc, network, store, nogoods, &others, &before, &picks, &mut last,
-        )?;
-        let Some(nogood) = found else {
-            return Ok(Some(picks));
-        };
-        number = next_number(groups, &picks, number, &nogood);
-        before = picks;
+    if nogoods.covers(&others) {
+        return Ok(None);
     }
-    Ok(None)
+    let mut tried = Tried::nothing();
+    let found = search(
+        alloc,
+        network,
+        store,
+        nogoods,
+        groups,
+        &others,
+        &others,
+        &Picks::none(),
+        &mut tried,
+    )?;
+    Ok(found.picks())
 }

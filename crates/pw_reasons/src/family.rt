@@ -50,21 +50,6 @@ impl<A: Allocator + Copy> Family<A> {
         }
     }
 
-    // The same for a set that has this premise. Others are not looked for.
-    pub(crate) fn within_with(&self, premises: &PremiseSet, premise: u16) -> Option<PremiseSet>
-        ensures some { IfSome result (λ set. Contains (sets_of self.now) set
-            × (is_subset set premises.now ≡ true)) }
-    {
-        // As in `within`.
-        let _numbers = premises.numbers();
-        let mut found = PremiseSet::empty();
-        if self.find_with(premises, premise, &mut found) {
-            Some(found)
-        } else {
-            None
-        }
-    }
-
     // Whether a set of the family is a subset of these premises; then `found` is one. (As a result
     // the set would take room, and be cleared, at each branch.)
     fn find(&self, premises: &PremiseSet, found: &mut PremiseSet) -> bool
@@ -87,33 +72,6 @@ impl<A: Allocator + Copy> Family<A> {
                 branch.without.find(premises, found)
             }
         }
-    }
-
-    // The same for a set that has this premise. Others are not looked for: branches of smaller
-    // premises are passed over.
-    fn find_with(&self, premises: &PremiseSet, premise: u16, found: &mut PremiseSet) -> bool
-        requires in_range { (q : ℕ) → contains premises.now q ≡ true → q < most_premises }
-        ensures some { result ≡ true → Contains (sets_of self.now) found.new
-            × (is_subset found.new premises.now ≡ true) }
-    {
-        let Family::Split(branch) = self else {
-            return false;
-        };
-        if branch.premise < premise {
-            return false;
-        }
-        if premises.contains(branch.premise) {
-            let is_in = if branch.premise == premise {
-                branch.with.find(premises, found)
-            } else {
-                branch.with.find_with(premises, premise, found)
-            };
-            if is_in {
-                found.insert(branch.premise);
-                return true;
-            }
-        }
-        branch.without.find_with(premises, premise, found)
     }
 
     // Whether a set of the family is a subset of these premises.

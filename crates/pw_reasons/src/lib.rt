@@ -13,6 +13,7 @@ mod nogoods;
 mod pairs;
 mod picks;
 mod reasoning;
+mod trying;
 
 pub use choosing::choose;
 pub use combinations::worldview_with;

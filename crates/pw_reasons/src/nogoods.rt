@@ -106,14 +106,6 @@ impl<A: Allocator + Copy> Nogoods<A> {
         }
     }
 
-    // The same for a noted set that has this premise. Others are not looked for.
-    pub(crate) fn covering_with(&self, premises: &PremiseSet, premise: u16) -> Option<PremiseSet>
-        ensures some { IfSome result (λ noted. Contains self.now noted
-            × (is_subset noted premises.now ≡ true)) }
-    {
-        self.family.within_with(premises, premise)
-    }
-
     // Whether a noted set is a subset of these premises with one more. None is a subset of them
     // without it.
     pub(crate) fn covers_with(&self, before: &PremiseSet, premise: u16) -> bool
