@@ -167,9 +167,10 @@ fn search<A: Allocator + Copy>(
 /// Each earlier combination contradicts itself, and what contradicted is noted. A combination that
 /// a noted set covers is passed over unsettled: so if all are covered, nothing is settled, and no
 /// memory is taken. After an answer of None all are covered. The first of the others is settled
-/// (`settle`). The values of each later one are found beside the store (`settle_aside`), from those
-/// of the one before. (Radul and Sussman, *The Art of the
-/// Propagator*, on hypothetical premises. The order is this program's own.)
+/// (`settle`). Each later one is tried beside the store, from the values of a part of it: at one
+/// cell after the other (`value_aside`), and if that shows no contradiction, by finding its values
+/// (`settle_aside`). (Radul and Sussman, *The Art of the Propagator*, on hypothetical premises. The
+/// order is this program's own.)
 ///
 /// The store is sound, and the nogoods are sets of premises that contradict themselves. Both stay
 /// so, the store keeps no less than before, the told facts are unchanged, and what was covered is
