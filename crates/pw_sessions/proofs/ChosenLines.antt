@@ -14,7 +14,7 @@ use Rattle.pw_settle.proofs.Membership.{contains_first}
 use Rattle.pw_reasons.specs.declared.groups.Groups.{Groups}
 use Rattle.pw_reasons.specs.Choice.{IsFirstConsistent}
 use Rattle.pw_reasons.specs.Combinations.{combinations_of, groups_of, worldview_of}
-use Rattle.pw_reasons.proofs.CombinationLemmas.{taken_from}
+use Rattle.pw_sessions.proofs.TakenPremises.{taken_from}
 use Rattle.pw_sessions.specs.declared.command.Command.TheVariants as commands
 use Rattle.pw_sessions.specs.declared.command.Command.{Command}
 use Rattle.pw_sessions.specs.Reply.{Reply}

@@ -28,6 +28,7 @@ pub mod NotedPremises
 pub mod NotedSnapshots
 pub mod SnapshotLists
 pub mod StoreLemmas
+pub mod TakenPremises
 pub mod Uncounted
 pub mod VisibleEntries
 pub mod WorkbenchLemmas

@@ -16,7 +16,7 @@ use Rattle.pw_settle.specs.Values.{nat_eq_decides}
 use Rattle.pw_reasons.specs.Combinations.{combinations_of, groups_of, worldview_of}
 use Rattle.pw_reasons.specs.Groups.{all_of}
 use Rattle.pw_reasons.specs.SameInfo.{is_contradiction}
-use Rattle.pw_reasons.proofs.CombinationLemmas.{taken_from}
+use Rattle.pw_sessions.proofs.TakenPremises.{taken_from}
 use Rattle.pw_reasons.proofs.ReasonLemmas.{reason_of_subsets}
 use Rattle.pw_sessions.specs.declared.command.Command.{Command}
 use Rattle.pw_sessions.specs.declared.command.Command.TheVariants as commands

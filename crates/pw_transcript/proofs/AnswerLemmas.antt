@@ -17,7 +17,7 @@ use Rattle.pw_sessions.specs.Reply as reply
 use Rattle.pw_sessions.specs.declared.reply.Refusal.{Refusal}
 use Rattle.pw_sessions.specs.declared.reply.Refusal.TheVariants as refusal
 use Rattle.pw_reasons.specs.Combinations.{combinations_of, groups_of, worldview_of}
-use Rattle.pw_reasons.proofs.CombinationLemmas.{taken_from}
+use Rattle.pw_sessions.proofs.TakenPremises.{taken_from}
 use Rattle.pw_sessions.specs.Choosing.{is_consistent}
 use Rattle.pw_reasons.specs.SameInfo.{is_contradiction}
 use Rattle.pw_sessions.specs.Answer.{answer_to, reply_to, user_of}
