@@ -42,7 +42,7 @@ fn a_refused_note_notes_nothing(rt: HostRuntime) -> Result<(), Fail> {
 fn a_note_refused_midway_notes_nothing(rt: HostRuntime) -> Result<(), Fail> {
     let refusing = Refusing::nth(rt.alloc(), 2);
     let mut nogoods = Nogoods::new(&refusing);
-    assert!(rt; nogoods.note(&PremiseSet::first(2)).is_err());
+    assert!(rt; nogoods.note(&PremiseSet::first(3)).is_err());
     assert!(rt; !nogoods.covers(&PremiseSet::first(512)));
     Ok(())
 }
