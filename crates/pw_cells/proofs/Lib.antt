@@ -9,5 +9,6 @@ pub mod ToldFacts
 pub mod Late
 pub mod Tells
 pub mod RightAnswers
+mod Visible
 mod LastFirst
 mod Bounds

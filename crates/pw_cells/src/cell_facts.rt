@@ -204,6 +204,19 @@ impl<A: Allocator + Copy> CellFacts<A> {
             Facts::Many(many) => many.kept_narrow(worldview),
         }
     }
+
+    // Whether more may be kept in the worldview than in the one before, as the supports tell.
+    #[inline(always)]
+    pub(crate) fn may_show_more(&self, before: &PremiseSet, worldview: &PremiseSet) -> bool
+        ensures less { result ≡ false → Implies (kept_of self.now before.now) (kept_of self.now
+            worldview.now) }
+        ensures told { Implies (kept_of self.now worldview.now) (told_of self.now worldview.now) }
+    {
+        match &self.all {
+            Facts::Few(few) => few.may_show_more(before, worldview),
+            Facts::Many(many) => many.may_show_more(before, worldview),
+        }
+    }
 }
 
 // The same cell, in lists, in a box. Fails only when out of memory.

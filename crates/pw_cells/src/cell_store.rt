@@ -251,6 +251,21 @@ impl<A: Allocator + Copy> CellStore<A> {
     {
         self.cells[cell as usize].kept_narrow(worldview)
     }
+
+    /// Whether more may be kept of the cell in a worldview than in another one, as the supports of
+    /// its kept facts tell. If not, what is kept in the other one says at least as much. Takes no
+    /// memory. The cell must exist.
+    #[inline(always)]
+    pub fn may_show_more(&self, cell: u32, before: &PremiseSet, worldview: &PremiseSet) -> bool
+        requires { cell < length self.now.cells }
+        ensures less { result ≡ false → Implies (kept_in self.now cell before.now) (kept_in self.now
+            cell worldview.now) }
+        // Whatever the answer, what is kept in the worldview says at least what was told there.
+        ensures told { Implies (kept_in self.now cell worldview.now) (told_in self.now cell
+            worldview.now) }
+    {
+        self.cells[cell as usize].may_show_more(before, worldview)
+    }
 }
 
 // Appends a cell of each kind where there is room.

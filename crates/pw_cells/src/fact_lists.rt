@@ -18,6 +18,7 @@ use crate::merged_facts::merged;
 use crate::subsumed_facts::drop_subsumed;
 use crate::support::Support;
 use crate::told_facts::ToldFacts;
+use crate::visible_facts::any_comes_in;
 use pw_info::{Info, Kind};
 use pw_premises::PremiseSet;
 use std::alloc::{AllocError, Allocator};
@@ -174,6 +175,20 @@ impl<S: Support, A: Allocator + Copy> FactLists<S, A> {
     {
         assimilate_late(self.kind, &mut self.kept, &mut self.bound, &mut self.late);
         merged(self.kind, self.kept.as_slice(), &self.bound, worldview)
+    }
+
+    // Whether more may be kept in the worldview than in the one before, as the supports tell. Late
+    // facts are asked as well, and none is assimilated.
+    #[inline(always)]
+    pub(crate) fn may_show_more(&self, before: &PremiseSet, worldview: &PremiseSet) -> bool
+        ensures less { result ≡ false → Implies (kept_of self.now before.now) (kept_of self.now
+            worldview.now) }
+        ensures told { Implies (kept_of self.now worldview.now) (told_of self.now worldview.now) }
+    {
+        if any_comes_in(self.kept.as_slice(), before, worldview) {
+            return true;
+        }
+        any_comes_in(self.late.as_slice(), before, worldview)
     }
 
     // The same cell, with supports of any premises. Fails only when out of memory.

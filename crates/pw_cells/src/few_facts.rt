@@ -1,6 +1,6 @@
 //! The few facts kept of a cell about which nothing was told.
 
-ghost use Rattle.std.specs.Prelude.{◌≡◌, [], IfOk, OnOk, OnErr};
+ghost use Rattle.std.specs.Prelude.{◌≡◌, [], false, IfOk, OnOk, OnErr};
 ghost use Rattle.pw_info.specs.Information.{kind_of, nothing, Implies};
 ghost use Rattle.pw_facts.specs.Facts.{IsLeastAbove, IsMostBelow};
 ghost use Rattle.pw_cells.specs.Cells.{IsUnsaid, fact_on, new_cell, told_of, kept_of};
@@ -14,6 +14,7 @@ use crate::many_facts::ManyFacts;
 use crate::merged_facts::merged_few;
 use crate::narrow_fact::NarrowFact;
 use crate::subsumed_facts::drop_subsumed;
+use crate::visible_facts::any_comes_in;
 use pw_info::Kind;
 use pw_premises::{NarrowSet, PremiseSet};
 use std::alloc::{AllocError, Allocator};
@@ -116,6 +117,16 @@ impl<A: Allocator + Copy> FewFacts<A> {
             info: *held.info(),
             support: held.support(),
         }
+    }
+
+    // Whether more may be kept in the worldview than in the one before, as the supports tell.
+    #[inline(always)]
+    pub(crate) fn may_show_more(&self, before: &PremiseSet, worldview: &PremiseSet) -> bool
+        ensures less { result ≡ false → Implies (kept_of self.now before.now) (kept_of self.now
+            worldview.now) }
+        ensures told { Implies (kept_of self.now worldview.now) (told_of self.now worldview.now) }
+    {
+        any_comes_in(self.kept.as_slice(), before, worldview)
     }
 
     // The same cell, in lists. Fails only when out of memory.

@@ -1,6 +1,6 @@
 //! A fact as a cell holds it: with a support of the cell's width.
 
-ghost use Rattle.std.specs.Prelude.{◌≡◌, ◌↔◌, IsTrue, ⊤};
+ghost use Rattle.std.specs.Prelude.{◌≡◌, ◌↔◌, ◌&&◌, not, IsTrue, ⊤};
 ghost use Rattle.std.specs.FinSet.{is_subset, union};
 ghost use Rattle.pw_info.specs.Information.{kind_of, meet};
 ghost use Rattle.pw_facts.specs.Facts.{Subsumes, nothing_known};
@@ -88,6 +88,15 @@ impl<S: Support> Held<S> {
         ensures { result ≡ is_subset self.now.support worldview.now }
     {
         self.support.is_within(worldview)
+    }
+
+    // Whether it is visible in the worldview, and not in the one before.
+    #[inline(always)]
+    pub(crate) fn comes_in(&self, before: &PremiseSet, worldview: &PremiseSet) -> bool
+        ensures { result ≡ (is_subset self.now.support worldview.now && not (is_subset
+            self.now.support before.now)) }
+    {
+        self.is_visible(worldview) && !self.is_visible(before)
     }
 
     // Whether it says at least what the other fact, of the same kind, says, and rests on a subset of

@@ -15,6 +15,7 @@ mod recalled;
 mod subsumed_facts;
 mod support;
 mod told_facts;
+mod visible_facts;
 
 pub use cell_store::CellStore;
 pub use narrow_fact::NarrowFact;

@@ -246,4 +246,31 @@ impl<A: Allocator + Copy> ManyFacts<A> {
             support: held.support(),
         })
     }
+
+    // Whether more may be kept in the worldview than in the one before, as the supports tell.
+    #[inline(always)]
+    pub(crate) fn may_show_more(&self, before: &PremiseSet, worldview: &PremiseSet) -> bool
+        ensures less { result ≡ false → Implies (kept_of self.now before.now) (kept_of self.now
+            worldview.now) }
+        ensures told { Implies (kept_of self.now worldview.now) (told_of self.now worldview.now) }
+    {
+        match &self.lists {
+            Lists::Narrow(lists) => lists.may_show_more(before, worldview),
+            Lists::Wide(lists) => may_show_more_wide(lists, before, worldview),
+        }
+    }
+}
+
+// The same of wide lists. Never inlined, so that the tests of narrow supports stay short.
+#[inline(never)]
+fn may_show_more_wide<A: Allocator + Copy>(
+    lists: &FactLists<PremiseSet, A>,
+    before: &PremiseSet,
+    worldview: &PremiseSet,
+) -> bool
+    ensures less { result ≡ false → Implies (kept_of lists.now before.now) (kept_of lists.now
+        worldview.now) }
+    ensures told { Implies (kept_of lists.now worldview.now) (told_of lists.now worldview.now) }
+{
+    lists.may_show_more(before, worldview)
 }

@@ -39,6 +39,14 @@ fn kept(store: &mut CellStore, cell: u32, worldview: &PremiseSet) -> Fact
     store.kept(cell, worldview)
 }
 
+// Asks whether one of the two cells may show more in a worldview than in the one before.
+fn may_show_more(store: &CellStore, cell: u32, before: &PremiseSet, worldview: &PremiseSet) -> bool
+    requires cells { kinds_of store.now ≡ Kind.Interval ∷ Kind.Exact ∷ [] }
+    requires there { cell < 2 }
+{
+    store.may_show_more(cell, before, worldview)
+}
+
 // Asks, as a user of this number, what was told of one of the two cells.
 fn recall(store: &mut CellStore, asker: u8, cell: u32, worldview: &PremiseSet) -> Info
     requires cells { kinds_of store.old ≡ Kind.Interval ∷ Kind.Exact ∷ [] }
@@ -143,6 +151,45 @@ fn facts_of_wide_supports_are_told_with_the_others(rt: HostRuntime) -> Result<()
     assert!(rt; kept(&mut store, 0, &five) == fact(40, 80, five));
     assert!(rt; kept(&mut store, 0, &far) == fact(30, 90, far));
     assert!(rt; kept(&mut store, 0, &PremiseSet::first(512)) == fact(40, 80, five));
+    Ok(())
+}
+
+#[test]
+fn more_may_be_kept_where_a_fact_comes_in(rt: HostRuntime) -> Result<(), Fail> {
+    let (none, zero, one) = (PremiseSet::empty(), PremiseSet::one(0), PremiseSet::one(1));
+    let (both, all) = (PremiseSet::first(2), PremiseSet::first(512));
+    let mut store = CellStore::new(rt.alloc());
+    store.add_cells(&[Kind::Interval, Kind::Exact])?;
+    tell(&mut store, fact(5, 9, zero))?;
+    // The fact was told since; then it is among the kept ones.
+    assert!(rt; may_show_more(&store, 0, &none, &zero));
+    assert!(rt; !may_show_more(&store, 0, &zero, &all));
+    assert!(rt; kept(&mut store, 0, &both) == fact(5, 9, zero));
+    assert!(rt; may_show_more(&store, 0, &one, &both));
+    assert!(rt; !may_show_more(&store, 0, &zero, &all));
+    assert!(rt; !may_show_more(&store, 0, &zero, &one));
+    // One fact is visible already, and the other one comes in.
+    tell(&mut store, fact(6, 7, both))?;
+    assert!(rt; may_show_more(&store, 0, &zero, &both));
+    assert!(rt; !may_show_more(&store, 0, &none, &one));
+    assert!(rt; !may_show_more(&store, 1, &none, &all));
+    Ok(())
+}
+
+#[test]
+fn more_may_be_kept_where_a_wide_fact_comes_in(rt: HostRuntime) -> Result<(), Fail> {
+    let (zero, far) = (PremiseSet::one(0), PremiseSet::one(100));
+    let below = PremiseSet::first(100);
+    let mut store = CellStore::new(rt.alloc());
+    store.add_cells(&[Kind::Interval, Kind::Exact])?;
+    tell(&mut store, fact(5, 9, zero))?;
+    tell(&mut store, fact(6, 20, far))?;
+    assert!(rt; may_show_more(&store, 0, &below, &PremiseSet::first(101)));
+    assert!(rt; !may_show_more(&store, 0, &zero, &below));
+    assert!(rt; kept(&mut store, 0, &far) == fact(6, 20, far));
+    assert!(rt; may_show_more(&store, 0, &below, &PremiseSet::first(101)));
+    assert!(rt; may_show_more(&store, 0, &far, &PremiseSet::first(512)));
+    assert!(rt; !may_show_more(&store, 0, &zero, &below));
     Ok(())
 }
 

@@ -86,6 +86,11 @@ pub record StandsFor (kind : Kind) (worldview : Premises) (facts : List Fact) (m
   pub same : shown_by kind merge.support facts ≡ merge.info
   pub rests : ArePremisesOf facts merge.support
 
+-- each of the facts that the worldview shows, the one before shows too
+abbrev pub AreShownBefore : Premises → Premises → List Fact → Type 0
+AreShownBefore before worldview facts =
+    All (λ f. is_subset f.support worldview ≡ true → is_subset f.support before ≡ true) facts
+
 -- an answer is right: it is the told information about the cell in the worldview
 abbrev pub IsRight : List Cell → Recalled → Type 0
 IsRight cells answer = (answer.cell < length cells)

@@ -1,0 +1,20 @@
+use Rattle.std.proofs.Common.{◌≡◌, List, true, subst}
+use Rattle.std.specs.FinSet.{is_subset}
+use Rattle.pw_info.specs.Information.{Implies}
+use Rattle.pw_facts.specs.declared.fact.Fact.{Fact}
+use Rattle.pw_cells.specs.Cells.{Cell, kept_of, all_assimilated}
+use Rattle.pw_cells.specs.inside.OneCell.{AreShownBefore}
+use Rattle.pw_cells.proofs.Visible.{shown_before, all_in_the_end}
+use Rattle.pw_cells.proofs.fact_lists.FactLists.may_show_more.Goals as goal
+
+pub returns-clause-less : goal.returns-clause-less
+returns-clause-less g c = λ none.
+    let before = c.args.before.now in
+    let w = c.args.worldview.now in
+    let kept : AreShownBefore before w c.self.inside.kept.items =
+    subst (λ (l : List Fact). AreShownBefore before w l) c.as_slice.ensures.value (c.any_comes_in.ensures c.if-any_comes_in.false) in
+    let late : AreShownBefore before w c.self.inside.late.items =
+    subst (λ (l : List Fact). AreShownBefore before w l) c.as_slice-2.ensures.value (c.any_comes_in-2.ensures none) in
+    subst (λ (cell : Cell). Implies (kept_of cell before) (kept_of cell w)) c.self.view_is
+    (shown_before c.self.inside.kind before w (all_assimilated c.self.inside.kept.items c.self.inside.late.items)
+    (all_in_the_end (λ (f : Fact). is_subset f.support w ≡ true → is_subset f.support before ≡ true) c.self.inside.kept.items c.self.inside.late.items kept late))
