@@ -29,7 +29,7 @@ module _ (network : Network) (was : List Bool) (before now : List Info) (number 
       (subst (λ (b : Attached). Implies (info_at now b.instance.output) (info_at before b.instance.output)) (is a) (met.output a)))
 
 -- of flags that are all cleared none is set
-none_set : (count i : ℕ) → is_set (replicate count false) i ≡ false
+pub none_set : (count i : ℕ) → is_set (replicate count false) i ≡ false
 none_set count i =
     elim (cases_Bool (nat_lt i count)) [
       | inl is ↦ get_or-replicate count i false false (ltb-true i count is)

@@ -178,7 +178,7 @@ found_more network store w count infos supports info support so_far one = record
   last = rw (get_or_push infos info (nothing kinds.Interval) count so_far.many, get_or_push supports support empty count so_far.as_many) one
 
 -- about no cell past the last anything is known
-past_found : (network : Network) (store : Store) (same : kinds_of store ≡ kinds_in network) (w : Premises) (cell : ℕ) → length store.cells ≤ cell →
+pub past_found : (network : Network) (store : Store) (same : kinds_of store ≡ kinds_in network) (w : Premises) (cell : ℕ) → length store.cells ≤ cell →
     IsFound network store w cell (nothing kinds.Interval) empty
 past_found network store same w cell past = record {
   kind = kind-closest kinds.Interval (λ v. true) ∙ sym kind_past;

@@ -34,3 +34,4 @@ pub mod AsideStarts
 pub mod AsideAgendas
 pub mod AsideNews
 pub mod AsideEnds
+pub mod AsideGrowth

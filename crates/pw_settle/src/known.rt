@@ -1,13 +1,13 @@
 //! The kept information about each cell in a worldview, as a settling has it at hand.
 ghost use Rattle.std.specs.Prelude.{◌≡◌, ◌<◌, All, IfOk, IfSome, OnOk, OnErr, length};
 ghost use Rattle.pw_info.specs.Information.{kind_of};
-ghost use Rattle.pw_cells.specs.Cells.{IsUnsaid, fact_on};
+ghost use Rattle.pw_cells.specs.Cells.{IsUnsaid, fact_on, kind_in_store};
 ghost use Rattle.pw_network.specs.inside.Held.{attachment};
 ghost use Rattle.pw_network.specs.Network.{Network as Networks};
 ghost use Rattle.pw_cells.specs.Shown.{IsKeptIn};
 ghost use Rattle.pw_settle.specs.inside.Known.{AreKept, ListsOneMore, SaysTold, TakesIn, joined};
 ghost use Rattle.pw_settle.specs.Settled.{info_at};
-ghost use Rattle.pw_settle.specs.inside.Known.{ReadsUpstream, news_on};
+ghost use Rattle.pw_settle.specs.inside.Known.{ReadsUpstream, TakesInKept, news_on};
 
 use crate::support_list::SupportList;
 use pw_cells::CellStore;
@@ -233,4 +233,57 @@ pub(crate) fn take_in<A: Allocator + Copy>(
         infos[place] = infos[place].meet(info);
     }
     Ok(())
+}
+
+// Merges what is kept of a cell in a worldview into what is known about it, if that is news, and
+// answers whether it was. If memory is refused, nothing changes.
+#[inline(always)]
+pub(crate) fn take_in_kept<A: Allocator + Copy>(
+    store: &mut CellStore<A>,
+    cell: u32,
+    worldview: &PremiseSet,
+    infos: &mut [Info],
+    supports: &mut SupportList<A>,
+) -> Result<bool, AllocError>
+    requires cell { cell < length store.old.cells }
+    requires there { cell < length infos.old }
+    requires as_many { length supports.old ≡ length infos.old }
+    requires kind { kind_of (info_at infos.old cell) ≡ kind_in_store store.old cell }
+    ensures unchanged { store.new ≡ store.old }
+    ensures taken { IfOk result (λ is_news. TakesInKept store.old cell worldview.now is_news
+        infos.old infos.new supports.old supports.new) }
+{
+    if let Some(fact) = store.kept_narrow(cell, worldview) {
+        if infos[cell as usize].implies(&fact.info) {
+            return Ok(false);
+        }
+        take_in_narrow(infos, supports, cell, &fact.info, fact.support);
+        return Ok(true);
+    }
+    take_in_wide_kept(store, cell, worldview, infos, supports)
+}
+
+// The same, on any premises. Never inlined, so that what is narrow makes no room for wide sets.
+#[inline(never)]
+fn take_in_wide_kept<A: Allocator + Copy>(
+    store: &mut CellStore<A>,
+    cell: u32,
+    worldview: &PremiseSet,
+    infos: &mut [Info],
+    supports: &mut SupportList<A>,
+) -> Result<bool, AllocError>
+    requires cell { cell < length store.old.cells }
+    requires there { cell < length infos.old }
+    requires as_many { length supports.old ≡ length infos.old }
+    requires kind { kind_of (info_at infos.old cell) ≡ kind_in_store store.old cell }
+    ensures unchanged { store.new ≡ store.old }
+    ensures taken { IfOk result (λ is_news. TakesInKept store.old cell worldview.now is_news
+        infos.old infos.new supports.old supports.new) }
+{
+    let fact = store.kept(cell, worldview);
+    if infos[cell as usize].implies(&fact.info) {
+        return Ok(false);
+    }
+    take_in(infos, supports, cell, &fact.info, fact.support)?;
+    Ok(true)
 }

@@ -1,14 +1,15 @@
 //! The values of cells in a worldview.
-ghost use Rattle.std.specs.Prelude.{◌≡◌, ◌<◌, IfSome, length};
+ghost use Rattle.std.specs.Prelude.{◌≡◌, ◌<◌, IfOk, IfSome, length};
 ghost use Rattle.std.specs.FinSet.{is_subset};
 ghost use Rattle.pw_settle.specs.Settled.{info_at, support_at};
 
 use crate::known::Known;
+use crate::support_list::copied;
 use pw_cells::NarrowFact;
 use pw_facts::Fact;
 use pw_info::Info;
 use pw_premises::PremiseSet;
-use std::alloc::{Allocator, Global};
+use std::alloc::{AllocError, Allocator, Global};
 use std::marker::Model;
 
 /// The value of each cell that a network had, in the worldview in which it was settled.
@@ -55,7 +56,15 @@ impl<A: Allocator> Settled<A> {
         }
     }
 
-    // The same, if the premises of all values are below 64.
+    /// The information that the value of the cell says, which the network had.
+    pub fn info(&self, cell: u32) -> Info
+        requires { cell < length self.now.infos }
+        ensures { result ≡ info_at self.now.infos cell }
+    {
+        self.known.infos[cell as usize]
+    }
+
+    // The value, if the premises of all values are below 64.
     #[inline(always)]
     pub(crate) fn narrow_value(&self, cell: u32) -> Option<NarrowFact>
         requires { cell < length self.now.infos }
@@ -101,5 +110,18 @@ impl<A: Allocator> Settled<A> {
         ensures { result ≡ self.now.calls }
     {
         self.calls
+    }
+}
+
+impl<A: Allocator + Copy> Settled<A> {
+    // The values, to go on from. Fails only when out of memory.
+    pub(crate) fn known(&self, alloc: A) -> Result<Known<A>, AllocError>
+        ensures infos { IfOk result (λ known. known.infos.items ≡ self.now.infos) }
+        ensures supports { IfOk result (λ known. known.supports ≡ self.now.supports) }
+    {
+        Ok(Known {
+            infos: copied(alloc, &self.known.infos)?,
+            supports: self.known.supports.copied(alloc)?,
+        })
     }
 }

@@ -17,6 +17,7 @@ ghost use Rattle.pw_settle.specs.inside.Progress.{AreOthersSatisfied, AreQueuedV
 ghost use Rattle.pw_settle.specs.inside.Progress.{AreSatisfied, tally};
 
 use crate::agenda::Agenda;
+use crate::growing_aside::grow_aside;
 use crate::known::{Known, take_in_news};
 use crate::propagating::news_of;
 use crate::resettling::queue_changed;
@@ -361,7 +362,7 @@ fn call_aside<A: Allocator + Copy>(
 
 // Calls queued instances until none is left, and answers the number of calls. Fails only when out
 // of memory.
-fn work_aside<A: Allocator + Copy>(
+pub(crate) fn work_aside<A: Allocator + Copy>(
     network: &Network<'_, '_, A>,
     store: &CellStore<A>,
     worldview: &PremiseSet,
@@ -411,7 +412,9 @@ fn work_aside<A: Allocator + Copy>(
 ///
 /// An earlier value stays if it rests on premises of this worldview alone. The instances called at
 /// first are the visible ones that were not visible then, those that write a cell of which less is
-/// known now, and the readers of cells of which more is. No clause counts the calls.
+/// known now, and the readers of cells of which more is. If this worldview includes the earlier one,
+/// all earlier values stay, and what is kept is looked up only of cells of which the store may show
+/// more. No clause counts the calls.
 pub fn settle_aside<A: Allocator + Copy>(
     alloc: A,
     before: &Settled<A>,
@@ -425,6 +428,9 @@ pub fn settle_aside<A: Allocator + Copy>(
     ensures settled { IfOk result (IsSettled (wiring network.now) store.old worldview.now) }
     ensures unchanged { store.new ≡ store.old }
 {
+    if before.worldview().is_subset(worldview) {
+        return grow_aside(alloc, before, network, store, worldview);
+    }
     let visible = seen(alloc, network.instances(), worldview)?;
     let mut known = start_values(alloc, before, network, store, worldview)?;
     let agenda = unmet_instances(alloc, before, network, store, worldview, &visible, &known)?;

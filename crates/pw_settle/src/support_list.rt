@@ -46,6 +46,17 @@ impl<A: Allocator + Copy> SupportList<A> {
         })
     }
 
+    // The same premises. Fails only when out of memory.
+    pub(crate) fn copied(&self, alloc: A) -> Result<SupportList<A>, AllocError>
+        ensures { IfOk result (λ list. list ≡ self.now) }
+    {
+        let lists = match &self.lists {
+            Widths::Narrow(list) => Widths::Narrow(copied(alloc, list.as_slice())?),
+            Widths::Wide(list) => Widths::Wide(copied(alloc, list.as_slice())?),
+        };
+        Ok(SupportList { lists })
+    }
+
     // Appends the premises of one cell more. If memory is refused, nothing changes.
     #[inline(always)]
     pub(crate) fn push(&mut self, support: PremiseSet) -> Result<(), AllocError>
@@ -160,6 +171,15 @@ impl<A: Allocator> SupportList<A> {
             Widths::Wide(list) => list[place].is_subset(worldview),
         }
     }
+}
+
+// The same items, in a list of their own. Fails only when out of memory.
+pub(crate) fn copied<T: Copy, A: Allocator>(alloc: A, items: &[T]) -> Result<Vec<T, A>, AllocError>
+    ensures { IfOk result (λ copy. copy.items ≡ items.now) }
+{
+    let mut copy = Vec::with_capacity(alloc, items.len())?;
+    copy.extend_from_slice(items)?;
+    Ok(copy)
 }
 
 // The same premises, in sets of any premises, with room for so many. Fails only when out of memory.

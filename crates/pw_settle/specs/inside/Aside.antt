@@ -12,7 +12,7 @@ use Rattle.pw_network.specs.Network.{Attached, Network}
 use Rattle.pw_settle.specs.Calls.{is_instance_visible, reader_count, sum_below}
 use Rattle.pw_settle.specs.Settled.{info_at, support_at}
 use Rattle.pw_settle.specs.Values.{IsSatisfied, attached_no, kinds_in, numbered, value_in}
-use Rattle.pw_settle.specs.inside.Progress.{is_set}
+use Rattle.pw_settle.specs.inside.Progress.{AreQueuedVisible, AreSatisfied, is_set}
 
 -- what is known about a cell in the worldview: it rests on premises of the worldview, follows in
 -- each worldview that has these, and says at least what was told
@@ -30,6 +30,28 @@ pub record AreFound (network : Network) (store : Store) (w : Premises) (infos : 
   pub as_many : length supports ≡ length infos
   pub each : (cell : ℕ) →
       IsFound network store w cell (info_at infos cell) (support_at supports cell)
+
+-- what is known about a cell while an earlier value grows: it rests on premises of the worldview,
+-- follows in each worldview that has these, and says no less than the earlier value
+pub record IsGrown (network : Network) (store : Store) (earlier w : Premises) (cell : ℕ)
+    (info : Info) (support : Premises) : Type 0 where
+  pub kind : kind_of info ≡ (numbered (kinds_in network)).kind cell
+  pub within : is_subset support w ≡ true
+  pub follows : IsLeastAbove support (λ v. value_in network store v cell) info
+  pub more : cell < length (kinds_in network) → Implies info (value_in network store earlier cell)
+
+-- the same of all cells. What is known about those below this number says at least what was told,
+-- and each instance that is visible and not queued is satisfied
+pub record AreGrownTo (network : Network) (store : Store) (earlier w : Premises) (count : ℕ)
+    (infos : List Info) (supports : List Premises) (queued : List Bool) : Type 0 where
+  pub many : length infos ≡ length (kinds_in network)
+  pub as_many : length supports ≡ length infos
+  pub each : (cell : ℕ) →
+      IsGrown network store earlier w cell (info_at infos cell) (support_at supports cell)
+  pub told : (cell : ℕ) → cell < count → Implies (info_at infos cell) (told_in store cell w)
+  pub flags : length queued ≡ length network.attached
+  pub seen : AreQueuedVisible network w queued
+  pub satisfied : AreSatisfied network w (info_at infos) queued
 
 -- the instance of this number was visible, and no less is known now of the cell that it writes
 pub record StaysMet (network : Network) (was_visible : List Bool) (before now : List Info)

@@ -1,5 +1,5 @@
 -- What is kept of each cell in a worldview, as a settling has it at hand.
-use Rattle.std.specs.Prelude.{◌≡◌, ℕ, ◌<◌, Bool, true, List, length, fold, set, refl, [], ◌∷◌, ◌++◌, All}
+use Rattle.std.specs.Prelude.{◌≡◌, ℕ, ◌<◌, Bool, true, false, List, length, fold, set, refl, [], ◌∷◌, ◌++◌, All}
 use Rattle.std.specs.FinSet.{union, is_subset, code}
 use Rattle.pw_info.specs.declared.info.Info.{Info}
 use Rattle.pw_info.specs.Information.{Implies, meet}
@@ -7,6 +7,7 @@ use Rattle.pw_premises.specs.Premises.{Premises}
 use Rattle.pw_facts.specs.declared.fact.Fact.{Fact}
 use Rattle.pw_facts.specs.Facts.{ShowTogether, IsLeastAbove}
 use Rattle.pw_cells.specs.Cells.{Store, fact_on, kept_in, kinds_of, told_in}
+use Rattle.pw_cells.specs.Shown.{IsKeptIn}
 use Rattle.pw_cells.specs.Changes.{AssimilatesAt, GainsKept, LeavesOthers}
 use Rattle.pw_network.specs.Network.{Network, Attached}
 use Rattle.pw_settle.specs.Settled.{info_at, support_at, Settled}
@@ -86,6 +87,15 @@ pub record TakesIn (cell : ℕ) (fact : Fact) (infos new_infos : List Info)
         support =
             support_at new_supports cell;
       })
+
+-- what is kept of a cell in a worldview is merged into what is at hand for it. Or it is no news:
+-- what is at hand says as much, and stays
+pub record TakesInKept (store : Store) (cell : ℕ) (w : Premises) (is_news : Bool)
+    (infos new_infos : List Info) (supports new_supports : List Premises) : Type 0 where
+  pub news : is_news ≡ true → (fact : Fact) × IsKeptIn store cell w fact
+      × TakesIn cell fact infos new_infos supports new_supports
+  pub none : is_news ≡ false → Implies (info_at infos cell) (kept_in store cell w)
+      × (new_infos ≡ infos) × (new_supports ≡ supports)
 
 -- the instance reads and writes existing cells, of kinds that its procedure accepts
 abbrev pub IsPlaced : List Procedure → List Kind → Instance ℕ → Type 0
