@@ -54,6 +54,14 @@ module _ (network : Network) (store : Store) where
       contradictory = subst IsContradiction (are.values cell below ∙ sym (are.enough cell below)) contradictory;
     }
 
+    -- within the worldview
+    pub contradiction_nogood : (nogood : Premises) → (cell : ℕ) × (cell < cells_in network) × IsContradiction (info_at settled.infos cell)
+        × (nogood ≡ support_at settled.supports cell) → IsNogoodWithin network store w nogood
+    contradiction_nogood nogood some = record {
+      part = subst (λ s. is_subset s w ≡ true) (sym some.3) (are.within some.0);
+      contradicts = subst (IsNogood network store) (sym some.3) (support_nogood some.0 some.1 some.2);
+    }
+
     -- where no cell has one, the worldview is consistent
     pub none_contradictory : ((cell : ℕ) → cell < cells_in network → IsContradiction (info_at settled.infos cell) → ⊥) → IsConsistent network store w
     none_contradictory none is =

@@ -345,17 +345,18 @@ module _ {T E : Type 0} (r : Result T E) (premises : Premises) where
     ]
     by_result (Err e) more same = inr (subst (λ (l : List Premises). Contains l set) (ap (λ (l : List Premises). l ++ others) same ∙ are) there)
 
-  -- the same for the other part, a family
-  pub noted_right : {A : Type 0} (others : List Premises) (old new : Family A) (before : List Premises) → others ++ sets_of old ≡ before →
+  -- the same for a family between other parts
+  pub noted_between : {A : Type 0} (front : List Premises) (old new : Family A) (back before : List Premises) → front ++ (sets_of old ++ back) ≡ before →
       OnOk r (HasOneMore (sets_of old) (sets_of new) premises) → OnErr r (new ≡ old) →
-      (set : Premises) → Contains (others ++ sets_of new) set → (set ≡ premises) ⊎ Contains before set
-  noted_right others old new before are more same set there = by_result r more same where
+      (set : Premises) → Contains (front ++ (sets_of new ++ back)) set → (set ≡ premises) ⊎ Contains before set
+  noted_between front old new back before are more same set there = by_result r more same where
     by_result : (r : Result T E) → OnOk r (HasOneMore (sets_of old) (sets_of new) premises) → OnErr r (new ≡ old) → (set ≡ premises) ⊎ Contains before set
-    by_result (Ok x) more same = elim ((more_right others (sets_of old) (sets_of new) premises more).within set there) [
-      | inl one ↦ inl one
-      | inr other ↦ inr (subst (λ (l : List Premises). Contains l set) are other)
-    ]
-    by_result (Err e) more same = inr (subst (λ (l : List Premises). Contains l set) (ap (λ f. others ++ sets_of f) same ∙ are) there)
+    by_result (Ok x) more same =
+        elim ((more_right front (sets_of old ++ back) (sets_of new ++ back) premises (more_left (sets_of old) (sets_of new) back premises more)).within set there) [
+          | inl one ↦ inl one
+          | inr other ↦ inr (subst (λ (l : List Premises). Contains l set) are other)
+        ]
+    by_result (Err e) more same = inr (subst (λ (l : List Premises). Contains l set) (ap (λ f. front ++ (sets_of f ++ back)) same ∙ are) there)
 
 -- what is found in the other part is found
 pub found_right : (r : Option Premises) (others sets all : List Premises) (w : Premises) → others ++ sets ≡ all →

@@ -1,3 +1,4 @@
+pub mod AlikeLemmas
 pub mod ChoiceLemmas
 pub mod ConflictLemmas
 pub mod EnoughLemmas
@@ -5,8 +6,10 @@ pub mod FamilyLemmas
 pub mod GroupLemmas
 pub mod NogoodLemmas
 pub mod PairLemmas
+pub mod ProductLemmas
 pub mod ReasonLemmas
 pub mod SameInfoLemmas
 pub mod ValueGrows
 pub mod SetLemmas
 pub mod SearchLemmas
+pub mod SearchSteps

@@ -85,6 +85,14 @@ covers_grows nogoods part w within covered =
     let some = Any-from_list_any (λ noted. is_subset noted part) nogoods covered in
     list_any-from_Any (λ noted. is_subset noted w) nogoods (some.0, some.1, some.2, some.3, is_subset_trans some.1 part w some.4 within)
 
+-- a part of what is not covered is not
+pub part_uncovered : (nogoods : List Premises) (part w : Premises) → is_subset part w ≡ true → covers nogoods w ≡ false → covers nogoods part ≡ false
+part_uncovered nogoods part w within uncovered =
+    elim (cases_Bool (covers nogoods part)) [
+      | inl covered ↦ absurd (false≢true (sym uncovered ∙ covers_grows nogoods part w within covered))
+      | inr not_covered ↦ not_covered
+    ]
+
 -- a noted set covers each that includes it
 pub noted_covers : (nogoods : List Premises) (nogood : Premises) → Contains nogoods nogood → (w : Premises) → is_subset nogood w ≡ true → covers nogoods w ≡ true
 noted_covers nogoods nogood there w within =

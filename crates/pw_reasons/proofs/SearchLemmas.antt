@@ -1,12 +1,12 @@
 -- Searching combinations group by group: the worldviews beside what is believed, which of them are
 -- covered, and the first that is consistent.
-use Rattle.std.proofs.Common.{◌≡◌, ℕ, ◌+◌, ◌<◌, ◌≤◌, zero, suc, Bool, true, false, inl, inr, ◌||◌, Option, None, Result, Ok, Err, List, [], ◌∷◌, ◌++◌, All, length, map, take, drop, refl, sym, ap, ◌∙◌, subst, arith, append_assoc, append-nil, length-append}
-use Rattle.std.specs.Prelude.{IfNone, IfSome, slice_index_or}
-use Rattle.std.specs.List.{flat_map}
+use Rattle.std.proofs.Common.{◌≡◌, ℕ, ◌+◌, ◌<◌, ◌≤◌, zero, suc, Bool, true, false, ◌||◌, Option, Result, Ok, Err, List, [], ◌∷◌, ◌++◌, All, length, map, take, drop, refl, sym, ap, ◌∙◌, subst, arith, append_assoc, append-nil, length-append}
+use Rattle.std.specs.Prelude.{slice_index_or}
+use Rattle.std.specs.List.{flat_map, list_any}
 use Rattle.std.specs.Cmp.{nat_cmp_total}
 use Rattle.std.specs.Ordering.{nat_cmp, eq_by_cmp}
 use Rattle.std.specs.FinSet.{contains, contains-from_list_nat, contains-insert, contains-union, difference, from_list, from_list_push, insert, is_subset, nat_cmp-IsAntisymmetric, same_set, union}
-use Rattle.std.proofs.lemmas.Bool.{cases_Bool, false≢true}
+use Rattle.std.proofs.lemmas.Bool.{false≢true}
 use Rattle.std.proofs.lemmas.Grind.{flat_map-append}
 use Rattle.std.proofs.lemmas.List.{drop_more, map-append, take-append-drop, take_all, take_more}
 use Rattle.std.proofs.lemmas.List.Elements.{All-append, All-cons, All-from_get_or, All-head, All-map, All-nil, All-tail, All-weaker}
@@ -19,20 +19,23 @@ use Rattle.pw_settle.specs.Settled.{Settled}
 use Rattle.pw_settle.specs.Values.{kinds_in}
 use Rattle.pw_settle.proofs.Growing.{keeps_more_then}
 use Rattle.pw_reasons.specs.Choice.{IsConsistent, IsFirstConsistent}
-use Rattle.pw_reasons.specs.Combinations.{combinations_of, picked_in, worldview_of, worldviews_of}
+use Rattle.pw_reasons.specs.Combinations.{combinations_of, worldview_of, worldviews_of}
 use Rattle.pw_reasons.specs.Groups.{all_of}
 use Rattle.pw_reasons.specs.Nogood.{AreNogoods, IsNogood, covers}
-use Rattle.pw_reasons.specs.inside.Searching.{AreCovered, IsFirstBeside, IsFoundBeside, LeavesSound, Refutes, chosen_in, ends_search, worldviews_beside}
+use Rattle.pw_reasons.specs.inside.Alike.{beside}
+use Rattle.pw_reasons.specs.inside.Products.{worldviews_beside}
+use Rattle.pw_reasons.specs.inside.Searching.{AreCovered, IsFirstBeside, LeavesSound, ends_search}
 use Rattle.pw_reasons.specs.declared.choosing.Found.{Found}
-use Rattle.pw_reasons.specs.declared.picks.Picks.{Picks}
-use Rattle.pw_reasons.specs.declared.choosing.Found.TheVariants.{Chosen, Nogood, Nothing}
+use Rattle.pw_reasons.specs.declared.choosing.Found.TheVariants.{Nothing}
 use Rattle.pw_reasons.proofs.ChoiceLemmas.{consistent_then, covered_nogoods, last_then, nogoods_then}
+use Rattle.pw_reasons.proofs.FamilyLemmas.{and_both, and_parts}
 use Rattle.pw_reasons.proofs.NogoodLemmas.{covers_grows}
+use Rattle.pw_reasons.proofs.ProductLemmas.{each_believes, each_has_each, have_each, product_covers}
 use Rattle.pw_reasons.proofs.SetLemmas.{from_both}
 
 -- ---- lists of pieces
 
-front : {X : Type 0} (P : X → Type 0) (xs ys : List X) → All P (xs ++ ys) → All P xs
+pub front : {X : Type 0} (P : X → Type 0) (xs ys : List X) → All P (xs ++ ys) → All P xs
 front P [] ys all = All-nil P
 front P (x ∷ xs) ys all = All-cons P x xs (All-head P x (xs ++ ys) all) (front P xs ys (All-tail P x (xs ++ ys) all))
 
@@ -99,10 +102,6 @@ less_than_more w p =
 abbrev before_each : List (List ℕ) → ℕ → List (List ℕ)
 before_each rest p = map (λ others. p ∷ others) (combinations_of rest)
 
--- the worldviews with one premise more, beside the other groups
-abbrev pub beside : Premises → List (List ℕ) → ℕ → List Premises
-beside w rest p = worldviews_beside (insert w p) rest
-
 module _ (w : Premises) (rest : List (List ℕ)) where
   pieces : (p : ℕ) (combinations : List (List ℕ)) →
       map (λ taken. union w (from_list taken)) (map (λ others. p ∷ others) combinations) ≡ map (λ taken. union (insert w p) (from_list taken)) combinations
@@ -138,15 +137,25 @@ module _ (w : Premises) (rest : List (List ℕ)) where
 
 -- ---- what is covered
 
--- where a set covers each worldview that includes it, and what is believed does, all are covered
-pub all_refuted : (nogoods : List Premises) (nogood w : Premises) (groups : List (List ℕ)) → is_subset nogood w ≡ true →
-    ((v : Premises) → is_subset nogood v ≡ true → covers nogoods v ≡ true) → AreCovered nogoods (worldviews_beside w groups)
-all_refuted nogoods nogood w groups part covered =
-    All-map (λ v. covers nogoods v ≡ true) (λ taken. union w (from_list taken)) (combinations_of groups)
-    (All-from_get_or (λ taken. covers nogoods (union w (from_list taken)) ≡ true) (combinations_of groups) [] (λ i within.
-    covered (union w (from_list (slice_index_or (combinations_of groups) i [])))
-    (is_subset_trans nogood w (union w (from_list (slice_index_or (combinations_of groups) i []))) part
-    (is_subset_union_left w (from_list (slice_index_or (combinations_of groups) i []))))))
+-- what has a premise of each group has one of each later group
+later_each : (w : Premises) (groups : List (List ℕ)) (count place : ℕ) → count ≤ place → have_each w (drop count groups) ≡ true →
+    have_each w (drop place groups) ≡ true
+later_each w [] count zero few has = refl
+later_each w [] count (suc place) few has = refl
+later_each w (group ∷ groups) zero zero few has = has
+later_each w (group ∷ groups) zero (suc place) few has =
+    later_each w groups zero place (omega (arith, few)) (and_parts (list_any (contains w) group) (have_each w groups) has).1
+later_each w (group ∷ groups) (suc count) zero few has = absurd (omega (arith, few))
+later_each w (group ∷ groups) (suc count) (suc place) few has = later_each w groups count place (omega (arith, few)) has
+
+-- a set that is believed, with one premise of each later group, covers all
+pub all_refuted : (nogood w : Premises) (groups : List (List ℕ)) (count place : ℕ) → is_subset nogood w ≡ true → count ≤ place →
+    AreCovered (worldviews_beside nogood (drop place groups)) (worldviews_beside w (drop count groups))
+all_refuted nogood w groups count place part few = λ k d below.
+    let v : Premises = slice_index_or (worldviews_beside w (drop count groups)) k d in
+    product_covers nogood v (drop place groups)
+    ∙ and_both _ _ (is_subset_trans nogood w v part (each_believes w (drop count groups) k d below))
+    (later_each v groups count place few (each_has_each w (drop count groups) k d below))
 
 -- where what is believed is covered, all are
 pub all_covered : (nogoods : List Premises) (w : Premises) (groups : List (List ℕ)) → covers nogoods w ≡ true → AreCovered nogoods (worldviews_beside w groups)
@@ -155,36 +164,6 @@ all_covered nogoods w groups covered =
     (All-from_get_or (λ taken. covers nogoods (union w (from_list taken)) ≡ true) (combinations_of groups) [] (λ i within.
     covers_grows nogoods w (union w (from_list (slice_index_or (combinations_of groups) i [])))
     (is_subset_union_left w (from_list (slice_index_or (combinations_of groups) i []))) covered))
-
--- a part of what is not covered is not
-pub part_uncovered : (nogoods : List Premises) (part w : Premises) → is_subset part w ≡ true → covers nogoods w ≡ false → covers nogoods part ≡ false
-part_uncovered nogoods part w within uncovered =
-    elim (cases_Bool (covers nogoods part)) [
-      | inl covered ↦ absurd (false≢true (sym uncovered ∙ covers_grows nogoods part w within covered))
-      | inr not_covered ↦ not_covered
-    ]
-
-only_left : (a b : Bool) → b ≡ false → (a || b) ≡ true → a ≡ true
-only_left true b not_b either = refl
-only_left false b not_b either = absurd (false≢true (sym not_b ∙ either))
-
--- once one more set is noted, it refutes what includes it and was not covered before
-pub refutes : (old new : List Premises) (w nogood : Premises) → ((v : Premises) → covers new v ≡ (is_subset nogood v || covers old v)) →
-    covers old w ≡ false → is_subset nogood w ≡ true → Refutes new w nogood
-refutes old new w nogood more uncovered part = record {
-  part = part;
-  covered = λ v within. more v ∙ ap (λ b. b || covers old v) within;
-  only = λ v within covered. only_left (is_subset nogood v) (covers old v) (part_uncovered old v w within uncovered) (sym (more v) ∙ covered);
-}
-
--- and what was covered still is
-pub more_still : (old new : List Premises) (w nogood : Premises) → ((v : Premises) → covers new v ≡ (is_subset nogood v || covers old v)) →
-    covers old w ≡ true → covers new w ≡ true
-more_still old new w nogood more covered = more w ∙ ap (λ b. is_subset nogood w || b) covered ∙ either (is_subset nogood w)
-  where
-    either : (b : Bool) → (b || true) ≡ true
-    either true = refl
-    either false = refl
 
 -- where there is no group, what is not covered is not among what is
 pub none_left : (nogoods : List Premises) (w : Premises) → covers nogoods w ≡ false → AreCovered nogoods (worldviews_beside w []) → ⊥
@@ -269,18 +248,14 @@ leaves_then network old middle new before between after first last one other = r
 }
 
 -- what was found is one thing
-pub goes_on : {E : Type 0} (result : Result Found E) (found : Found) (noted believed : Premises) → result ≡ Ok Nothing → result ≡ Ok found →
-    ends_search noted believed found ≡ true → ⊥
-goes_on result found noted believed nothing was ends =
+pub goes_on : {E : Type 0} (result : Result Found E) (found : Found) (nogood believed : Premises) → result ≡ Ok Nothing → result ≡ Ok found →
+    ends_search nogood believed found ≡ true → ⊥
+goes_on result found nogood believed nothing was ends =
     let same : found ≡ Nothing = cc in
-    false≢true (sym (ap (ends_search noted believed) same) ∙ ends)
+    false≢true (sym (ap (ends_search nogood believed) same) ∙ ends)
 
--- nothing found is none chosen
-pub same_answer : {E : Type 0} (result : Result Found E) (found : Found) (picks : Option Picks) → result ≡ Ok Nothing → result ≡ Ok found →
-    picks ≡ chosen_in found → ◌≡◌ {A = Result (Option Picks) E} (Ok picks) (Ok None)
-same_answer result found picks nothing was is =
-    let same : found ≡ Nothing = cc in
-    ap Ok (is ∙ ap chosen_in same)
+pub found_nothing : {E : Type 0} (result : Result Found E) (found : Found) → result ≡ Ok Nothing → result ≡ Ok found → found ≡ Nothing
+found_nothing result found nothing was = cc
 
 -- an answer is no failure
 pub not_refused : {T E : Type 0} (result : Result T E) (x : T) (e : E) → result ≡ Ok x → result ≡ Err e → ⊥
@@ -305,7 +280,7 @@ module _ (w more : Premises) (groups : List (List ℕ)) (picked with group : Lis
   rest_is : drop (length with) groups ≡ drop (length picked + 1) groups
   rest_is = ap (λ n. drop n groups) (ap length pushed ∙ length-append picked (slice_index_or group i 0 ∷ []))
 
-  worldviews_then : worldviews_beside more (drop (length with) groups) ≡ beside w (drop (length picked + 1) groups) (slice_index_or group i 0)
+  pub worldviews_then : worldviews_beside more (drop (length with) groups) ≡ beside w (drop (length picked + 1) groups) (slice_index_or group i 0)
   worldviews_then = λ k. worldviews_beside (believed k) (rest_is k)
 
   pub part_of_more : is_subset w more ≡ true
@@ -319,107 +294,46 @@ module _ (w more : Premises) (groups : List (List ℕ)) (picked with group : Lis
       (All-weaker (λ v. covers old v ≡ true) (λ v. covers now v ≡ true) grows (beside w (drop (length picked + 1) groups) (slice_index_or group i 0))
       (covered_behind w (drop (length picked + 1) groups) old group i within (subst (λ gs. AreCovered old (worldviews_beside w gs)) left all)))
 
-  module _ (network : Network) (old store : Store) (grows : KeepsMore network old store) (noted : Premises) (before after : List Premises) where
-    first_now : (all : List ℕ) → IsFirstBeside network store more (drop (length with) groups) with all →
-        IsFirstBeside network old (insert w (slice_index_or group i 0)) (drop (length picked + 1) groups) (picked ++ slice_index_or group i 0 ∷ []) all
-    first_now all first =
-        subst (λ v. IsFirstBeside network old v (drop (length picked + 1) groups) (picked ++ slice_index_or group i 0 ∷ []) all) believed
-        (subst (λ gs. IsFirstBeside network old more gs (picked ++ slice_index_or group i 0 ∷ []) all) rest_is
-        (subst (λ xs. IsFirstBeside network old more (drop (length with) groups) xs all) pushed
-        (record {
-          earlier = first.earlier;
-          taken = first.taken;
-          later = first.later;
-          order = first.order;
-          made = first.made;
-          nogoods = nogoods_then network old store grows (map (λ others. union more (from_list others)) first.earlier) first.nogoods;
-          consistent = consistent_then network old store grows (union more (from_list first.taken)) first.consistent;
-        })))
-
-    -- what ends the search there ends it here
-    pub found_then : (found : Found) → IsWellNetwork network → kinds_of old ≡ kinds_in network → AreNogoods network old before →
-        AreCovered before (flat_map (beside w (drop (length picked + 1) groups)) (take i group)) → ends_search noted w found ≡ true →
-        IsFoundBeside network store after noted more (drop (length with) groups) with found →
-        IsFoundBeside network old after noted w (drop (length picked) groups) picked found
-    found_then (Chosen picks) well same are covered ends first =
-        subst (λ gs. IsFirstBeside network old w gs picked (picked_in picks)) (sym left)
-        (first_behind network old w (drop (length picked + 1) groups) group i within well same before are covered picked (picked_in picks)
-        (first_now (picked_in picks) first))
-    found_then Nogood well same are covered ends refuted = record {
-      part = ends;
-      covered = refuted.covered;
-      only = λ v within_w is. refuted.only v (is_subset_trans v w more within_w part_of_more) is;
-    }
-    found_then Nothing well same are covered ends found = absurd (false≢true ends)
-
-    -- if nothing ends it, what is believed is still not covered
-    pub uncovered_then : (found : Found) → ends_search noted w found ≡ false →
-        IsFoundBeside network store after noted more (drop (length with) groups) with found → covers after w ≡ false
-    uncovered_then (Chosen picks) goes first = absurd (false≢true (sym goes))
-    uncovered_then Nogood goes refuted =
-        elim (cases_Bool (covers after w)) [
-          | inl covered ↦ absurd (false≢true (sym goes ∙ refuted.only w part_of_more covered))
-          | inr not_covered ↦ not_covered
-        ]
-    uncovered_then Nothing goes found = part_uncovered after w more part_of_more found.0
-
-    -- and those behind the premise are covered
-    behind_then : (found : Found) → ends_search noted w found ≡ false →
-        IsFoundBeside network store after noted more (drop (length with) groups) with found →
-        AreCovered after (worldviews_beside more (drop (length with) groups))
-    behind_then (Chosen picks) goes first = absurd (false≢true (sym goes))
-    behind_then Nogood goes refuted = all_refuted after noted more (drop (length with) groups) refuted.part refuted.covered
-    behind_then Nothing goes found = found.1
-
-    pub done_then : (found : Found) → ends_search noted w found ≡ false →
-        IsFoundBeside network store after noted more (drop (length with) groups) with found →
-        ((v : Premises) → covers before v ≡ true → covers after v ≡ true) →
-        AreCovered before (flat_map (beside w (drop (length picked + 1) groups)) (take i group)) →
-        AreCovered after (flat_map (beside w (drop (length picked + 1) groups)) (take (i + 1) group))
-    done_then found goes is more_covered done =
-        more_behind w (drop (length picked + 1) groups) before after group i within more_covered done
-        (subst (AreCovered after) worldviews_then (behind_then found goes is))
+  pub first_now : (network : Network) (old store : Store) → KeepsMore network old store → (all : List ℕ) →
+      IsFirstBeside network store more (drop (length with) groups) with all →
+      IsFirstBeside network old (insert w (slice_index_or group i 0)) (drop (length picked + 1) groups) (picked ++ slice_index_or group i 0 ∷ []) all
+  first_now network old store grows all first =
+      subst (λ v. IsFirstBeside network old v (drop (length picked + 1) groups) (picked ++ slice_index_or group i 0 ∷ []) all) believed
+      (subst (λ gs. IsFirstBeside network old more gs (picked ++ slice_index_or group i 0 ∷ []) all) rest_is
+      (subst (λ xs. IsFirstBeside network old more (drop (length with) groups) xs all) pushed
+      (record {
+        earlier = first.earlier;
+        taken = first.taken;
+        later = first.later;
+        order = first.order;
+        made = first.made;
+        nogoods = nogoods_then network old store grows (map (λ others. union more (from_list others)) first.earlier) first.nogoods;
+        consistent = consistent_then network old store grows (union more (from_list first.taken)) first.consistent;
+      })))
 
 -- ---- a whole search
 
-module _ (network : Network) (store : Store) (beliefs others : Premises) (groups : List (List ℕ)) (none : List ℕ)
+module _ (beliefs others : Premises) (groups : List (List ℕ)) (none : List ℕ)
     (is : others ≡ difference beliefs (from_list (all_of groups))) (empty : none ≡ []) where
-  all_left : drop (length none) groups ≡ groups
+  pub all_left : drop (length none) groups ≡ groups
   all_left = ap (λ xs. drop (length xs) groups) empty
 
-  worldviews_left : worldviews_beside others (drop (length none) groups) ≡ worldviews_of beliefs groups
+  pub worldviews_left : worldviews_beside others (drop (length none) groups) ≡ worldviews_of beliefs groups
   worldviews_left = ap (worldviews_beside others) all_left ∙ worldviews_are beliefs others groups is
 
   pub left_covered : (nogoods : List Premises) → All (λ w. covers nogoods w ≡ true) (worldviews_of beliefs groups) →
       AreCovered nogoods (worldviews_beside others (drop (length none) groups))
   left_covered nogoods all = subst (AreCovered nogoods) (sym worldviews_left) all
 
-  -- the first consistent combination, if one was found
-  pub chosen_first : (nogoods : List Premises) (noted : Premises) (found : Found) →
-      IsFoundBeside network store nogoods noted others (drop (length none) groups) none found →
-      IfSome (chosen_in found) (λ picks. IsFirstConsistent network store beliefs groups (picked_in picks))
-  chosen_first nogoods noted (Chosen picks) first =
-      first_of_all network store beliefs others groups (picked_in picks) is
-      (subst (λ gs. IsFirstBeside network store others gs [] (picked_in picks)) all_left
-      (subst (λ xs. IsFirstBeside network store others (drop (length none) groups) xs (picked_in picks)) empty first))
-  chosen_first nogoods noted Nogood found = tt
-  chosen_first nogoods noted Nothing found = tt
+  -- the first consistent combination
+  pub chosen_first : (network : Network) (store : Store) (picked : List ℕ) → IsFirstBeside network store others (drop (length none) groups) none picked →
+      IsFirstConsistent network store beliefs groups picked
+  chosen_first network store picked first =
+      first_of_all network store beliefs others groups picked is
+      (subst (λ gs. IsFirstBeside network store others gs [] picked) all_left
+      (subst (λ xs. IsFirstBeside network store others (drop (length none) groups) xs picked) empty first))
 
-  -- otherwise all are covered
-  pub none_uncovered : (nogoods : List Premises) (noted : Premises) (found : Found) →
-      IsFoundBeside network store nogoods noted others (drop (length none) groups) none found →
-      IfNone (chosen_in found) (All (λ w. covers nogoods w ≡ true) (worldviews_of beliefs groups))
-  none_uncovered nogoods noted (Chosen picks) first = tt
-  none_uncovered nogoods noted Nogood refuted =
-      subst (AreCovered nogoods) (worldviews_are beliefs others groups is) (all_refuted nogoods noted others groups refuted.part refuted.covered)
-  none_uncovered nogoods noted Nothing found = subst (AreCovered nogoods) worldviews_left found.1
-
-  -- and nogoods
-  pub none_consistent : (nogoods : List Premises) (noted : Premises) (found : Found) → IsWellNetwork network → kinds_of store ≡ kinds_in network →
-      AreNogoods network store nogoods → IsFoundBeside network store nogoods noted others (drop (length none) groups) none found →
-      IfNone (chosen_in found) (AreNogoods network store (worldviews_of beliefs groups))
-  none_consistent nogoods noted (Chosen picks) well same are first = tt
-  none_consistent nogoods noted Nogood well same are refuted =
-      covered_nogoods network store well same nogoods are (worldviews_of beliefs groups) (none_uncovered nogoods noted Nogood refuted)
-  none_consistent nogoods noted Nothing well same are found =
-      covered_nogoods network store well same nogoods are (worldviews_of beliefs groups) (none_uncovered nogoods noted Nothing found)
+  -- otherwise all are covered: by what was noted
+  pub all_noted_covered : (nogoods : List Premises) → AreCovered nogoods (worldviews_beside others (drop (length none) groups)) →
+      All (λ w. covers nogoods w ≡ true) (worldviews_of beliefs groups)
+  all_noted_covered nogoods all = subst (AreCovered nogoods) worldviews_left all

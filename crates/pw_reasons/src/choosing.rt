@@ -1,7 +1,8 @@
 //! The first consistent combination of groups of premises.
 
-ghost use Rattle.std.specs.Prelude.{◌≡◌, ◌<◌, ◌≤◌, ℕ, true, false, All, Ok, None, [], IfOk, IfNone, IfSome, drop, length};
-ghost use Rattle.std.specs.FinSet.{is_subset};
+ghost use Rattle.std.specs.Prelude.{◌≡◌, ◌<◌, ◌≤◌, ℕ, true, false, All, Ok, None, [], IfOk, IfNone, IfSome, OnOk, drop, length, take};
+ghost use Rattle.std.specs.Prelude.{◌+◌, ◌++◌, List, slice_index_or};
+ghost use Rattle.std.specs.FinSet.{is_subset, remove};
 ghost use Rattle.pw_cells.specs.Cells.{kinds_of};
 ghost use Rattle.pw_network.specs.Wiring.{wiring};
 ghost use Rattle.pw_premises.specs.Premises.{Premises, most_premises};
@@ -11,20 +12,23 @@ ghost use Rattle.pw_reasons.specs.Nogood.{AreNogoods, covers};
 ghost use Rattle.pw_settle.specs.Growth.{KeepsMore, StaysUpstream};
 ghost use Rattle.pw_reasons.specs.inside.Reasoning.{AreSettledLast};
 ghost use Rattle.pw_reasons.specs.inside.Searching.{AreCovered, IsFoundBeside, LeavesSound};
-ghost use Rattle.pw_reasons.specs.inside.Searching.{chosen_in, ends_search};
-ghost use Rattle.pw_reasons.specs.inside.Searching.{worldviews_beside};
-ghost use Rattle.pw_reasons.specs.declared.choosing.Found.TheVariants.{Nothing};
+ghost use Rattle.pw_reasons.specs.inside.Products.{worldviews_beside};
+ghost use Rattle.pw_reasons.specs.inside.Alike.{HasMore, MayHaveMore, pending};
+ghost use Rattle.pw_reasons.specs.inside.Searching.{ends_search, refuting};
+ghost use Rattle.pw_reasons.specs.declared.choosing.Found.TheVariants.{Nothing, Refuted};
 ghost use Rattle.pw_settle.specs.Sound.{IsSound};
 ghost use Rattle.pw_settle.specs.Values.{kinds_in};
 
-use crate::combinations::believed_beside;
+use crate::alike::{note_alike, take_refuted};
+use crate::combinations::{believed_beside, believed_with_all};
 use crate::groups::Groups;
 use crate::nogoods::Nogoods;
 use crate::picks::Picks;
-use crate::trying::{Tried, find_nogood};
+use crate::trying::{Tried, find_nogood, keep_values, nearer};
 use pw_cells::CellStore;
 use pw_network::Network;
 use pw_premises::PremiseSet;
+use pw_settle::Settled;
 use std::alloc::{AllocError, Allocator};
 
 // What a search comes to beside what is believed.
@@ -32,42 +36,34 @@ use std::alloc::{AllocError, Allocator};
 enum Found {
     // The first consistent combination.
     Chosen(Picks),
-    // What is believed includes the set noted last: so no combination is consistent.
-    Nogood,
+    // No combination is consistent, as what was refuted last says. It is not noted.
+    Refuted,
     // No combination is consistent: noted sets cover each, but not what is believed.
     Nothing,
 }
 
 impl Found {
-    // Whether a search ends here. A nogood ends it only where it is within what is believed.
-    fn ends(&self, noted: &PremiseSet, believed: &PremiseSet) -> bool
-        ensures { result ≡ ends_search noted.now believed.now self.now }
+    // Whether a search ends here. What is refuted ends it only where the nogood is within what is
+    // believed.
+    fn ends(&self, nogood: &PremiseSet, believed: &PremiseSet) -> bool
+        ensures { result ≡ ends_search nogood.now believed.now self.now }
     {
         match self {
             Found::Chosen(_) => true,
-            Found::Nogood => noted.is_subset(believed),
+            Found::Refuted => nogood.is_subset(believed),
             Found::Nothing => false,
-        }
-    }
-
-    // The first consistent combination, if one was found.
-    fn picks(self) -> Option<Picks>
-        ensures { result ≡ chosen_in self }
-    {
-        match self {
-            Found::Chosen(picks) => Some(picks),
-            _ => None,
         }
     }
 }
 
 // Tries a combination, with a premise from each group: its worldview, and the part of it without the
-// last premise. What contradicts itself is noted. Fails only when out of memory.
+// last premise. Fails only when out of memory.
 fn try_combination<A: Allocator + Copy>(
     alloc: A,
     network: &Network<'_, '_, A>,
     store: &mut CellStore<A>,
-    nogoods: &mut Nogoods<A>,
+    groups: &Groups,
+    above: &Option<Settled<A>>,
     part: &PremiseSet,
     worldview: &PremiseSet,
     picks: &Picks,
@@ -75,35 +71,81 @@ fn try_combination<A: Allocator + Copy>(
 ) -> Result<Found, AllocError>
     requires kinds { kinds_of store.old ≡ kinds_in (wiring network.now) }
     requires sound { IsSound (wiring network.now) store.old }
-    requires nogoods { AreNogoods (wiring network.now) store.old nogoods.old }
     requires part { is_subset part.now worldview.now ≡ true }
-    requires uncovered { covers nogoods.old worldview.now ≡ false }
+    requires all { length (picked_in picks.now) ≡ length (groups_of groups.now) }
+    requires above { AreSettledLast (wiring network.now) store.old above.now }
     requires last { AreSettledLast (wiring network.now) store.old tried.old.last }
-    ensures found { IfOk result (IsFoundBeside (wiring network.now) store.old nogoods.new
-        tried.new.noted worldview.now [] (picked_in picks.now)) }
-    ensures leaves { LeavesSound (wiring network.now) store.old nogoods.old store.new nogoods.new
-        tried.new.last }
+    ensures found { (nogoods : List Premises) → covers nogoods worldview.now ≡ false
+        → IfOk result (IsFoundBeside (wiring network.now) store.old nogoods tried.new.nogood
+        tried.new.place worldview.now (groups_of groups.now) (picked_in picks.now)) }
+    ensures last { AreSettledLast (wiring network.now) store.old tried.new.last }
+    ensures grows { KeepsMore (wiring network.now) store.old store.new }
+    ensures upstream { StaysUpstream (wiring network.now) store.old store.new }
 {
-    match find_nogood(alloc, network, store, part, worldview, tried)? {
-        Some(nogood) => {
-            nogoods.note_new(&nogood)?;
-            tried.noted = nogood;
-            Ok(Found::Nogood)
-        }
-        None => Ok(Found::Chosen(*picks)),
+    if find_nogood(alloc, network, store, above, part, worldview, tried)? {
+        tried.place = groups.len();
+        return Ok(Found::Refuted);
+    }
+    Ok(Found::Chosen(*picks))
+}
+
+// Takes in what was found behind one more premise of a group, where that does not end the search.
+// Fails only when out of memory.
+fn take_in<A: Allocator + Copy>(
+    found: &Found,
+    nogoods: &mut Nogoods<A>,
+    alike: &mut Option<PremiseSet>,
+    groups: &Groups,
+    place: usize,
+    index: usize,
+    tried: &Tried<A>,
+) -> Result<(), AllocError>
+    requires place { place < length (groups_of groups.now) }
+    requires index { index < length (slice_index_or (groups_of groups.now) place []) }
+    requires premises { All (All (λ premise. premise < most_premises)) (groups_of groups.now) }
+    ensures more { OnOk result (HasMore
+        (pending alike.old (drop (place + 1) (groups_of groups.now))
+        (take index (slice_index_or (groups_of groups.now) place [])) ++ nogoods.old)
+        (pending alike.new (drop (place + 1) (groups_of groups.now))
+        (take (index + 1) (slice_index_or (groups_of groups.now) place [])) ++ nogoods.new)
+        (refuting found.now tried.now.nogood (drop tried.now.place (groups_of groups.now)))) }
+    ensures waiting { OnOk result (IfSome alike.new (λ fixed. (found.now ≡ Refuted)
+        × (fixed ≡ remove tried.now.nogood
+        (slice_index_or (slice_index_or (groups_of groups.now) place []) index 0)))) }
+    ensures leaves { MayHaveMore nogoods.old nogoods.new
+        (refuting found.now tried.now.nogood (drop tried.now.place (groups_of groups.now))
+        ++ pending alike.old (drop (place + 1) (groups_of groups.now))
+        (take index (slice_index_or (groups_of groups.now) place []))) }
+    ensures same { found.now ≡ Nothing → alike.old ≡ None
+        → (result ≡ Ok tt) × (nogoods.new ≡ nogoods.old) × (alike.new ≡ None) }
+{
+    match found {
+        Found::Refuted => take_refuted(
+            nogoods,
+            alike,
+            groups,
+            place,
+            index,
+            &tried.nogood,
+            tried.place,
+        ),
+        Found::Chosen(_) | Found::Nothing => { note_alike(nogoods, alike, groups, place, index) }
     }
 }
 
 // Searches the combinations that begin with these picks, one from each of the first groups, in their
 // order. The worldview is what is believed with them, and the part is without the last of them. A
 // premise is passed over, with all combinations behind it, if a noted set covers the worldview with
-// it. Fails only when out of memory.
+// it. What refutes the premises of a group alike is noted only where that ends: so all combinations
+// that are refuted alike are noted at once. The values above, if there are any, are those of a call
+// further up; values of this call are made from them. Fails only when out of memory.
 fn search<A: Allocator + Copy>(
     alloc: A,
     network: &Network<'_, '_, A>,
     store: &mut CellStore<A>,
     nogoods: &mut Nogoods<A>,
     groups: &Groups,
+    above: &Option<Settled<A>>,
     part: &PremiseSet,
     worldview: &PremiseSet,
     picks: &Picks,
@@ -113,12 +155,13 @@ fn search<A: Allocator + Copy>(
     requires sound { IsSound (wiring network.now) store.old }
     requires nogoods { AreNogoods (wiring network.now) store.old nogoods.old }
     requires premises { All (All (λ premise. premise < most_premises)) (groups_of groups.now) }
+    requires above { AreSettledLast (wiring network.now) store.old above.now }
     requires part { is_subset part.now worldview.now ≡ true }
     requires uncovered { covers nogoods.old worldview.now ≡ false }
     requires few { length (picked_in picks.now) ≤ length (groups_of groups.now) }
     requires last { AreSettledLast (wiring network.now) store.old tried.old.last }
     ensures found { IfOk result (IsFoundBeside (wiring network.now) store.old nogoods.new
-        tried.new.noted worldview.now (drop (length (picked_in picks.now)) (groups_of groups.now))
+        tried.new.nogood tried.new.place worldview.now (groups_of groups.now)
         (picked_in picks.now)) }
     ensures known { AreCovered nogoods.old (worldviews_beside worldview.now
         (drop (length (picked_in picks.now)) (groups_of groups.now)))
@@ -129,15 +172,31 @@ fn search<A: Allocator + Copy>(
     let place = picks.premises().len();
     if place == groups.len() {
         return try_combination(
-            alloc, network, store, nogoods, part, worldview, picks, tried,
+            alloc, network, store, groups, above, part, worldview, picks, tried,
         );
     }
+    if nogoods.covers_each(worldview, groups, place) {
+        return Ok(Found::Nothing);
+    }
     let group = groups.group(place);
+    let mut alike = None;
+    let mut own = None;
     for index in 0..group.len() {
         let premise = group[index];
         if nogoods.covers_with(worldview, premise) {
+            note_alike(nogoods, &mut alike, groups, place, index)?;
             continue;
         }
+        keep_values(
+            alloc,
+            network,
+            store,
+            nearer(above, &tried.last),
+            worldview,
+            &alike,
+            place + 1 == groups.len(),
+            &mut own,
+        )?;
         let mut more = *worldview;
         more.insert(premise);
         let found = search(
@@ -146,16 +205,26 @@ fn search<A: Allocator + Copy>(
             store,
             nogoods,
             groups,
+            nearer(&own, above),
             worldview,
             &more,
             &picks.with(premise),
             tried,
         )?;
-        if found.ends(&tried.noted, worldview) {
+        if found.ends(&tried.nogood, worldview) {
+            note_alike(nogoods, &mut alike, groups, place, index)?;
             return Ok(found);
         }
+        take_in(&found, nogoods, &mut alike, groups, place, index, tried)?;
     }
-    Ok(Found::Nothing)
+    match alike {
+        Some(fixed) => {
+            tried.nogood = fixed;
+            tried.place = place;
+            Ok(Found::Refuted)
+        }
+        None => Ok(Found::Nothing),
+    }
 }
 
 /// The first combination of the groups under which nothing is contradictory: one premise from each
@@ -205,6 +274,7 @@ pub fn choose<A: Allocator + Copy>(
     if nogoods.covers(&others) {
         return Ok(None);
     }
+    nogoods.expect(&believed_with_all(worldview, groups));
     let mut tried = Tried::nothing();
     let found = search(
         alloc,
@@ -212,10 +282,18 @@ pub fn choose<A: Allocator + Copy>(
         store,
         nogoods,
         groups,
+        &None,
         &others,
         &others,
         &Picks::none(),
         &mut tried,
     )?;
-    Ok(found.picks())
+    match found {
+        Found::Chosen(picks) => Ok(Some(picks)),
+        Found::Refuted => {
+            nogoods.note_with_each(&tried.nogood, groups, tried.place)?;
+            Ok(None)
+        }
+        Found::Nothing => Ok(None),
+    }
 }

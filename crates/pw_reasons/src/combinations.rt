@@ -44,6 +44,13 @@ pub(crate) fn believed_beside(beliefs: &PremiseSet, groups: &Groups) -> PremiseS
     beliefs.difference(premises_of(groups))
 }
 
+// What is believed together with all premises of the groups.
+pub(crate) fn believed_with_all(beliefs: &PremiseSet, groups: &Groups) -> PremiseSet
+    requires { All (All (λ premise. premise < most_premises)) (groups_of groups.now) }
+{
+    beliefs.join(premises_of(groups))
+}
+
 // These premises together with those taken.
 fn with_taken(others: &PremiseSet, picks: &Picks) -> PremiseSet
     requires { All (λ premise. premise < most_premises) (picked_in picks.now) }

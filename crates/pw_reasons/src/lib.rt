@@ -1,6 +1,7 @@
 //! Why a value is what it is, and what is contradictory.
 #![tactic(auto)]
 
+mod alike;
 mod choosing;
 mod combinations;
 mod conflicts;
@@ -12,6 +13,8 @@ mod listing;
 mod nogoods;
 mod pairs;
 mod picks;
+mod product;
+mod products;
 mod reasoning;
 mod trying;
 

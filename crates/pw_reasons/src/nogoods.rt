@@ -1,13 +1,17 @@
 //! Nogoods: noted sets of premises that contradict themselves.
-ghost use Rattle.std.specs.Prelude.{◌≡◌, ◌<◌, ◌↔◌, ◌⊎◌, ◌||◌, [], true, false, Contains};
-ghost use Rattle.std.specs.Prelude.{IfNone, IfSome, OnErr, OnOk};
+ghost use Rattle.std.specs.Prelude.{◌≡◌, ◌<◌, ◌↔◌, ◌⊎◌, ◌||◌, [], true, false, drop};
+ghost use Rattle.std.specs.Prelude.{All, Contains, IfNone, IfSome, OnErr, OnOk};
 ghost use Rattle.std.specs.FinSet.{insert, is_subset};
 ghost use Rattle.pw_premises.specs.Premises.{Premises, most_premises};
+ghost use Rattle.pw_reasons.specs.Combinations.{groups_of};
 ghost use Rattle.pw_reasons.specs.inside.PairRows.{pair};
+ghost use Rattle.pw_reasons.specs.inside.Products.{worldviews_beside};
 ghost use Rattle.pw_reasons.specs.Nogood.{covers};
 
 use crate::family::Family;
+use crate::groups::Groups;
 use crate::pairs::Pairs;
+use crate::products::Products;
 use pw_premises::PremiseSet;
 use std::alloc::{AllocError, Allocator, Global};
 use std::marker::Model;
@@ -21,8 +25,10 @@ pub struct Nogoods<A: Allocator = Global> {
     alloc: A,
     // Those of exactly two premises.
     pairs: Pairs<A>,
-    // The others.
+    // Others that were noted each by itself.
     family: Family<A>,
+    // Those that were noted together, with one premise of each of some groups.
+    products: Products<A>,
 }
 
 impl<A: Allocator> Model for Nogoods<A> {
@@ -36,7 +42,7 @@ impl<A: Allocator> Model for Nogoods<A> {
 
     ghost coded = { coded_list (set.code coded_ℕ) };
 
-    ghost view = { λ a. a.pairs ++ sets_of a.family };
+    ghost view = { λ a. a.pairs ++ (sets_of a.family ++ a.products) };
 }
 
 impl<A: Allocator + Copy> Nogoods<A> {
@@ -48,6 +54,7 @@ impl<A: Allocator + Copy> Nogoods<A> {
             alloc,
             pairs: Pairs::new(alloc),
             family: Family::Nothing,
+            products: Products::new(alloc),
         }
     }
 
@@ -87,6 +94,35 @@ impl<A: Allocator + Copy> Nogoods<A> {
         }
     }
 
+    // Notes each set of the fixed premises with one of each group, from this place on. Fails only
+    // when out of memory; then nothing changes.
+    pub(crate) fn note_with_each(
+        &mut self,
+        fixed: &PremiseSet,
+        groups: &Groups,
+        place: usize,
+    ) -> Result<(), AllocError>
+        ensures covered { OnOk result ((w : Premises) → covers self.new w
+            ≡ (covers (worldviews_beside fixed.now (drop place (groups_of groups.now))) w
+            || covers self.old w)) }
+        ensures within { (noted : Premises) → Contains self.new noted
+            → Contains (worldviews_beside fixed.now (drop place (groups_of groups.now))) noted
+            ⊎ Contains self.old noted }
+        ensures err { OnErr result (self.new ≡ self.old) }
+    {
+        if place >= groups.len() {
+            return self.note_new(fixed);
+        }
+        self.products.add(fixed, groups, place)
+    }
+
+    // Says which premises are expected in questions, for speed: others may come too.
+    pub(crate) fn expect(&mut self, premises: &PremiseSet)
+        ensures { self.new ≡ self.old }
+    {
+        self.products.expect(premises);
+    }
+
     /// Whether a noted set is a subset of these premises. Takes no memory.
     pub fn covers(&self, premises: &PremiseSet) -> bool
         ensures { result ≡ covers self.now premises.now }
@@ -100,9 +136,12 @@ impl<A: Allocator + Copy> Nogoods<A> {
             × (is_subset noted premises.now ≡ true)) }
         ensures none { IfNone result (covers self.now premises.now ≡ false) }
     {
-        match self.pairs.within(premises) {
-            Some(pair) => Some(pair),
-            None => self.family.within(premises),
+        if let Some(pair) = self.pairs.within(premises) {
+            return Some(pair);
+        }
+        match self.family.within(premises) {
+            Some(set) => Some(set),
+            None => self.products.within(premises),
         }
     }
 
@@ -118,7 +157,16 @@ impl<A: Allocator + Copy> Nogoods<A> {
         }
         let mut premises = *before;
         premises.insert(premise);
-        self.family.covers(&premises)
+        self.family.covers(&premises) || self.products.covers(&premises)
+    }
+
+    // Whether each combination of the groups from this place on, with what is believed, is covered
+    // by sets that were noted together. False says nothing.
+    pub(crate) fn covers_each(&self, believed: &PremiseSet, groups: &Groups, place: usize) -> bool
+        ensures { result ≡ true → All (λ w. covers self.now w ≡ true)
+            (worldviews_beside believed.now (drop place (groups_of groups.now))) }
+    {
+        self.products.covers_each(believed, groups, place)
     }
 }
 

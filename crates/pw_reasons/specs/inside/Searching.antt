@@ -1,6 +1,6 @@
 -- What a search for a consistent combination has shown where it stands: some premises are believed,
 -- and of each of some groups one is still to be taken.
-use Rattle.std.specs.Prelude.{◌≡◌, ℕ, Bool, true, false, Some, None, List, Option, ◌∷◌, ◌++◌, All, map}
+use Rattle.std.specs.Prelude.{◌≡◌, ◌≤◌, ℕ, Bool, true, false, List, Option, [], ◌∷◌, ◌++◌, All, drop, length, map}
 use Rattle.std.specs.FinSet.{from_list, is_subset, union}
 use Rattle.pw_premises.specs.Premises.{Premises}
 use Rattle.pw_cells.specs.Cells.{Store}
@@ -9,15 +9,11 @@ use Rattle.pw_settle.specs.Growth.{KeepsMore, StaysUpstream}
 use Rattle.pw_settle.specs.Settled.{Settled}
 use Rattle.pw_reasons.specs.Choice.{IsConsistent}
 use Rattle.pw_reasons.specs.Combinations.{combinations_of, picked_in}
+use Rattle.pw_reasons.specs.inside.Products.{worldviews_beside}
 use Rattle.pw_reasons.specs.Nogood.{AreNogoods, IsNogood, covers}
 use Rattle.pw_reasons.specs.inside.Reasoning.{AreSettledLast}
 use Rattle.pw_reasons.specs.declared.choosing.Found.{Found}
-use Rattle.pw_reasons.specs.declared.picks.Picks.{Picks}
-use Rattle.pw_reasons.specs.declared.choosing.Found.TheVariants.{Chosen, Nogood, Nothing}
-
--- what is believed, together with the premises of each combination of the groups
-abbrev pub worldviews_beside : Premises → List (List ℕ) → List Premises
-worldviews_beside believed groups = map (λ taken. union believed (from_list taken)) (combinations_of groups)
+use Rattle.pw_reasons.specs.declared.choosing.Found.TheVariants.{Chosen, Refuted, Nothing}
 
 -- noted sets cover each of these
 abbrev pub AreCovered : List Premises → List Premises → Type 0
@@ -38,12 +34,14 @@ pub record LeavesSound (network : Network) (old : Store) (nogoods : List Premise
   pub grows : KeepsMore network old new
   pub upstream : StaysUpstream network old new
 
--- the noted sets cover each worldview that includes the set; it is part of what is believed, and
--- of each part that they cover
-pub record Refutes (nogoods : List Premises) (believed nogood : Premises) : Type 0 where
+-- the set is part of what is believed, and with one premise of each group from the place on, which is
+-- past those picked, it contradicts itself
+pub record Refutes (network : Network) (store : Store) (believed : Premises) (groups : List (List ℕ))
+    (picked : List ℕ) (nogood : Premises) (place : ℕ) : Type 0 where
   pub part : is_subset nogood believed ≡ true
-  pub covered : (w : Premises) → is_subset nogood w ≡ true → covers nogoods w ≡ true
-  pub only : (w : Premises) → is_subset w believed ≡ true → covers nogoods w ≡ true → is_subset nogood w ≡ true
+  pub past : length picked ≤ place
+  pub within : place ≤ length groups
+  pub nogoods : AreNogoods network store (worldviews_beside nogood (drop place groups))
 
 -- the premises taken, after those before, are the first combination of the groups under which
 -- nothing is contradictory, beside what is believed
@@ -57,24 +55,26 @@ pub record IsFirstBeside (network : Network) (store : Store) (believed : Premise
   pub nogoods : AreNogoods network store (map (λ others. union believed (from_list others)) earlier)
   pub consistent : IsConsistent network store (union believed (from_list taken))
 
--- what was found beside what is believed: the first consistent combination of the groups; that the
--- set noted last is a nogood within what is believed; or that all combinations are covered, and what
--- is believed is not
-abbrev pub IsFoundBeside : Network → Store → List Premises → Premises → Premises → List (List ℕ) → List ℕ → Found → Type 0
-IsFoundBeside network store nogoods noted believed groups before (Chosen picks) =
-    IsFirstBeside network store believed groups before (picked_in picks)
-IsFoundBeside network store nogoods noted believed groups before Nogood = Refutes nogoods believed noted
-IsFoundBeside network store nogoods noted believed groups before Nothing =
-    (covers nogoods believed ≡ false) × AreCovered nogoods (worldviews_beside believed groups)
+-- what was found beside what is believed, where some premises are picked: the first consistent
+-- combination; sets that refute each combination, and that are not noted; or that noted sets cover
+-- each combination. If none was found, what is believed is not covered
+abbrev pub IsFoundBeside : Network → Store → List Premises → Premises → ℕ → Premises → List (List ℕ) → List ℕ → Found → Type 0
+IsFoundBeside network store nogoods nogood place believed groups picked (Chosen picks) =
+    IsFirstBeside network store believed (drop (length picked) groups) picked (picked_in picks)
+IsFoundBeside network store nogoods nogood place believed groups picked Refuted =
+    (covers nogoods believed ≡ false) × Refutes network store believed groups picked nogood place
+IsFoundBeside network store nogoods nogood place believed groups picked Nothing =
+    (covers nogoods believed ≡ false) × AreCovered nogoods (worldviews_beside believed (drop (length picked) groups))
 
--- whether this ends a search beside what is believed: a nogood only where it is within that
+-- whether this ends a search beside what is believed: a set that refutes only where it is within that
 abbrev pub ends_search : Premises → Premises → Found → Bool
-ends_search noted believed (Chosen picks) = true
-ends_search noted believed Nogood = is_subset noted believed
-ends_search noted believed Nothing = false
+ends_search nogood believed (Chosen picks) = true
+ends_search nogood believed Refuted = is_subset nogood believed
+ends_search nogood believed Nothing = false
 
--- the combination that was chosen, if one was
-abbrev pub chosen_in : Found → Option Picks
-chosen_in (Chosen picks) = Some picks
-chosen_in Nogood = None
-chosen_in Nothing = None
+-- the sets that refute each combination: if something is refuted, the nogood with one premise of each
+-- of the groups
+abbrev pub refuting : Found → Premises → List (List ℕ) → List Premises
+refuting (Chosen picks) nogood groups = []
+refuting Refuted nogood groups = worldviews_beside nogood groups
+refuting Nothing nogood groups = []

@@ -103,6 +103,56 @@ fn three_neighbours_have_no_two_colours(rt: HostRuntime) -> Result<(), Fail> {
     Ok(())
 }
 
+// Two numbers, each of which is one of two under premises of its own, and a total that no two reach.
+const TOTAL: &str = concat!(
+    "workbench 1\nuser ann\n",
+    "premise a1\npremise a2\npremise b10\npremise b20\npremise total\n",
+    "cell a interval\ncell b interval\ncell t interval\n",
+);
+
+// A total of 99 under the last premise.
+fn no_total() -> [Tell<'static>; 5] {
+    [
+        told("a", 1, 1, PremiseSet::one(0)),
+        told("a", 2, 2, PremiseSet::one(1)),
+        told("b", 10, 10, PremiseSet::one(2)),
+        told("b", 20, 20, PremiseSet::one(3)),
+        told("t", 99, 99, PremiseSet::one(4)),
+    ]
+}
+
+#[test]
+fn what_is_refuted_alike_is_noted_for_each_combination(rt: HostRuntime) -> Result<(), Fail> {
+    let tells = no_total();
+    let matter = Matter {
+        text: TOTAL,
+        attachments: &[at_line(6, "adder", &["a", "b", "t"])],
+        tells: &tells,
+    };
+    let (a1, a2) = (PremiseSet::one(0), PremiseSet::one(1));
+    let (b10, b20) = (PremiseSet::one(2), PremiseSet::one(3));
+    let total = PremiseSet::one(4);
+    let choice = chosen_from(
+        rt.alloc(),
+        matter,
+        PremiseSet::first(5),
+        &[&[0, 1], &[2, 3]],
+        &[
+            both(a1, b10).join(total),
+            both(a1, b20).join(total),
+            both(a2, b10).join(total),
+            both(a2, b20).join(total),
+            both(both(a1, a2), both(b10, b20)),
+            both(a1, a2).join(total),
+            both(b10, b20).join(total),
+        ],
+    )?;
+    assert!(rt; is_chosen(&choice, None));
+    let expected = [true, true, true, true, false, false, false];
+    assert_eq!(rt; choice.covered.as_slice(), expected.as_slice());
+    Ok(())
+}
+
 // What is chosen from these groups where nothing is told, and whether all premises are covered then.
 fn where_nothing_is_told(alloc: Global, lists: &[&[u16]]) -> Result<Choice, Fail> {
     let matter = Matter {

@@ -1,13 +1,17 @@
-use Rattle.std.proofs.Common.{◌≡◌, ℕ, true, List, All, sym, ◌∙◌, subst}
-use Rattle.std.specs.Prelude.{IfNone, IfSome}
+use Rattle.std.proofs.Common.{length, ◌≡◌, ℕ, true, List, All, drop, refl, sym, ap, ◌∙◌, subst}
+use Rattle.pw_cells.specs.Cells.{Store}
+use Rattle.pw_network.specs.Network.{Network}
 use Rattle.pw_network.specs.Wiring.{wiring}
+use Rattle.pw_premises.specs.Premises.{Premises}
 use Rattle.pw_premises.specs.PremiseSubsets.{is_subset_refl}
-use Rattle.pw_reasons.specs.Choice.{IsFirstConsistent}
 use Rattle.pw_reasons.specs.Combinations.{groups_of, picked_in, worldviews_of}
-use Rattle.pw_reasons.specs.Nogood.{AreNogoods, covers}
-use Rattle.pw_reasons.specs.inside.Searching.{AreCovered}
+use Rattle.pw_reasons.specs.Nogood.{covers}
+use Rattle.pw_reasons.specs.inside.Products.{worldviews_beside}
+use Rattle.pw_reasons.specs.inside.Searching.{AreCovered, IsFoundBeside, ends_search}
 use Rattle.pw_reasons.proofs.ChoiceLemmas.{covered_nogoods}
-use Rattle.pw_reasons.proofs.SearchLemmas.{all_covered, chosen_first, left_covered, none_consistent, none_uncovered, not_refused, same_answer, worldviews_are}
+use Rattle.pw_reasons.proofs.SearchLemmas.{all_covered, all_noted_covered, chosen_first, goes_on, left_covered, not_refused, worldviews_are}
+use Rattle.pw_reasons.proofs.SearchSteps.{not_both, refuted_apart, refuted_covered, refuted_nogoods}
+use Rattle.pw_reasons.specs.declared.choosing.Found.TheVariants.{Refuted}
 use Rattle.pw_reasons.proofs.choosing.choose.Goals as goal
 
 pub returns-then-covers-clause-none : goal.returns-then-covers-clause-none
@@ -30,36 +34,143 @@ search-requires-clause-part g c = is_subset_refl c.believed_beside-others.result
 
 pub returns-in_err-found-clause-known : goal.returns-in_err-found-clause-known
 returns-in_err-found-clause-known g c all =
-    let same = c.search.ensures.known (left_covered (wiring c.args.network.now) c.args.store.now c.args.worldview.now c.believed_beside-others.result
-    (groups_of c.args.groups.now) (picked_in c.none.result) c.believed_beside-others.ensures c.none.ensures c.args.nogoods.now all) in
-    absurd (not_refused c.search.result _ c.in_err-found.field-0.0 same.0 c.in_err-found.was)
+    let network : Network = wiring c.args.network.now in
+    let store : Store = c.args.store.now in
+    let beliefs : Premises = c.args.worldview.now in
+    let others : Premises = c.believed_beside-others.result in
+    let groups : List (List ℕ) = groups_of c.args.groups.now in
+    let none : List ℕ = picked_in c.none.result in
+    let nothing = c.search.ensures.known (subst (λ (l : List Premises). AreCovered l (worldviews_beside others (drop (length none) groups)))
+    (sym {A = List Premises} c.expect.ensures) (left_covered beliefs others groups none c.believed_beside-others.ensures c.none.ensures c.args.nogoods.now all)) in
+    absurd (not_refused c.search.result _ c.in_err-found.field-0.0 nothing.0 c.in_err-found.was)
 
-pub returns-clause-some : goal.returns-clause-some
-returns-clause-some g c =
-    subst (λ o. IfSome o (λ picks. IsFirstConsistent (wiring c.args.network.now) c.args.store.now c.args.worldview.now (groups_of c.args.groups.now) (picked_in picks)))
-    (sym c.picks.ensures)
-    (chosen_first (wiring c.args.network.now) c.args.store.now c.args.worldview.now c.believed_beside-others.result (groups_of c.args.groups.now)
-    (picked_in c.none.result) c.believed_beside-others.ensures c.none.ensures c.search.new.nogoods c.search.new.tried.noted c.in_ok-found.found
-    c.in_ok-found.ensures.found)
+pub returns-in-Chosen-clause-some : goal.returns-in-Chosen-clause-some
+returns-in-Chosen-clause-some g c =
+    let network : Network = wiring c.args.network.now in
+    let store : Store = c.args.store.now in
+    let beliefs : Premises = c.args.worldview.now in
+    let others : Premises = c.believed_beside-others.result in
+    let groups : List (List ℕ) = groups_of c.args.groups.now in
+    let none : List ℕ = picked_in c.none.result in
+    let found = subst (IsFoundBeside network store c.search.new.nogoods c.search.new.tried.nogood c.search.new.tried.place others groups none) c.in-Chosen.is
+    c.in_ok-found.ensures.found in
+    chosen_first beliefs others groups none c.believed_beside-others.ensures c.none.ensures network store (picked_in c.in-Chosen.picks) found
+
+pub returns-in-Chosen-clause-known : goal.returns-in-Chosen-clause-known
+returns-in-Chosen-clause-known g c all =
+    let network : Network = wiring c.args.network.now in
+    let store : Store = c.args.store.now in
+    let beliefs : Premises = c.args.worldview.now in
+    let others : Premises = c.believed_beside-others.result in
+    let groups : List (List ℕ) = groups_of c.args.groups.now in
+    let none : List ℕ = picked_in c.none.result in
+    let nothing = c.search.ensures.known (subst (λ (l : List Premises). AreCovered l (worldviews_beside others (drop (length none) groups)))
+    (sym {A = List Premises} c.expect.ensures) (left_covered beliefs others groups none c.believed_beside-others.ensures c.none.ensures c.args.nogoods.now all)) in
+    absurd (goes_on c.search.result c.in_ok-found.found c.search.new.tried.nogood others nothing.0 c.in_ok-found.was
+    (ap (ends_search c.search.new.tried.nogood others) c.in-Chosen.is))
+
+pub returns-in_err-note_with_each-in-Refuted-clause-known : goal.returns-in_err-note_with_each-in-Refuted-clause-known
+returns-in_err-note_with_each-in-Refuted-clause-known g c all =
+    let network : Network = wiring c.args.network.now in
+    let store : Store = c.args.store.now in
+    let beliefs : Premises = c.args.worldview.now in
+    let others : Premises = c.believed_beside-others.result in
+    let groups : List (List ℕ) = groups_of c.args.groups.now in
+    let none : List ℕ = picked_in c.none.result in
+    let nothing = c.search.ensures.known (subst (λ (l : List Premises). AreCovered l (worldviews_beside others (drop (length none) groups)))
+    (sym {A = List Premises} c.expect.ensures) (left_covered beliefs others groups none c.believed_beside-others.ensures c.none.ensures c.args.nogoods.now all)) in
+    absurd (refuted_apart (not_both c.search.result c.in_ok-found.found Refuted nothing.0 c.in_ok-found.was c.in-Refuted.is))
+
+pub returns-in-Refuted-clause-none : goal.returns-in-Refuted-clause-none
+returns-in-Refuted-clause-none g c =
+    let network : Network = wiring c.args.network.now in
+    let store : Store = c.args.store.now in
+    let beliefs : Premises = c.args.worldview.now in
+    let others : Premises = c.believed_beside-others.result in
+    let groups : List (List ℕ) = groups_of c.args.groups.now in
+    let none : List ℕ = picked_in c.none.result in
+    let found = subst (IsFoundBeside network store c.search.new.nogoods c.search.new.tried.nogood c.search.new.tried.place others groups none) c.in-Refuted.is
+    c.in_ok-found.ensures.found in
+    covered_nogoods network store c.args.network.now.well c.requires.kinds c.note_with_each.new.self
+    (refuted_nogoods network store c.search.new.nogoods c.note_with_each.new.self (worldviews_beside c.search.new.tried.nogood (drop c.search.new.tried.place groups))
+    c.search.ensures.leaves.are found.1.nogoods c.note_with_each.ensures.within)
+    (worldviews_of beliefs groups)
+    (all_noted_covered beliefs others groups none c.believed_beside-others.ensures c.none.ensures c.note_with_each.new.self
+    (refuted_covered network store others groups none c.search.new.tried.nogood c.search.new.tried.place found.1 c.search.new.nogoods c.note_with_each.new.self
+    c.in_ok-note_with_each-in-Refuted.ensures.covered))
+
+pub returns-in-Refuted-clause-covered : goal.returns-in-Refuted-clause-covered
+returns-in-Refuted-clause-covered g c =
+    let network : Network = wiring c.args.network.now in
+    let store : Store = c.args.store.now in
+    let beliefs : Premises = c.args.worldview.now in
+    let others : Premises = c.believed_beside-others.result in
+    let groups : List (List ℕ) = groups_of c.args.groups.now in
+    let none : List ℕ = picked_in c.none.result in
+    let found = subst (IsFoundBeside network store c.search.new.nogoods c.search.new.tried.nogood c.search.new.tried.place others groups none) c.in-Refuted.is
+    c.in_ok-found.ensures.found in
+    all_noted_covered beliefs others groups none c.believed_beside-others.ensures c.none.ensures c.note_with_each.new.self
+    (refuted_covered network store others groups none c.search.new.tried.nogood c.search.new.tried.place found.1 c.search.new.nogoods c.note_with_each.new.self
+    c.in_ok-note_with_each-in-Refuted.ensures.covered)
+
+pub returns-in-Refuted-clause-known : goal.returns-in-Refuted-clause-known
+returns-in-Refuted-clause-known g c all =
+    let network : Network = wiring c.args.network.now in
+    let store : Store = c.args.store.now in
+    let beliefs : Premises = c.args.worldview.now in
+    let others : Premises = c.believed_beside-others.result in
+    let groups : List (List ℕ) = groups_of c.args.groups.now in
+    let none : List ℕ = picked_in c.none.result in
+    let nothing = c.search.ensures.known (subst (λ (l : List Premises). AreCovered l (worldviews_beside others (drop (length none) groups)))
+    (sym {A = List Premises} c.expect.ensures) (left_covered beliefs others groups none c.believed_beside-others.ensures c.none.ensures c.args.nogoods.now all)) in
+    absurd (refuted_apart (not_both c.search.result c.in_ok-found.found Refuted nothing.0 c.in_ok-found.was c.in-Refuted.is))
+
+pub returns-in-Refuted-clause-nogoods : goal.returns-in-Refuted-clause-nogoods
+returns-in-Refuted-clause-nogoods g c =
+    let network : Network = wiring c.args.network.now in
+    let store : Store = c.args.store.now in
+    let beliefs : Premises = c.args.worldview.now in
+    let others : Premises = c.believed_beside-others.result in
+    let groups : List (List ℕ) = groups_of c.args.groups.now in
+    let none : List ℕ = picked_in c.none.result in
+    let found = subst (IsFoundBeside network store c.search.new.nogoods c.search.new.tried.nogood c.search.new.tried.place others groups none) c.in-Refuted.is
+    c.in_ok-found.ensures.found in
+    refuted_nogoods network store c.search.new.nogoods c.note_with_each.new.self (worldviews_beside c.search.new.tried.nogood (drop c.search.new.tried.place groups))
+    c.search.ensures.leaves.are found.1.nogoods c.note_with_each.ensures.within
 
 pub returns-clause-none : goal.returns-clause-none
 returns-clause-none g c =
-    subst (λ o. IfNone o (AreNogoods (wiring c.args.network.now) c.args.store.now (worldviews_of c.args.worldview.now (groups_of c.args.groups.now))))
-    (sym c.picks.ensures)
-    (none_consistent (wiring c.args.network.now) c.args.store.now c.args.worldview.now c.believed_beside-others.result (groups_of c.args.groups.now)
-    (picked_in c.none.result) c.believed_beside-others.ensures c.none.ensures c.search.new.nogoods c.search.new.tried.noted c.in_ok-found.found
-    c.args.network.now.well c.requires.kinds c.search.ensures.leaves.are c.in_ok-found.ensures.found)
+    let network : Network = wiring c.args.network.now in
+    let store : Store = c.args.store.now in
+    let beliefs : Premises = c.args.worldview.now in
+    let others : Premises = c.believed_beside-others.result in
+    let groups : List (List ℕ) = groups_of c.args.groups.now in
+    let none : List ℕ = picked_in c.none.result in
+    let found = subst (IsFoundBeside network store c.search.new.nogoods c.search.new.tried.nogood c.search.new.tried.place others groups none) c.in-Nothing.is
+    c.in_ok-found.ensures.found in
+    covered_nogoods network store c.args.network.now.well c.requires.kinds c.search.new.nogoods c.search.ensures.leaves.are (worldviews_of beliefs groups)
+    (all_noted_covered beliefs others groups none c.believed_beside-others.ensures c.none.ensures c.search.new.nogoods found.1)
 
 pub returns-clause-covered : goal.returns-clause-covered
 returns-clause-covered g c =
-    subst (λ o. IfNone o (All (λ w. covers c.search.new.nogoods w ≡ true) (worldviews_of c.args.worldview.now (groups_of c.args.groups.now))))
-    (sym c.picks.ensures)
-    (none_uncovered (wiring c.args.network.now) c.args.store.now c.args.worldview.now c.believed_beside-others.result (groups_of c.args.groups.now)
-    (picked_in c.none.result) c.believed_beside-others.ensures c.none.ensures c.search.new.nogoods c.search.new.tried.noted c.in_ok-found.found
-    c.in_ok-found.ensures.found)
+    let network : Network = wiring c.args.network.now in
+    let store : Store = c.args.store.now in
+    let beliefs : Premises = c.args.worldview.now in
+    let others : Premises = c.believed_beside-others.result in
+    let groups : List (List ℕ) = groups_of c.args.groups.now in
+    let none : List ℕ = picked_in c.none.result in
+    let found = subst (IsFoundBeside network store c.search.new.nogoods c.search.new.tried.nogood c.search.new.tried.place others groups none) c.in-Nothing.is
+    c.in_ok-found.ensures.found in
+    all_noted_covered beliefs others groups none c.believed_beside-others.ensures c.none.ensures c.search.new.nogoods found.1
 
 pub returns-clause-known : goal.returns-clause-known
 returns-clause-known g c all =
-    let same = c.search.ensures.known (left_covered (wiring c.args.network.now) c.args.store.now c.args.worldview.now c.believed_beside-others.result
-    (groups_of c.args.groups.now) (picked_in c.none.result) c.believed_beside-others.ensures c.none.ensures c.args.nogoods.now all) in
-    (same_answer c.search.result c.in_ok-found.found c.picks.result same.0 c.in_ok-found.was c.picks.ensures, same.1, same.2)
+    let network : Network = wiring c.args.network.now in
+    let store : Store = c.args.store.now in
+    let beliefs : Premises = c.args.worldview.now in
+    let others : Premises = c.believed_beside-others.result in
+    let groups : List (List ℕ) = groups_of c.args.groups.now in
+    let none : List ℕ = picked_in c.none.result in
+    let nothing = c.search.ensures.known (subst (λ (l : List Premises). AreCovered l (worldviews_beside others (drop (length none) groups)))
+    (sym {A = List Premises} c.expect.ensures) (left_covered beliefs others groups none c.believed_beside-others.ensures c.none.ensures c.args.nogoods.now all)) in
+    (refl, nothing.1, nothing.2 ∙ c.expect.ensures)

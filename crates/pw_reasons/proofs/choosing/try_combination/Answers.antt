@@ -1,33 +1,37 @@
+use Rattle.std.proofs.Common.{◌≡◌, ℕ, ◌≤◌, List, [], length, sym, subst, arith}
+use Rattle.std.proofs.lemmas.List.{drop_all}
+use Rattle.std.proofs.lemmas.List.Elements.{All-cons, All-nil}
 use Rattle.pw_network.specs.Wiring.{wiring}
-use Rattle.pw_reasons.specs.Choice.{IsConsistent}
-use Rattle.pw_reasons.specs.Combinations.{picked_in}
-use Rattle.pw_reasons.specs.inside.Searching.{IsNogoodWithin}
-use Rattle.pw_reasons.proofs.ChoiceLemmas.{if_none, if_some}
-use Rattle.pw_reasons.proofs.NogoodLemmas.{nogoods_more}
-use Rattle.pw_reasons.proofs.SearchLemmas.{first_of_none, more_still, refutes}
+use Rattle.pw_reasons.specs.Combinations.{groups_of, picked_in}
+use Rattle.pw_reasons.specs.Nogood.{AreNogoods, IsNogood}
+use Rattle.pw_reasons.specs.inside.Searching.{IsFirstBeside}
+use Rattle.pw_reasons.proofs.ProductLemmas.{one_set}
+use Rattle.pw_reasons.proofs.SearchLemmas.{first_of_none}
 use Rattle.pw_reasons.proofs.choosing.try_combination.Goals as goal
 
-pub returns-in_ok-note_new-in-Some-clause-found : goal.returns-in_ok-note_new-in-Some-clause-found
-returns-in_ok-note_new-in-Some-clause-found g c =
-    let within = if_some (IsNogoodWithin (wiring c.args.network.now) c.args.store.now c.args.worldview.now) c.in_ok-nogood.field-0 c.in-Some.nogood c.in-Some.is
-    c.in_ok-nogood.ensures.some in
-    refutes c.args.nogoods.now c.note_new.new.self c.args.worldview.now c.in-Some.nogood c.in_ok-note_new-in-Some.ensures.covered c.requires.uncovered
-    within.part
+pub returns-then-branch-clause-found : goal.returns-then-branch-clause-found
+returns-then-branch-clause-found g c nogoods uncovered =
+    let groups : List (List ℕ) = groups_of c.args.groups.now in
+    let picked : List ℕ = picked_in c.args.picks.now in
+    let all : c.len-tried.result ≡ length groups = c.len-tried.ensures.len in
+    let found = c.in_ok-find_nogood.ensures.some c.if-branch.true in (
+      uncovered,
+      record {
+        part = found.part;
+        past = omega (arith, c.requires.all, all);
+        within = omega (arith, all);
+        nogoods = subst (AreNogoods (wiring c.args.network.now) c.args.store.now)
+            (sym (one_set c.find_nogood.new.tried.nogood groups c.len-tried.result (omega (arith, all))))
+            (All-cons (IsNogood (wiring c.args.network.now) c.args.store.now) c.find_nogood.new.tried.nogood [] found.contradicts
+            (All-nil (IsNogood (wiring c.args.network.now) c.args.store.now)));
+      },
+    )
 
-pub returns-in_ok-note_new-in-Some-clause-leaves : goal.returns-in_ok-note_new-in-Some-clause-leaves
-returns-in_ok-note_new-in-Some-clause-leaves g c =
-    let within = if_some (IsNogoodWithin (wiring c.args.network.now) c.args.store.now c.args.worldview.now) c.in_ok-nogood.field-0 c.in-Some.nogood c.in-Some.is
-    c.in_ok-nogood.ensures.some in
-    record {
-      are = nogoods_more (wiring c.args.network.now) c.args.store.now c.in-Some.nogood c.args.nogoods.now c.note_new.new.self c.requires.nogoods
-          within.contradicts c.note_new.ensures.within;
-      covers_more = λ w covered. more_still c.args.nogoods.now c.note_new.new.self w c.in-Some.nogood c.in_ok-note_new-in-Some.ensures.covered covered;
-      last_are = c.find_nogood.ensures.last;
-      grows = c.find_nogood.ensures.grows;
-      upstream = c.find_nogood.ensures.upstream;
-    }
-
-pub returns-in-None-clause-found : goal.returns-in-None-clause-found
-returns-in-None-clause-found g c =
-    first_of_none (wiring c.args.network.now) c.args.store.now c.args.worldview.now (picked_in c.args.picks.now)
-    (if_none (IsConsistent (wiring c.args.network.now) c.args.store.now c.args.worldview.now) c.in_ok-nogood.field-0 c.in-None.is c.in_ok-nogood.ensures.none)
+pub returns-clause-found : goal.returns-clause-found
+returns-clause-found g c nogoods uncovered =
+    let groups : List (List ℕ) = groups_of c.args.groups.now in
+    let picked : List ℕ = picked_in c.args.picks.now in
+    let past : length groups ≤ length picked = omega (arith, c.requires.all) in
+    subst (λ (gs : List (List ℕ)). IsFirstBeside (wiring c.args.network.now) c.args.store.now c.args.worldview.now gs picked picked)
+    (sym (drop_all (length picked) groups past))
+    (first_of_none (wiring c.args.network.now) c.args.store.now c.args.worldview.now picked (c.in_ok-find_nogood.ensures.none c.if-branch.false))

@@ -5,10 +5,10 @@ use Rattle.pw_network.specs.Wiring.{wiring}
 use Rattle.pw_cells.specs.Cells.{Store}
 use Rattle.pw_settle.specs.Values.{value_in}
 use Rattle.pw_reasons.proofs.NogoodLemmas.{still_contradictory}
-use Rattle.pw_reasons.proofs.trying.clash_at.Goals as goal
+use Rattle.pw_reasons.proofs.trying.clashes_at.Goals as goal
 
-pub returns-then-is_contradiction-clause-some : goal.returns-then-is_contradiction-clause-some
-returns-then-is_contradiction-clause-some g c =
+pub returns-then-clashes-clause-some : goal.returns-then-clashes-clause-some
+returns-then-clashes-clause-some g c = λ is.
     let network : Network = wiring c.args.network.now in
     let store : Store = c.args.store.now in
     let contradictory : IsContradiction c.value_aside-fact.result.info = search rules in
