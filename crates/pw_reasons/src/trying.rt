@@ -323,8 +323,8 @@ fn contradicts<A: Allocator + Copy>(
 }
 
 // Whether the worldview contradicts itself. Then the nogood is a set that a contradiction rests on.
-// Once something was tried, the worldview is tried from the values in a part of it: often a fact that
-// is told on the other premises contradicts them at once. Fails only when out of memory.
+// Once something was tried, the worldview is tried from the values in a part of it: a fact told under
+// the premises that the part lacks often contradicts them at once. Fails only when out of memory.
 pub(crate) fn find_nogood<A: Allocator + Copy>(
     alloc: A,
     network: &Network<'_, '_, A>,
