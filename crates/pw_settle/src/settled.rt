@@ -56,7 +56,7 @@ impl<A: Allocator> Settled<A> {
         }
     }
 
-    /// The information that the value of the cell says, which the network had.
+    /// The information about the cell, which the network had.
     pub fn info(&self, cell: u32) -> Info
         requires { cell < length self.now.infos }
         ensures { result ≡ info_at self.now.infos cell }
