@@ -12,3 +12,4 @@ pub mod RightAnswers
 mod Visible
 mod LastFirst
 mod Bounds
+mod Continuing

@@ -34,9 +34,9 @@ same_kinds inside now c x y read is kind =
 
 -- writing a cell unchanged leaves the store unchanged
 pub same_store : (inside now : Store) (c : ℕ) (x y : Cell) → x ≡ get_or inside.cells c x → inside ≡ now → y ≡ x
-    → record { cells = set inside.cells c y; room = inside.room } ≡ now
+    → record { cells = set inside.cells c y; room = inside.room; arrivals = inside.arrivals } ≡ now
 same_store inside now c x y read is same =
-    ap (λ (l : List Cell). record { cells = l; room = inside.room }) (ap (set inside.cells c) (same ∙ read) ∙ set-get_or inside.cells c x) ∙ is
+    ap (λ (l : List Cell). record { cells = l; room = inside.room; arrivals = inside.arrivals }) (ap (set inside.cells c) (same ∙ read) ∙ set-get_or inside.cells c x) ∙ is
 
 -- a fact of a result that another follows from
 pub OnErr_then : {T E : Type 0} (r : Result T E) {P Q : Type 0} → (P → Q) → OnErr r P → OnErr r Q

@@ -6,6 +6,7 @@ use Rattle.std.specs.FinSet.{is_subset, contains}
 use Rattle.pw_info.specs.Information.{meet, nothing, Implies}
 use Rattle.pw_info.specs.Rank.{rank_of}
 use Rattle.pw_facts.specs.declared.fact.Fact.{Fact}
+use Rattle.pw_cells.specs.declared.arrival.Arrival.{Arrival}
 use Rattle.pw_info.specs.declared.kind.Kind.{Kind}
 use Rattle.pw_info.specs.declared.info.Info.{Info}
 use Rattle.pw_premises.specs.Premises.{Premises}
@@ -43,10 +44,18 @@ pub record Cell : Type 0 where
   pub told : List Fact
   pub kept : List Fact
 
--- cells by their numbers, and the number of further cells that there is room for
+-- the facts that came lately, in their order, and the number of those before them, which are
+-- forgotten
+pub record Arrivals : Type 0 where
+  pub past : ℕ
+  pub list : List Arrival
+
+-- cells by their numbers, the number of further cells that there is room for, and what came to be
+-- kept lately
 pub record Store : Type 0 where
   pub cells : List Cell
   pub room : ℕ
+  pub arrivals : Arrivals
 
 -- the greatest number of cells: as many as 32-bit numbers can count
 abbrev pub most_store_cells : ℕ

@@ -1,3 +1,4 @@
+pub mod Arrivals
 pub mod Cells
 pub mod Changes
 pub mod Shown

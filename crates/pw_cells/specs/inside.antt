@@ -1,3 +1,4 @@
 -- What only the steps of the code and their proofs speak of.
+pub mod Lately
 pub mod OneCell
 pub mod Widths

@@ -1,7 +1,7 @@
 //! The store: cells by number, each with the facts told about it and the facts kept of it.
 
 ghost use Rattle.std.specs.Prelude.{◌≡◌, ◌+◌, ◌≤◌, ◌<◌, ◌++◌, [], true, false, length, map, IsOk};
-ghost use Rattle.std.specs.Prelude.{IfOk, IfSome, vec_len, vec_capacity, OnOk, OnErr};
+ghost use Rattle.std.specs.Prelude.{IfOk, IfNone, IfSome, vec_len, vec_capacity, OnOk, OnErr};
 ghost use Rattle.std.specs.FinSet.{is_subset};
 ghost use Rattle.pw_info.specs.Information.{kind_of, Implies};
 ghost use Rattle.pw_premises.specs.Premises.{Premises};
@@ -12,8 +12,13 @@ ghost use Rattle.pw_cells.specs.Cells.{new_cell, kind_in_store, kinds_of, kept_a
 ghost use Rattle.pw_cells.specs.Cells.{fact_on, kept_in, most_store_cells, ArePremisesOf};
 ghost use Rattle.pw_cells.specs.Cells.{IsUnsaid};
 ghost use Rattle.pw_cells.specs.Shown.{IsKeptIn};
+ghost use Rattle.pw_cells.specs.Arrivals.{Continues, Remembers, mark_of, since};
+ghost use Rattle.pw_cells.specs.inside.Lately.{Notes, most_past};
 
+use crate::arrival::Arrival;
+use crate::arrivals::Arrivals;
 use crate::cell_facts::CellFacts;
+use crate::held::Held;
 use crate::narrow_fact::NarrowFact;
 use crate::recalled::{Answers, Recalled};
 use pw_facts::Fact;
@@ -31,6 +36,8 @@ pub struct CellStore<A: Allocator = Global> {
     cells: Vec<CellFacts<A>, A>,
     // The last answers of `recall` on cells about which much was told.
     recalled: Answers,
+    // The facts that came to be kept lately.
+    arrivals: Arrivals<A>,
 }
 
 impl<A: Allocator> Model for CellStore<A> {
@@ -48,6 +55,7 @@ impl<A: Allocator> Model for CellStore<A> {
     ghost view = { λ a. record {
       cells = a.cells.items;
       room = vec_capacity a.cells - vec_len a.cells;
+      arrivals = a.arrivals;
     } };
 
     ghost invariant = { λ a. (length a.cells.items ≤ most_store_cells) × IfSome a.recalled.slots (AreRight a.cells.items) };
@@ -56,11 +64,13 @@ impl<A: Allocator> Model for CellStore<A> {
 impl<A: Allocator + Copy> CellStore<A> {
     /// A store with no cells. Takes no memory.
     pub fn new(alloc: A) -> CellStore<A>
-        ensures { result.cells ≡ [] }
+        ensures cells { result.cells ≡ [] }
+        ensures arrivals { result.arrivals.list ≡ [] }
     {
         CellStore {
             cells: Vec::new(alloc),
             recalled: Answers::none(),
+            arrivals: Arrivals::new(alloc),
         }
     }
 
@@ -85,6 +95,8 @@ impl<A: Allocator + Copy> CellStore<A> {
         requires { length self.old.cells + cells ≤ most_store_cells }
         ensures room { OnOk result (cells ≤ self.new.room) }
         ensures cells { self.new.cells ≡ self.old.cells }
+        ensures arrivals { self.new.arrivals ≡ self.old.arrivals }
+        ensures continues { Continues self.old self.new }
         ensures err { OnErr result (self.new ≡ self.old) }
     {
         self.cells.reserve(cells as usize)
@@ -97,6 +109,8 @@ impl<A: Allocator + Copy> CellStore<A> {
         ensures first { IfOk result (λ first. first ≡ length self.old.cells) }
         ensures cells { OnOk result (self.new.cells ≡ self.old.cells ++ map new_cell kinds.now) }
         ensures succeeds { length kinds.now ≤ self.old.room → IsOk result }
+        ensures arrivals { self.new.arrivals ≡ self.old.arrivals }
+        ensures continues { Continues self.old self.new }
         ensures err { OnErr result (self.new ≡ self.old) }
     {
         let first = self.cells.len() as u32;
@@ -117,10 +131,35 @@ impl<A: Allocator + Copy> CellStore<A> {
         ensures others { LeavesOthers cell self.old self.new }
         ensures kinds { kinds_of self.new ≡ kinds_of self.old }
         ensures room { self.new.room ≡ self.old.room }
+        ensures remembers { Remembers cell fact self.old self.new }
+        // What accounted for what was kept still does, with what came since.
+        ensures continues { Continues self.old self.new }
         ensures err { OnErr result (self.new ≡ self.old) }
     {
-        self.cells[cell as usize].tell(&fact)?;
-        self.recalled.take_in(cell, &fact);
+        if !self.arrivals.can_count() {
+            return Err(AllocError);
+        }
+        self.take_told(cell, &fact)?;
+        self.note(cell, &fact);
+        Ok(())
+    }
+
+    // Records and assimilates a fact that was told. It is not noted as one that came lately.
+    #[inline(always)]
+    fn take_told(&mut self, cell: u32, fact: &Fact) -> Result<(), AllocError>
+        requires there { cell < length self.old.cells }
+        requires kind { kind_of fact.now.info ≡ kind_in_store self.old cell }
+        ensures told { OnOk result (GainsTold cell fact.now self.old self.new) }
+        ensures kept { OnOk result (GainsKept cell fact.now self.old self.new) }
+        ensures assimilates { OnOk result (AssimilatesAt cell fact.now self.old self.new) }
+        ensures others { LeavesOthers cell self.old self.new }
+        ensures kinds { kinds_of self.new ≡ kinds_of self.old }
+        ensures room { self.new.room ≡ self.old.room }
+        ensures arrivals { self.new.arrivals ≡ self.old.arrivals }
+        ensures err { OnErr result (self.new ≡ self.old) }
+    {
+        self.cells[cell as usize].tell(fact)?;
+        self.recalled.take_in(cell, fact);
         Ok(())
     }
 
@@ -138,9 +177,62 @@ impl<A: Allocator + Copy> CellStore<A> {
         ensures others { LeavesOthers cell self.old self.new }
         ensures kinds { kinds_of self.new ≡ kinds_of self.old }
         ensures room { self.new.room ≡ self.old.room }
+        ensures remembers { Remembers cell fact self.old self.new }
+        // What accounted for what was kept still does, with what came since.
+        ensures continues { Continues self.old self.new }
         ensures err { OnErr result (self.new ≡ self.old) }
     {
-        self.cells[cell as usize].keep(&fact)
+        if !self.arrivals.can_count() {
+            return Err(AllocError);
+        }
+        let is_news = self.take_in(cell, &fact)?;
+        if is_news {
+            self.note(cell, &fact);
+        }
+        Ok(is_news)
+    }
+
+    // Assimilates a fact. It is not noted as one that came lately.
+    #[inline(always)]
+    fn take_in(&mut self, cell: u32, fact: &Fact) -> Result<bool, AllocError>
+        requires there { cell < length self.old.cells }
+        requires kind { kind_of fact.now.info ≡ kind_in_store self.old cell }
+        ensures answer { IfOk result (λ news. TellsNews (kept_at self.old cell) fact.now news) }
+        ensures known { IfOk result (λ news. news ≡ false → self.new ≡ self.old) }
+        ensures told { (w : Premises) → told_in self.new cell w ≡ told_in self.old cell w }
+        ensures kept { OnOk result (GainsKept cell fact.now self.old self.new) }
+        ensures assimilates { OnOk result (AssimilatesAt cell fact.now self.old self.new) }
+        ensures others { LeavesOthers cell self.old self.new }
+        ensures kinds { kinds_of self.new ≡ kinds_of self.old }
+        ensures room { self.new.room ≡ self.old.room }
+        ensures arrivals { self.new.arrivals ≡ self.old.arrivals }
+        ensures err { OnErr result (self.new ≡ self.old) }
+    {
+        self.cells[cell as usize].keep(fact)
+    }
+
+    // Notes that a fact came to be kept of the cell.
+    #[inline(always)]
+    fn note(&mut self, cell: u32, fact: &Fact)
+        requires { self.old.arrivals.past < most_past }
+        ensures { Notes cell fact.now self.old self.new }
+    {
+        match NarrowSet::of(&fact.support) {
+            Some(support) => self.note_narrow(cell, fact.info, support),
+            None => self.arrivals.forget(),
+        }
+    }
+
+    // The same for information on premises below 64.
+    #[inline(always)]
+    fn note_narrow(&mut self, cell: u32, info: Info, support: NarrowSet)
+        requires { self.old.arrivals.past < most_past }
+        ensures { Notes cell (fact_on info support) self.old self.new }
+    {
+        self.arrivals.note(Arrival {
+            cell,
+            fact: Held::on(info, support),
+        });
     }
 
     /// Assimilates information on premises that are all below 64, which says more than what is kept
@@ -159,9 +251,56 @@ impl<A: Allocator + Copy> CellStore<A> {
         ensures others { LeavesOthers cell self.old self.new }
         ensures kinds { kinds_of self.new ≡ kinds_of self.old }
         ensures room { self.new.room ≡ self.old.room }
+        ensures remembers { Remembers cell (fact_on info support) self.old self.new }
+        // What accounted for what was kept still does, with what came since.
+        ensures continues { Continues self.old self.new }
+        ensures err { OnErr result (self.new ≡ self.old) }
+    {
+        if !self.arrivals.can_count() {
+            return Err(AllocError);
+        }
+        self.take_in_news(cell, info, support)?;
+        self.note_narrow(cell, info, support);
+        Ok(())
+    }
+
+    // Assimilates such information. It is not noted as what came lately.
+    #[inline(always)]
+    fn take_in_news(&mut self, cell: u32, info: Info, support: NarrowSet) -> Result<(), AllocError>
+        requires there { cell < length self.old.cells }
+        requires kind { kind_of info ≡ kind_in_store self.old cell }
+        requires news { IsUnsaid (kept_in self.old cell support) info }
+        ensures told { (w : Premises) → told_in self.new cell w ≡ told_in self.old cell w }
+        ensures kept { OnOk result (GainsKept cell (fact_on info support) self.old self.new) }
+        ensures assimilates { OnOk result (AssimilatesAt cell (fact_on info support) self.old
+            self.new) }
+        ensures others { LeavesOthers cell self.old self.new }
+        ensures kinds { kinds_of self.new ≡ kinds_of self.old }
+        ensures room { self.new.room ≡ self.old.room }
+        ensures arrivals { self.new.arrivals ≡ self.old.arrivals }
         ensures err { OnErr result (self.new ≡ self.old) }
     {
         self.cells[cell as usize].keep_news(info, support)
+    }
+
+    /// A mark of what is kept now, for `since`. From the first mark on, facts are remembered as they
+    /// come to be kept, if there is memory for it.
+    pub fn mark(&mut self) -> u64
+        ensures mark { result ≡ mark_of self.old }
+        ensures unchanged { self.new ≡ self.old }
+    {
+        self.arrivals.start();
+        self.arrivals.count()
+    }
+
+    /// The facts that came to be kept of cells since a mark, in the order in which they came. None
+    /// if the store no longer remembers all of them: it remembers a few thousand, and none from
+    /// before one that rests on a premise from 64 on.
+    pub fn since(&self, mark: u64) -> Option<&[Arrival]>
+        ensures some { IfSome result (λ list. since self.now mark ≡ Some list.now) }
+        ensures none { IfNone result (since self.now mark ≡ None) }
+    {
+        self.arrivals.since(mark)
     }
 
     /// The told information about the cell in a worldview: the merge of the told facts whose

@@ -1,6 +1,8 @@
 //! Cells, by number: the facts told about each, and the facts kept of it.
 #![tactic(auto)]
 
+mod arrival;
+mod arrivals;
 mod bound;
 mod cell_facts;
 mod cell_store;
@@ -17,5 +19,6 @@ mod support;
 mod told_facts;
 mod visible_facts;
 
+pub use arrival::Arrival;
 pub use cell_store::CellStore;
 pub use narrow_fact::NarrowFact;

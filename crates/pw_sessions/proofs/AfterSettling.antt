@@ -1,5 +1,5 @@
 -- The result of a settling that goes on from a snapshot, or starts anew.
-use Rattle.std.proofs.Common.{◌≡◌, ℕ, ◌+◌, ◌≤◌, Bool, true, List, Option, Some, None, Result, Ok, Err, sym, ap, ◌∙◌, subst, arith}
+use Rattle.std.proofs.Common.{◌≡◌, ℕ, ◌+◌, ◌<◌, ◌≤◌, Bool, true, List, length, get_or, Option, Some, None, Result, Ok, Err, sym, ap, ◌∙◌, subst, arith}
 use Rattle.std.specs.Prelude.{IfOk, OnOk}
 use Rattle.std.specs.FinSet.{is_subset}
 use Rattle.std.proofs.lemmas.Option.{none-some, same_Some}
@@ -9,14 +9,14 @@ use Rattle.pw_network.specs.Network.{Network, IsWellNetwork}
 use Rattle.pw_settle.specs.inside.Progress.{tally}
 use Rattle.pw_settle.specs.Calls.{gains, visible_count}
 use Rattle.pw_settle.specs.inside.Due.{AreDue}
-use Rattle.pw_settle.specs.Growth.{KeepsMore}
+use Rattle.pw_settle.specs.Growth.{CanContinue, HasValues, KeepsMore, RestOnUpstream, RestOnUpstreamAfter, StaysUpstreamAfter}
 use Rattle.pw_settle.specs.Settled.{IsSettled, Settled}
-use Rattle.pw_settle.specs.Sound.{IsSound}
-use Rattle.pw_settle.specs.Growth.{HasValues}
+use Rattle.pw_settle.specs.Sound.{IsSound, LieUpstream}
 use Rattle.pw_settle.specs.Values.{kinds_in, value_in}
 use Rattle.pw_settle.proofs.GrowingGains.{gains_more}
 use Rattle.pw_sessions.specs.Freshness.{AreCalls, CallsDue, CallsDueFor, CallsNoneAgain}
-use Rattle.pw_sessions.specs.Snapshot.{IsCurrent, KeepsValues, Snapshot, start_for}
+use Rattle.pw_sessions.specs.inside.Steps.{RestOnUpstreamOf, StaysUpstreamOf}
+use Rattle.pw_sessions.specs.Snapshot.{AllRestUpstream, IsCurrent, KeepsValues, Snapshot, start_for}
 use Rattle.pw_sessions.specs.Workbench.{Workbench, beliefs_in}
 use Rattle.pw_sessions.proofs.CurrentValues.{current_settled}
 use Rattle.pw_sessions.proofs.FewCalls.{due_none, no_gains}
@@ -24,6 +24,12 @@ use Rattle.pw_sessions.proofs.SnapshotLists.{its_worldview, starts_there, starts
 
 module _ (network : Network) (well : IsWellNetwork network) (old new : Store) (w : Premises) (same : kinds_of old ≡ kinds_in network)
     (sound : IsSound network old) where
+  -- what one of the snapshots says rests on premises upstream
+  rests_there : (snapshots : List Snapshot) (place : ℕ) (d before : Snapshot) → place < length snapshots → before ≡ get_or snapshots place d →
+      (given : ℕ → ℕ → Bool) → AllRestUpstream network given old snapshots → LieUpstream network given before.values.supports
+  rests_there snapshots place d before there is given rests =
+      subst (λ (s : Snapshot). LieUpstream network given s.values.supports) (sym is) (rests.snapshots place d there)
+
   -- what is kept after it is done
   abbrev Kept : Type 0
   Kept = IsSound network old → (cell : ℕ) → kept_in new cell w ≡ value_in network old w cell
@@ -40,6 +46,28 @@ module _ (network : Network) (well : IsWellNetwork network) (old new : Store) (w
       IfOk r (λ settled. IsSettled network old w settled)
   values_after (Ok settled) has = has.settled sound
   values_after (Err e) has = has
+
+  -- a later settling can continue from them
+  pub continues_after : {E : Type 0} (r : Result Settled E) → IfOk r (HasValues network old new w) → IfOk r (CanContinue new)
+  continues_after (Ok settled) has = has.continues
+  continues_after (Err e) has = has
+
+  -- they rest on premises upstream, if all that there was does, whether or not earlier values do
+  pub lie_after : {E : Type 0} (r : Result Settled E) (snapshots : List Snapshot) → IfOk r (RestOnUpstream network old) →
+      IfOk r (RestOnUpstreamOf network old snapshots)
+  lie_after (Ok settled) snapshots lie = λ given rests. lie given rests.kept
+  lie_after (Err e) snapshots lie = lie
+
+  -- or if one of the snapshots does, from which it went on
+  pub lie_since : {E : Type 0} (r : Result Settled E) (snapshots : List Snapshot) (place : ℕ) (d before : Snapshot) → place < length snapshots →
+      before ≡ get_or snapshots place d → IfOk r (RestOnUpstreamAfter network before.values old) → IfOk r (RestOnUpstreamOf network old snapshots)
+  lie_since (Ok settled) snapshots place d before there is lie = λ given rests. lie given rests.kept (rests_there snapshots place d before there is given rests)
+  lie_since (Err e) snapshots place d before there is lie = lie
+
+  pub stays_since : (snapshots : List Snapshot) (place : ℕ) (d before : Snapshot) → place < length snapshots → before ≡ get_or snapshots place d →
+      StaysUpstreamAfter network before.values old new → StaysUpstreamOf network old snapshots new
+  stays_since snapshots place d before there is upstream = λ given rests.
+      upstream given rests.kept (rests_there snapshots place d before there is given rests)
 
   -- ---- the number of calls, anew
 

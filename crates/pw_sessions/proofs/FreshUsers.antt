@@ -85,7 +85,7 @@ fresh_as_before old new fits still user =
     stays_fresh old new user still.beliefs (λ there. ap (λ (l : List Snapshot). snapshot_in l (beliefs_in old user)) still.snapshots)
     (λ settled is. subst (λ (n : Network). IsCurrent n new.store settled) (sym still.network)
     (current_keeping old.network old.store new.store settled fits.kinds fits.sound
-    (keeps_more_alike old.network old.store new.store still.cells_are) is))
+    (keeps_more_alike old.network old.store new.store still.cells_are still.continues) is))
 
 -- ---- what is attached under premises
 

@@ -11,11 +11,11 @@ use Rattle.pw_kinds.proofs.Order.{true_both}
 use Rattle.pw_premises.specs.Premises.{Premises}
 use Rattle.pw_premises.specs.PremiseSubsets.{same_numbers_equal}
 use Rattle.pw_facts.specs.declared.fact.Fact.{Fact}
+use Rattle.pw_cells.specs.Arrivals.{Continues}
 use Rattle.pw_cells.specs.Cells.{Cell, Store, kept_in, kind_in_store, kinds_of, new_cell, told_in}
 use Rattle.pw_decl.specs.Declaration.{Declared}
 use Rattle.pw_network.specs.Network.{Attached, Network, IsWellNetwork}
-use Rattle.pw_settle.specs.Growth.{IsFitting}
-use Rattle.pw_settle.specs.Growth.{KeepsMore, StaysUpstream}
+use Rattle.pw_settle.specs.Growth.{CanContinue, IsFitting, KeepsMore, StaysUpstream}
 use Rattle.pw_settle.specs.Settled.{IsSettled, Settled, info_at}
 use Rattle.pw_settle.specs.Sound.{IsSound}
 use Rattle.pw_settle.specs.Values.{kinds_in}
@@ -26,12 +26,14 @@ use Rattle.pw_settle.proofs.KeptFacts.{implies_shown, kind_there}
 use Rattle.pw_settle.proofs.SettledValues.{kinds_many}
 use Rattle.pw_reasons.specs.Nogood.{AreNogoods}
 use Rattle.pw_reasons.proofs.NogoodLemmas.{nogoods_same}
-use Rattle.pw_sessions.specs.Snapshot.{EachBecomes, HaveValues, IsAfterTell, IsCurrent, SayAlready, Snapshot, IsSnapshotOf, after_entry, is_of, snapshot_in}
-use Rattle.pw_sessions.specs.inside.Steps.{IsLatest, IsRemembered, OnlyKeepsMore, StoreFits, TakesFact}
+use Rattle.pw_sessions.specs.Snapshot.{AllRestUpstream, EachBecomes, HaveValues, IsAfterTell, IsCurrent, SayAlready, Snapshot, IsSnapshotOf, after_entry, is_of, snapshot_in}
+use Rattle.pw_sessions.specs.inside.Steps.{IsLatest, IsRemembered, OnlyKeepsMore, RestOnUpstreamOf, StaysUpstreamOf, StoreFits, TakesFact, is_believed}
 use Rattle.pw_sessions.specs.Workbench.{SnapshotsFit, Workbench, beliefs_in}
-use Rattle.pw_sessions.proofs.SnapshotLists.{user_believes}
+use Rattle.pw_sessions.proofs.SnapshotLists.{all_among, user_believes}
 use Rattle.pw_sessions.proofs.CurrentValues.{current_attached, current_keeping, current_told, hidden_after}
 use Rattle.pw_settle.proofs.SoundStores.{more_kept, sound_same}
+use Rattle.pw_sessions.proofs.ContinuedValues.{continues_added, continues_more}
+use Rattle.pw_sessions.proofs.UpstreamSnapshots.{Rests, rest_with}
 
 -- if each that fits still does, they do
 all_fit : (network after : Network) (old new : Store) → ((snapshot : Snapshot) → IsSnapshotOf network old snapshot → IsSnapshotOf after new snapshot) →
@@ -43,6 +45,7 @@ pub snapshot_keeping : (network : Network) (old new : Store) → kinds_of old �
     (snapshot : Snapshot) → IsSnapshotOf network old snapshot → IsSnapshotOf network new snapshot
 snapshot_keeping network old new same sound grows snapshot fits = record {
   fits = fits_more network old new snapshot.values grows.more fits.fits;
+  continues = continues_more old new snapshot.values (λ cell w below. grows.more cell w) grows.continues fits.continues;
   declared = fits.declared;
   current = λ is. current_keeping network old new snapshot.values same sound grows (fits.current is);
 }
@@ -53,19 +56,20 @@ snapshots_keeping network old new snapshots same sound grows =
     all_fit network network old new (snapshot_keeping network old new same sound grows) snapshots
 
 -- a store of the same cells keeps at least as much
-pub keeps_more_alike : (network : Network) (old new : Store) → new.cells ≡ old.cells → KeepsMore network old new
-keeps_more_alike network old new alike = record {
+pub keeps_more_alike : (network : Network) (old new : Store) → new.cells ≡ old.cells → Continues old new → KeepsMore network old new
+keeps_more_alike network old new alike continues = record {
   kinds = ap (λ (cs : List Cell). map (λ (c : Cell). c.kind) cs) alike;
-  told = λ cell w. ap (λ (cs : List Cell). told_in (record { cells = cs; room = 0 }) cell w) alike;
-  more = λ cell w v possible. subst (λ (cs : List Cell). allows (kept_in (record { cells = cs; room = 0 }) cell w) v ≡ true) alike possible;
+  told = λ cell w. ap (λ (cs : List Cell). told_in (record { cells = cs; room = 0; arrivals = old.arrivals }) cell w) alike;
+  more = λ cell w v possible. subst (λ (cs : List Cell). allows (kept_in (record { cells = cs; room = 0; arrivals = old.arrivals }) cell w) v ≡ true) alike possible;
   sound = sound_same network old new alike;
+  continues = continues;
 }
 
 -- if the cells are the same
 pub snapshots_same : (network : Network) (old new : Store) (snapshots : List Snapshot) → kinds_of old ≡ kinds_in network →
-    IsSound network old → new.cells ≡ old.cells → SnapshotsFit network old snapshots → SnapshotsFit network new snapshots
-snapshots_same network old new snapshots same sound alike =
-    snapshots_keeping network old new snapshots same sound (keeps_more_alike network old new alike)
+    IsSound network old → new.cells ≡ old.cells → Continues old new → SnapshotsFit network old snapshots → SnapshotsFit network new snapshots
+snapshots_same network old new snapshots same sound alike continues =
+    snapshots_keeping network old new snapshots same sound (keeps_more_alike network old new alike continues)
 
 -- ---- as something comes under premises
 
@@ -112,6 +116,9 @@ module _ (network : Network) (old : Store) (cell : ℕ) (fact : Fact) (same : ki
     snapshot_told snapshot after is fits = record {
       fits = subst (IsFitting network new) (sym is.values)
           (fits_more network old new snapshot.values (more_kept network old new same cell fact kind takes.kept takes.others) fits.fits);
+      continues = subst (CanContinue new) (sym is.values)
+          (continues_more old new snapshot.values (λ c w below. more_kept network old new same cell fact kind takes.kept takes.others c w) takes.continues
+          fits.continues);
       declared = subst (λ (values : Settled). length network.declared.cells ≤ length values.infos) (sym is.values) fits.declared;
       current = λ known. elim is.current [
         | inl says ↦
@@ -130,14 +137,15 @@ module _ (network : Network) (old : Store) (cell : ℕ) (fact : Fact) (same : ki
 
 -- if more is attached, with new cells
 pub snapshots_attached : (network wider : Network) (wide : IsWider network wider) → IsWellNetwork network → IsWellNetwork wider → (old new : Store)
-    (own : List Kind) → kinds_of old ≡ kinds_in network → kinds_of new ≡ kinds_in wider → new.cells ≡ old.cells ++ map new_cell own → IsSound network old →
-    (support : Premises) → All (λ (a : Attached). a.support ≡ support) wide.more → (snapshots : List Snapshot) → SnapshotsFit network old snapshots →
+    (own : List Kind) → kinds_of old ≡ kinds_in network → kinds_of new ≡ kinds_in wider → new.cells ≡ old.cells ++ map new_cell own → Continues old new →
+    IsSound network old → (support : Premises) → All (λ (a : Attached). a.support ≡ support) wide.more → (snapshots : List Snapshot) → SnapshotsFit network old snapshots →
     SnapshotsFit wider new (map (after_entry support) snapshots)
-snapshots_attached network wider wide well also old new own same fits_kinds are sound support all =
+snapshots_attached network wider wide well also old new own same fits_kinds are continues sound support all =
     all_after support network wider old new (λ snapshot fits. record {
       fits = fits_wider network wider new snapshot.values well wide
           (fits_added network old new snapshot.values own are
           (omega (arith, sym (length-map old.cells (λ (c : Cell). c.kind)) ∙ ap length same, kinds_many network well)) fits.fits);
+      continues = continues_added old new own snapshot.values are continues fits.continues;
       declared = omega (arith, fits.declared, ap (λ (d : Declared). length d.cells) wide.declared);
       current = λ is.
           let known = known_still support snapshot is in
@@ -174,7 +182,9 @@ only_keeps_then a user b c first then = record {
   nogoods = λ are. subst (λ (n : Network). AreNogoods n b.store b.nogoods → AreNogoods n c.store c.nogoods) first.network then.nogoods (first.nogoods are);
   grows = keeps_more_then a.network a.store b.store c.store first.grows
       (subst (λ (n : Network). KeepsMore n b.store c.store) first.network then.grows);
-  upstream = λ given rests. subst (λ (n : Network). StaysUpstream n b.store c.store) first.network then.upstream given (first.upstream given rests);
+  upstream = λ given rests.
+      subst (λ (n : Network). AllRestUpstream n given b.store b.snapshots → AllRestUpstream n given c.store c.snapshots) first.network (then.upstream given)
+      (first.upstream given rests);
 }
 
 -- a store that keeps more, with other sets that are noted
@@ -188,34 +198,47 @@ only_notes old user store nogoods grows upstream noted = record {
   snapshots = λ fits. snapshots_keeping old.network old.store store old.snapshots fits.kinds fits.sound grows fits.snapshots;
   nogoods = λ are. nogoods_same old.network old.store store grows.told nogoods (noted are);
   grows = grows;
-  upstream = upstream;
+  upstream = λ given rests. rest_with old.network given old.store store old.snapshots (upstream given rests.kept) rests;
 }
 
--- the values of what the user believes are remembered, which are current
-pub only_remembers : (old : Workbench) (user : ℕ) (values : Settled) (new : Workbench) → IsRemembered old values new →
-    values.worldview ≡ beliefs_in old user → IsSnapshotOf old.network old.store (record { values = values; is_current = true }) →
-    OnlyKeepsMore old user new
-only_remembers old user values new remembered own fits =
+-- what only keeps more, and the values of what the user believes are remembered, which are current and
+-- rest on premises upstream
+pub only_remembers : (old : Workbench) (user : ℕ) (found : Workbench) (values : Settled) (new : Workbench) → OnlyKeepsMore old user found →
+    RestOnUpstreamOf old.network old.store old.snapshots values → IsRemembered found values new → values.worldview ≡ beliefs_in old user →
+    IsSnapshotOf found.network found.store (record { values = values; is_current = true }) → OnlyKeepsMore old user new
+only_remembers old user found values new keeps lie remembered own fits =
     subst (OnlyKeepsMore old user) (sym {A = Workbench} remembered.rest) (record {
-      network = refl;
-      beliefs = refl;
+      network = keeps.network;
+      beliefs = keeps.beliefs;
       others = λ other there differs.
           ap (λ (l : List Snapshot). snapshot_in l (beliefs_in old other)) latest.latest
           ∙ ap (λ b. cond b (Some first) (snapshot_in latest.earlier (beliefs_in old other))) (hidden other differs)
-          ∙ latest.stay (beliefs_in old other) (user_believes old.beliefs other empty there) (λ same. differs (same ∙ own));
+          ∙ latest.stay (beliefs_in old other) (believed other there) (λ same. differs (same ∙ own)) ∙ keeps.others other there differs;
       snapshots = λ fit.
-          subst (SnapshotsFit old.network old.store) (sym latest.latest)
-          (All-cons (IsSnapshotOf old.network old.store) first latest.earlier fits (latest.fit old.network old.store fit.snapshots));
-      nogoods = λ are. are;
-      grows = keeps_more_same old.network old.store;
-      upstream = λ given rests. rests;
+          subst (λ (n : Network). SnapshotsFit n found.store new.snapshots) keeps.network
+          (all_now (IsSnapshotOf found.network found.store) fits (fits_after old user found keeps fit).snapshots);
+      nogoods = keeps.nogoods;
+      grows = keeps.grows;
+      upstream = λ given rests. record {
+        kept = (keeps.upstream given rests).kept;
+        snapshots = all_now (Rests old.network given) (lie given rests) (keeps.upstream given rests).snapshots;
+      };
     })
   where
-    latest : IsLatest old.beliefs old.snapshots values new.snapshots
+    latest : IsLatest found.beliefs found.snapshots values new.snapshots
     latest = remembered.latest
 
     first : Snapshot
     first = record { values = values; is_current = true }
+
+    -- what holds of these values, and held of all snapshots, holds of all
+    all_now : (P : Snapshot → Type 0) → P first → All P found.snapshots → All P new.snapshots
+    all_now P own all =
+        subst (All P) (sym latest.latest) (All-cons P first latest.earlier own (all_among P latest.earlier found.snapshots latest.among all))
+
+    believed : (other : ℕ) → other < length old.beliefs → is_believed found.beliefs (beliefs_in old other) ≡ true
+    believed other there =
+        subst (λ (bs : List Premises). is_believed bs (beliefs_in old other) ≡ true) (sym keeps.beliefs) (user_believes old.beliefs other empty there)
 
     hidden : (other : ℕ) → beliefs_in old other ≢ beliefs_in old user → is_of (beliefs_in old other) first ≡ false
     hidden other differs = elim (cases_Bool (is_of (beliefs_in old other) first)) [
@@ -243,17 +266,18 @@ beliefs_kept old user new keeps = ap (λ (bs : List Premises). get_or bs user em
 
 -- it is a snapshot that fits, of current values
 pub fitting_snapshot : (old : Workbench) (user : ℕ) (new : Workbench) (settled : Settled) → IsWellNetwork old.network → OnlyKeepsMore old user new →
-    IsSettled old.network old.store (beliefs_in old user) settled → IsCurrent new.network new.store settled →
+    IsSettled old.network old.store (beliefs_in old user) settled → CanContinue new.store settled → IsCurrent new.network new.store settled →
     IsSnapshotOf new.network new.store (record { values = settled; is_current = true })
-fitting_snapshot old user new settled well keeps is current = record {
+fitting_snapshot old user new settled well keeps is continues current = record {
   fits = current.fits;
+  continues = continues;
   declared = subst (λ (n : Network). length n.declared.cells ≤ length settled.infos) (sym keeps.network) (omega (arith, is.cells));
   current = λ same. current;
 }
 
 -- a store that keeps more, and another count of calls
 pub only_settles : (old : Workbench) (user : ℕ) (store : Store) (calls : ℕ) → KeepsMore old.network old.store store →
-    StaysUpstream old.network old.store store →
+    StaysUpstreamOf old.network old.store old.snapshots store →
     OnlyKeepsMore old user (record old { store = store; calls = calls })
 only_settles old user store calls grows upstream = record {
   network = refl;
@@ -262,5 +286,5 @@ only_settles old user store calls grows upstream = record {
   snapshots = λ fits. snapshots_keeping old.network old.store store old.snapshots fits.kinds fits.sound grows fits.snapshots;
   nogoods = λ are. nogoods_same old.network old.store store grows.told old.nogoods are;
   grows = grows;
-  upstream = upstream;
+  upstream = λ given rests. rest_with old.network given old.store store old.snapshots (upstream given rests) rests;
 }

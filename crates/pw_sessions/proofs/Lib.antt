@@ -36,3 +36,5 @@ pub mod WrittenCells
 pub mod WrittenLemmas
 pub mod LastValues
 mod UnchangedReplies
+pub mod ContinuedValues
+pub mod UpstreamSnapshots

@@ -42,4 +42,4 @@ nogoods_attached network wider wide well also old new own same fits are =
 pub nogoods_kept : (network : Network) (old new : Store) → new.cells ≡ old.cells → (nogoods : List Premises) → AreNogoods network old nogoods →
     AreNogoods network new nogoods
 nogoods_kept network old new same nogoods =
-    nogoods_same network old new (λ cell w. ap (λ (cs : List Cell). told_in (record { cells = cs; room = 0 }) cell w) same) nogoods
+    nogoods_same network old new (λ cell w. ap (λ (cs : List Cell). told_in (record { cells = cs; room = 0; arrivals = old.arrivals }) cell w) same) nogoods

@@ -1,11 +1,12 @@
 -- Snapshots of a list: which one is of a worldview, and what is left of a list without one.
-use Rattle.std.proofs.Common.{◌≡◌, ◌≢◌, ℕ, ◌+◌, ◌<◌, Bool, true, false, suc, zero, List, [], ◌∷◌, All, cond, length, map, get_or, Option, Some, None, refl, sym, ap, ◌∙◌, subst, inl, inr, arith}
+use Rattle.std.proofs.Common.{◌≡◌, ◌≢◌, ℕ, ◌+◌, ◌<◌, Bool, true, false, suc, zero, List, [], ◌∷◌, All, Contains, cond, length, map, get_or, Option, Some, None, refl, sym, ap, ◌∙◌, subst, inl, inr, arith}
 use Rattle.std.specs.Prelude.{◌⊎◌, find, nat_lt, position, remove}
 use Rattle.std.specs.List.{position_or_len, slice_get}
 use Rattle.std.specs.Option.{option_or}
 use Rattle.std.specs.FinSet.{is_subset}
 use Rattle.std.proofs.lemmas.Bool.{both_ways, cases_Bool, ltb-false, ltb-true}
 use Rattle.std.proofs.lemmas.List.Edits.{get_or-remove_above, get_or-remove_below, length-remove}
+use Rattle.std.proofs.lemmas.List.Elements.{All-contains, All-contains_itself}
 use Rattle.std.proofs.lemmas.List.Folds.{find_at, list_any_at}
 use Rattle.std.proofs.lemmas.Option.{none-some, same_Some, slice_get-get_or, slice_get_past}
 use Rattle.pw_premises.specs.Premises.{Premises}
@@ -13,8 +14,9 @@ use Rattle.pw_premises.specs.PremiseSubsets.{has_same_numbers, is_subset_refl, s
 use Rattle.pw_cells.specs.Cells.{Store}
 use Rattle.pw_network.specs.Network.{Network}
 use Rattle.pw_settle.specs.Settled.{Settled}
+use Rattle.pw_settle.proofs.Membership.{each_member}
 use Rattle.pw_sessions.specs.Snapshot.{EachBecomes, IsSnapshotOf, Snapshot, is_of, is_within, snapshot_in, start_for}
-use Rattle.pw_sessions.specs.inside.Steps.{IsLatest, OnlySpares, is_believed}
+use Rattle.pw_sessions.specs.inside.Steps.{AreAmong, IsLatest, OnlySpares, is_believed}
 use Rattle.pw_sessions.specs.Workbench.{SnapshotsFit}
 
 -- ---- the first that passes a test
@@ -122,31 +124,23 @@ starts_within snapshots w snapshot is = by (snapshot_in snapshots w) refl is
         (sym (ap (λ (s : Snapshot). s.values.worldview) (sym (same_Some own snapshot same)) ∙ its_worldview snapshots w own has)) (is_subset_refl w)
     by None has same = found_passes (is_within w) snapshots snapshot same
 
--- a place is that of the snapshot from which it goes on
-pub start_place : (snapshots : List Snapshot) (w : Premises) (place : ℕ) (d : Snapshot) →
-    option_or (position (is_of w) snapshots) (position (is_within w) snapshots) ≡ Some place →
-    (place < length snapshots) × (start_for snapshots w ≡ Some (get_or snapshots place d))
-start_place snapshots w place d is = by (position (is_of w) snapshots) refl is
-  where
-    by : (o : Option ℕ) → position (is_of w) snapshots ≡ o → option_or o (position (is_within w) snapshots) ≡ Some place →
-        (place < length snapshots) × (start_for snapshots w ≡ Some (get_or snapshots place d))
-    by (Some own) has same = (
-      position_within (is_of w) snapshots place (has ∙ same),
-      ap (λ o. option_or o (find (is_within w) snapshots)) (found_at (is_of w) snapshots place d (has ∙ same)),
-    )
-    by None has same = (
-      position_within (is_within w) snapshots place same,
-      ap (λ o. option_or o (find (is_within w) snapshots)) (found_none (is_of w) snapshots has) ∙ found_at (is_within w) snapshots place d same,
-    )
+-- the one at this place is of the worldview
+pub own_there : (snapshots : List Snapshot) (w : Premises) (place : ℕ) (d snapshot : Snapshot) → position (is_of w) snapshots ≡ Some place →
+    snapshot ≡ get_or snapshots place d → snapshot_in snapshots w ≡ Some snapshot
+own_there snapshots w place d snapshot at is = found_at (is_of w) snapshots place d at ∙ ap (λ (s : Snapshot). Some s) (sym is)
 
-pub no_start : (snapshots : List Snapshot) (w : Premises) → option_or (position (is_of w) snapshots) (position (is_within w) snapshots) ≡ None →
+-- if there is none, a settling goes on from the one at the place of the latest within
+pub within_there : (snapshots : List Snapshot) (w : Premises) (place : ℕ) (d snapshot : Snapshot) → position (is_of w) snapshots ≡ None →
+    position (is_within w) snapshots ≡ Some place → snapshot ≡ get_or snapshots place d → start_for snapshots w ≡ Some snapshot
+within_there snapshots w place d snapshot none at is =
+    ap (λ o. option_or o (find (is_within w) snapshots)) (found_none (is_of w) snapshots none)
+    ∙ found_at (is_within w) snapshots place d at ∙ ap (λ (s : Snapshot). Some s) (sym is)
+
+-- if there is none within either, it starts anew
+pub no_start : (snapshots : List Snapshot) (w : Premises) → position (is_of w) snapshots ≡ None → position (is_within w) snapshots ≡ None →
     start_for snapshots w ≡ None
-no_start snapshots w is = by (position (is_of w) snapshots) refl is
-  where
-    by : (o : Option ℕ) → position (is_of w) snapshots ≡ o → option_or o (position (is_within w) snapshots) ≡ None → start_for snapshots w ≡ None
-    by (Some own) has same = absurd (none-some own (sym same))
-    by None has same =
-        ap (λ o. option_or o (find (is_within w) snapshots)) (found_none (is_of w) snapshots has) ∙ found_none (is_within w) snapshots same
+no_start snapshots w none nor =
+    ap (λ o. option_or o (find (is_within w) snapshots)) (found_none (is_of w) snapshots none) ∙ found_none (is_within w) snapshots nor
 
 -- ---- snapshots that are given up
 
@@ -163,16 +157,26 @@ all_without P xs i below all k d there =
           subst P (sym (get_or-remove_above xs i d k past below)) (all (k + 1) d (omega (arith, there, fewer)))
     ]
 
+-- so those that are left are among them
+among_without : (snapshots : List Snapshot) (i : ℕ) → i < length snapshots → AreAmong (remove snapshots i) snapshots
+among_without snapshots i below snapshot has =
+    All-contains (Contains snapshots) (remove snapshots i) snapshot
+    (all_without (Contains snapshots) snapshots i below (All-contains_itself snapshots)) has
+
+-- and what holds of each of the others holds of each of them
+pub all_among : (P : Snapshot → Type 0) (snapshots others : List Snapshot) → AreAmong snapshots others → All P others → All P snapshots
+all_among P snapshots others among all = each_member P snapshots (λ snapshot has. All-contains P others snapshot all (among snapshot has))
+
 -- all stay
 pub spares_none : (beliefs : List Premises) (snapshots : List Snapshot) → OnlySpares beliefs snapshots snapshots
-spares_none beliefs snapshots = record { fit = λ network store fit. fit; stay = λ w believed. refl }
+spares_none beliefs snapshots = record { among = λ snapshot has. has; stay = λ w believed. refl }
 
 -- one of a worldview that nobody believes
 pub spares_next : (beliefs : List Premises) (old now next : List Snapshot) (place : ℕ) → OnlySpares beliefs old now → place < length now →
     ((d : Snapshot) → is_believed beliefs (get_or now place d).values.worldview ≡ false) → next ≡ remove now place → OnlySpares beliefs old next
 spares_next beliefs old now next place so_far there spare is = record {
-  fit = λ network store fit.
-      subst (SnapshotsFit network store) (sym is) (all_without (IsSnapshotOf network store) now place there (so_far.fit network store fit));
+  among = λ snapshot has.
+      so_far.among snapshot (among_without now place there snapshot (subst (λ (l : List Snapshot). Contains l snapshot) is has));
   stay = λ w believed.
       ap (λ (l : List Snapshot). snapshot_in l w) is
       ∙ found_without (is_of w) now place there (λ d. apart w believed d) ∙ so_far.stay w believed;
@@ -194,14 +198,14 @@ pub latest_after : (beliefs : List Premises) (old rest left new : List Snapshot)
 latest_after beliefs old rest left new values (inl same) spares is = record {
   earlier = left;
   latest = is;
-  fit = λ network store fit. spares.fit network store (subst (SnapshotsFit network store) (sym same) fit);
+  among = λ snapshot has. subst (λ (l : List Snapshot). Contains l snapshot) same (spares.among snapshot has);
   stay = λ w believed other. spares.stay w believed ∙ ap (λ (l : List Snapshot). snapshot_in l w) same;
 }
 latest_after beliefs old rest left new values (inr (place, at, without)) spares is = record {
   earlier = left;
   latest = is;
-  fit = λ network store fit.
-      spares.fit network store (subst (SnapshotsFit network store) (sym without) (all_without (IsSnapshotOf network store) old place there fit));
+  among = λ snapshot has.
+      among_without old place there snapshot (subst (λ (l : List Snapshot). Contains l snapshot) without (spares.among snapshot has));
   stay = λ w believed other.
       spares.stay w believed ∙ ap (λ (l : List Snapshot). snapshot_in l w) without ∙ found_without (is_of w) old place there (λ d. apart w other d);
 } where

@@ -14,7 +14,7 @@ use Rattle.pw_premises.specs.Premises.{Premises}
 use Rattle.pw_facts.specs.declared.fact.Fact.{Fact}
 use Rattle.pw_facts.specs.Facts.{shows}
 use Rattle.pw_cells.specs.Cells as cells
-use Rattle.pw_cells.specs.Cells.{Cell, Store, cell_at, kind_in_store, kinds_of, new_cell, told_in}
+use Rattle.pw_cells.specs.Cells.{Arrivals, Cell, Store, cell_at, kind_in_store, kinds_of, new_cell, told_in}
 use Rattle.pw_decl.specs.declared.step.Callable.{Callable}
 use Rattle.pw_decl.specs.Declaration.{Declared}
 use Rattle.pw_decl.specs.Expansion.{inner_kinds_of}
@@ -144,13 +144,14 @@ module _ (d : Declared) (many : length d.kinds ≡ length d.cells) (entries : Li
   -- ---- a callable is attached
 
   -- with its inner cells, of which nothing was told
-  pub tells_attached : (line : ℕ) (callable : Callable) (on : List ℕ) (support : Premises) (room : ℕ) → TellsEntries d entries network store →
+  pub tells_attached : (line : ℕ) (callable : Callable) (on : List ℕ) (support : Premises) (room : ℕ) (arrivals : Arrivals) →
+      TellsEntries d entries network store →
       TellsEntries d (entries ++ Attached line callable on support ∷ []) (with_attached network line callable on support)
-      (record { cells = store.cells ++ map new_cell (inner_kinds_of network.declared.compounds callable); room = room })
-  tells_attached line callable on support room tells cell w within =
+      (record { cells = store.cells ++ map new_cell (inner_kinds_of network.declared.compounds callable); room = room; arrivals = arrivals })
+  tells_attached line callable on support room arrivals tells cell w within =
       let own : List Kind = inner_kinds_of network.declared.compounds callable in
       let added : List Cell = map new_cell own in
-      let new : Store = record { cells = store.cells ++ added; room = room } in
+      let new : Store = record { cells = store.cells ++ added; room = room; arrivals = arrivals } in
       let after : List Entry = entries ++ Attached line callable on support ∷ [] in
       let made : Network = with_attached network line callable on support in
       let blank : Cell = new_cell kinds.Interval in

@@ -23,7 +23,7 @@ no_change_itself bench = record { network = refl; told = λ cell w. refl; belief
 pub no_change_as_before : (old new : Workbench) → IsWellNetwork old.network → IsAsBefore old new → ShowsNoChange old new
 no_change_as_before old new network still = record {
   network = still.network;
-  told = λ cell w. ap (λ (cs : List Cell). told_in (record { cells = cs; room = 0 }) cell w) still.cells_are;
+  told = λ cell w. ap (λ (cs : List Cell). told_in (record { cells = cs; room = 0; arrivals = old.store.arrivals }) cell w) still.cells_are;
   beliefs = still.beliefs;
   left = λ d before left. left_as_before d (well_left d before old network left).kinds before old new still left;
 }

@@ -20,7 +20,15 @@ pub left_uncounted : (d : Declared) (before : List LineReading) (bench : Workben
     IsLeftBy d before (uncounted bench)
 left_uncounted d before bench network left =
     left_as_before d (well_left d before bench network left).kinds before bench (uncounted bench)
-    (record { network = refl; cells_are = refl; nogoods = refl; beliefs = refl; snapshots = refl }) left
+    (record {
+      network = refl;
+      cells_are = refl;
+      arrivals = refl;
+      continues = λ mark w count known was. was;
+      nogoods = refl;
+      beliefs = refl;
+      snapshots = refl;
+    }) left
 
 pub can_uncounted : (bench : Workbench) → IsWellNetwork bench.network → (line : ℕ) (command : Command) → CanBeCarriedOut bench line command →
     CanBeCarriedOut (uncounted bench) line command

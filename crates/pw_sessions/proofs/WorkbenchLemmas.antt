@@ -21,7 +21,7 @@ use Rattle.pw_decl.specs.Declaration.{Declared, kind_at}
 use Rattle.pw_decl.specs.Expansion.{inner_kinds_of}
 use Rattle.pw_network.specs.Network.{Attached as AttachedInstance, IsWellNetwork, Network, bare, with_attached}
 use Rattle.pw_settle.specs.Values.{nat_eq_decides}
-use Rattle.pw_settle.specs.Sound.{IsSound, RestsUpstream}
+use Rattle.pw_settle.specs.Sound.{IsSound}
 use Rattle.pw_settle.specs.Values.{kinds_in}
 use Rattle.pw_settle.specs.Growth.{IsWider}
 use Rattle.pw_reasons.specs.Nogood.{AreNogoods, IsNogood}
@@ -30,6 +30,7 @@ use Rattle.pw_sessions.specs.Beliefs.{premises_below, believed_after, beliefs_at
 use Rattle.pw_sessions.specs.Entries.{Entry, Told, Attached, FitsDeclared, entries_of, entries_before}
 use Rattle.pw_sessions.specs.Reply.{LineReading, Says}
 use Rattle.pw_sessions.specs.Command.{IsDeclared}
+use Rattle.pw_sessions.specs.Snapshot.{AllRestUpstream}
 use Rattle.pw_sessions.specs.inside.Steps.{TakesFact, IsAsBefore, IsAttached, IsTold, OnlyKeepsMore}
 use Rattle.pw_sessions.specs.Workbench.{Workbench, IsLeftBy, IsSetUpFor, SnapshotsFit, WasTold, beliefs_in, is_told_on, network_after, tells_on, with_entry}
 use Rattle.pw_sessions.proofs.EntriesRise.{rise_before}
@@ -39,6 +40,7 @@ use Rattle.pw_sessions.proofs.NotedPremises.{nogoods_attached, nogoods_kept, nog
 use Rattle.pw_settle.proofs.SoundStores.{rests_attached, rests_new, rests_same, rests_told, sound_attached, sound_new, sound_same, sound_told}
 use Rattle.pw_settle.proofs.WiderNetworks.{kinds_with_attached, widened_under}
 use Rattle.pw_settle.proofs.StoreCells.{kinds_added}
+use Rattle.pw_sessions.proofs.UpstreamSnapshots.{Rests, snapshots_rest_attached, snapshots_rest_told}
 use Rattle.pw_sessions.proofs.StoreLemmas.{TellsEntries, WasTold-from_tells, kind_found, tells_attached, tells_from_WasTold, tells_more, tells_of_new}
 
 -- ---- premises of tells
@@ -83,16 +85,19 @@ module _ (d : Declared) (many : length d.kinds ≡ length d.cells) where
 
   -- if nothing was attached, nothing told, and each user believes every premise
   pub IsLeftBy-new : (bench : Workbench) (users premises : ℕ) → bench.network ≡ bare d → bench.store.cells ≡ map new_cell d.kinds →
-      bench.nogoods ≡ [] → bench.beliefs ≡ replicate users (premises_below premises) → bench.snapshots ≡ [] → users ≡ length d.users →
-      premises ≡ length d.premises → IsLeftBy d [] bench
-  IsLeftBy-new bench users premises is new unnoted believed none all each =
+      bench.store.arrivals.list ≡ [] → bench.nogoods ≡ [] → bench.beliefs ≡ replicate users (premises_below premises) → bench.snapshots ≡ [] →
+      users ≡ length d.users → premises ≡ length d.premises → IsLeftBy d [] bench
+  IsLeftBy-new bench users premises is new quiet unnoted believed none all each =
       let fits : IsSetUpFor d bench = IsSetUpFor-new bench users premises is new unnoted believed none all in
       record {
         set_up = fits;
         fit = All-nil (FitsDeclared d);
         network = is;
         told = WasTold-from_tells d many [] tt bench.network bench.store is fits.kinds (tells_of_new d bench.network bench.store d.kinds new);
-        upstream = rests_new bench.network (is_told_on []) bench.store d.kinds new;
+        upstream = record {
+          kept = rests_new bench.network (is_told_on []) bench.store d.kinds new quiet;
+          snapshots = subst (All (Rests bench.network (is_told_on []))) (sym none) (All-nil (Rests bench.network (is_told_on [])));
+        };
         beliefs = λ user below.
             ap (λ (bs : List Premises). get_or bs user empty) believed
             ∙ get_or-replicate users user (premises_below premises) empty (omega arith)
@@ -112,7 +117,7 @@ module _ (d : Declared) (many : length d.kinds ≡ length d.cells) where
   left_after : (readings : List LineReading) (reading : LineReading) (new : Workbench) (added : List Entry) →
       entries_of (length readings + 1) reading ≡ added → IsSetUpFor d new → All (FitsDeclared d) (entries_before readings ++ added) →
       new.network ≡ network_after d (entries_before readings ++ added) → TellsEntries d (entries_before readings ++ added) new.network new.store →
-      RestsUpstream new.network (is_told_on (entries_before readings ++ added)) new.store →
+      AllRestUpstream new.network (is_told_on (entries_before readings ++ added)) new.store new.snapshots →
       ((user : ℕ) → user < length d.users → beliefs_in new user ≡ believed_after d user readings (beliefs_at d user readings) reading) →
       IsLeftBy d (readings ++ reading ∷ []) new
   left_after readings reading new added own fits fit is tells rests believed =
@@ -126,7 +131,7 @@ module _ (d : Declared) (many : length d.kinds ≡ length d.cells) where
         told = WasTold-from_tells d many (entries_before (readings ++ reading ∷ [])) (rise_before (readings ++ reading ∷ []))
             new.network new.store same fits.kinds
             (subst (λ (es : List Entry). TellsEntries d es new.network new.store) all tells);
-        upstream = subst (λ (es : List Entry). RestsUpstream new.network (is_told_on es) new.store) all rests;
+        upstream = subst (λ (es : List Entry). AllRestUpstream new.network (is_told_on es) new.store new.snapshots) all rests;
         beliefs = λ user below. believed user below ∙ sym (beliefs_at-snoc d user readings reading);
       }
 
@@ -150,7 +155,7 @@ module _ (d : Declared) (many : length d.kinds ≡ length d.cells) where
       })
       (subst (All (FitsDeclared d)) same left.fit) (left.network ∙ ap (network_after d) same)
       (subst (λ (l : List Entry). TellsEntries d l old.network old.store) same (left_tells readings old left))
-      (subst (λ (l : List Entry). RestsUpstream old.network (is_told_on l) old.store) same left.upstream) believed
+      (subst (λ (l : List Entry). AllRestUpstream old.network (is_told_on l) old.store old.snapshots) same left.upstream) believed
 
   -- a line that adds no entry and changes no beliefs
   pub left_same : (readings : List LineReading) (reading : LineReading) (old : Workbench) → IsLeftBy d readings old →
@@ -175,15 +180,19 @@ module _ (d : Declared) (many : length d.kinds ≡ length d.cells) where
               (nogoods_kept old.network old.store new.store still.cells_are old.nogoods left.set_up.nogoods));
           fit = subst (λ (n : Network). SnapshotsFit n new.store new.snapshots) (sym still.network)
               (subst (SnapshotsFit old.network new.store) (sym still.snapshots)
-              (snapshots_same old.network old.store new.store old.snapshots left.set_up.kinds left.set_up.sound still.cells_are left.set_up.fit));
+              (snapshots_same old.network old.store new.store old.snapshots left.set_up.kinds left.set_up.sound still.cells_are still.continues
+              left.set_up.fit));
         };
         fit = left.fit;
         network = still.network ∙ left.network;
         told = subst (λ (n : Network). WasTold d (entries_before readings) n new.store) (sym still.network)
-            (subst (λ (cs : List Cell). WasTold d (entries_before readings) old.network (record { cells = cs; room = 0 })) (sym still.cells_are) left.told);
-        upstream = subst (λ (n : Network). RestsUpstream n (is_told_on (entries_before readings)) new.store) (sym still.network)
-            (rests_same old.network (is_told_on (entries_before readings)) (is_told_on (entries_before readings)) old.store new.store still.cells_are
-            (λ c p given. given) left.upstream);
+            (subst (λ (cs : List Cell). WasTold d (entries_before readings) old.network (record { cells = cs; room = 0; arrivals = old.store.arrivals })) (sym still.cells_are) left.told);
+        upstream = subst (λ (n : Network). AllRestUpstream n (is_told_on (entries_before readings)) new.store new.snapshots) (sym still.network)
+            (record {
+              kept = rests_same old.network (is_told_on (entries_before readings)) (is_told_on (entries_before readings)) old.store new.store still.cells_are
+                  still.arrivals (λ c p given. given) left.upstream.kept;
+              snapshots = subst (All (Rests old.network (is_told_on (entries_before readings)))) (sym still.snapshots) left.upstream.snapshots;
+            });
         beliefs = λ user below. ap (λ (bs : List Premises). get_or bs user empty) still.beliefs ∙ left.beliefs user below;
       }
 
@@ -209,7 +218,7 @@ module _ (d : Declared) (many : length d.kinds ≡ length d.cells) where
         network = keeps.network ∙ left.network;
         told = subst (λ (n : Network). WasTold d (entries_before readings) n new.store) (sym keeps.network)
             (λ cell w below. keeps.grows.told cell w ∙ left.told cell w below);
-        upstream = subst (λ (n : Network). RestsUpstream n (is_told_on (entries_before readings)) new.store) (sym keeps.network)
+        upstream = subst (λ (n : Network). AllRestUpstream n (is_told_on (entries_before readings)) new.store new.snapshots) (sym keeps.network)
             (keeps.upstream (is_told_on (entries_before readings)) left.upstream);
         beliefs = λ user below. ap (λ (bs : List Premises). get_or bs user empty) keeps.beliefs ∙ left.beliefs user below;
       }
@@ -253,9 +262,13 @@ module _ (d : Declared) (many : length d.kinds ≡ length d.cells) where
       (subst (λ (n : Network). TellsEntries d (es ++ entry ∷ []) n new.store) (sym told.network)
       (tells_more d many es (rise_before readings) old.network old.store left.network left.set_up.kinds new.store line cell fact left.set_up.declared named.0
       kind takes.told takes.others takes.kinds (left_tells readings old left)))
-      (subst (λ (n : Network). RestsUpstream n (is_told_on (es ++ entry ∷ [])) new.store) (sym told.network)
-      (rests_told old.network (is_told_on es) (is_told_on (es ++ entry ∷ [])) (λ c p given. told_on_more es (entry ∷ []) c p given) old.store new.store cell fact
-      (λ p one. told_on_last es line cell fact p one) takes.assimilates takes.others left.upstream))
+      (subst (λ (n : Network). AllRestUpstream n (is_told_on (es ++ entry ∷ [])) new.store new.snapshots) (sym told.network)
+      (record {
+        kept = rests_told old.network (is_told_on es) (is_told_on (es ++ entry ∷ [])) (λ c p given. told_on_more es (entry ∷ []) c p given) old.store new.store
+            cell fact (λ p one. told_on_last es line cell fact p one) takes.assimilates takes.others takes.remembers left.upstream.kept;
+        snapshots = snapshots_rest_told old.network (is_told_on es) (is_told_on (es ++ entry ∷ [])) (λ c p given. told_on_more es (entry ∷ []) c p given)
+            cell fact old.snapshots new.snapshots told.snapshots left.upstream.snapshots;
+      }))
       (λ u below. ap (λ (bs : List Premises). get_or bs u empty) told.beliefs ∙ left.beliefs u below)
     where
       kind : kind_of fact.info ≡ kind_in_store old.store cell
@@ -274,7 +287,7 @@ module _ (d : Declared) (many : length d.kinds ≡ length d.cells) where
       let entry : Entry = Attached line callable (cells_of on) support in
       let made : Network = with_attached old.network line callable (cells_of on) support in
       let own : List Kind = inner_kinds_of old.network.declared.compounds callable in
-      let store_of : List Cell → Store = λ cs. record { cells = cs; room = 0 } in
+      let store_of : List Cell → Store = λ cs. record { cells = cs; room = 0; arrivals = new.store.arrivals } in
       let fits : kinds_of new.store ≡ kinds_in new.network =
       ap (λ (cs : List Cell). map (λ (c : Cell). c.kind) cs) attached.cells_are ∙ kinds_added old.store.cells own
       ∙ ap (λ (ks : List Kind). ks ++ own) left.set_up.kinds
@@ -292,17 +305,22 @@ module _ (d : Declared) (many : length d.kinds ≡ length d.cells) where
             (nogoods_attached old.network new.network wide network wider old.store new.store own left.set_up.kinds fits attached.cells_are old.nogoods
             left.set_up.nogoods);
         fit = subst (SnapshotsFit new.network new.store) (sym attached.snapshots)
-            (snapshots_attached old.network new.network wide network wider old.store new.store own left.set_up.kinds fits attached.cells_are left.set_up.sound
-            support widened.1 old.snapshots left.set_up.fit);
+            (snapshots_attached old.network new.network wide network wider old.store new.store own left.set_up.kinds fits attached.cells_are
+            attached.continues left.set_up.sound support widened.1 old.snapshots left.set_up.fit);
       })
       (All-push (FitsDeclared d) es entry left.fit named.1)
       (attached.network ∙ ap (λ (n : Network). with_entry n entry) left.network ∙ sym (fold_push with_entry (bare d) es entry))
       (subst (λ (n : Network). TellsEntries d (es ++ entry ∷ []) n new.store) (sym attached.network)
       (subst (λ (cs : List Cell). TellsEntries d (es ++ entry ∷ []) made (store_of cs)) (sym attached.cells_are)
       (tells_attached d many es (rise_before readings) old.network old.store left.network left.set_up.kinds line callable (cells_of on) support 0
-      (left_tells readings old left))))
-      (rests_attached old.network new.network wide (is_told_on es) (is_told_on (es ++ entry ∷ [])) (λ c p given. told_on_more es (entry ∷ []) c p given)
-      old.store new.store own attached.cells_are left.upstream)
+      new.store.arrivals (left_tells readings old left))))
+      (record {
+        kept = rests_attached old.network new.network wide (is_told_on es) (is_told_on (es ++ entry ∷ [])) (λ c p given. told_on_more es (entry ∷ []) c p given)
+            old.store new.store own attached.cells_are attached.arrivals left.upstream.kept;
+        snapshots = subst (All (Rests new.network (is_told_on (es ++ entry ∷ [])))) (sym attached.snapshots)
+            (snapshots_rest_attached old.network new.network wide (is_told_on es) (is_told_on (es ++ entry ∷ []))
+            (λ c p given. told_on_more es (entry ∷ []) c p given) support old.snapshots left.upstream.snapshots);
+      })
       (λ u below. ap (λ (bs : List Premises). get_or bs u empty) attached.beliefs ∙ left.beliefs u below)
 
   -- ---- a line that changes what its user believes

@@ -12,7 +12,8 @@ use Rattle.pw_facts.specs.Facts.{shows}
 use Rattle.pw_cells.specs.Cells.{Store, kept_in}
 use Rattle.pw_network.specs.Network.{Network}
 use Rattle.pw_settle.specs.Calls.{visible_at}
-use Rattle.pw_settle.specs.Growth.{IsFitting, said_of}
+use Rattle.pw_settle.specs.Growth.{CanContinue, IsFitting, said_of}
+use Rattle.pw_settle.specs.Sound.{LieUpstream, RestsUpstream}
 use Rattle.pw_settle.specs.Settled.{Settled, info_at}
 use Rattle.pw_settle.specs.Values.{value_in}
 use Rattle.std.specs.Coded.{Coded, code_by, coded×, coded_bool}
@@ -36,12 +37,19 @@ pub record IsCurrent (network : Network) (store : Store) (settled : Settled) : T
       ≡ value_in network store settled.worldview cell
   pub kept : KeepsValues network store settled.worldview
 
--- a snapshot fits a network and a store: its values do, each declared cell has a value, and they are
--- current if that is known
+-- a snapshot fits a network and a store: its values do, and a settling can continue from them; each
+-- declared cell has a value; and they are current if that is known
 pub record IsSnapshotOf (network : Network) (store : Store) (snapshot : Snapshot) : Type 0 where
   pub fits : IsFitting network store snapshot.values
+  pub continues : CanContinue store snapshot.values
   pub declared : length network.declared.cells ≤ length snapshot.values.infos
   pub current : snapshot.is_current ≡ true → IsCurrent network store snapshot.values
+
+-- the kept facts and the values of the snapshots rest only on premises upstream
+pub record AllRestUpstream (network : Network) (given : ℕ → ℕ → Bool) (store : Store)
+    (list : List Snapshot) : Type 0 where
+  pub kept : RestsUpstream network given store
+  pub snapshots : All (λ snapshot. LieUpstream network given snapshot.values.supports) list
 
 -- the snapshot after something was attached under these premises: if that is visible in the
 -- worldview of its values, they are no longer known to be current

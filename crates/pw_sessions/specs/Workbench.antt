@@ -11,7 +11,7 @@ use Rattle.pw_decl.specs.Declaration.{Declared}
 use Rattle.pw_network.specs.Wiring.{name_in}
 use Rattle.pw_network.specs.Network.{Network, bare, cells_in, with_attached}
 use Rattle.pw_settle.specs.Fixpoint.{told_alone}
-use Rattle.pw_settle.specs.Sound.{IsSound, RestsUpstream}
+use Rattle.pw_settle.specs.Sound.{IsSound}
 use Rattle.pw_settle.specs.Values.{kinds_in}
 use Rattle.pw_reasons.specs.Nogood.{AreNogoods}
 use Rattle.pw_sessions.specs.declared.command.Command.{Command}
@@ -22,7 +22,7 @@ use Rattle.pw_sessions.specs.Beliefs.{beliefs_at}
 use Rattle.pw_sessions.specs.CellNames.{named_cells}
 use Rattle.pw_sessions.specs.Entries.{Entry, Told, Attached, FitsDeclared, entries_before}
 use Rattle.pw_sessions.specs.Reply.{LineReading}
-use Rattle.pw_sessions.specs.Snapshot.{Snapshot, IsSnapshotOf}
+use Rattle.pw_sessions.specs.Snapshot.{AllRestUpstream, IsSnapshotOf, Snapshot}
 use Rattle.pw_sessions.specs.Command.{MayBecome}
 
 pub record Workbench : Type 0 where
@@ -91,9 +91,9 @@ pub record IsLeftBy (d : Declared) (readings : List LineReading) (workbench : Wo
   pub fit : All (FitsDeclared d) (entries_before readings)
   pub network : workbench.network ≡ network_after d (entries_before readings)
   pub told : WasTold d (entries_before readings) workbench.network workbench.store
-  -- the kept facts rest only on premises of tells and attachments upstream
-  pub upstream : RestsUpstream workbench.network (is_told_on (entries_before readings))
-      workbench.store
+  -- what is kept, and what snapshots say, rests only on premises of tells and attachments upstream
+  pub upstream : AllRestUpstream workbench.network (is_told_on (entries_before readings))
+      workbench.store workbench.snapshots
   pub beliefs : (user : ℕ) → user < length d.users → beliefs_in workbench user
       ≡ beliefs_at d user readings
 

@@ -64,9 +64,9 @@ module _ (network : Network) (well : IsWellNetwork network) (store : Store) (sam
       ((found.each cell).follows w (found.each cell).within)
 
   -- with premises that are enough for it
-  pub found_settled : (instances calls : ℕ) →
-      IsSettled network store w (record { infos = infos; supports = supports; worldview = w; instances = instances; calls = calls })
-  found_settled instances calls = record {
+  pub found_settled : (instances calls mark : ℕ) →
+      IsSettled network store w (record { infos = infos; supports = supports; worldview = w; instances = instances; calls = calls; mark = mark })
+  found_settled instances calls mark = record {
     worldview_is = refl;
     cells = found.many ∙ kinds_many network well;
     values = λ cell below. known_value cell;

@@ -27,6 +27,7 @@ keeps_more_same network store = record {
   told = λ cell w. refl;
   more = λ cell w v possible. possible;
   sound = λ sound. sound;
+  continues = λ mark w count known was. was;
 }
 
 -- and keeping more is transitive
@@ -36,6 +37,7 @@ keeps_more_then network a b c first then = record {
   told = λ cell w. then.told cell w ∙ first.told cell w;
   more = λ cell w v possible. first.more cell w v (then.more cell w v possible);
   sound = λ sound. then.sound (first.sound sound);
+  continues = λ mark w count known was. then.continues mark w count known (first.continues mark w count known was);
 }
 
 -- settled values stay settled if the told facts stay

@@ -13,6 +13,7 @@ use Rattle.pw_premises.specs.Premises.{Premises}
 use Rattle.pw_facts.specs.declared.fact.Fact.{Fact}
 use Rattle.pw_facts.specs.Facts.{shows}
 use Rattle.pw_facts.proofs.Shown.{kind-shows, shows-supported, shows-unsupported}
+use Rattle.pw_cells.specs.Arrivals.{Continues}
 use Rattle.pw_cells.specs.Cells.{Cell, Store, cell_at, kept_in, kept_of, kind_in_store, kinds_of, told_in, told_of}
 use Rattle.pw_cells.specs.Changes.{GainsKept, LeavesOthers}
 use Rattle.pw_cells.proofs.Stores.{kind-listed}
@@ -103,12 +104,13 @@ module _ (network : Network) (old new : Store) (same : kinds_of old ≡ kinds_in
       (λ c other. implies_also (value_in network old w c) (kept_in old c w) (kept_in new c w) (sym (kept_elsewhere c other w)) (sound w c)) c)
 
   -- so it keeps more
-  pub keeps_fact : kinds_of new ≡ kinds_of old →
+  pub keeps_fact : kinds_of new ≡ kinds_of old → Continues old new →
       (IsSound network old → (w : Premises) → is_subset fact.support w ≡ true → Implies (value_in network old w cell) fact.info) →
       KeepsMore network old new
-  keeps_fact kinds_stay follows = record {
+  keeps_fact kinds_stay continues follows = record {
     kinds = kinds_stay;
     told = told_stays;
     more = more_kept;
     sound = λ sound. stays_sound sound (follows sound);
+    continues = continues;
   }

@@ -16,9 +16,9 @@ use Rattle.pw_facts.specs.declared.fact.Fact.{Fact}
 use Rattle.pw_facts.specs.Facts.{IsLeastAbove}
 use Rattle.pw_cells.specs.Cells.{Cell, Store, ArePremisesOf, kept_at, kept_in, kept_of, new_cell, told_in}
 use Rattle.pw_network.specs.Network.{Network}
-use Rattle.pw_settle.specs.inside.Known.{AreKept, LieUpstream, SaysTold}
+use Rattle.pw_settle.specs.inside.Known.{AreKept, SaysTold}
 use Rattle.pw_settle.specs.Settled.{info_at, support_at}
-use Rattle.pw_settle.specs.Sound.{LiesUpstream, RestsUpstream}
+use Rattle.pw_settle.specs.Sound.{LiesUpstream, LieUpstream, RestsUpstream}
 use Rattle.pw_settle.proofs.KeptFacts.{kind-kept}
 
 -- what is read of one cell: the information that is kept, and premises that are enough for it, each
@@ -102,7 +102,7 @@ module _ (store : Store) (w : Premises) (infos : List Info) (supports : List Pre
       each (λ cell. LiesUpstream network given cell (support_at supports cell))
       (λ cell below cells upstream has p one.
       let fact = (read.read cell below).rests p one in
-      All-contains (λ (f : Fact). LiesUpstream network given cell f.support) (kept_at store cell) fact.0 (rests cell) fact.1 cells upstream has p fact.2)
+      All-contains (λ (f : Fact). LiesUpstream network given cell f.support) (kept_at store cell) fact.0 (rests.kept cell) fact.1 cells upstream has p fact.2)
       (λ cell past cells upstream has p one.
       let none : contains (support_at supports cell) p ≡ false = ap (λ (s : Premises). contains s p) (past_support cell past) ∙ contains-empty nat_cmp p in
       absurd (cc))

@@ -14,11 +14,11 @@ use Rattle.pw_cells.specs.Cells.{IsUnsaid, Store, kept_at, kept_in, kind_in_stor
 use Rattle.pw_cells.proofs.Together.{larger_shown}
 use Rattle.pw_network.specs.Network.{Attached, Network, IsWellNetwork}
 use Rattle.pw_settle.specs.Calls.{is_instance_visible}
-use Rattle.pw_settle.specs.inside.Known.{AreKept, LieUpstream}
+use Rattle.pw_settle.specs.inside.Known.{AreKept}
 use Rattle.pw_settle.specs.inside.Known.{IsPlaced}
 use Rattle.pw_settle.specs.inside.Progress.{IsNews}
 use Rattle.pw_settle.specs.Settled.{info_at, support_at}
-use Rattle.pw_settle.specs.Sound.{IsSound, LiesUpstream}
+use Rattle.pw_settle.specs.Sound.{IsSound, LieUpstream, LiesUpstream}
 use Rattle.pw_settle.specs.Sources.{IsImplied, said_by}
 use Rattle.pw_settle.specs.Values.{kinds_in, propagators_of, told_sources, value_in, visible_instances}
 use Rattle.pw_settle.proofs.JoinedSupports.{joined_from, joined_parts, joined_within}

@@ -22,6 +22,8 @@ use Rattle.pw_procs.specs.Procedure.{Procedure, value_by}
 use Rattle.pw_facts.specs.declared.fact.Fact.{Fact}
 use Rattle.pw_facts.specs.Facts.{shows}
 use Rattle.pw_facts.proofs.Shown.{kind-shows, shows-supported}
+use Rattle.pw_cells.specs.Arrivals.{Continues, Remembers}
+use Rattle.pw_settle.proofs.SoundStores.{lately_with}
 use Rattle.pw_cells.specs.Cells.{Cell, Store, kept_at, kept_in, kind_in_store, kinds_of, told_in}
 use Rattle.pw_cells.specs.Changes.{AssimilatesAt, GainsKept, LeavesOthers}
 use Rattle.pw_cells.proofs.Stores.{kind-listed}
@@ -165,7 +167,8 @@ module _ (network : Network) (well : IsWellNetwork network) (old new : Store) (s
     (is : IsNews network infos supports (attached_no network number no_instance) cell fact)
     (below : cell < length infos) (kind : kind_of fact.info ≡ kind_of (info_at infos cell))
     (told : (w : Premises) → told_in new cell w ≡ told_in old cell w) (gains : GainsKept cell fact old new)
-    (assimilates : AssimilatesAt cell fact old new) (others : LeavesOthers cell old new) (kinds_stay : kinds_of new ≡ kinds_of old) where
+    (assimilates : AssimilatesAt cell fact old new) (others : LeavesOthers cell old new) (kinds_stay : kinds_of new ≡ kinds_of old)
+    (remembers : Remembers cell fact old new) (continues : Continues old new) where
   abbrev a : Attached
   a = attached_no network number no_instance
 
@@ -197,7 +200,7 @@ module _ (network : Network) (well : IsWellNetwork network) (old new : Store) (s
   -- the store keeps more
   pub keeps_news : KeepsMore network old new
   keeps_news =
-      keeps_fact network old new same cell fact of_kind told gains others kinds_stay
+      keeps_fact network old new same cell fact of_kind told gains others kinds_stay continues
       (follows network well old same w infos supports kept a there seen cell fact is)
 
   -- in the worldview it keeps of the cell the merge
@@ -218,13 +221,16 @@ module _ (network : Network) (well : IsWellNetwork network) (old new : Store) (s
   -- so what is kept rests upstream, also if the fact is not taken in
   pub keeps_upstream : (given : ℕ → ℕ → Bool) → AreUpstream network given old supports → AreUpstream network given new supports
   keeps_upstream given are = record {
-    kept = by_cell (λ c. All (λ f. LiesUpstream network given c f.support) (kept_at new c)) cell
-        (each_member (λ (f : Fact). LiesUpstream network given cell f.support) (kept_at new cell)
-        (λ f has. elim (assimilates.within f has) [
-          | inl same_fact ↦ subst (λ (g : Fact). LiesUpstream network given cell g.support) (sym same_fact) (its_fact given are)
-          | inr had ↦ All-contains (λ (g : Fact). LiesUpstream network given cell g.support) (kept_at old cell) f (are.kept cell) had
-        ]))
-        (λ c other. subst (λ (l : List Fact). All (λ f. LiesUpstream network given c f.support) l) (sym (ap (λ (x : Cell). x.kept) (others c other))) (are.kept c));
+    kept = record {
+      kept = by_cell (λ c. All (λ f. LiesUpstream network given c f.support) (kept_at new c)) cell
+          (each_member (λ (f : Fact). LiesUpstream network given cell f.support) (kept_at new cell)
+          (λ f has. elim (assimilates.within f has) [
+            | inl same_fact ↦ subst (λ (g : Fact). LiesUpstream network given cell g.support) (sym same_fact) (its_fact given are)
+            | inr had ↦ All-contains (λ (g : Fact). LiesUpstream network given cell g.support) (kept_at old cell) f (are.kept.kept cell) had
+          ]))
+          (λ c other. subst (λ (l : List Fact). All (λ f. LiesUpstream network given c f.support) l) (sym (ap (λ (x : Cell). x.kept) (others c other))) (are.kept.kept c));
+      lately = lately_with network given old new cell fact remembers (its_fact given are) are.kept.lately;
+    };
     known = are.known;
   }
 

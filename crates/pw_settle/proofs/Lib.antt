@@ -30,8 +30,15 @@ pub mod SoundStores
 pub mod StoreCells
 pub mod GrowingGains
 pub mod SeenLines
+pub mod SeenInstances
 pub mod AsideStarts
 pub mod AsideAgendas
 pub mod AsideNews
 pub mod AsideEnds
 pub mod AsideGrowth
+pub mod Accounted
+pub mod TakenNews
+pub mod CameSince
+pub mod NewlyQueued
+pub mod ReadSince
+pub mod QueuedNews

@@ -38,7 +38,7 @@ use Rattle.pw_settle.proofs.ValueGrows.{all_seen, value_grows}
 -- ---- the values
 
 -- the told facts are still said after more is kept
-told_still : (network : Network) (old new : Store) (w : Premises) → KeepsMore network old new → SaysTold old w → (cell : ℕ) → cell < length old.cells →
+pub told_still : (network : Network) (old new : Store) (w : Premises) → KeepsMore network old new → SaysTold old w → (cell : ℕ) → cell < length old.cells →
     Implies (kept_in new cell w) (told_in new cell w)
 told_still network old new w grows told cell below v possible =
     subst (λ i. allows i v ≡ true) (sym (grows.told cell w)) (told cell below v (grows.more cell w v possible))
@@ -76,9 +76,9 @@ module _ (network : Network) (well : IsWellNetwork network) (old new : Store) (w
   kept_settled cell = kept_value cell ∙ same_value network old new grows.told w cell
 
   -- with premises that are enough for it
-  pub settled_known : (infos : List Info) (supports : List Premises) (instances calls : ℕ) → AreKept new w infos supports →
-      IsSettled network old w (record { infos = infos; supports = supports; worldview = w; instances = instances; calls = calls })
-  settled_known infos supports instances calls kept = record {
+  pub settled_known : (infos : List Info) (supports : List Premises) (instances calls mark : ℕ) → AreKept new w infos supports →
+      IsSettled network old w (record { infos = infos; supports = supports; worldview = w; instances = instances; calls = calls; mark = mark })
+  settled_known infos supports instances calls mark kept = record {
     worldview_is = refl;
     cells = kept.many ∙ as_many;
     values = λ cell below. kept.infos_are cell ∙ kept_settled cell;

@@ -1,5 +1,5 @@
 -- Stores stay sound: when they are new, when a fact is told, and when a callable is attached.
-use Rattle.std.proofs.Common.{◌≡◌, ℕ, ◌+◌, ◌<◌, ◌≤◌, Bool, true, List, ◌++◌, All, length, map, get_or, sym, ap, ◌∙◌, subst, arith, inl, inr}
+use Rattle.std.proofs.Common.{◌≡◌, ℕ, ◌+◌, ◌<◌, ◌≤◌, Bool, true, List, [], ◌++◌, All, length, map, get_or, sym, ap, ◌∙◌, subst, arith, inl, inr}
 use Rattle.std.specs.Prelude.{◌-◌, nat_lt}
 use Rattle.std.specs.FinSet.{contains}
 use Rattle.std.proofs.Math.ListN.{get_or-map}
@@ -15,7 +15,9 @@ use Rattle.pw_premises.specs.Premises.{Premises}
 use Rattle.pw_facts.specs.declared.fact.Fact.{Fact}
 use Rattle.pw_facts.specs.Facts.{shows}
 use Rattle.pw_facts.proofs.Shown.{kind-shows}
-use Rattle.pw_cells.specs.Cells.{Cell, Store, cell_at, kept_at, kept_in, kept_of, kind_in_store, kinds_of, new_cell, told_in, told_of}
+use Rattle.pw_cells.specs.declared.arrival.Arrival.{Arrival}
+use Rattle.pw_cells.specs.Arrivals.{Remembers}
+use Rattle.pw_cells.specs.Cells.{Arrivals, Cell, Store, cell_at, kept_at, kept_in, kept_of, kind_in_store, kinds_of, new_cell, told_in, told_of}
 use Rattle.pw_cells.specs.Changes.{AssimilatesAt, GainsKept, GainsTold, LeavesOthers}
 use Rattle.pw_cells.proofs.Together.{kind-shown_by, meet_first}
 use Rattle.pw_network.specs.Network.{Attached, Network, IsWellNetwork}
@@ -59,7 +61,7 @@ sound_new network store ks same new w c = keeps_nothing network store same w c (
 -- soundness depends only on the cells
 pub sound_same : (network : Network) (old new : Store) → new.cells ≡ old.cells → IsSound network old → IsSound network new
 sound_same network old new same sound =
-    subst (λ (cs : List Cell). IsSound network (record { cells = cs; room = 0 })) (sym same) sound
+    subst (λ (cs : List Cell). IsSound network (record { cells = cs; room = 0; arrivals = old.arrivals })) (sym same) sound
 
 -- of a cell that was added, nothing is kept
 pub cell_added : (old new : Store) (own : List Kind) → new.cells ≡ old.cells ++ map new_cell own → (c : ℕ) → length old.cells ≤ c →
@@ -167,45 +169,78 @@ lie_still network wider wide given more all cell premises lies cells upstream ha
       | inr (a, there, writes, own) ↦ inr (a, still_attached network wider wide a there, writes, own)
     ]
 
--- of new cells nothing is kept
-pub rests_new : (network : Network) (given : ℕ → ℕ → Bool) (store : Store) (ks : List Kind) → store.cells ≡ map new_cell ks → RestsUpstream network given store
-rests_new network given store ks new cell =
-    subst (All (λ (f : Fact). LiesUpstream network given cell f.support)) (sym (ap (λ (x : Cell). x.kept) (all_new store ks new cell)))
-    (All-nil (λ (f : Fact). LiesUpstream network given cell f.support))
+-- the same of facts that came lately
+lately_still : (network wider : Network) → IsWider network wider → (given more : ℕ → ℕ → Bool) → ((c p : ℕ) → given c p ≡ true → more c p ≡ true) →
+    (list : List Arrival) → All (λ (a : Arrival). LiesUpstream network given a.cell a.fact.support) list → All (λ (a : Arrival). LiesUpstream wider more a.cell a.fact.support) list
+lately_still network wider wide given more all list lie k d within =
+    lie_still network wider wide given more all (get_or list k d).cell (get_or list k d).fact.support (lie k d within)
 
--- it depends only on the cells and on what was given
-pub rests_same : (network : Network) (given more : ℕ → ℕ → Bool) (old new : Store) → new.cells ≡ old.cells → ((c p : ℕ) → given c p ≡ true → more c p ≡ true) →
-    RestsUpstream network given old → RestsUpstream network more new
-rests_same network given more old new same all rests cell =
-    subst (λ (cs : List Cell). All (λ (f : Fact). LiesUpstream network more cell f.support) (kept_at (record { cells = cs; room = 0 }) cell)) (sym same)
-    (λ k d within. lie_still network network (wide_self network) given more all cell (get_or (kept_at old cell) k d).support (rests cell k d within))
+-- of new cells nothing is kept
+pub rests_new : (network : Network) (given : ℕ → ℕ → Bool) (store : Store) (ks : List Kind) → store.cells ≡ map new_cell ks → store.arrivals.list ≡ [] →
+    RestsUpstream network given store
+rests_new network given store ks new none = record {
+  kept = λ cell. subst (All (λ (f : Fact). LiesUpstream network given cell f.support)) (sym (ap (λ (x : Cell). x.kept) (all_new store ks new cell)))
+      (All-nil (λ (f : Fact). LiesUpstream network given cell f.support));
+  lately = subst (All (λ (a : Arrival). LiesUpstream network given a.cell a.fact.support)) (sym none) (All-nil (λ (a : Arrival). LiesUpstream network given a.cell a.fact.support));
+}
+
+-- it depends only on the cells, on what came lately and on what was given
+pub rests_same : (network : Network) (given more : ℕ → ℕ → Bool) (old new : Store) → new.cells ≡ old.cells → new.arrivals ≡ old.arrivals →
+    ((c p : ℕ) → given c p ≡ true → more c p ≡ true) → RestsUpstream network given old → RestsUpstream network more new
+rests_same network given more old new same came all rests = record {
+  kept = λ cell.
+      subst (λ (cs : List Cell). All (λ (f : Fact). LiesUpstream network more cell f.support) (kept_at (record { cells = cs; room = 0; arrivals = old.arrivals }) cell)) (sym same)
+      (λ k d within. lie_still network network (wide_self network) given more all cell (get_or (kept_at old cell) k d).support (rests.kept cell k d within));
+  lately = subst (λ (l : Arrivals). All (λ (a : Arrival). LiesUpstream network more a.cell a.fact.support) l.list) (sym came)
+      (lately_still network network (wide_self network) given more all old.arrivals.list rests.lately);
+}
 
 -- if more is attached, and new cells are added
 pub rests_attached : (network wider : Network) → IsWider network wider → (given more : ℕ → ℕ → Bool) → ((c p : ℕ) → given c p ≡ true → more c p ≡ true) →
-    (old new : Store) (own : List Kind) → new.cells ≡ old.cells ++ map new_cell own → RestsUpstream network given old → RestsUpstream wider more new
-rests_attached network wider wide given more all old new own are rests cell =
-    elim (cases_Bool (nat_lt cell (length old.cells))) [
-      | inl is ↦
-          subst (All (λ (f : Fact). LiesUpstream wider more cell f.support))
-          (sym (ap (λ (x : Cell). x.kept) (cell_stays old new own are cell (ltb-true cell (length old.cells) is))))
-          (λ k d within. lie_still network wider wide given more all cell (get_or (kept_at old cell) k d).support (rests cell k d within))
-      | inr not ↦
-          subst (All (λ (f : Fact). LiesUpstream wider more cell f.support))
-          (sym (ap (λ (x : Cell). x.kept) (cell_added old new own are cell (ltb-false cell (length old.cells) not))))
-          (All-nil (λ (f : Fact). LiesUpstream wider more cell f.support))
-    ]
+    (old new : Store) (own : List Kind) → new.cells ≡ old.cells ++ map new_cell own → new.arrivals ≡ old.arrivals → RestsUpstream network given old →
+    RestsUpstream wider more new
+rests_attached network wider wide given more all old new own are came rests = record {
+  kept = λ cell. elim (cases_Bool (nat_lt cell (length old.cells))) [
+    | inl is ↦
+        subst (All (λ (f : Fact). LiesUpstream wider more cell f.support))
+        (sym (ap (λ (x : Cell). x.kept) (cell_stays old new own are cell (ltb-true cell (length old.cells) is))))
+        (λ k d within. lie_still network wider wide given more all cell (get_or (kept_at old cell) k d).support (rests.kept cell k d within))
+    | inr not ↦
+        subst (All (λ (f : Fact). LiesUpstream wider more cell f.support))
+        (sym (ap (λ (x : Cell). x.kept) (cell_added old new own are cell (ltb-false cell (length old.cells) not))))
+        (All-nil (λ (f : Fact). LiesUpstream wider more cell f.support))
+  ];
+  lately = subst (λ (l : Arrivals). All (λ (a : Arrival). LiesUpstream wider more a.cell a.fact.support) l.list) (sym came)
+      (lately_still network wider wide given more all old.arrivals.list rests.lately);
+}
+
+-- if one fact more came about a cell, and its premises lie upstream, so do all that came lately
+pub lately_with : (network : Network) (given : ℕ → ℕ → Bool) (old new : Store) (cell : ℕ) (fact : Fact) → Remembers cell fact old new →
+    LiesUpstream network given cell fact.support → All (λ (a : Arrival). LiesUpstream network given a.cell a.fact.support) old.arrivals.list →
+    All (λ (a : Arrival). LiesUpstream network given a.cell a.fact.support) new.arrivals.list
+lately_with network given old new cell fact remembers own lie =
+    each_member (λ (a : Arrival). LiesUpstream network given a.cell a.fact.support) new.arrivals.list
+    (λ a has. elim (remembers a has) [
+      | inl is ↦ subst (λ (b : Arrival). LiesUpstream network given b.cell b.fact.support) (sym is) own
+      | inr was ↦ All-contains (λ (b : Arrival). LiesUpstream network given b.cell b.fact.support) old.arrivals.list a lie was
+    ])
 
 -- if a fact is told, whose premises are given with its cell
 pub rests_told : (network : Network) (given more : ℕ → ℕ → Bool) → ((c p : ℕ) → given c p ≡ true → more c p ≡ true) → (old new : Store) (cell : ℕ) (fact : Fact) →
     ((p : ℕ) → contains fact.support p ≡ true → more cell p ≡ true) → AssimilatesAt cell fact old new → LeavesOthers cell old new →
-    RestsUpstream network given old → RestsUpstream network more new
-rests_told network given more all old new cell fact own assimilates others rests =
-    by_cell (λ c. All (λ (f : Fact). LiesUpstream network more c f.support) (kept_at new c)) cell
-    (each_member (λ (f : Fact). LiesUpstream network more cell f.support) (kept_at new cell)
-    (λ f has. elim (assimilates.within f has) [
-      | inl is ↦ λ cells upstream within p one. inl (cell, within, own p (subst (λ (g : Fact). contains g.support p ≡ true) is one))
-      | inr was ↦ lie_still network network (wide_self network) given more all cell f.support
-          (All-contains (λ (g : Fact). LiesUpstream network given cell g.support) (kept_at old cell) f (rests cell) was)
-    ]))
-    (λ c other. subst (All (λ (f : Fact). LiesUpstream network more c f.support)) (sym (ap (λ (x : Cell). x.kept) (others c other)))
-    (λ k d within. lie_still network network (wide_self network) given more all c (get_or (kept_at old c) k d).support (rests c k d within)))
+    Remembers cell fact old new → RestsUpstream network given old → RestsUpstream network more new
+rests_told network given more all old new cell fact own assimilates others remembers rests = record {
+  kept = by_cell (λ c. All (λ (f : Fact). LiesUpstream network more c f.support) (kept_at new c)) cell
+      (each_member (λ (f : Fact). LiesUpstream network more cell f.support) (kept_at new cell)
+      (λ f has. elim (assimilates.within f has) [
+        | inl is ↦ subst (λ (g : Fact). LiesUpstream network more cell g.support) (sym is) lies
+        | inr was ↦ lie_still network network (wide_self network) given more all cell f.support
+            (All-contains (λ (g : Fact). LiesUpstream network given cell g.support) (kept_at old cell) f (rests.kept cell) was)
+      ]))
+      (λ c other. subst (All (λ (f : Fact). LiesUpstream network more c f.support)) (sym (ap (λ (x : Cell). x.kept) (others c other)))
+      (λ k d within. lie_still network network (wide_self network) given more all c (get_or (kept_at old c) k d).support (rests.kept c k d within)));
+  lately = lately_with network more old new cell fact remembers lies
+      (lately_still network network (wide_self network) given more all old.arrivals.list rests.lately);
+} where
+  lies : LiesUpstream network more cell fact.support
+  lies cells upstream within p one = inl (cell, within, own p one)

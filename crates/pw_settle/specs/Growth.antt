@@ -3,13 +3,16 @@
 use Rattle.std.specs.Prelude.{◌≡◌, ℕ, ◌<◌, ◌≤◌, true, length, slice_index_or, Bool, List, ◌++◌}
 use Rattle.pw_info.specs.Information.{kind_of, nothing, Implies}
 use Rattle.pw_info.specs.declared.info.Info.{Info}
+use Rattle.std.specs.FinSet.{is_subset}
+use Rattle.pw_facts.specs.Facts.{IsLeastAbove}
+use Rattle.pw_cells.specs.Arrivals.{Continues, IsAccounted}
 use Rattle.pw_cells.specs.Cells.{Store, kept_in, kinds_of, told_in}
 use Rattle.pw_network.specs.Network.{Attached, Network, cells_in}
 use Rattle.pw_settle.specs.Calls.{is_instance_visible}
 use Rattle.pw_settle.specs.Values.{IsSatisfied, attached_no, kinds_in, numbered, value_in}
-use Rattle.pw_settle.specs.Settled.{Settled, info_at, IsSettled}
+use Rattle.pw_settle.specs.Settled.{Settled, info_at, support_at, IsSettled}
 use Rattle.pw_premises.specs.Premises.{Premises}
-use Rattle.pw_settle.specs.Sound.{IsSound, RestsUpstream}
+use Rattle.pw_settle.specs.Sound.{IsSound, LieUpstream, RestsUpstream}
 use Rattle.pw_info.specs.declared.kind.Kind.{Kind}
 
 -- what the settled values say about a cell; nothing about a cell that did not exist then
@@ -31,6 +34,24 @@ pub record IsFitting (network : Network) (store : Store) (settled : Settled) : T
       is_instance_visible settled.worldview (attached_no network number d) ≡ true →
       IsSatisfied network (said_of network settled) (attached_no network number d)
 
+-- a settling in the same worldview can continue from the settled values: each rests on premises of
+-- the worldview under which as much is kept; and together with what came since their mark, they say
+-- what is kept there
+pub record CanContinue (store : Store) (settled : Settled) : Type 0 where
+  pub as_many : length settled.supports ≡ length settled.infos
+  pub within : (cell : ℕ) → is_subset (support_at settled.supports cell) settled.worldview ≡ true
+  pub enough : (cell : ℕ) → cell < length settled.infos →
+      IsLeastAbove (support_at settled.supports cell) (kept_in store cell)
+      (info_at settled.infos cell)
+  pub accounted : IsAccounted store settled.mark settled.worldview (length settled.infos)
+      (info_at settled.infos)
+
+-- the premises of the settled values lie upstream, if what was kept rested only on premises upstream
+abbrev pub RestOnUpstream : Network → Store → Settled → Type 0
+RestOnUpstream network old settled =
+    (given : ℕ → ℕ → Bool) → RestsUpstream network given old →
+    LieUpstream network given settled.supports
+
 -- the cells are those that existed, and were told what they were told; no less is kept of any cell,
 -- in any worldview, and if the store was sound, it still is
 pub record KeepsMore (network : Network) (old new : Store) : Type 0 where
@@ -38,11 +59,26 @@ pub record KeepsMore (network : Network) (old new : Store) : Type 0 where
   pub told : (cell : ℕ) (w : Premises) → told_in new cell w ≡ told_in old cell w
   pub more : (cell : ℕ) (w : Premises) → Implies (kept_in new cell w) (kept_in old cell w)
   pub sound : IsSound network old → IsSound network new
+  -- what accounted for what was kept still does, with what came since
+  pub continues : Continues old new
 
 -- if what was kept rested only on premises upstream, so does what is kept now
 abbrev pub StaysUpstream : Network → Store → Store → Type 0
 StaysUpstream network old new =
     (given : ℕ → ℕ → Bool) → RestsUpstream network given old → RestsUpstream network given new
+
+-- if what was kept rested only on premises upstream, and so did the earlier values, what is kept now
+-- does
+abbrev pub StaysUpstreamAfter : Network → Settled → Store → Store → Type 0
+StaysUpstreamAfter network before old new =
+    (given : ℕ → ℕ → Bool) → RestsUpstream network given old →
+    LieUpstream network given before.supports → RestsUpstream network given new
+
+-- and so do the settled values
+abbrev pub RestOnUpstreamAfter : Network → Settled → Store → Settled → Type 0
+RestOnUpstreamAfter network before old settled =
+    (given : ℕ → ℕ → Bool) → RestsUpstream network given old →
+    LieUpstream network given before.supports → LieUpstream network given settled.supports
 
 -- one network has all cells and instances that the other has, by the same numbers, and perhaps
 -- more, as after attachments
@@ -69,5 +105,6 @@ pub record HasValues (network : Network) (old new : Store) (w : Premises) (value
   pub settled : IsSettledIfSound network old w values
   pub cells : length values.infos ≡ cells_in network
   pub fits : IsFitting network new values
+  pub continues : CanContinue new values
   pub worldview : values.worldview ≡ w
   pub instances : values.instances ≡ length network.attached

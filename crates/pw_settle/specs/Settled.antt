@@ -10,13 +10,15 @@ use Rattle.pw_network.specs.Network.{Network, cells_in}
 use Rattle.pw_settle.specs.Values.{value_in}
 
 -- an information about each cell, by its number, with premises that it rests on, the worldview in
--- which it holds, the number of instances then, and the number of procedure calls made for it
+-- which it holds, the number of instances then, the number of procedure calls made for it, and a mark
+-- of what the store kept then
 pub record Settled : Type 0 where
   pub infos : List Info
   pub supports : List Premises
   pub worldview : Premises
   pub instances : ℕ
   pub calls : ℕ
+  pub mark : ℕ
 
 -- the information of this cell in a list of informations; past the last, nothing of the interval
 -- kind

@@ -1,11 +1,13 @@
 -- Soundness of a store: it keeps only what follows, and what it keeps rests on no premise that has
 -- no say there.
-use Rattle.std.specs.Prelude.{◌≡◌, ◌⊎◌, ℕ, Bool, true, All, Contains}
+use Rattle.std.specs.Prelude.{◌≡◌, ◌⊎◌, ℕ, Bool, true, All, Contains, List}
 use Rattle.std.specs.FinSet.{contains}
 use Rattle.pw_info.specs.Information.{Implies}
 use Rattle.pw_premises.specs.Premises.{Premises}
+use Rattle.pw_cells.specs.declared.arrival.Arrival.{Arrival}
 use Rattle.pw_cells.specs.Cells.{Store, kept_at, kept_in}
 use Rattle.pw_network.specs.Network.{Attached, Network}
+use Rattle.pw_settle.specs.Settled.{support_at}
 use Rattle.pw_settle.specs.Values.{value_in}
 
 -- only what follows is kept: in every worldview the value of a cell says at least what is kept of
@@ -37,7 +39,14 @@ LiesUpstream network given cell premises =
     (cells : ℕ → Bool) → IsUpstream network cells → cells cell ≡ true →
     (premise : ℕ) → contains premises premise ≡ true → IsGivenTo network given cells premise
 
--- each fact that is kept of a cell rests only on premises upstream of it
-abbrev pub RestsUpstream : Network → (ℕ → ℕ → Bool) → Store → Type 0
-RestsUpstream network given store = (cell : ℕ) →
-    All (λ fact. LiesUpstream network given cell fact.support) (kept_at store cell)
+-- each fact that is kept of a cell, or came to be kept lately, rests only on premises upstream of it
+pub record RestsUpstream (network : Network) (given : ℕ → ℕ → Bool) (store : Store) : Type 0 where
+  pub kept : (cell : ℕ) → All (λ fact. LiesUpstream network given cell fact.support)
+      (kept_at store cell)
+  pub lately : All (λ (a : Arrival). LiesUpstream network given a.cell a.fact.support)
+      store.arrivals.list
+
+-- the premises that are listed for each cell lie upstream of it
+abbrev pub LieUpstream : Network → (ℕ → ℕ → Bool) → List Premises → Type 0
+LieUpstream network given supports = (cell : ℕ) →
+    LiesUpstream network given cell (support_at supports cell)

@@ -3,4 +3,5 @@ pub mod Aside
 pub mod Due
 pub mod Known
 pub mod Progress
+pub mod Since
 pub mod SupportLists

@@ -160,5 +160,6 @@ pub(crate) fn grow_aside<A: Allocator + Copy>(
         worldview: *worldview,
         instances: network.instances().len(),
         calls,
+        mark: 0,
     })
 }

@@ -48,7 +48,7 @@ pub(crate) fn read_kept<A: Allocator + Copy>(
 
 // Appends what is kept of one cell more. Fails only when out of memory.
 #[inline(always)]
-fn push_kept<A: Allocator + Copy>(
+pub(crate) fn push_kept<A: Allocator + Copy>(
     store: &mut CellStore<A>,
     cell: u32,
     worldview: &PremiseSet,

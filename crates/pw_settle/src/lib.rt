@@ -7,12 +7,14 @@ mod known;
 pub mod laws;
 mod propagating;
 mod resettling;
+mod resettling_since;
 mod settled;
 mod settling;
 mod settling_aside;
 mod support_list;
 
 pub use resettling::{resettle, resettle_from};
+pub use resettling_since::resettle_since;
 pub use settled::Settled;
 pub use settling::settle;
 pub use settling_aside::{settle_aside, value_aside};

@@ -1,5 +1,5 @@
 //! Settling that continues from the values of an earlier settling.
-ghost use Rattle.std.specs.Prelude.{◌≡◌, ◌+◌, ◌<◌, ◌↔◌, ◌&&◌, ℕ, IsTrue, IfOk, OnOk, true, length};
+ghost use Rattle.std.specs.Prelude.{◌≡◌, ◌+◌, ◌<◌, ◌↔◌, ◌&&◌, ℕ, IsTrue, IfOk, OnOk, true, length, map};
 ghost use Rattle.std.specs.FinSet.{is_subset};
 ghost use Rattle.pw_info.specs.Information.{kind_of};
 ghost use Rattle.pw_cells.specs.Cells.{kinds_of};
@@ -8,20 +8,20 @@ ghost use Rattle.pw_network.specs.Network.{cells_in};
 ghost use Rattle.pw_settle.specs.inside.Progress.{is_set};
 ghost use Rattle.pw_settle.specs.inside.Due.{AreDue, HasChanged, QueuesReaders, found_of, is_new};
 ghost use Rattle.pw_settle.specs.Growth.{IsFitting};
-ghost use Rattle.pw_settle.specs.Growth.{KeepsMore, StaysUpstream};
+ghost use Rattle.pw_settle.specs.Growth.{KeepsMore, RestOnUpstream, StaysUpstream};
 ghost use Rattle.pw_settle.specs.inside.Known.{AreKept, SaysTold};
 ghost use Rattle.pw_settle.specs.Settled.{info_at};
 ghost use Rattle.pw_settle.specs.Values.{kinds_in};
 ghost use Rattle.pw_settle.specs.inside.Known.{ReadsUpstream};
 ghost use Rattle.pw_settle.specs.inside.Due.{CallsEachAtLeast, CallsEachAtMost, CallsWhatIsDue};
 ghost use Rattle.pw_settle.specs.Growth.{KeepsIfSound};
-ghost use Rattle.pw_settle.specs.Calls.{AreVisible};
+ghost use Rattle.pw_settle.specs.Calls.{AreVisible, is_instance_visible};
 ghost use Rattle.pw_settle.specs.Growth.{HasValues};
 
 use crate::agenda::Agenda;
 use crate::known::{Known, read_kept};
 use crate::settled::Settled;
-use crate::settling::{queue_readers, seen, settle, settle_from};
+use crate::settling::{queue_visible_readers, seen, settle, settle_from};
 use pw_cells::CellStore;
 use pw_info::Info;
 use pw_network::Network;
@@ -81,25 +81,26 @@ fn has_changed(before: &[Info], now: &[Info], cell: usize) -> bool
     }
 }
 
-// Queues the visible readers of the cells of which more is kept now than was found before.
+// Queues the readers, visible in the worldview, of the cells of which more is kept now than was found
+// before.
 pub(crate) fn queue_changed<A: Allocator + Copy>(
     network: &Network<'_, '_, A>,
-    visible: &[bool],
+    worldview: &PremiseSet,
     before: &[Info],
     now: &[Info],
     agenda: &mut Agenda<A>,
 )
     requires flags { length agenda.old ≡ length (wiring network.now).attached }
-    requires all { length visible.now ≡ length (wiring network.now).attached }
     requires cells { length now.now ≡ cells_in (wiring network.now) }
     requires kinds { (cell : ℕ) → cell < length now.now
         → kind_of (found_of before.now now.now cell) ≡ kind_of (info_at now.now cell) }
-    ensures { QueuesReaders (wiring network.now) visible.now (λ cell. (cell < length now.now) ×
-        HasChanged before.now now.now cell) agenda.old agenda.new }
+    ensures { QueuesReaders (wiring network.now) (map (is_instance_visible worldview.now)
+        (wiring network.now).attached) (λ cell. (cell < length now.now) × HasChanged before.now
+        now.now cell) agenda.old agenda.new }
 {
     for cell in 0..network.cells() {
         if has_changed(before, now, cell as usize) {
-            queue_readers(network, visible, agenda, cell);
+            queue_visible_readers(network, worldview, agenda, cell);
         }
     }
 }
@@ -131,7 +132,7 @@ fn due_instances<A: Allocator + Copy>(
     let known = read_kept(alloc, store, worldview)?;
     queue_changed(
         network,
-        visible,
+        worldview,
         &before.known.infos,
         &known.infos,
         &mut agenda,
@@ -162,6 +163,7 @@ pub fn resettle_from<A: Allocator + Copy>(
         worldview.now) }
     ensures grows { KeepsMore (wiring network.now) store.old store.new }
     ensures upstream { StaysUpstream (wiring network.now) store.old store.new }
+    ensures lie { IfOk result (RestOnUpstream (wiring network.now) store.old) }
     ensures due { IfOk result (CallsWhatIsDue (wiring network.now) store.old store.new
         worldview.now before.now) }
     ensures least { IfOk result (CallsEachAtLeast (wiring network.now) worldview.now before.now) }
@@ -173,7 +175,7 @@ pub fn resettle_from<A: Allocator + Copy>(
     }
     let visible = seen(alloc, network.instances(), worldview)?;
     let (known, agenda) = due_instances(alloc, before, network, store, worldview, &visible)?;
-    settle_from(network, store, worldview, known, &visible, agenda)
+    settle_from(network, store, worldview, known, agenda)
 }
 
 /// The values as `resettle_from` answers them, from earlier values that the call takes.
@@ -191,6 +193,7 @@ pub fn resettle<A: Allocator + Copy>(
         worldview.now) }
     ensures grows { KeepsMore (wiring network.now) store.old store.new }
     ensures upstream { StaysUpstream (wiring network.now) store.old store.new }
+    ensures lie { IfOk result (RestOnUpstream (wiring network.now) store.old) }
     ensures due { IfOk result (CallsWhatIsDue (wiring network.now) store.old store.new
         worldview.now before) }
     ensures least { IfOk result (CallsEachAtLeast (wiring network.now) worldview.now before) }

@@ -9,10 +9,11 @@ ghost use Rattle.pw_network.specs.inside.Held.{attachment};
 ghost use Rattle.pw_network.specs.Network.{HaveSupportsByLine};
 ghost use Rattle.pw_network.specs.Readers.{readers_of};
 ghost use Rattle.pw_settle.specs.inside.Progress.{is_set, tally};
-ghost use Rattle.pw_settle.specs.Calls.{gains, is_instance_visible, most_calls, visible_at};
+ghost use Rattle.pw_settle.specs.Calls.{gains, is_instance_visible, most_calls, reader_count};
+ghost use Rattle.pw_settle.specs.Calls.{visible_at};
 ghost use Rattle.pw_settle.specs.Calls.{visible_count};
 ghost use Rattle.pw_settle.specs.inside.Due.{QueuesReaders};
-ghost use Rattle.pw_settle.specs.Growth.{KeepsMore, StaysUpstream};
+ghost use Rattle.pw_settle.specs.Growth.{KeepsMore, RestOnUpstream, StaysUpstream};
 ghost use Rattle.pw_settle.specs.inside.Known.{AreKept, Keeps, SaysTold, TakesIn};
 ghost use Rattle.pw_settle.specs.inside.Known.{news_on};
 ghost use Rattle.pw_settle.specs.Settled.{info_at};
@@ -100,6 +101,29 @@ pub(crate) fn queue_readers<A: Allocator + Copy>(
     }
 }
 
+// Queues the readers of a cell that are visible in the worldview. Each is tested by itself: in a
+// large network few of the instances ever read news.
+#[inline(always)]
+pub(crate) fn queue_visible_readers<A: Allocator + Copy>(
+    network: &Network<'_, '_, A>,
+    worldview: &PremiseSet,
+    agenda: &mut Agenda<A>,
+    cell: u32,
+)
+    requires flags { length agenda.old ≡ length (wiring network.now).attached }
+    ensures readers { QueuesReaders (wiring network.now) (map (is_instance_visible worldview.now)
+        (wiring network.now).attached) (λ c. c ≡ cell) agenda.old agenda.new }
+    ensures most { tally agenda.new ≤ tally agenda.old + reader_count (wiring network.now)
+        worldview.now cell }
+    ensures least { tally agenda.old ≤ tally agenda.new }
+{
+    for number in network.readers(cell) {
+        if network.instances()[number].support.is_subset(worldview) {
+            agenda.add(number);
+        }
+    }
+}
+
 // Keeps news of an instance in the store, and merges them into what is known about its output. Fails
 // only when out of memory; then perhaps the store keeps them, but nothing else changes.
 #[inline(always)]
@@ -182,14 +206,12 @@ fn call<A: Allocator + Copy>(
     store: &mut CellStore<A>,
     worldview: &PremiseSet,
     known: &mut Known<A>,
-    visible: &[bool],
     agenda: &mut Agenda<A>,
     number: usize,
     calls: &mut u128,
 ) -> Result<(), AllocError>
     requires kinds { kinds_of store.old ≡ kinds_in (wiring network.now) }
     requires kept { AreKept store.old worldview.now known.old.infos.items known.old.supports }
-    requires visible { AreVisible (wiring network.now) worldview.now visible.now }
     requires flags { length agenda.old ≡ length (wiring network.now).attached }
     requires seen { AreQueuedVisible (wiring network.now) worldview.now agenda.old }
     requires number { visible_at (wiring network.now) worldview.now number ≡ true }
@@ -220,7 +242,7 @@ fn call<A: Allocator + Copy>(
             instance,
             &news.info,
         )?;
-        queue_readers(network, visible, agenda, news.cell);
+        queue_visible_readers(network, worldview, agenda, news.cell);
     }
     Ok(())
 }
@@ -232,12 +254,10 @@ fn work<A: Allocator + Copy>(
     store: &mut CellStore<A>,
     worldview: &PremiseSet,
     known: &mut Known<A>,
-    visible: &[bool],
     agenda: &mut Agenda<A>,
 ) -> Result<u128, AllocError>
     requires kinds { kinds_of store.old ≡ kinds_in (wiring network.now) }
     requires kept { AreKept store.old worldview.now known.old.infos.items known.old.supports }
-    requires visible { AreVisible (wiring network.now) worldview.now visible.now }
     requires flags { length agenda.old ≡ length (wiring network.now).attached }
     requires seen { AreQueuedVisible (wiring network.now) worldview.now agenda.old }
     requires satisfied { AreMet (wiring network.now) store.old worldview.now agenda.old }
@@ -255,12 +275,10 @@ fn work<A: Allocator + Copy>(
 {
     // These lengths bound the count.
     let _cells = store.cells();
-    let _instances = visible.len();
+    let _instances = network.instances().len();
     let mut calls = 0;
     while let Some(number) = agenda.take() {
-        call(
-            network, store, worldview, known, visible, agenda, number, &mut calls,
-        )?;
+        call(network, store, worldview, known, agenda, number, &mut calls)?;
     }
     Ok(calls)
 }
@@ -273,13 +291,11 @@ pub(crate) fn settle_from<A: Allocator + Copy>(
     store: &mut CellStore<A>,
     worldview: &PremiseSet,
     mut known: Known<A>,
-    visible: &[bool],
     mut agenda: Agenda<A>,
 ) -> Result<Settled<A>, AllocError>
     requires kinds { kinds_of store.old ≡ kinds_in (wiring network.now) }
     requires kept { AreKept store.old worldview.now known.infos.items known.supports }
     requires told { SaysTold store.old worldview.now }
-    requires visible { AreVisible (wiring network.now) worldview.now visible.now }
     requires flags { length agenda ≡ length (wiring network.now).attached }
     requires seen { AreQueuedVisible (wiring network.now) worldview.now agenda }
     requires satisfied { AreMet (wiring network.now) store.old worldview.now agenda }
@@ -289,16 +305,19 @@ pub(crate) fn settle_from<A: Allocator + Copy>(
     ensures grows { KeepsMore (wiring network.now) store.old store.new }
     ensures upstream { SettlesUpstream (wiring network.now) store.old known.supports
         store.new }
+    ensures lie { IfOk result (λ settled. StayUpstream (wiring network.now) store.old known.supports
+        store.new settled.supports) }
     ensures least { IfOk result (λ settled. tally agenda ≤ settled.calls) }
     ensures most { IfOk result (λ settled. settled.calls
         ≤ tally agenda + gains (wiring network.now) store.old store.new worldview.now) }
 {
-    let calls = work(network, store, worldview, &mut known, visible, &mut agenda)?;
+    let calls = work(network, store, worldview, &mut known, &mut agenda)?;
     Ok(Settled {
         known,
         worldview: *worldview,
         instances: network.instances().len(),
         calls,
+        mark: store.mark(),
     })
 }
 
@@ -326,6 +345,7 @@ pub fn settle<A: Allocator + Copy>(
         worldview.now) }
     ensures grows { KeepsMore (wiring network.now) store.old store.new }
     ensures upstream { StaysUpstream (wiring network.now) store.old store.new }
+    ensures lie { IfOk result (RestOnUpstream (wiring network.now) store.old) }
     ensures least { IfOk result (λ settled. visible_count (wiring network.now) worldview.now ≤
         settled.calls) }
     ensures most { IfOk result (CallsAtMost (wiring network.now) store.old store.new worldview.now) }
@@ -333,5 +353,5 @@ pub fn settle<A: Allocator + Copy>(
     let visible = seen(alloc, network.instances(), worldview)?;
     let agenda = agenda_of(alloc, &visible)?;
     let known = read_kept(alloc, store, worldview)?;
-    settle_from(network, store, worldview, known, &visible, agenda)
+    settle_from(network, store, worldview, known, agenda)
 }

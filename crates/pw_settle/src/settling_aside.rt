@@ -308,7 +308,7 @@ fn unmet_instances<A: Allocator + Copy>(
     }
     let was_visible = seen(alloc, network.instances(), before.worldview())?;
     let mut agenda = fallen_instances(alloc, network, visible, &was_visible, earlier, now)?;
-    queue_changed(network, visible, earlier, now, &mut agenda);
+    queue_changed(network, worldview, earlier, now, &mut agenda);
     Ok(agenda)
 }
 
@@ -440,5 +440,6 @@ pub fn settle_aside<A: Allocator + Copy>(
         worldview: *worldview,
         instances: network.instances().len(),
         calls,
+        mark: 0,
     })
 }

@@ -57,6 +57,21 @@ impl<A: Allocator + Copy> SupportList<A> {
         Ok(SupportList { lists })
     }
 
+    // The same premises, with room for those of so many cells. Fails only when out of memory.
+    pub(crate) fn copied_with_room(
+        &self,
+        alloc: A,
+        room: usize,
+    ) -> Result<SupportList<A>, AllocError>
+        ensures { IfOk result (λ list. list ≡ self.now) }
+    {
+        let lists = match &self.lists {
+            Widths::Narrow(list) => Widths::Narrow(copied_with_room(alloc, list.as_slice(), room)?),
+            Widths::Wide(list) => Widths::Wide(copied_with_room(alloc, list.as_slice(), room)?),
+        };
+        Ok(SupportList { lists })
+    }
+
     // Appends the premises of one cell more. If memory is refused, nothing changes.
     #[inline(always)]
     pub(crate) fn push(&mut self, support: PremiseSet) -> Result<(), AllocError>
@@ -171,6 +186,19 @@ impl<A: Allocator> SupportList<A> {
             Widths::Wide(list) => list[place].is_subset(worldview),
         }
     }
+}
+
+// The same items, in a list of their own with room for so many. Fails only when out of memory.
+pub(crate) fn copied_with_room<T: Copy, A: Allocator>(
+    alloc: A,
+    items: &[T],
+    room: usize,
+) -> Result<Vec<T, A>, AllocError>
+    ensures { IfOk result (λ copy. copy.items ≡ items.now) }
+{
+    let mut copy = Vec::with_capacity(alloc, room)?;
+    copy.extend_from_slice(items)?;
+    Ok(copy)
 }
 
 // The same items, in a list of their own. Fails only when out of memory.

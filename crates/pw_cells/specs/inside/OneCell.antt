@@ -9,6 +9,8 @@ use Rattle.pw_info.specs.Information.{kind_of, Implies, meet}
 use Rattle.pw_facts.specs.declared.fact.Fact.{Fact}
 use Rattle.pw_cells.specs.declared.bound.Bound.{Bound}
 use Rattle.std.specs.Coded.{Coded, code_by, coded×, coded_ℕ, coded_list}
+use Rattle.pw_cells.specs.declared.arrival.Arrival.{Arrival}
+use Rattle.pw_cells.specs.Cells.{Arrivals}
 use Rattle.pw_cells.specs.Cells.{Cell, Store, shown_by, ArePremisesOf, all_assimilated, told_at}
 use Rattle.std.specs.FinSet.{is_subset}
 use Rattle.pw_premises.specs.Premises.{Premises}
@@ -29,11 +31,23 @@ cell_code kind fact =
     (c.kind, (c.told, c.kept)))
     (λ p. record { kind = p.0; told = p.1.0; kept = p.1.1 }) (λ _. refl)
 
--- a store is stored as the list of its cells and its room
+-- what came is stored as a cell and a fact, and what came lately as a count and a list
+abbrev pub arrival_code : Coded Fact → Coded Arrival
+arrival_code fact =
+    code_by _ (coded× coded_ℕ fact) (λ a. (a.cell, a.fact)) (λ p.
+    record { cell = p.0; fact = p.1 }) (λ _. refl)
+
+abbrev pub arrivals_code : Coded Fact → Coded Arrivals
+arrivals_code fact =
+    code_by _ (coded× coded_ℕ (coded_list (arrival_code fact))) (λ a. (a.past, a.list)) (λ p.
+    record { past = p.0; list = p.1 }) (λ _. refl)
+
+-- a store is stored as the list of its cells, its room, and what came lately
 abbrev pub store_code : Coded Kind → Coded Fact → Coded Store
 store_code kind fact =
-    code_by _ (coded× (coded_list (cell_code kind fact)) coded_ℕ) (λ s. (s.cells, s.room)) (λ p.
-    record { cells = p.0; room = p.1 }) (λ _. refl)
+    code_by _ (coded× (coded_list (cell_code kind fact)) (coded× coded_ℕ (arrivals_code fact)))
+    (λ s. (s.cells, (s.room, s.arrivals))) (λ p.
+    record { cells = p.0; room = p.1.0; arrivals = p.1.1 }) (λ _. refl)
 
 -- each of the facts is of the kind
 abbrev pub AreOfKind : Kind → List Fact → Type 0

@@ -1,6 +1,6 @@
 -- The conditions that the steps of a command put on a workbench, and their results.
 use Rattle.std.specs.Prelude.{◌≡◌, ◌≢◌, ◌⊎◌, ℕ, ◌+◌, ◌<◌, ◌≤◌, Bool, true, ◌&&◌, List, ◌∷◌, ◌++◌, length}
-use Rattle.std.specs.Prelude.{map, nat_eq, All, None, Some, false, slice_index_or, slice_set}
+use Rattle.std.specs.Prelude.{map, nat_eq, All, Contains, None, Some, false, slice_index_or, slice_set}
 use Rattle.std.specs.List.{list_any}
 use Rattle.std.specs.FinSet.{is_subset}
 use Rattle.pw_network.specs.Network.{Network}
@@ -8,14 +8,15 @@ use Rattle.pw_premises.specs.Premises.{Premises, most_premises}
 use Rattle.pw_premises.specs.PremiseSubsets.{has_same_numbers}
 use Rattle.pw_facts.specs.declared.fact.Fact.{Fact}
 use Rattle.pw_cells.specs.Cells.{Store, kinds_of, new_cell}
+use Rattle.pw_cells.specs.Arrivals.{Continues, Remembers}
 use Rattle.pw_cells.specs.Changes.{AssimilatesAt, GainsKept, GainsTold, LeavesOthers}
 use Rattle.pw_decl.specs.declared.step.Callable.{Callable}
 use Rattle.pw_decl.specs.Declaration.{Declared}
 use Rattle.pw_decl.specs.Expansion.{inner_kinds_of}
 use Rattle.pw_network.specs.Network.{last_attachment_line}
 use Rattle.pw_network.specs.Network.{Attached, with_attached}
-use Rattle.pw_settle.specs.Growth.{KeepsMore, StaysUpstream}
-use Rattle.pw_settle.specs.Sound.{IsSound}
+use Rattle.pw_settle.specs.Growth.{KeepsMore}
+use Rattle.pw_settle.specs.Sound.{IsSound, LieUpstream, RestsUpstream}
 use Rattle.pw_settle.specs.Values.{kinds_in, value_in}
 use Rattle.pw_reasons.specs.Choice.{IsFirstConsistent}
 use Rattle.pw_reasons.specs.Combinations.{worldview_of, worldviews_of}
@@ -29,6 +30,7 @@ use Rattle.pw_sessions.specs.declared.reply.Refusal.TheVariants as refusal
 use Rattle.pw_sessions.specs.Reply.{LineReading, Says}
 use Rattle.pw_sessions.specs.Command.{IsDeclared}
 use Rattle.pw_sessions.specs.Snapshot.{EachBecomes, IsAfterTell, Snapshot, after_entry, snapshot_in}
+use Rattle.pw_sessions.specs.Snapshot.{AllRestUpstream}
 use Rattle.pw_sessions.specs.Workbench.{Workbench, IsLeftBy, IsSetUpFor, IsCarriedOut, SnapshotsFit}
 use Rattle.pw_sessions.specs.Workbench.{beliefs_in}
 use Rattle.pw_settle.specs.Settled.{Settled}
@@ -75,6 +77,8 @@ pub record TakesFact (cell : ℕ) (fact : Fact) (old new : Store) : Type 0 where
   pub assimilates : AssimilatesAt cell fact old new
   pub others : LeavesOthers cell old new
   pub kinds : kinds_of new ≡ kinds_of old
+  pub remembers : Remembers cell fact old new
+  pub continues : Continues old new
 
 -- a fact was told about the cell: the store took it, and each snapshot knows whether it is news
 pub record IsTold (old : Workbench) (cell : ℕ) (fact : Fact) (new : Workbench) : Type 0 where
@@ -92,6 +96,8 @@ pub record IsAttached (old : Workbench) (line : ℕ) (callable : Callable) (cell
   pub network : new.network ≡ with_attached old.network line callable cells support
   pub cells_are : new.store.cells ≡ old.store.cells
       ++ map new_cell (inner_kinds_of old.network.declared.compounds callable)
+  pub arrivals : new.store.arrivals ≡ old.store.arrivals
+  pub continues : Continues old.store new.store
   pub nogoods : new.nogoods ≡ old.nogoods
   pub beliefs : new.beliefs ≡ old.beliefs
   pub snapshots : new.snapshots ≡ map (after_entry support) old.snapshots
@@ -101,6 +107,8 @@ pub record IsAttached (old : Workbench) (line : ℕ) (callable : Callable) (cell
 pub record IsAsBefore (old new : Workbench) : Type 0 where
   pub network : new.network ≡ old.network
   pub cells_are : new.store.cells ≡ old.store.cells
+  pub arrivals : new.store.arrivals ≡ old.store.arrivals
+  pub continues : Continues old.store new.store
   pub nogoods : new.nogoods ≡ old.nogoods
   pub beliefs : new.beliefs ≡ old.beliefs
   pub snapshots : new.snapshots ≡ old.snapshots
@@ -119,7 +127,22 @@ pub record OnlyKeepsMore (old : Workbench) (user : ℕ) (new : Workbench) : Type
   pub nogoods : AreNogoods old.network old.store old.nogoods →
       AreNogoods old.network new.store new.nogoods
   pub grows : KeepsMore old.network old.store new.store
-  pub upstream : StaysUpstream old.network old.store new.store
+  pub upstream : (given : ℕ → ℕ → Bool) →
+      AllRestUpstream old.network given old.store old.snapshots →
+      AllRestUpstream old.network given new.store new.snapshots
+
+-- if what was kept, and what the snapshots say, rested only on premises upstream, what is kept now
+-- does
+abbrev pub StaysUpstreamOf : Network → Store → List Snapshot → Store → Type 0
+StaysUpstreamOf network old snapshots new =
+    (given : ℕ → ℕ → Bool) → AllRestUpstream network given old snapshots →
+    RestsUpstream network given new
+
+-- and so do the settled values
+abbrev pub RestOnUpstreamOf : Network → Store → List Snapshot → Settled → Type 0
+RestOnUpstreamOf network old snapshots settled =
+    (given : ℕ → ℕ → Bool) → AllRestUpstream network given old snapshots →
+    LieUpstream network given settled.supports
 
 -- one of the beliefs is exactly this worldview
 abbrev pub is_believed : List Premises → Premises → Bool
@@ -131,10 +154,14 @@ CanBeSpared beliefs snapshots place =
     (place < length snapshots) × ((d : Snapshot) →
     is_believed beliefs (slice_index_or snapshots place d).values.worldview ≡ false)
 
+-- each of these snapshots is one of the others
+abbrev pub AreAmong : List Snapshot → List Snapshot → Type 0
+AreAmong snapshots others =
+    (snapshot : Snapshot) → Contains snapshots snapshot → Contains others snapshot
+
 -- some snapshots were given up, but none of these beliefs
 pub record OnlySpares (beliefs : List Premises) (old new : List Snapshot) : Type 0 where
-  pub fit : (network : Network) (store : Store) → SnapshotsFit network store old →
-      SnapshotsFit network store new
+  pub among : AreAmong new old
   pub stay : (w : Premises) → is_believed beliefs w ≡ true → snapshot_in new w ≡ snapshot_in old w
 
 -- these values are the latest snapshot, and current; of the earlier ones some were given up, but
@@ -143,8 +170,7 @@ pub record IsLatest (beliefs : List Premises) (old : List Snapshot) (values : Se
     (new : List Snapshot) : Type 0 where
   pub earlier : List Snapshot
   pub latest : new ≡ record { values = values; is_current = true } ∷ earlier
-  pub fit : (network : Network) (store : Store) → SnapshotsFit network store old →
-      SnapshotsFit network store earlier
+  pub among : AreAmong earlier old
   pub stay : (w : Premises) → is_believed beliefs w ≡ true → w ≢ values.worldview →
       snapshot_in earlier w ≡ snapshot_in old w
 

@@ -7,7 +7,8 @@ ghost use Rattle.pw_network.specs.Wiring.{wiring};
 ghost use Rattle.pw_premises.specs.Premises.{Premises};
 ghost use Rattle.pw_reasons.specs.Combinations.{groups_of, picked_in};
 ghost use Rattle.pw_reasons.specs.Nogood.{covers};
-ghost use Rattle.pw_settle.specs.Growth.{KeepsMore, StaysUpstream};
+ghost use Rattle.pw_settle.specs.Growth.{CanContinue, KeepsMore};
+ghost use Rattle.pw_sessions.specs.inside.Steps.{RestOnUpstreamOf, StaysUpstreamOf};
 ghost use Rattle.pw_settle.specs.Settled.{IsSettled};
 ghost use Rattle.pw_settle.specs.Sound.{IsSound};
 ghost use Rattle.pw_settle.specs.Values.{kinds_in};
@@ -26,14 +27,14 @@ ghost use Rattle.pw_sessions.specs.Carrying.{KeepsNogoods};
 
 use super::Workbench;
 use super::snapshot::Snapshot;
-use super::snapshots::{place_of, place_to_start, remember};
+use super::snapshots::{place_of, place_within, remember};
 use crate::reply::{Refusal, Reply};
 use pw_cells::CellStore;
 use pw_info::Info;
 use pw_network::Network;
 use pw_premises::PremiseSet;
 use pw_reasons::{Groups, Picks, choose, list_conflicts, reason, worldview_with};
-use pw_settle::{Settled, resettle_from, settle};
+use pw_settle::{Settled, resettle_from, resettle_since, settle};
 use std::alloc::{AllocError, Allocator};
 
 // Whether an instance that is visible in the worldview writes the declared cell. It looks at the
@@ -59,8 +60,8 @@ fn is_written_by<A: Allocator + Copy>(
     false
 }
 
-// Settles in a worldview, starting from the snapshot of this worldview or else from the latest within
-// it, if there is one. Fails only when out of memory.
+// Settles in a worldview. It continues from the snapshot of this worldview, with what came since, or
+// else goes on from the latest within it, if there is one. Fails only when out of memory.
 fn settle_after<A: Allocator + Copy>(
     alloc: A,
     snapshots: &[Snapshot<A>],
@@ -74,14 +75,20 @@ fn settle_after<A: Allocator + Copy>(
     ensures settled { IfOk result (λ settled.
         IsSettled (wiring network.now) store.old worldview.now settled) }
     ensures current { IfOk result (λ settled. IsCurrent (wiring network.now) store.new settled) }
+    ensures continues { IfOk result (CanContinue store.new) }
     ensures none { IfOk result (CallsNoneAgain (wiring network.now) store.old worldview.now
         snapshots.now) }
     ensures due { IfOk result (λ settled. CallsDue (wiring network.now) store.old store.new
         worldview.now (start_for snapshots.now worldview.now) settled.calls) }
     ensures grows { KeepsMore (wiring network.now) store.old store.new }
-    ensures upstream { StaysUpstream (wiring network.now) store.old store.new }
+    ensures upstream { StaysUpstreamOf (wiring network.now) store.old snapshots.now store.new }
+    ensures lie { IfOk result (RestOnUpstreamOf (wiring network.now) store.old snapshots.now) }
 {
-    let Some(place) = place_to_start(snapshots, worldview) else {
+    if let Some(place) = place_of(snapshots, worldview) {
+        let own = &snapshots[place];
+        return resettle_since(alloc, &own.values, network, store);
+    }
+    let Some(place) = place_within(snapshots, worldview) else {
         return settle(alloc, network, store, worldview);
     };
     let start = &snapshots[place];
@@ -95,6 +102,9 @@ impl<'d, 'r, A: Allocator + Copy> Workbench<'d, 'r, A> {
         requires calls { (state self.old).calls ≡ 0 }
         ensures settled { IfOk result (IsSettledFor (state self.old) user) }
         ensures current { IfOk result (IsCurrent (state self.new).network (state self.new).store) }
+        ensures continues { IfOk result (CanContinue (state self.new).store) }
+        ensures lie { IfOk result (RestOnUpstreamOf (state self.old).network
+            (state self.old).store (state self.old).snapshots) }
         ensures calls { CallsFew (state self.old) user (state self.new).calls }
         ensures due { IfOk result (λ settled.
             CallsDueFor (state self.old) user (state self.new)) }

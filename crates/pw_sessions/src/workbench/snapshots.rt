@@ -1,7 +1,6 @@
 //! The snapshots of a workbench, in the order of their last use, the latest first.
 ghost use Rattle.std.specs.Prelude.{◌≡◌, ◌<◌, ◌≤◌, ◌∷◌, length, map, position, remove, IfSome};
 ghost use Rattle.std.specs.Prelude.{OnErr, OnOk, vec_capacity, vec_len};
-ghost use Rattle.std.specs.Option.{option_or};
 ghost use Rattle.pw_info.specs.Information.{kind_of};
 ghost use Rattle.pw_sessions.specs.Snapshot.{EachBecomes, HaveValues, IsAfterTell};
 ghost use Rattle.pw_sessions.specs.Snapshot.{after_entry, is_of, is_within};
@@ -37,25 +36,13 @@ pub(super) fn place_of<A: Allocator>(
 }
 
 // The place of the latest snapshot whose worldview lies within this one, if there is one.
-fn place_within<A: Allocator>(snapshots: &[Snapshot<A>], worldview: &PremiseSet) -> Option<usize>
-    ensures { result ≡ position (is_within worldview.now) snapshots.now }
-{
-    snapshots.iter().position(|snapshot| snapshot.values.worldview().is_subset(worldview))
-}
-
-// The place of the snapshot from which a settling in this worldview goes on: the one of the same
-// worldview, or else the latest within it, if there is one.
-pub(super) fn place_to_start<A: Allocator>(
+pub(super) fn place_within<A: Allocator>(
     snapshots: &[Snapshot<A>],
     worldview: &PremiseSet,
 ) -> Option<usize>
-    ensures { result ≡ option_or (position (is_of worldview.now) snapshots.now)
-        (position (is_within worldview.now) snapshots.now) }
+    ensures { result ≡ position (is_within worldview.now) snapshots.now }
 {
-    match place_of(snapshots, worldview) {
-        Some(place) => Some(place),
-        None => place_within(snapshots, worldview),
-    }
+    snapshots.iter().position(|snapshot| snapshot.values.worldview().is_subset(worldview))
 }
 
 // Something was attached under these premises: the snapshots that see it are no longer known to be

@@ -8,10 +8,11 @@ use Rattle.pw_facts.specs.declared.fact.Fact.{Fact}
 use Rattle.pw_facts.specs.Facts.{ShowTogether, IsLeastAbove}
 use Rattle.pw_cells.specs.Cells.{Store, fact_on, kept_in, kinds_of, told_in}
 use Rattle.pw_cells.specs.Shown.{IsKeptIn}
+use Rattle.pw_cells.specs.Arrivals.{Continues, Remembers}
 use Rattle.pw_cells.specs.Changes.{AssimilatesAt, GainsKept, LeavesOthers}
 use Rattle.pw_network.specs.Network.{Network, Attached}
 use Rattle.pw_settle.specs.Settled.{info_at, support_at, Settled}
-use Rattle.pw_settle.specs.Sound.{LiesUpstream, RestsUpstream}
+use Rattle.pw_settle.specs.Sound.{LieUpstream, RestsUpstream}
 use Rattle.pw_info.specs.declared.kind.Kind.{Kind}
 use Rattle.pw_procs.specs.Procedure.{Procedure}
 use Rattle.pw_decl.specs.Expansion.{Instance, SpeaksOf, FitsCells}
@@ -43,11 +44,6 @@ abbrev pub SaysTold : Store → Premises → Type 0
 SaysTold store w = (cell : ℕ) → cell < length store.cells →
     Implies (kept_in store cell w) (told_in store cell w)
 
--- the premises at hand for each cell lie upstream of it
-abbrev pub LieUpstream : Network → (ℕ → ℕ → Bool) → List Premises → Type 0
-LieUpstream network given supports = (cell : ℕ) →
-    LiesUpstream network given cell (support_at supports cell)
-
 -- the premises that the kept facts rest on lie upstream too
 pub record AreUpstream (network : Network) (given : ℕ → ℕ → Bool) (store : Store)
     (supports : List Premises) : Type 0 where
@@ -71,6 +67,8 @@ pub record Keeps (cell : ℕ) (fact : Fact) (old new : Store) : Type 0 where
   pub assimilates : AssimilatesAt cell fact old new
   pub others : LeavesOthers cell old new
   pub kinds : kinds_of new ≡ kinds_of old
+  pub remembers : Remembers cell fact old new
+  pub continues : Continues old new
 
 -- a fact is merged into what is at hand for a cell: the informations are merged, and the new
 -- premises are among the old ones and the fact's, and are enough for the merge
@@ -103,19 +101,20 @@ IsPlaced procedures kinds instance =
     SpeaksOf (λ cell. cell < length kinds) instance
     × ∥ FitsCells procedures (numbered kinds).kind instance ∥₁
 
--- it is stored as the list of informations, the list of premises, the worldview and the two counts
+-- it is stored as the list of informations, the list of premises, the worldview and the three numbers
 abbrev pub settled_code : Coded Info → Coded Settled
 settled_code info =
     code_by _ (coded× (coded_list info) (coded× (coded_list (code coded_ℕ))
-    (coded× (code coded_ℕ) (coded× coded_ℕ coded_ℕ))))
-    (λ s. (s.infos, (s.supports, (s.worldview, (s.instances, s.calls)))))
+    (coded× (code coded_ℕ) (coded× coded_ℕ (coded× coded_ℕ coded_ℕ)))))
+    (λ s. (s.infos, (s.supports, (s.worldview, (s.instances, (s.calls, s.mark))))))
     (λ p. record {
       infos = p.0;
       supports = p.1.0;
       worldview = p.1.1.0;
       instances =
           p.1.1.1.0;
-      calls = p.1.1.1.1;
+      calls = p.1.1.1.1.0;
+      mark = p.1.1.1.1.1;
     }) (λ _. refl)
 
 -- where what is kept rests on premises upstream alone, so do the values that are read from it

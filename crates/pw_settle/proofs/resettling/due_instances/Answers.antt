@@ -1,4 +1,4 @@
-use Rattle.std.proofs.Common.{◌≡◌, ◌<◌, List, length, sym, ap, subst, ◌∙◌}
+use Rattle.std.proofs.Common.{◌≡◌, ◌<◌, Bool, List, length, sym, ap, subst, ◌∙◌}
 use Rattle.pw_info.specs.declared.info.Info.{Info}
 use Rattle.pw_info.specs.Information.{kind_of}
 use Rattle.pw_network.specs.Wiring.{wiring}
@@ -25,7 +25,10 @@ returns-clause-due g c =
     c.in_ok-agenda.agenda c.queue_changed.new.agenda) (c.deref.ensures.value ∙ ap (λ (s : Settled). s.infos) c.before-2.view_is)
     (subst (λ (l : List Info). QueuesReaders (wiring c.args.network.now) c.args.visible.now
     (λ cell. (cell < length l) × HasChanged c.deref.result.now l cell)
-    c.in_ok-agenda.agenda c.queue_changed.new.agenda) c.deref-2.ensures.value c.queue_changed.ensures))
+    c.in_ok-agenda.agenda c.queue_changed.new.agenda) c.deref-2.ensures.value
+    (subst (λ (seen : List Bool). QueuesReaders (wiring c.args.network.now) seen
+    (λ cell. (cell < length c.deref-2.result.now) × HasChanged c.deref.result.now c.deref-2.result.now cell)
+    c.in_ok-agenda.agenda c.queue_changed.new.agenda) (sym c.requires.visible) c.queue_changed.ensures)))
 
 pub returns-clause-upstream : goal.returns-clause-upstream
 returns-clause-upstream g c given rests = c.in_ok-known.ensures.upstream (wiring c.args.network.now) given rests

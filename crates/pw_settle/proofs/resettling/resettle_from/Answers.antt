@@ -1,5 +1,6 @@
 use Rattle.std.proofs.Common.{◌≡◌, ℕ, ◌+◌, ◌≤◌, sym, ap, subst, ◌∙◌}
 use Rattle.std.specs.Prelude.{IfOk, OnOk}
+use Rattle.std.proofs.lemmas.Result.{IfOk-weaker}
 use Rattle.std.specs.FinSet.{is_subset}
 use Rattle.pw_cells.specs.Cells.{Store, kept_in}
 use Rattle.pw_network.specs.Wiring.{wiring}
@@ -7,7 +8,8 @@ use Rattle.pw_settle.specs.inside.Progress.{tally}
 use Rattle.pw_settle.specs.Calls.{gains}
 use Rattle.pw_settle.specs.inside.Progress.{AreSatisfied}
 use Rattle.pw_settle.specs.Settled.{Settled}
-use Rattle.pw_settle.specs.Growth.{HasValues}
+use Rattle.pw_settle.specs.Growth.{HasValues, RestOnUpstream}
+use Rattle.pw_settle.specs.inside.Known.{StayUpstream}
 use Rattle.pw_settle.specs.Sound.{IsSound, RestsUpstream}
 use Rattle.pw_settle.specs.Values.{value_in}
 use Rattle.pw_settle.proofs.FittingValues.{satisfied_but_due}
@@ -65,3 +67,15 @@ returns-clause-kept g c =
     subst (λ (s : Store). OnOk c.settle_from.result (IsSound (wiring c.args.network.now) s → (cell : ℕ)
     → kept_in c.settle_from.new.store cell c.args.worldview.now ≡ value_in (wiring c.args.network.now) s c.args.worldview.now cell))
     c.due_instances.ensures.unchanged c.settle_from.ensures.kept
+
+pub returns-clause-lie : goal.returns-clause-lie
+returns-clause-lie g c =
+    let network = wiring c.args.network.now in
+    IfOk-weaker c.settle_from.result
+    (λ settled. StayUpstream network c.due_instances.new.store c.in_ok-known.known.supports c.settle_from.new.store settled.supports)
+    (RestOnUpstream network c.args.store.now)
+    (λ settled stay given rests. (stay given (record {
+      kept = subst (RestsUpstream network given) (sym {A = Store} c.due_instances.ensures.unchanged) rests;
+      known = c.in_ok-known.ensures.upstream given rests;
+    })).known)
+    c.settle_from.ensures.lie

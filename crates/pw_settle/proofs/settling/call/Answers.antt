@@ -24,7 +24,7 @@ use Rattle.pw_settle.proofs.NewsLemmas.{inputs_there, kept_instance}
 use Rattle.pw_settle.proofs.SourceLists.{came_back}
 use Rattle.pw_settle.proofs.settling.call.Given as given
 use Rattle.pw_settle.proofs.settling.call.Goals as goal
-use Rattle.pw_settle.proofs.settling.call.Goals.{After-deref_mut, After-queue_readers, In_err-keep_news}
+use Rattle.pw_settle.proofs.settling.call.Goals.{After-deref_mut, After-queue_visible_readers, In_err-keep_news}
 
 pub news_of-requires-clause-kinds : goal.news_of-requires-clause-kinds
 news_of-requires-clause-kinds g c =
@@ -91,24 +91,24 @@ keep_news-requires-clause-unsaid g c =
     (visible_no (wiring c.args.network.now) c.args.worldview.now c.args.number no_instance (low g d) ∙ c.requires.number) c.in-Some.news.cell (fact g d) (news_is g d)
 
 -- how they are taken in
-taken : (g : given.Over) (c : After-queue_readers g) →
+taken : (g : given.Over) (c : After-queue_visible_readers g) →
     TakesIn c.in-Some.news.cell (fact g (goal.at.returns-in_ok-keep_news-clause-grows g c).After-deref_mut) c.args.known.now.infos.items c.keep_news.new.infos c.args.known.now.supports c.keep_news.new.supports
 taken g c =
     subst (λ (l : List Info). TakesIn c.in-Some.news.cell (fact g (goal.at.returns-in_ok-keep_news-clause-grows g c).After-deref_mut) l c.keep_news.new.infos c.args.known.now.supports c.keep_news.new.supports)
     c.deref_mut.ensures.value c.in_ok-keep_news.ensures.taken
 
 -- and what there is afterwards
-after : (g : given.Over) (c : After-queue_readers g) →
+after : (g : given.Over) (c : After-queue_visible_readers g) →
     IsAfterNews (wiring c.args.network.now) c.args.store.now c.keep_news.new.store c.args.worldview.now c.keep_news.new.infos
     c.args.known.now.supports c.keep_news.new.supports c.args.number c.in-Some.news.cell
 after g c =
     let kept = c.in_ok-keep_news.ensures.kept in
     after_news (wiring c.args.network.now) c.args.network.now.well c.args.store.now c.keep_news.new.store c.requires.kinds c.args.worldview.now
     c.args.known.now.infos.items c.args.known.now.supports c.requires.kept c.args.number c.requires.number c.in-Some.news.cell (fact g (goal.at.returns-in_ok-keep_news-clause-grows g c).After-deref_mut) (news_is g (goal.at.returns-in_ok-keep_news-clause-grows g c).After-deref_mut)
-    (below g (goal.at.returns-in_ok-keep_news-clause-grows g c).After-deref_mut) (of_kind g (goal.at.returns-in_ok-keep_news-clause-grows g c).After-deref_mut) kept.told kept.kept kept.assimilates kept.others kept.kinds c.keep_news.new.infos c.keep_news.new.supports (taken g c)
+    (below g (goal.at.returns-in_ok-keep_news-clause-grows g c).After-deref_mut) (of_kind g (goal.at.returns-in_ok-keep_news-clause-grows g c).After-deref_mut) kept.told kept.kept kept.assimilates kept.others kept.kinds kept.remembers kept.continues c.keep_news.new.infos c.keep_news.new.supports (taken g c)
 
 -- the informations at hand come back whole
-infos_back : (g : given.Over) (c : After-queue_readers g) →
+infos_back : (g : given.Over) (c : After-queue_visible_readers g) →
     take c.args.known.now.infos.len (c.keep_news.new.infos ++ drop (length c.keep_news.new.infos) c.args.known.now.infos.items) ≡ c.keep_news.new.infos
 infos_back g c =
     came_back c.keep_news.new.infos c.args.known.now.infos.items c.args.known.now.infos.len
@@ -123,7 +123,7 @@ returns-in_err-keep_news-clause-grows g c =
       | inr kept ↦
           keeps_news (wiring c.args.network.now) c.args.network.now.well c.args.store.now c.keep_news.new.store c.requires.kinds c.args.worldview.now
           c.args.known.now.infos.items c.args.known.now.supports c.requires.kept c.args.number c.requires.number c.in-Some.news.cell (fact g d) (news_is g d)
-          (below g d) (of_kind g d) kept.told kept.kept kept.assimilates kept.others kept.kinds
+          (below g d) (of_kind g d) kept.told kept.kept kept.assimilates kept.others kept.kinds kept.remembers kept.continues
     ]
 
 pub returns-in_err-keep_news-clause-upstream : goal.returns-in_err-keep_news-clause-upstream
@@ -135,7 +135,7 @@ returns-in_err-keep_news-clause-upstream g c given are =
       | inr kept ↦
           keeps_upstream (wiring c.args.network.now) c.args.network.now.well c.args.store.now c.keep_news.new.store c.requires.kinds c.args.worldview.now
           c.args.known.now.infos.items c.args.known.now.supports c.requires.kept c.args.number c.requires.number c.in-Some.news.cell (fact g d) (news_is g d)
-          (below g d) (of_kind g d) kept.told kept.kept kept.assimilates kept.others kept.kinds given are
+          (below g d) (of_kind g d) kept.told kept.kept kept.assimilates kept.others kept.kinds kept.remembers kept.continues given are
     ])
 
 pub returns-in_ok-keep_news-clause-grows : goal.returns-in_ok-keep_news-clause-grows
@@ -150,16 +150,13 @@ returns-in_ok-keep_news-clause-kept g c =
 
 pub returns-in_ok-keep_news-clause-satisfied : goal.returns-in_ok-keep_news-clause-satisfied
 returns-in_ok-keep_news-clause-satisfied g c =
-    (after g c).satisfied c.args.agenda.now c.queue_readers.new.agenda c.requires.others
-    (λ n reader seen. c.queue_readers.ensures.readers.readers c.in-Some.news.cell n refl reader (ap (λ l. is_set l n) c.requires.visible ∙ seen))
-    c.queue_readers.ensures.readers.stay
+    (after g c).satisfied c.args.agenda.now c.queue_visible_readers.new.agenda c.requires.others
+    (λ n reader seen. c.queue_visible_readers.ensures.readers.readers c.in-Some.news.cell n refl reader seen)
+    c.queue_visible_readers.ensures.readers.stay
 
 pub returns-in_ok-keep_news-clause-most : goal.returns-in_ok-keep_news-clause-most
 returns-in_ok-keep_news-clause-most g c =
-    let readers : count_by (is_set c.args.visible.now) (readers_of (wiring c.args.network.now) c.in-Some.news.cell)
-    ≡ reader_count (wiring c.args.network.now) c.args.worldview.now c.in-Some.news.cell =
-    ap (λ (l : List Bool). count_by (is_set l) (readers_of (wiring c.args.network.now) c.in-Some.news.cell)) c.requires.visible in
-    omega (arith, c.queue_readers.ensures.most, readers, (after g c).weight_is)
+    omega (arith, c.queue_visible_readers.ensures.most, (after g c).weight_is)
 
 pub returns-in_default-clause-satisfied : goal.returns-in_default-clause-satisfied
 returns-in_default-clause-satisfied g c =

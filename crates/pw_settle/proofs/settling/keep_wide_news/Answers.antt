@@ -20,6 +20,8 @@ keeps g c =
       assimilates = c.in_ok-keep.ensures.assimilates;
       others = c.keep.ensures.others;
       kinds = c.keep.ensures.kinds;
+      remembers = c.keep.ensures.remembers;
+      continues = c.keep.ensures.continues;
     })
 
 pub returns-clause-kept : goal.returns-clause-kept

@@ -1,10 +1,12 @@
 use Rattle.std.proofs.Common.{◌≡◌, ℕ, ◌+◌, ◌≤◌, map, sym, ap, subst, ◌∙◌}
 use Rattle.std.specs.Prelude.{IfOk, OnOk}
+use Rattle.std.proofs.lemmas.Result.{IfOk-weaker}
 use Rattle.pw_cells.specs.Cells.{Store, kept_in}
 use Rattle.pw_network.specs.Wiring.{wiring}
 use Rattle.pw_settle.specs.inside.Progress.{tally}
 use Rattle.pw_settle.specs.Calls.{gains, is_instance_visible, visible_count}
-use Rattle.pw_settle.specs.Growth.{HasValues}
+use Rattle.pw_settle.specs.Growth.{HasValues, RestOnUpstream}
+use Rattle.pw_settle.specs.inside.Known.{StayUpstream}
 use Rattle.pw_settle.specs.Sound.{IsSound, RestsUpstream}
 use Rattle.pw_settle.specs.Values.{value_in}
 use Rattle.pw_settle.proofs.SettledStores.{tally_visible}
@@ -16,10 +18,6 @@ seen-requires-clause-lines g c = lines_of_items (wiring c.args.network.now) c.ar
 
 pub seen-requires-clause-supports : goal.seen-requires-clause-supports
 seen-requires-clause-supports g c = supports_of_items (wiring c.args.network.now) c.args.network.now.well c.instances.result.now c.instances.ensures.instances
-
-pub settle_from-requires-clause-visible : goal.settle_from-requires-clause-visible
-settle_from-requires-clause-visible g c =
-    c.deref-2.ensures.value ∙ c.in_ok-visible.ensures ∙ ap (map (is_instance_visible c.args.worldview.now)) c.instances.ensures.instances
 
 pub returns-clause-upstream : goal.returns-clause-upstream
 returns-clause-upstream g c given rests =
@@ -51,3 +49,23 @@ returns-clause-most g c =
     (subst (λ (s : Store). IfOk c.settle_from.result
     (λ settled. settled.calls ≤ tally c.in_ok-agenda.agenda + gains (wiring c.args.network.now) s c.settle_from.new.store c.args.worldview.now))
     c.read_kept.ensures.unchanged c.settle_from.ensures.most)
+
+pub returns-clause-least : goal.returns-clause-least
+returns-clause-least g c =
+    let flags : c.in_ok-agenda.agenda ≡ map (is_instance_visible c.args.worldview.now) (wiring c.args.network.now).attached =
+    c.in_ok-agenda.ensures ∙ c.deref.ensures.value ∙ c.in_ok-visible.ensures ∙ ap (map (is_instance_visible c.args.worldview.now)) c.instances.ensures.instances in
+    let count : tally c.in_ok-agenda.agenda ≡ visible_count (wiring c.args.network.now) c.args.worldview.now =
+    ap tally flags ∙ tally_visible (is_instance_visible c.args.worldview.now) (wiring c.args.network.now).attached in
+    subst (λ n. IfOk c.settle_from.result (λ settled. n ≤ settled.calls)) count c.settle_from.ensures.least
+
+pub returns-clause-lie : goal.returns-clause-lie
+returns-clause-lie g c =
+    let network = wiring c.args.network.now in
+    IfOk-weaker c.settle_from.result
+    (λ settled. StayUpstream network c.read_kept.new.store c.in_ok-known.known.supports c.settle_from.new.store settled.supports)
+    (RestOnUpstream network c.args.store.now)
+    (λ settled stay given rests. (stay given (record {
+      kept = subst (RestsUpstream network given) (sym {A = Store} c.read_kept.ensures.unchanged) rests;
+      known = c.in_ok-known.ensures.upstream network given rests;
+    })).known)
+    c.settle_from.ensures.lie

@@ -1,9 +1,15 @@
-use Rattle.std.proofs.Common.{◌≡◌, length, refl, sym, ap, ◌∙◌}
+use Rattle.std.proofs.Common.{◌≡◌, ◌+◌, ◌≤◌, length, refl, sym, ap, ◌∙◌, subst}
 use Rattle.std.proofs.lemmas.List.{length-map}
-use Rattle.pw_cells.specs.Cells.{Cell}
+use Rattle.pw_cells.specs.Cells.{Cell, Store}
 use Rattle.pw_network.specs.Wiring.{wiring}
 use Rattle.pw_network.specs.inside.Held.{attachment}
+use Rattle.pw_settle.specs.Calls.{gains}
+use Rattle.pw_settle.specs.Growth.{HasValues, KeepsIfSound}
+use Rattle.pw_settle.specs.Settled.{Settled}
+use Rattle.pw_settle.specs.Sound.{RestsUpstream}
+use Rattle.pw_settle.specs.inside.Known.{AreUpstream}
 use Rattle.pw_settle.specs.inside.Progress.{tally}
+use Rattle.pw_settle.proofs.Accounted.{can_continue}
 use Rattle.pw_settle.proofs.FittingValues.{fits_now}
 use Rattle.pw_settle.proofs.StoreCells.{cells_kept}
 use Rattle.pw_settle.proofs.SettledStores.{calls_by_gains, kept_settled, settled_known}
@@ -13,42 +19,51 @@ pub returns-in_err-calls-clause-upstream : goal.returns-in_err-calls-clause-upst
 returns-in_err-calls-clause-upstream g c given are = (c.work.ensures.upstream given are).kept
 
 pub returns-clause-kept : goal.returns-clause-kept
-returns-clause-kept g c sound =
-    kept_settled (wiring c.args.network.now) c.args.network.now.well c.args.store.now c.work.new.store c.args.worldview.now c.requires.kinds
-    c.work.ensures.grows c.requires.told c.work.new.agenda c.in_ok-calls.ensures.satisfied c.in_ok-calls.ensures.done sound
+returns-clause-kept g c =
+    subst (λ (s : Store). KeepsIfSound (wiring c.args.network.now) c.args.store.now s c.args.worldview.now) (sym {A = Store} c.mark.ensures.unchanged)
+    (λ sound. kept_settled (wiring c.args.network.now) c.args.network.now.well c.args.store.now c.work.new.store c.args.worldview.now c.requires.kinds
+    c.work.ensures.grows c.requires.told c.work.new.agenda c.in_ok-calls.ensures.satisfied c.in_ok-calls.ensures.done sound)
 
 pub returns-clause-upstream : goal.returns-clause-upstream
-returns-clause-upstream g c given are = (c.work.ensures.upstream given are).kept
+returns-clause-upstream g c given are =
+    subst (RestsUpstream (wiring c.args.network.now) given) (sym {A = Store} c.mark.ensures.unchanged) (c.work.ensures.upstream given are).kept
+
+pub returns-clause-lie : goal.returns-clause-lie
+returns-clause-lie g c given are =
+    subst (λ (s : Store). AreUpstream (wiring c.args.network.now) given s c.work.new.known.supports) (sym {A = Store} c.mark.ensures.unchanged)
+    (c.work.ensures.upstream given are)
 
 pub returns-clause-most : goal.returns-clause-most
 returns-clause-most g c =
     let same : length c.work.new.store.cells ≡ length c.args.store.now.cells =
     sym (length-map c.work.new.store.cells (λ (x : Cell). x.kind)) ∙ ap length c.work.ensures.grows.kinds ∙ length-map c.args.store.now.cells (λ (x : Cell). x.kind) in
-    calls_by_gains (wiring c.args.network.now) c.args.store.now c.work.new.store c.args.worldview.now c.in_ok-calls.calls (tally c.args.agenda)
-    same c.in_ok-calls.ensures.most
+    subst (λ (s : Store). c.in_ok-calls.calls ≤ tally c.args.agenda + gains (wiring c.args.network.now) c.args.store.now s c.args.worldview.now)
+    (sym {A = Store} c.mark.ensures.unchanged)
+    (calls_by_gains (wiring c.args.network.now) c.args.store.now c.work.new.store c.args.worldview.now c.in_ok-calls.calls (tally c.args.agenda)
+    same c.in_ok-calls.ensures.most)
 
 pub returns-clause-found : goal.returns-clause-found
 returns-clause-found g c =
     let network = wiring c.args.network.now in
     let well = c.args.network.now.well in
     let new = c.work.new.store in
+    let infos = c.work.new.known.infos.items in
+    let supports = c.work.new.known.supports in
+    let many = length c.instances.result.now in
     let kept = c.in_ok-calls.ensures.kept in
     let kinds = c.work.ensures.grows.kinds ∙ c.requires.kinds in
-    let all = sym (length-map c.instances.result.now attachment) ∙ ap length c.instances.ensures.instances in
-    record {
+    let all : many ≡ length network.attached = sym (length-map c.instances.result.now attachment) ∙ ap length c.instances.ensures.instances in
+    let values : Settled =
+    record { infos = infos; supports = supports; worldview = c.args.worldview.now; instances = many; calls = c.in_ok-calls.calls; mark = c.mark.result } in
+    subst (λ (s : Store). HasValues network c.args.store.now s c.args.worldview.now values) (sym {A = Store} c.mark.ensures.unchanged)
+    (record {
       settled = λ sound. settled_known network well c.args.store.now new c.args.worldview.now c.requires.kinds
           c.work.ensures.grows c.requires.told c.work.new.agenda c.in_ok-calls.ensures.satisfied c.in_ok-calls.ensures.done sound
-          c.work.new.known.infos.items c.work.new.known.supports _ c.in_ok-calls.calls kept;
+          infos supports many c.in_ok-calls.calls c.mark.result kept;
       cells = kept.many ∙ cells_kept network new well kinds;
-      fits = fits_now network well new
-          (record {
-            infos = c.work.new.known.infos.items;
-            supports = c.work.new.known.supports;
-            worldview = c.args.worldview.now;
-            instances = _;
-            calls = c.in_ok-calls.calls;
-          })
-          kinds all kept c.work.new.agenda c.in_ok-calls.ensures.satisfied c.in_ok-calls.ensures.done;
+      fits = fits_now network well new values kinds all kept c.work.new.agenda c.in_ok-calls.ensures.satisfied c.in_ok-calls.ensures.done;
+      continues = can_continue network c.args.store.now new c.args.worldview.now c.work.ensures.grows c.requires.told infos supports kept
+          many c.in_ok-calls.calls c.mark.result c.mark.ensures.mark;
       worldview = refl;
       instances = all;
-    }
+    })

@@ -2,6 +2,7 @@ use Rattle.std.proofs.Common.{◌≡◌, ◌+◌, Bool, false, List, length, ap,
 use Rattle.std.proofs.lemmas.List.{length-map, length-set}
 use Rattle.std.proofs.lemmas.List.Sums.{count_by-le-length}
 use Rattle.pw_network.specs.Wiring.{wiring}
+use Rattle.pw_network.specs.inside.Held.{attachment}
 use Rattle.pw_settle.specs.inside.Progress.{is_set, tally}
 use Rattle.pw_settle.specs.Calls.{is_instance_visible}
 use Rattle.pw_settle.specs.inside.Progress.{weight}
@@ -24,8 +25,8 @@ call-requires-clause-room g c =
     (weight_most (wiring c.args.network.now) c.args.store.now c.args.worldview.now)
     (omega (arith, c.cells-cells.ensures)) (omega (
       arith,
-      ap length c.requires.visible,
-      length-map (wiring c.args.network.now).attached (is_instance_visible c.args.worldview.now),
+      ap length c.instances-instances.ensures.instances,
+      length-map c.instances-instances.result.now attachment,
     ))
 
 pub call-requires-clause-others : goal.call-requires-clause-others

@@ -11,4 +11,4 @@ returns-clause-settled g c =
     c.work_aside.new.known.supports
     (subst (λ (s : Store). AreFound (wiring c.args.network.now) s c.args.worldview.now c.work_aside.new.known.infos.items c.work_aside.new.known.supports)
     c.start_values.ensures.unchanged c.in_ok-calls.ensures.found)
-    c.in_ok-calls.ensures.satisfied _ c.in_ok-calls.calls
+    c.in_ok-calls.ensures.satisfied _ c.in_ok-calls.calls 0

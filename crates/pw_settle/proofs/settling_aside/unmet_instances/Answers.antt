@@ -1,4 +1,5 @@
-use Rattle.std.proofs.Common.{◌≡◌, true, map, sym, ap, ◌∙◌}
+use Rattle.std.proofs.Common.{◌≡◌, ◌<◌, Bool, List, true, length, map, sym, ap, ◌∙◌, subst}
+use Rattle.pw_settle.specs.inside.Due.{HasChanged, QueuesReaders}
 use Rattle.std.specs.FinSet.{is_subset}
 use Rattle.std.proofs.lemmas.Result.{IfOk-weaker}
 use Rattle.pw_info.specs.Information.{kind_of}
@@ -51,4 +52,7 @@ returns-clause-satisfied g c =
     c.as_slice-now.ensures.value c.args.visible.now c.deref.result.now c.in_ok-agenda.agenda c.queue_changed.new.agenda c.requires.visible
     (c.deref.ensures.value ∙ c.in_ok-was_visible.ensures ∙ ap (map (is_instance_visible c.worldview-2.result.now)) c.instances.ensures.instances
     ∙ ap (λ (w : Premises). map (is_instance_visible w) (wiring c.args.network.now).attached) c.worldview-2.ensures)
-    c.in_ok-agenda.ensures c.queue_changed.ensures
+    c.in_ok-agenda.ensures
+    (subst (λ (seen : List Bool). QueuesReaders (wiring c.args.network.now) seen
+    (λ cell. (cell < length c.as_slice-now.result.now) × HasChanged c.infos-earlier.result.now c.as_slice-now.result.now cell)
+    c.in_ok-agenda.agenda c.queue_changed.new.agenda) (sym c.requires.visible) c.queue_changed.ensures)

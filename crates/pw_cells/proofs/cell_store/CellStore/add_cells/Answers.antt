@@ -2,6 +2,7 @@ use Rattle.std.proofs.Common.{◌≡◌, ◌+◌, ◌≤◌, ◌++◌, ◌∙◌
 use Rattle.std.proofs.lemmas.List.{length-append, length-map}
 use Rattle.pw_cells.specs.Cells.{Cell, Store, new_cell}
 use Rattle.pw_cells.specs.inside.OneCell.{AreRight}
+use Rattle.pw_cells.proofs.Continuing.{continues_longer}
 use Rattle.pw_cells.proofs.RightAnswers.{more_cells, slots_still}
 use Rattle.pw_cells.proofs.cell_store.CellStore.add_cells.Goals as goal
 
@@ -20,3 +21,9 @@ invariant_of-self-2 g c =
           (λ answers right. subst (λ (l : List Cell). AreRight l answers) (sym {A = List Cell} items)
           (more_cells c.self.inside.cells.items (map new_cell c.args.kinds.now) answers longer right)) c.self.invariant.1,
     )
+
+pub returns-clause-continues : goal.returns-clause-continues
+returns-clause-continues g c =
+    continues_longer c.args.self.now _ (map new_cell c.args.kinds.now)
+    (c.append_cells.ensures ∙ ap (λ l. l ++ map new_cell c.args.kinds.now) (c.reserve.ensures.items ∙ ap (λ (s : Store). s.cells) c.self.view_is))
+    (ap (λ (s : Store). s.arrivals) c.self.view_is)

@@ -1,34 +1,43 @@
-use Rattle.std.proofs.Common.{◌≡◌, length-set, arith}
-use Rattle.std.specs.Prelude.{OnOk}
-use Rattle.pw_cells.specs.Cells.{fact_on, shown_by, told_of, kept_of}
-use Rattle.pw_cells.specs.Changes.{GainsFact, Assimilates}
-use Rattle.pw_cells.proofs.RightAnswers.{slots_told_the_same}
-use Rattle.pw_cells.proofs.Stores.{there, cell_changed, same_kinds, same_store, OnErr_then}
+use Rattle.std.proofs.Common.{◌≡◌, List, sym, subst}
+use Rattle.pw_cells.specs.Cells.{Cell, fact_on, told_at, told_in}
+use Rattle.pw_cells.proofs.Continuing.{Gains, continues_noted, gains_noted, remembers_noted, told_unchanged}
+use Rattle.pw_cells.proofs.cell_store.CellStore.keep_news.Given as given
 use Rattle.pw_cells.proofs.cell_store.CellStore.keep_news.Goals as goal
 
-pub returns-clause-kept : goal.returns-clause-kept
-returns-clause-kept g c =
-    cell_changed (λ old new. OnOk c.keep_news.result (GainsFact (fact_on c.args.info c.args.support) (kept_of old) (kept_of new))) _ _ _ _ _ _ c.index_mut.ensures.value c.self.view_is c.requires.there c.keep_news.ensures.kept
+-- what the store gains before the fact is noted
+gains : (g : given.Over) (c : goal.After-note_narrow g) → Gains c.args.cell (fact_on c.args.info c.args.support) c.args.self.now c.take_in_news.new.self
+gains g c = record {
+  there = c.requires.there;
+  kind = c.requires.kind;
+  kept = c.in_ok-take_in_news.ensures.kept;
+  told = told_unchanged c.args.cell (fact_on c.args.info c.args.support) c.args.self.now c.take_in_news.new.self c.requires.kind c.take_in_news.ensures.told;
+  others = c.take_in_news.ensures.others;
+  kinds = c.take_in_news.ensures.kinds;
+}
 
-pub returns-clause-assimilates : goal.returns-clause-assimilates
-returns-clause-assimilates g c =
-    cell_changed (λ old new. OnOk c.keep_news.result (Assimilates (fact_on c.args.info c.args.support) old.kept new.kept)) _ _ _ _ _ _ c.index_mut.ensures.value c.self.view_is c.requires.there c.keep_news.ensures.assimilates
-
-pub returns-clause-kinds : goal.returns-clause-kinds
-returns-clause-kinds g c = same_kinds _ _ _ _ _ c.index_mut.ensures.value c.self.view_is c.keep_news.ensures.kind
-
-pub returns-clause-err : goal.returns-clause-err
-returns-clause-err g c =
-    OnErr_then c.keep_news.result (same_store _ _ _ _ _ c.index_mut.ensures.value c.self.view_is) c.keep_news.ensures.err
+-- and after it is noted
+gains_still : (g : given.Over) (c : goal.After-note_narrow g) → Gains c.args.cell (fact_on c.args.info c.args.support) c.args.self.now c.note_narrow.new.self
+gains_still g c =
+    gains_noted c.args.cell (fact_on c.args.info c.args.support) c.args.self.now c.take_in_news.new.self c.note_narrow.new.self c.note_narrow.ensures
+    (gains g c)
 
 pub returns-clause-told : goal.returns-clause-told
 returns-clause-told g c = λ w.
-    cell_changed (λ old new. told_of new w ≡ told_of old w) _ _ _ _ _ _ c.index_mut.ensures.value c.self.view_is c.requires.there (λ i. shown_by (c.keep_news.ensures.kind i) w (c.keep_news.ensures.told i))
+    subst (λ (l : List Cell). told_at l c.args.cell w ≡ told_in c.args.self.now c.args.cell w) (sym {A = List Cell} c.note_narrow.ensures.cells)
+    (c.take_in_news.ensures.told w)
 
-pub invariant_of-self : goal.invariant_of-self
-invariant_of-self g c =
-    let within = there _ _ _ c.self.view_is c.requires.there in (
-      omega (arith, c.self.invariant.0, length-set c.self.inside.cells.items c.args.cell c.keep_news.new.self),
-      slots_told_the_same _ _ _ _ _ c.index_mut.ensures.value within
-          (λ w i. shown_by (c.keep_news.ensures.kind i) w (c.keep_news.ensures.told i)) c.self.invariant.1,
-    )
+pub returns-clause-kept : goal.returns-clause-kept
+returns-clause-kept g c = (gains_still g c).kept
+
+pub returns-clause-others : goal.returns-clause-others
+returns-clause-others g c = (gains_still g c).others
+
+pub returns-clause-remembers : goal.returns-clause-remembers
+returns-clause-remembers g c =
+    remembers_noted c.args.cell (fact_on c.args.info c.args.support) c.args.self.now c.take_in_news.new.self c.note_narrow.new.self c.take_in_news.ensures.arrivals
+    c.note_narrow.ensures
+
+pub returns-clause-continues : goal.returns-clause-continues
+returns-clause-continues g c =
+    continues_noted c.args.cell (fact_on c.args.info c.args.support) c.args.self.now c.take_in_news.new.self c.note_narrow.new.self c.take_in_news.ensures.arrivals
+    c.note_narrow.ensures (gains g c)

@@ -6,7 +6,7 @@ use Rattle.pw_sessions.specs.declared.reply.Refusal.TheVariants as refusal
 use Rattle.pw_sessions.specs.inside.Steps.{OnlyKeepsMore, is_written}
 use Rattle.pw_sessions.specs.Workbench.{Workbench, beliefs_in}
 use Rattle.pw_sessions.proofs.FreshUsers.{asked_refused, asked_remembered}
-use Rattle.pw_sessions.proofs.LastValues.{beliefs_kept, fitting_snapshot, only_keeps_then, only_remembers}
+use Rattle.pw_sessions.proofs.LastValues.{fitting_snapshot, only_remembers}
 use Rattle.pw_sessions.proofs.UnchangedReplies.{notes_none}
 use Rattle.pw_sessions.proofs.workbench.Workbench.ask_settled.Goals as goal
 
@@ -54,11 +54,10 @@ pub returns-clause-grows : goal.returns-clause-grows
 returns-clause-grows g c =
     let old : Workbench = state c.args.self.now in
     let found : Workbench = state c.settle_for.new.self in
-    only_keeps_then old c.args.user found (state c.remember.new.self) c.settle_for.ensures.grows
-    (only_remembers found c.args.user c.in-Ok.settled (state c.remember.new.self) c.in-Ok-remember.ensures.ok
-    (c.in-Ok.ensures.settled.worldview_is ∙ sym (beliefs_kept old c.args.user found c.settle_for.ensures.grows))
+    only_remembers old c.args.user found c.in-Ok.settled (state c.remember.new.self) c.settle_for.ensures.grows c.in-Ok.ensures.lie
+    c.in-Ok-remember.ensures.ok c.in-Ok.ensures.settled.worldview_is
     (fitting_snapshot old c.args.user found c.in-Ok.settled c.args.self.now.network.well c.settle_for.ensures.grows c.in-Ok.ensures.settled
-    c.in-Ok.ensures.current))
+    c.in-Ok.ensures.continues c.in-Ok.ensures.current)
 
 pub returns-clause-noted : goal.returns-clause-noted
 returns-clause-noted g c =

@@ -1,5 +1,5 @@
 use Rattle.std.proofs.Common.{◌≡◌, ◌++◌, map, replicate, ap, ◌∙◌}
-use Rattle.pw_cells.specs.Cells.{new_cell}
+use Rattle.pw_cells.specs.Cells.{Arrivals, new_cell}
 use Rattle.pw_decl.specs.inside.Fields.{declared}
 use Rattle.pw_network.specs.Wiring.{wiring}
 use Rattle.pw_sessions.specs.Beliefs.{premises_below}
@@ -18,8 +18,9 @@ returns-clause-left g c =
       calls = 0;
     } in
     let new = c.in_ok-add_cells.ensures.cells
-    ∙ ap (λ cs. cs ++ map new_cell c.kinds.result.now) c.new-store.ensures ∙ ap (map new_cell) c.kinds.ensures.kinds in
+    ∙ ap (λ cs. cs ++ map new_cell c.kinds.result.now) c.new-store.ensures.cells ∙ ap (map new_cell) c.kinds.ensures.kinds in
+    let quiet = ap (λ (l : Arrivals). l.list) c.in_ok-add_cells.ensures.arrivals ∙ c.new-store.ensures.arrivals in
     let believed : c.in_ok-beliefs.beliefs.items ≡ replicate c.users-users.result (premises_below c.premises.result) =
     c.in_ok-beliefs.ensures.items_if_clones_equal (λ y same. same) ∙ (λ i. replicate (c.from.ensures i) (c.first-premises.ensures.below i)) in
-    IsLeftBy-new (declared c.args.declaration.now) c.kinds.ensures.each bench c.users-users.result c.premises.result c.requires new c.new.ensures believed c.in_ok-snapshots.ensures.items
+    IsLeftBy-new (declared c.args.declaration.now) c.kinds.ensures.each bench c.users-users.result c.premises.result c.requires new quiet c.new.ensures believed c.in_ok-snapshots.ensures.items
     c.users-users.ensures.count c.premises.ensures.count

@@ -20,7 +20,15 @@ returns-clause-ok g c =
     c.note_tell.ensures in
     record {
       network = refl;
-      store = record { told = told.told; kept = told.kept; assimilates = told.assimilates; others = told.others; kinds = told.kinds };
+      store = record {
+        told = told.told;
+        kept = told.kept;
+        assimilates = told.assimilates;
+        others = told.others;
+        kinds = told.kinds;
+        remembers = told.remembers;
+        continues = told.continues;
+      };
       nogoods = refl;
       beliefs = refl;
       snapshots = subst (EachBecomes (IsAfterTell c.args.cell c.args.fact) c.args.self.now.snapshots.items)

@@ -19,7 +19,7 @@ use Rattle.pw_sessions.specs.Freshness.{IsAsked}
 use Rattle.pw_sessions.specs.inside.Steps.{OnlyKeepsMore, StoreFits}
 use Rattle.pw_sessions.specs.Workbench.{Workbench, beliefs_in}
 use Rattle.pw_sessions.proofs.AfterSettling.{due_for_still}
-use Rattle.pw_sessions.proofs.LastValues.{beliefs_kept, fits_after, fitting_snapshot, only_keeps_then, only_notes, only_remembers, snapshot_keeping}
+use Rattle.pw_sessions.proofs.LastValues.{fits_after, fitting_snapshot, only_keeps_then, only_notes, only_remembers, snapshot_keeping}
 use Rattle.pw_sessions.proofs.CurrentValues.{current_keeping}
 use Rattle.pw_sessions.proofs.FreshUsers.{asked_refused, asked_remembered}
 use Rattle.pw_sessions.proofs.UnchangedReplies.{notes_none, notes_reason, notes_refused}
@@ -130,15 +130,14 @@ returns-clause-grows g c =
     let found : Workbench = state c.settle_for.new.self in
     let after : Workbench = record found { store = c.reason.new.store; nogoods = c.reason.new.nogoods } in
     let fits : StoreFits found = fits_after old c.args.user found c.settle_for.ensures.grows c.requires.can.fits in
-    only_keeps_then old c.args.user after (state c.remember.new.self)
+    only_remembers old c.args.user after c.in-Ok.settled (state c.remember.new.self)
     (after_reason old c.args.user found c.reason.new.store c.reason.new.nogoods c.settle_for.ensures.grows c.reason.ensures.grows c.reason.ensures.upstream
     c.reason.ensures.nogoods)
-    (only_remembers after c.args.user c.in-Ok.settled (state c.remember.new.self) c.in-Ok-remember.ensures.ok
-    (c.in-Ok.ensures.settled.worldview_is ∙ sym (beliefs_kept old c.args.user found c.settle_for.ensures.grows))
+    c.in-Ok.ensures.lie c.in-Ok-remember.ensures.ok c.in-Ok.ensures.settled.worldview_is
     (snapshot_keeping found.network found.store c.reason.new.store fits.kinds fits.sound c.reason.ensures.grows
     (record { values = c.in-Ok.settled; is_current = true })
     (fitting_snapshot old c.args.user found c.in-Ok.settled c.args.self.now.network.well c.settle_for.ensures.grows c.in-Ok.ensures.settled
-    c.in-Ok.ensures.current)))
+    c.in-Ok.ensures.continues c.in-Ok.ensures.current))
 
 -- ---- what is noted
 

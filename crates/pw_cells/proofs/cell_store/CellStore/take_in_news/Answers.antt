@@ -1,0 +1,34 @@
+use Rattle.std.proofs.Common.{◌≡◌, length-set, arith}
+use Rattle.std.specs.Prelude.{OnOk}
+use Rattle.pw_cells.specs.Cells.{fact_on, shown_by, told_of, kept_of}
+use Rattle.pw_cells.specs.Changes.{GainsFact, Assimilates}
+use Rattle.pw_cells.proofs.RightAnswers.{slots_told_the_same}
+use Rattle.pw_cells.proofs.Stores.{there, cell_changed, same_kinds, same_store, OnErr_then}
+use Rattle.pw_cells.proofs.cell_store.CellStore.take_in_news.Goals as goal
+
+pub returns-clause-kept : goal.returns-clause-kept
+returns-clause-kept g c =
+    cell_changed (λ old new. OnOk c.keep_news.result (GainsFact (fact_on c.args.info c.args.support) (kept_of old) (kept_of new))) _ _ _ _ _ _ c.index_mut.ensures.value c.self.view_is c.requires.there c.keep_news.ensures.kept
+
+pub returns-clause-assimilates : goal.returns-clause-assimilates
+returns-clause-assimilates g c =
+    cell_changed (λ old new. OnOk c.keep_news.result (Assimilates (fact_on c.args.info c.args.support) old.kept new.kept)) _ _ _ _ _ _ c.index_mut.ensures.value c.self.view_is c.requires.there c.keep_news.ensures.assimilates
+
+pub returns-clause-kinds : goal.returns-clause-kinds
+returns-clause-kinds g c = same_kinds _ _ _ _ _ c.index_mut.ensures.value c.self.view_is c.keep_news.ensures.kind
+
+pub returns-clause-err : goal.returns-clause-err
+returns-clause-err g c =
+    OnErr_then c.keep_news.result (same_store _ _ _ _ _ c.index_mut.ensures.value c.self.view_is) c.keep_news.ensures.err
+
+pub returns-clause-told : goal.returns-clause-told
+returns-clause-told g c = λ w.
+    cell_changed (λ old new. told_of new w ≡ told_of old w) _ _ _ _ _ _ c.index_mut.ensures.value c.self.view_is c.requires.there (λ i. shown_by (c.keep_news.ensures.kind i) w (c.keep_news.ensures.told i))
+
+pub invariant_of-self : goal.invariant_of-self
+invariant_of-self g c =
+    let within = there _ _ _ c.self.view_is c.requires.there in (
+      omega (arith, c.self.invariant.0, length-set c.self.inside.cells.items c.args.cell c.keep_news.new.self),
+      slots_told_the_same _ _ _ _ _ c.index_mut.ensures.value within
+          (λ w i. shown_by (c.keep_news.ensures.kind i) w (c.keep_news.ensures.told i)) c.self.invariant.1,
+    )
