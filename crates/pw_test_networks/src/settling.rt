@@ -7,6 +7,7 @@ mod going_on;
 mod growing;
 mod rounds;
 mod rows;
+mod since;
 mod stages;
 
 ghost use Rattle.std.specs.Prelude.{◌≡◌, ◌<◌, IfOk, OnOk, length};

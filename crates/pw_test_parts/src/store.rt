@@ -11,6 +11,7 @@ use pw_testing::facts::fact;
 use std::alloc::AllocError;
 use std::test::Fail;
 
+mod marks;
 mod refused;
 
 // Tells a fact of the interval cell. The store also has an exact cell.
