@@ -99,8 +99,8 @@ after_since a old mark list marked is = elim (cases_Bool (nat_lt mark old.past))
 
 -- ---- one more fact came
 
--- a store gains a fact of a cell: it is kept of the cell, no more than it is told, and other cells are
--- unchanged
+-- a store gains a fact about a cell: what is kept of the cell gains it, what was told gains at most
+-- this fact, and other cells are unchanged
 pub record Gains (cell : ℕ) (fact : Fact) (old new : Store) : Type 0 where
   pub there : cell < length old.cells
   pub kind : kind_of fact.info ≡ kind_in_store old cell
@@ -229,7 +229,7 @@ module _ (cell : ℕ) (fact : Fact) (old new : Store) (gains : Gains cell fact o
 
 -- ---- a store that gained a fact notes it
 
--- what is told gains the fact too, or is as it was
+-- the told information gains the fact too, or is unchanged
 pub told_gained : (cell : ℕ) (fact : Fact) (old new : Store) → GainsTold cell fact old new
     → (w : Premises) → Implies (meet (told_in old cell w) (shows w fact)) (told_in new cell w)
 told_gained cell fact old new gains w = implies_same _ _ (sym (gains w))
@@ -241,7 +241,7 @@ told_unchanged cell fact old new kind told w =
     (meet_first (told_in old cell w) (shows w fact)
     (kind-shown_by (cell_at old cell).kind w (cell_at old cell).told ∙ sym kind ∙ sym (kind-shows w fact)))
 
--- noting a fact leaves what is told and kept
+-- noting a fact changes neither what was told nor what is kept
 pub gains_noted : (cell : ℕ) (fact : Fact) (old mid new : Store) → Notes cell fact mid new → Gains cell fact old mid → Gains cell fact old new
 gains_noted cell fact old mid new notes gains =
     subst (λ (l : List Cell). Gains cell fact old (record { cells = l; room = new.room; arrivals = new.arrivals })) (sym {A = List Cell} notes.cells) (record {

@@ -125,7 +125,7 @@ module _ (store : Store) (before : Settled) (continues : CanContinue store befor
     upstream = first_upstream;
   }
 
-  -- what is kept says what is told
+  -- what is kept says at least what was told
   pub told_since : SaysTold store w
   told_since cell there =
       elim (cases_Bool (nat_lt cell (length before.infos))) [

@@ -128,7 +128,7 @@ impl<A: Allocator + Copy> Settled<A> {
         })
     }
 
-    // The values, to go on from, with room for those of so many cells. Fails only when out of memory.
+    // The values, to go on from, with room for this many cells. Fails only when out of memory.
     pub(crate) fn known_with_room(&self, alloc: A, cells: usize) -> Result<Known<A>, AllocError>
         ensures infos { IfOk result (λ known. known.infos.items ≡ self.now.infos) }
         ensures supports { IfOk result (λ known. known.supports ≡ self.now.supports) }

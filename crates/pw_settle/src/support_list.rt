@@ -57,7 +57,7 @@ impl<A: Allocator + Copy> SupportList<A> {
         Ok(SupportList { lists })
     }
 
-    // The same premises, with room for those of so many cells. Fails only when out of memory.
+    // The same premises, with room for this many cells. Fails only when out of memory.
     pub(crate) fn copied_with_room(
         &self,
         alloc: A,
@@ -188,7 +188,7 @@ impl<A: Allocator> SupportList<A> {
     }
 }
 
-// The same items, in a list of their own with room for so many. Fails only when out of memory.
+// The same items, in a list of their own with room for this many. Fails only when out of memory.
 pub(crate) fn copied_with_room<T: Copy, A: Allocator>(
     alloc: A,
     items: &[T],

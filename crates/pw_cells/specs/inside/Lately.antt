@@ -5,7 +5,7 @@ use Rattle.pw_cells.specs.declared.arrival.Arrival.{Arrival}
 use Rattle.pw_facts.specs.declared.fact.Fact.{Fact}
 use Rattle.pw_cells.specs.Cells.{Arrivals, Store}
 
--- so many facts can be forgotten before a fact is refused as if memory were
+-- this many facts can be forgotten; after that, each further fact counts as out of memory
 abbrev pub most_past : ℕ
 most_past = 18446744073709535231
 
