@@ -1,5 +1,6 @@
 -- What an instance of a network makes of what is at hand.
 use Rattle.std.proofs.Common.{◌≡◌, ℕ, ◌<◌, List, [], ◌∷◌, All, length, map, get_or, sym, ap, ◌∙◌, subst, arith}
+use Rattle.std.specs.Prelude.{IfSome, None, Option, Some}
 use Rattle.std.proofs.Math.ListN.{get_or-map}
 use Rattle.std.proofs.lemmas.List.{get_or_default, length-map}
 use Rattle.pw_info.specs.declared.kind.Kind.{Kind}
@@ -10,7 +11,8 @@ use Rattle.pw_procs.specs.Procedure.{Procedure}
 use Rattle.pw_network.specs.declared.instance.Instance.{Instance}
 use Rattle.pw_network.specs.inside.Held.{attachment}
 use Rattle.pw_network.specs.Network.{Attached, Network, IsWellNetwork}
-use Rattle.pw_settle.specs.inside.Known.{IsPlaced}
+use Rattle.pw_cells.specs.Cells.{IsUnsaid}
+use Rattle.pw_settle.specs.inside.Known.{Gives, GivesNews, IsPlaced}
 use Rattle.pw_settle.specs.Values.{IsSatisfied, attached_no}
 use Rattle.pw_settle.specs.Settled.{info_at}
 use Rattle.pw_settle.specs.Sources.{IsImplied, said_by}
@@ -25,6 +27,18 @@ kept_instance network instances number instance d same below is =
     sym (ap (λ l. get_or l number d) same)
     ∙ get_or_default (map attachment instances) number d (attachment instance) (omega (arith, below, ap length same))
     ∙ get_or-map attachment instances number instance ∙ ap attachment (sym is)
+
+-- news that the procedure gave are news of the instance
+pub news_given : (procedures : List Procedure) (known : List Info) (a : Attached) (info : Info) → Gives procedures known a info →
+    kind_of info ≡ (numbered (map kind_of known)).kind a.instance.output → (found : Option Info) → IfSome found (λ news. news ≡ info) →
+    IfSome found (λ news. IsUnsaid (info_at known a.instance.output) news) → IfSome found (GivesNews procedures known a)
+news_given procedures known a info gives kind (Some news) same unsaid =
+    subst (GivesNews procedures known a) (sym same) (record {
+      gives = gives;
+      kind = kind;
+      news = subst (IsUnsaid (info_at known a.instance.output)) same unsaid;
+    })
+news_given procedures known a info gives kind None same unsaid = same
 
 module _ (network : Network) (well : IsWellNetwork network) (infos : List Info) (procedures : List Procedure) (number : ℕ) (a : Attached)
     (same : procedures ≡ network.declared.procedures) (kinds_are : map kind_of infos ≡ kinds_in network)

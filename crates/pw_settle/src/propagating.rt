@@ -1,6 +1,7 @@
 //! Calls of procedures on what is known about the inputs of their instances.
 ghost use Rattle.std.specs.Prelude.{◌≡◌, ◌<◌, ◌+◌, IfNone, IfSome, length, map};
-ghost use Rattle.pw_info.specs.Information.{kind_of};
+ghost use Rattle.pw_info.specs.Information.{kind_of, Implies};
+ghost use Rattle.pw_cells.specs.Cells.{IsUnsaid};
 ghost use Rattle.pw_network.specs.Wiring.{wiring};
 ghost use Rattle.pw_network.specs.inside.Held.{attachment};
 ghost use Rattle.pw_procs.specs.Registry.{procedures_in};
@@ -10,7 +11,7 @@ ghost use Rattle.pw_settle.specs.Values.{IsSatisfied, attached_no};
 ghost use Rattle.pw_settle.specs.Settled.{info_at};
 ghost use Rattle.pw_settle.specs.Values.{kinds_in, numbered};
 ghost use Rattle.pw_settle.specs.inside.Progress.{IsNewsOf};
-ghost use Rattle.pw_settle.specs.inside.Known.{Gives};
+ghost use Rattle.pw_settle.specs.inside.Known.{Gives, GivesNews, GivesNone};
 
 use pw_info::{Info, Kind};
 use pw_network::{Instance, Network};
@@ -66,24 +67,75 @@ fn answer_on_many(
     procedure_value(registry, instance, known, &inputs[..cells.len()], calls)
 }
 
-// The value of the instance's procedure on what is known about its inputs. Most procedures have one
-// or two.
+// The information, if it is news about the cell.
 #[inline(always)]
-fn answer(registry: &Registry, instance: &Instance, known: &[Info], calls: &mut u128) -> Info
+fn unless_known(known: &[Info], cell: u32, info: Info) -> Option<Info>
+    requires there { cell < length known.now }
+    requires kind { kind_of (info_at known.now cell) ≡ kind_of info }
+    ensures some { IfSome result (λ news. news ≡ info) }
+    ensures news { IfSome result (λ news. IsUnsaid (info_at known.now cell) news) }
+    ensures none { IfNone result (Implies (info_at known.now cell) info) }
+{
+    if known[cell as usize].implies(&info) {
+        return None;
+    }
+    Some(info)
+}
+
+// The value of the instance's procedure on what is known about its inputs, if it is news about its
+// output; for any number of inputs. Never inlined, like `answer_on_many`.
+#[inline(never)]
+fn news_on_many(
+    registry: &Registry,
+    instance: &Instance,
+    known: &[Info],
+    calls: &mut u128,
+) -> Option<Info>
     requires room { calls.old < most_calls }
     requires placed { IsPlaced (procedures_in registry.now) (map kind_of known.now)
         (attachment instance.now).instance }
+    requires there { instance.now.output < length known.now }
     ensures counted { calls.new ≡ calls.old + 1 }
-    ensures says { Gives (procedures_in registry.now) known.now (attachment instance.now) result }
-    ensures kind { kind_of result ≡ (numbered (map kind_of known.now)).kind instance.now.output }
+    ensures news { IfSome result (GivesNews (procedures_in registry.now) known.now
+        (attachment instance.now)) }
+    ensures none { IfNone result (GivesNone (procedures_in registry.now) known.now
+        (attachment instance.now)) }
+{
+    let info = answer_on_many(registry, instance, known, calls);
+    unless_known(known, instance.output, info)
+}
+
+// The same, where most procedures have one input or two. Each case tests its value by itself: a value
+// that waits in one place for all cases would be copied there, and slowly.
+#[inline(always)]
+fn news_on(
+    registry: &Registry,
+    instance: &Instance,
+    known: &[Info],
+    calls: &mut u128,
+) -> Option<Info>
+    requires room { calls.old < most_calls }
+    requires placed { IsPlaced (procedures_in registry.now) (map kind_of known.now)
+        (attachment instance.now).instance }
+    requires there { instance.now.output < length known.now }
+    ensures counted { calls.new ≡ calls.old + 1 }
+    ensures news { IfSome result (GivesNews (procedures_in registry.now) known.now
+        (attachment instance.now)) }
+    ensures none { IfNone result (GivesNone (procedures_in registry.now) known.now
+        (attachment instance.now)) }
 {
     match instance.inputs.as_slice() {
-        [one] => procedure_value(registry, instance, known, &[known[*one as usize]], calls),
+        [one] => {
+            let given = [known[*one as usize]];
+            let info = procedure_value(registry, instance, known, &given, calls);
+            unless_known(known, instance.output, info)
+        }
         [one, another] => {
             let given = [known[*one as usize], known[*another as usize]];
-            procedure_value(registry, instance, known, &given, calls)
+            let info = procedure_value(registry, instance, known, &given, calls);
+            unless_known(known, instance.output, info)
         }
-        _ => answer_on_many(registry, instance, known, calls),
+        _ => news_on_many(registry, instance, known, calls),
     }
 }
 
@@ -116,10 +168,7 @@ pub(crate) fn news_of<A: Allocator + Copy>(
         (attached_no (wiring network.now) number d)) }
 {
     let instance = &network.instances()[number];
-    let info = answer(network.declaration().registry(), instance, infos, calls);
-    if infos[instance.output as usize].implies(&info) {
-        return None;
-    }
+    let info = news_on(network.declaration().registry(), instance, infos, calls)?;
     Some(News {
         cell: instance.output,
         info,

@@ -1,12 +1,12 @@
 -- What is kept of each cell in a worldview, as a settling has it at hand.
-use Rattle.std.specs.Prelude.{◌≡◌, ℕ, ◌<◌, Bool, true, false, List, length, fold, set, refl, [], ◌∷◌, ◌++◌, All}
+use Rattle.std.specs.Prelude.{◌≡◌, ℕ, ◌<◌, Bool, true, false, List, length, fold, set, refl, [], ◌∷◌, ◌++◌, All, map}
 use Rattle.std.specs.FinSet.{union, is_subset, code}
 use Rattle.pw_info.specs.declared.info.Info.{Info}
-use Rattle.pw_info.specs.Information.{Implies, meet}
+use Rattle.pw_info.specs.Information.{Implies, kind_of, meet}
 use Rattle.pw_premises.specs.Premises.{Premises}
 use Rattle.pw_facts.specs.declared.fact.Fact.{Fact}
 use Rattle.pw_facts.specs.Facts.{ShowTogether, IsLeastAbove}
-use Rattle.pw_cells.specs.Cells.{Store, fact_on, kept_in, kinds_of, told_in}
+use Rattle.pw_cells.specs.Cells.{IsUnsaid, Store, fact_on, kept_in, kinds_of, told_in}
 use Rattle.pw_cells.specs.Shown.{IsKeptIn}
 use Rattle.pw_cells.specs.Arrivals.{Continues, Remembers}
 use Rattle.pw_cells.specs.Changes.{AssimilatesAt, GainsKept, LeavesOthers}
@@ -139,3 +139,16 @@ abbrev pub Gives : List Procedure → List Info → Attached → Info → Type 0
 Gives procedures known a info =
     All (λ source. said_by (info_at known) source
     ≡ info) (propagators_of procedures (a.instance ∷ []))
+
+-- and this is news about its output, of the kind of that cell
+pub record GivesNews (procedures : List Procedure) (known : List Info) (a : Attached) (info : Info)
+    : Type 0 where
+  pub gives : Gives procedures known a info
+  pub kind : kind_of info ≡ (numbered (map kind_of known)).kind a.instance.output
+  pub news : IsUnsaid (info_at known a.instance.output) info
+
+-- or what it makes of them says nothing that is not known
+pub record GivesNone (procedures : List Procedure) (known : List Info) (a : Attached) : Type 0 where
+  pub info : Info
+  pub gives : Gives procedures known a info
+  pub said : Implies (info_at known a.instance.output) info

@@ -4,8 +4,11 @@ use Rattle.std.proofs.lemmas.List.{length-map}
 use Rattle.pw_info.specs.declared.info.Info.{Info}
 use Rattle.pw_info.specs.Information.{kind_of}
 use Rattle.pw_settle.specs.Settled.{info_at}
+use Rattle.pw_procs.specs.Registry.{procedures_in}
+use Rattle.pw_network.specs.inside.Held.{attachment}
+use Rattle.pw_settle.proofs.NewsLemmas.{news_given}
 use Rattle.pw_settle.proofs.PlacedInstances.{one_given, two_given}
-use Rattle.pw_settle.proofs.propagating.answer.Goals as goal
+use Rattle.pw_settle.proofs.propagating.news_on.Goals as goal
 
 -- a cell of the list is there
 is_there : (known : List Info) (inputs cells : List ℕ) (place : ℕ) → cells ≡ inputs → All (λ cell. cell < length (map kind_of known)) inputs → place < length cells
@@ -17,8 +20,8 @@ is_there known inputs cells place same there below =
 pub bounds-known-one : goal.bounds-known-one
 bounds-known-one g c = is_there c.args.known.now _ c.as_slice.result.now 0 c.as_slice.ensures c.requires.placed.0.0 (omega (arith, c.in-len1.len_at_least))
 
-pub procedure_value-requires-clause-given : goal.procedure_value-requires-clause-given
-procedure_value-requires-clause-given g c =
+pub procedure_value-info-requires-clause-given : goal.procedure_value-info-requires-clause-given
+procedure_value-info-requires-clause-given g c =
     let cells = c.as_slice.result.now in
     let first = is_there c.args.known.now _ cells 0 c.as_slice.ensures c.requires.placed.0.0 (omega (arith, c.in-len1.len_at_least)) in
     one_given c.args.known.now cells c.index-known-one.result (omega (arith, c.in-len1.len_at_least)) (omega (arith, c.in-len1.len_below)) first c.index-known-one.is
@@ -30,11 +33,22 @@ bounds-known-one-in-len2 g c = is_there c.args.known.now _ c.as_slice.result.now
 pub bounds-known-another : goal.bounds-known-another
 bounds-known-another g c = is_there c.args.known.now _ c.as_slice.result.now 1 c.as_slice.ensures c.requires.placed.0.0 (omega (arith, c.in-len2.len_at_least))
 
-pub procedure_value-requires-in-len2-clause-given : goal.procedure_value-requires-in-len2-clause-given
-procedure_value-requires-in-len2-clause-given g c =
+pub procedure_value-info-requires-in-len2-clause-given : goal.procedure_value-info-requires-in-len2-clause-given
+procedure_value-info-requires-in-len2-clause-given g c =
     let cells = c.as_slice.result.now in
     let first = is_there c.args.known.now _ cells 0 c.as_slice.ensures c.requires.placed.0.0 (omega (arith, c.in-len2.len_at_least)) in
     let second = is_there c.args.known.now _ cells 1 c.as_slice.ensures c.requires.placed.0.0 (omega (arith, c.in-len2.len_at_least)) in
     two_given c.args.known.now cells c.index-known-one-in-len2.result c.index-known-another.result (omega (arith, c.in-len2.len_at_least))
     (omega (arith, c.in-len2.len_below)) first second c.index-known-one-in-len2.is c.index-known-another.is
     ∙ ap (map (info_at c.args.known.now)) c.as_slice.ensures
+
+pub returns-in-len1-clause-news : goal.returns-in-len1-clause-news
+returns-in-len1-clause-news g c =
+    news_given (procedures_in c.args.registry.now) c.args.known.now (attachment c.args.instance.now) c.procedure_value-info.result
+    c.procedure_value-info.ensures.says c.procedure_value-info.ensures.kind c.unless_known.result c.unless_known.ensures.some c.unless_known.ensures.news
+
+pub returns-in-len2-clause-news : goal.returns-in-len2-clause-news
+returns-in-len2-clause-news g c =
+    news_given (procedures_in c.args.registry.now) c.args.known.now (attachment c.args.instance.now) c.procedure_value-info-in-len2.result
+    c.procedure_value-info-in-len2.ensures.says c.procedure_value-info-in-len2.ensures.kind c.unless_known-in-len2.result
+    c.unless_known-in-len2.ensures.some c.unless_known-in-len2.ensures.news
