@@ -1,5 +1,5 @@
 -- The result of a settling that goes on from a snapshot, or starts anew.
-use Rattle.std.proofs.Common.{◌≡◌, ℕ, ◌+◌, ◌<◌, ◌≤◌, Bool, true, List, length, get_or, Option, Some, None, Result, Ok, Err, sym, ap, ◌∙◌, subst, arith}
+use Rattle.std.proofs.Common.{◌≡◌, ℕ, ◌+◌, ◌≤◌, Bool, true, List, Option, Some, None, Result, Ok, Err, sym, ◌∙◌, subst, arith}
 use Rattle.std.specs.Prelude.{IfOk, OnOk}
 use Rattle.std.specs.FinSet.{is_subset}
 use Rattle.std.proofs.lemmas.Option.{none-some, same_Some}
@@ -9,27 +9,20 @@ use Rattle.pw_network.specs.Network.{Network, IsWellNetwork}
 use Rattle.pw_settle.specs.inside.Progress.{tally}
 use Rattle.pw_settle.specs.Calls.{gains, visible_count}
 use Rattle.pw_settle.specs.inside.Due.{AreDue}
-use Rattle.pw_settle.specs.Growth.{CanContinue, HasValues, KeepsMore, RestOnUpstream, RestOnUpstreamAfter, StaysUpstreamAfter}
+use Rattle.pw_settle.specs.Growth.{CanContinue, HasValues, KeepsMore, RestOnUpstream}
 use Rattle.pw_settle.specs.Settled.{IsSettled, Settled}
-use Rattle.pw_settle.specs.Sound.{IsSound, LieUpstream}
+use Rattle.pw_settle.specs.Sound.{IsSound}
 use Rattle.pw_settle.specs.Values.{kinds_in, value_in}
 use Rattle.pw_settle.proofs.GrowingGains.{gains_more}
-use Rattle.pw_sessions.specs.Freshness.{AreCalls, CallsDue, CallsDueFor, CallsNoneAgain}
-use Rattle.pw_sessions.specs.inside.Steps.{RestOnUpstreamOf, StaysUpstreamOf}
-use Rattle.pw_sessions.specs.Snapshot.{AllRestUpstream, IsCurrent, KeepsValues, Snapshot, start_for}
+use Rattle.pw_sessions.specs.Freshness.{AreCalls, CallsDue, CallsDueFor}
+use Rattle.pw_sessions.specs.inside.Steps.{RestOnUpstreamOf}
+use Rattle.pw_sessions.specs.Snapshot.{IsCurrent, Snapshot, start_for}
 use Rattle.pw_sessions.specs.Workbench.{Workbench, beliefs_in}
 use Rattle.pw_sessions.proofs.CurrentValues.{current_settled}
-use Rattle.pw_sessions.proofs.FewCalls.{due_none, no_gains}
-use Rattle.pw_sessions.proofs.SnapshotLists.{its_worldview, starts_there, starts_within}
+use Rattle.pw_sessions.proofs.SnapshotLists.{starts_within}
 
 module _ (network : Network) (well : IsWellNetwork network) (old new : Store) (w : Premises) (same : kinds_of old ≡ kinds_in network)
     (sound : IsSound network old) where
-  -- what one of the snapshots says rests on premises upstream
-  rests_there : (snapshots : List Snapshot) (place : ℕ) (d before : Snapshot) → place < length snapshots → before ≡ get_or snapshots place d →
-      (given : ℕ → ℕ → Bool) → AllRestUpstream network given old snapshots → LieUpstream network given before.values.supports
-  rests_there snapshots place d before there is given rests =
-      subst (λ (s : Snapshot). LieUpstream network given s.values.supports) (sym is) (rests.snapshots place d there)
-
   -- what is kept after it is done
   abbrev Kept : Type 0
   Kept = IsSound network old → (cell : ℕ) → kept_in new cell w ≡ value_in network old w cell
@@ -58,17 +51,6 @@ module _ (network : Network) (well : IsWellNetwork network) (old new : Store) (w
   lie_after (Ok settled) snapshots lie = λ given rests. lie given rests.kept
   lie_after (Err e) snapshots lie = lie
 
-  -- or if one of the snapshots does, from which it went on
-  pub lie_since : {E : Type 0} (r : Result Settled E) (snapshots : List Snapshot) (place : ℕ) (d before : Snapshot) → place < length snapshots →
-      before ≡ get_or snapshots place d → IfOk r (RestOnUpstreamAfter network before.values old) → IfOk r (RestOnUpstreamOf network old snapshots)
-  lie_since (Ok settled) snapshots place d before there is lie = λ given rests. lie given rests.kept (rests_there snapshots place d before there is given rests)
-  lie_since (Err e) snapshots place d before there is lie = lie
-
-  pub stays_since : (snapshots : List Snapshot) (place : ℕ) (d before : Snapshot) → place < length snapshots → before ≡ get_or snapshots place d →
-      StaysUpstreamAfter network before.values old new → StaysUpstreamOf network old snapshots new
-  stays_since snapshots place d before there is upstream = λ given rests.
-      upstream given rests.kept (rests_there snapshots place d before there is given rests)
-
   -- ---- the number of calls, anew
 
   pub due_anew : {E : Type 0} (r : Result Settled E) (last : Option Snapshot) → last ≡ None →
@@ -81,11 +63,6 @@ module _ (network : Network) (well : IsWellNetwork network) (old new : Store) (w
   }
   due_anew (Err e) last none least most = least
 
-  pub none_anew : {E : Type 0} (r : Result Settled E) (snapshots : List Snapshot) → start_for snapshots w ≡ None →
-      IfOk r (λ settled. visible_count network w ≤ settled.calls) → IfOk r (CallsNoneAgain network old w snapshots)
-  none_anew (Ok settled) snapshots none least = λ snapshot has. absurd (none-some snapshot (sym none ∙ starts_there snapshots w snapshot has))
-  none_anew (Err e) snapshots none least = least
-
   -- ---- the number of calls from earlier values
 
   module _ (before : Snapshot) (snapshots : List Snapshot) (starts : start_for snapshots w ≡ Some before) where
@@ -96,18 +73,6 @@ module _ (network : Network) (well : IsWellNetwork network) (old new : Store) (w
 
     its : (snapshot : Snapshot) → start_for snapshots w ≡ Some snapshot → before ≡ snapshot
     its snapshot has = same_Some before snapshot (sym starts ∙ has)
-
-    pub none_again : {E : Type 0} (r : Result Settled E) → OnOk r Kept → IfOk r Due → IfOk r (CallsNoneAgain network old w snapshots)
-    none_again (Ok settled) kept due = λ snapshot has current.
-        let same : before ≡ snapshot = its snapshot (starts_there snapshots w snapshot has) in
-        let own : before.values.worldview ≡ w = ap (λ (s : Snapshot). s.values.worldview) same ∙ its_worldview snapshots w snapshot has in
-        let here : IsCurrent network old before.values = subst (λ (s : Snapshot). IsCurrent network old s.values) (sym same) current in
-        let full : KeepsValues network old w = subst (KeepsValues network old) own here.kept in
-        let none = no_gains network old new w full (kept sound) in
-        let (flags, are, least, up) = due (starts_within snapshots w before starts) in
-        let zero = due_none network old w before.values flags own here are in
-        omega (arith, up, zero, none)
-    none_again (Err e) kept due = due
 
     pub due_again : {E : Type 0} (r : Result Settled E) → IfOk r Due →
         IfOk r (λ settled. CallsDue network old new w (start_for snapshots w) settled.calls)

@@ -22,12 +22,10 @@ use Rattle.pw_settle.specs.Values.{kinds_in, value_in}
 use Rattle.pw_settle.specs.Growth.{IsWider}
 use Rattle.pw_settle.proofs.KeptFacts.{also_implies}
 use Rattle.pw_sessions.specs.declared.command.Command.{Command}
-use Rattle.pw_sessions.specs.declared.reply.Refusal.TheVariants as refusal
 use Rattle.pw_sessions.specs.Answer.{user_of}
-use Rattle.pw_sessions.specs.Freshness.{CallsDueFor, CallsFew, CountsCalls, CountsSettling, IsAsked, IsFresh, KeepsFresh, MayEndFreshness, Settles}
+use Rattle.pw_sessions.specs.Freshness.{CallsDueFor, CallsFew, CountsCalls, IsAsked, IsFresh, KeepsFresh, MayEndFreshness, Settles}
 use Rattle.pw_sessions.specs.Reply.{LineReading}
 use Rattle.pw_sessions.specs.Reply.{Reply}
-use Rattle.pw_sessions.specs.Reply as reply
 use Rattle.pw_sessions.specs.Snapshot.{IsAfterTell, IsCurrent, Snapshot, after_entry, snapshot_in, start_for}
 use Rattle.pw_sessions.specs.inside.Steps.{CanAnswer, IsAsBefore, IsAttached, IsRemembered, IsTold, OnlyKeepsMore, StoreFits}
 use Rattle.pw_sessions.specs.Workbench.{IsLeftBy, Workbench, beliefs_in}
@@ -307,45 +305,6 @@ due_fresh old user is uncounted = record {
   get_or-replicate_same (suc count) (suc n) = get_or-replicate_same count n
 
 -- ---- how a question ended
-
--- with values that are remembered
-pub asked_remembered : (old found : Workbench) (user : ℕ) (values : Settled) (new : Workbench) (Settling : Type 0) (answer : Reply) → Settling →
-    IsRemembered found values new → user < length old.beliefs → found.beliefs ≡ old.beliefs → values.worldview ≡ beliefs_in old user →
-    IsCurrent found.network found.store values → CallsFew old user found.calls → CallsDueFor old user found → IsAsked old user Settling new answer
-asked_remembered old found user values new Settling answer settling remembered there beliefs worldview current few due =
-    let fresh : IsFresh new user =
-    fresh_remembered found user values new remembered (omega (arith, there, ap length beliefs))
-    (worldview ∙ sym (ap (λ (bs : List Premises). get_or bs user empty) beliefs)) current in
-    record {
-      becomes = λ so. inr fresh;
-      stays = λ is. fresh;
-      few = subst (λ (bench : Workbench). CallsFew old user bench.calls) (sym {A = Workbench} remembered.rest) few;
-      due = λ so. inr (subst (λ (bench : Workbench). CallsDueFor old user bench) (sym {A = Workbench} remembered.rest) due);
-      none = λ not. absurd (not settling);
-    }
-
--- out of memory; the snapshots stay
-pub asked_refused : (old found : Workbench) (user : ℕ) (Settling : Type 0) → Settling → StoreFits old → OnlyKeepsMore old user found →
-    found.snapshots ≡ old.snapshots → CallsFew old user found.calls → CountsSettling old user found (reply.Refused refusal.Memory) →
-    IsAsked old user Settling found (reply.Refused refusal.Memory)
-asked_refused old found user Settling settling fits keeps snapshots few due = record {
-  becomes = λ so. inl refl;
-  stays = fresh_keeping old user found fits keeps snapshots user;
-  few = few;
-  due = λ so. due;
-  none = λ not. absurd (not settling);
-}
-
--- with what is told, if nothing is to be settled
-pub asked_quiet : (old : Workbench) (user : ℕ) (Settling : Type 0) (answer : Reply) → (Settling → ⊥) → old.calls ≡ 0 →
-    IsAsked old user Settling old answer
-asked_quiet old user Settling answer quiet none = record {
-  becomes = λ so. absurd (quiet so);
-  stays = λ is. is;
-  few = calls_none old user old.calls none;
-  due = λ so. absurd (quiet so);
-  none = λ not. none;
-}
 
 -- with what is known to a user who is fresh
 pub asked_known : (old : Workbench) (user : ℕ) (Settling : Type 0) (answer : Reply) → IsFresh old user → old.calls ≡ 0 →

@@ -21,7 +21,7 @@ use Rattle.pw_settle.specs.Sound.{IsSound}
 use Rattle.pw_settle.specs.Values.{kinds_in}
 use Rattle.pw_settle.specs.Growth.{IsWider}
 use Rattle.pw_settle.proofs.FittingLaws.{fits_added, fits_more, fits_wider}
-use Rattle.pw_settle.proofs.Growing.{keeps_more_same, keeps_more_then}
+use Rattle.pw_settle.proofs.Growing.{keeps_more_then}
 use Rattle.pw_settle.proofs.KeptFacts.{implies_shown, kind_there}
 use Rattle.pw_settle.proofs.SettledValues.{kinds_many}
 use Rattle.pw_reasons.specs.Nogood.{AreNogoods}
@@ -245,18 +245,6 @@ only_remembers old user found values new keeps lie remembered own fits =
       | inl same ↦ absurd (differs (sym ((same_numbers_equal values.worldview (beliefs_in old other)).0 same) ∙ own))
       | inr not ↦ not
     ]
-
--- what stays keeps no less
-pub only_keeps_itself : (old : Workbench) (user : ℕ) → OnlyKeepsMore old user old
-only_keeps_itself old user = record {
-  network = refl;
-  beliefs = refl;
-  others = λ other there differs. refl;
-  snapshots = λ fits. fits.snapshots;
-  nogoods = λ are. are;
-  grows = keeps_more_same old.network old.store;
-  upstream = λ given rests. rests;
-}
 
 -- beliefs stay
 pub beliefs_kept : (old : Workbench) (user : ℕ) (new : Workbench) → OnlyKeepsMore old user new → beliefs_in new user ≡ beliefs_in old user

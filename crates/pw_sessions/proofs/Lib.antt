@@ -1,5 +1,6 @@
 pub mod AfterSettling
 pub mod AskedCells
+pub mod AskedUsers
 pub mod BlankLemmas
 pub mod BlankLines
 pub mod BlankedLines
@@ -28,7 +29,10 @@ pub mod NotedPremises
 pub mod NotedSnapshots
 pub mod SnapshotLists
 pub mod StoreLemmas
+pub mod SettledAgain
+pub mod SettledAnew
 pub mod TakenPremises
+pub mod TurnedLists
 pub mod Uncounted
 pub mod VisibleEntries
 pub mod WorkbenchLemmas

@@ -47,14 +47,6 @@ notes_none old new answer same quiet = record {
   noted = λ info reason is. absurd (quiet info reason is);
 }
 
--- if a why was refused
-pub notes_refused : (old found new : List Premises) (answer : Reply) → found ≡ old → ((w : Premises) → covers found w ≡ true → covers new w ≡ true) →
-    ((info : Info) (reason : Premises) → answer ≡ reply.Because info reason → ⊥) → NotesReasons old new answer
-notes_refused old found new answer same stay quiet = record {
-  stay = λ w covered. stay w (ap (λ (l : List Premises). covers l w) same ∙ covered);
-  noted = λ info reason is. absurd (quiet info reason is);
-}
-
 -- if a why was answered
 pub notes_reason : (old found new : List Premises) (info value : Info) (reason : Premises) → found ≡ old →
     ((w : Premises) → covers found w ≡ true → covers new w ≡ true) → info ≡ value → (IsContradiction value → covers new reason ≡ true) →

@@ -1,16 +1,16 @@
 -- What snapshots say rests only on premises upstream: as more is given and attached, and as they note
 -- something.
-use Rattle.std.proofs.Common.{◌≡◌, ℕ, ◌<◌, Bool, true, List, All, length, get_or, map, inl, inr, sym, subst, arith}
-use Rattle.std.proofs.lemmas.List.Elements.{All-contains, All-map, All-weaker}
+use Rattle.std.proofs.Common.{◌≡◌, ℕ, ◌<◌, Bool, true, List, All, length, get_or, map, sym, subst, arith}
+use Rattle.std.proofs.lemmas.List.Elements.{All-map, All-weaker}
 use Rattle.pw_premises.specs.Premises.{Premises}
 use Rattle.pw_facts.specs.declared.fact.Fact.{Fact}
 use Rattle.pw_cells.specs.Cells.{Store}
-use Rattle.pw_network.specs.Network.{Attached, Network}
+use Rattle.pw_network.specs.Network.{Network}
 use Rattle.pw_settle.specs.Growth.{IsWider}
 use Rattle.pw_settle.specs.Settled.{Settled, support_at}
-use Rattle.pw_settle.specs.Sound.{LiesUpstream, LieUpstream, RestsUpstream}
-use Rattle.pw_settle.proofs.Membership.{each_member}
-use Rattle.pw_settle.proofs.WiderNetworks.{still_attached, wide_self}
+use Rattle.pw_settle.specs.Sound.{LieUpstream, RestsUpstream}
+use Rattle.pw_settle.proofs.SoundStores.{lie_still}
+use Rattle.pw_settle.proofs.WiderNetworks.{wide_self}
 use Rattle.pw_sessions.specs.Snapshot.{AllRestUpstream, EachBecomes, IsAfterTell, Snapshot, after_entry}
 
 -- the premises of the values of a snapshot lie upstream
@@ -18,21 +18,9 @@ abbrev pub Rests : Network → (ℕ → ℕ → Bool) → Snapshot → Type 0
 Rests network given snapshot = LieUpstream network given snapshot.values.supports
 
 module _ (network wider : Network) (wide : IsWider network wider) (given more : ℕ → ℕ → Bool) (all : (c p : ℕ) → given c p ≡ true → more c p ≡ true) where
-  -- premises that lie upstream do so if more is attached and more was given
-  lies_still : (cell : ℕ) (premises : Premises) → LiesUpstream network given cell premises → LiesUpstream wider more cell premises
-  lies_still cell premises lies cells upstream has p one =
-      elim (lies cells
-      (each_member (λ (a : Attached). cells a.instance.output ≡ true → All (λ input. cells input ≡ true) a.instance.inputs) network.attached
-      (λ a there. All-contains (λ (a : Attached). cells a.instance.output ≡ true → All (λ input. cells input ≡ true) a.instance.inputs) wider.attached a
-      upstream (still_attached network wider wide a there)))
-      has p one) [
-        | inl (c, within, told) ↦ inl (c, within, all c p told)
-        | inr (a, there, writes, own) ↦ inr (a, still_attached network wider wide a there, writes, own)
-      ]
-
-  -- and so does what a snapshot says
+  -- what a snapshot says rests upstream if more is attached and more was given
   rests_still : (snapshot : Snapshot) → Rests network given snapshot → Rests wider more snapshot
-  rests_still snapshot rests cell = lies_still cell (support_at snapshot.values.supports cell) (rests cell)
+  rests_still snapshot rests cell = lie_still network wider wide given more all cell (support_at snapshot.values.supports cell) (rests cell)
 
   -- after something was attached
   pub snapshots_rest_attached : (support : Premises) (snapshots : List Snapshot) → All (Rests network given) snapshots →

@@ -126,12 +126,6 @@ pub record CountsCalls (old : Workbench) (command : Command) (new : Workbench) (
   pub none : (d : Declared) (before : List LineReading) → IsLeftBy d before old →
       (Settles d before command → ⊥) → new.calls ≡ 0
 
--- the values of the snapshot of the worldview are found again without a call, where they are current
-abbrev pub CallsNoneAgain : Network → Store → Premises → List Snapshot → Settled → Type 0
-CallsNoneAgain network store w snapshots settled =
-    (snapshot : Snapshot) → snapshot_in snapshots w ≡ Some snapshot →
-    IsCurrent network store snapshot.values → settled.calls ≡ 0
-
 -- the value of a cell under what the user believes
 abbrev pub value_for : Workbench → ℕ → ℕ → Info
 value_for workbench user cell = value_in workbench.network workbench.store

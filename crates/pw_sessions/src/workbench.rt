@@ -33,6 +33,7 @@ use pw_network::Network;
 use pw_premises::PremiseSet;
 use pw_procs::Arguments;
 use pw_reasons::Nogoods;
+use pw_settle::Workspace;
 use std::alloc::{AllocError, Allocator, Global};
 
 // The greatest number of inner cells that an attachment makes.
@@ -59,6 +60,8 @@ pub struct Workbench<'d, 'r, A: Allocator = Global> {
     // What questions found, one snapshot a worldview, in the order of their last use, the latest
     // first. They are shared by all users, and their values still fit.
     snapshots: Vec<Snapshot<A>, A>,
+    // What settlings use one after another.
+    workspace: Workspace<A>,
     // The number of procedure calls made by the last command's own settling.
     calls: u128,
 }
@@ -88,6 +91,7 @@ impl<'d, 'r, A: Allocator + Copy> Workbench<'d, 'r, A> {
             nogoods: Nogoods::new(alloc),
             beliefs,
             snapshots,
+            workspace: Workspace::new(alloc),
             calls: 0,
         })
     }

@@ -1,12 +1,13 @@
 -- Queues of the numbers whose flags are set.
-use Rattle.std.proofs.Common.{◌≡◌, ◌≢◌, ℕ, ◌+◌, ◌<◌, ◌≤◌, suc, Bool, true, false, cond, eqb, inl, inr, List, [], ◌∷◌, ◌++◌, length, set, get_or, refl, sym, ap, ◌∙◌, subst, arith, length-append, append_assoc}
-use Rattle.std.proofs.lemmas.Bool.{cases_Bool, eqb-false, eqb-true}
-use Rattle.std.proofs.lemmas.List.{get_or-set_other, get_or-set_same, length-set}
-use Rattle.std.proofs.lemmas.List.Elements.{All-append, All-cons, All-head, All-nil, All-tail, All-weaker}
+use Rattle.std.proofs.Common.{◌≡◌, ◌≢◌, ℕ, ◌+◌, ◌<◌, ◌≤◌, suc, Bool, true, false, cond, eqb, inl, inr, List, [], ◌∷◌, ◌++◌, length, set, get_or, take, replicate, if◌then◌else◌, refl, sym, ap, ◌∙◌, subst, arith, length-append, append_assoc}
+use Rattle.std.specs.Prelude.{All, nat_lt}
+use Rattle.std.proofs.lemmas.Bool.{cases_Bool, eqb-false, eqb-true, ltb-true, ltb-false}
+use Rattle.std.proofs.lemmas.List.{get_or_default, get_or_past, get_or-set_other, get_or-set_same, length-set}
+use Rattle.std.proofs.lemmas.List.Elements.{All-append, All-cons, All-head, All-nil, All-replicate, All-tail, All-take, All-weaker}
 use Rattle.std.proofs.lemmas.List.Quantifiers.{all_pairs_push}
 use Rattle.std.proofs.lemmas.List.Sums.{count_by-le-length, sum_by-set}
-use Rattle.pw_settle.specs.inside.Progress.{IsQueue, is_set, tally}
-use Rattle.pw_settle.proofs.TakenFlags.{set_below, taken_less}
+use Rattle.pw_settle.specs.inside.Progress.{IsIdle, IsQueue, is_set, tally}
+use Rattle.pw_settle.proofs.TakenFlags.{set_below, tally_none, taken_less}
 
 -- one more flag
 pub tally_more : (flags : List Bool) (one : ℕ) → one < length flags → is_set flags one ≡ false → tally (set flags one true) ≡ tally flags + 1
@@ -81,3 +82,38 @@ queue_taken flags queue rest capacity more one is_first is room =
 pub first_below : (flags : List Bool) (queue rest : List ℕ) (capacity one : ℕ) → queue ≡ one ∷ rest → IsQueue flags queue capacity → one < length flags
 first_below flags queue rest capacity one is_first is =
     set_below flags one (All-head (λ n. is_set flags n ≡ true) one rest (subst (λ (l : List ℕ). IsQueue flags l capacity) is_first is).flagged)
+
+-- no flag is set if none of the list is
+idle_if : (flags : List Bool) → All (λ flag. flag ≡ false) flags → IsIdle flags
+idle_if flags all number =
+    elim (cases_Bool (nat_lt number (length flags))) [
+      | inl below ↦ all number false (ltb-true number (length flags) below)
+      | inr past ↦ get_or_past flags number false (ltb-false number (length flags) past)
+    ]
+
+-- none is set where flags none of which is set were cut, or filled up with clear ones, or stayed
+pub idle_resized : (flags new : List Bool) (count more : ℕ) (is_done : Bool) → IsIdle flags →
+    new ≡ (if is_done then take count flags ++ replicate more false else flags) → IsIdle new
+idle_resized flags new count more false idle is = λ number. ap (λ (l : List Bool). is_set l number) is ∙ idle number
+idle_resized flags new count more true idle is =
+    let IsClear : Bool → Type 0 = λ flag. flag ≡ false in
+    let clear : All IsClear flags = λ k d within. get_or_default flags k d false within ∙ idle k in
+    idle_if new (subst (λ (l : List Bool). All IsClear l) (sym {A = List Bool} is)
+    (All-append IsClear (take count flags) (replicate more false) (All-take IsClear count flags clear) (All-replicate IsClear more false refl)))
+
+-- the queue of flags none of which is set is empty, so it is also that of others none of which is
+pub queue_idle : (flags new : List Bool) (queue now : List ℕ) (capacity more : ℕ) → IsIdle flags → IsQueue flags queue capacity → now ≡ queue →
+    IsIdle new → length new ≤ more → IsQueue new now more
+queue_idle flags new queue now capacity more idle is same idle_now room =
+    let none : length now ≡ 0 = ap length same ∙ is.count ∙ tally_none flags idle in
+    record {
+      flagged = λ k d within. absurd (omega (arith, none, within));
+      once = λ i j d less within. absurd (omega (arith, none, within));
+      count = none ∙ sym (tally_none new idle_now);
+      room = room;
+    }
+
+-- the number of flags then is within a bound if both numbers are
+pub resized_fits : (new old count most : ℕ) (is_done : Bool) → new ≡ (if is_done then count else old) → count ≤ most → old ≤ most → new ≤ most
+resized_fits new old count most false is fits older = omega (arith, is, older)
+resized_fits new old count most true is fits older = omega (arith, is, fits)

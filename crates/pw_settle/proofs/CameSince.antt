@@ -2,7 +2,7 @@
 -- is kept.
 use Rattle.std.proofs.Common.{◌≡◌, ℕ, ◌+◌, ◌<◌, ◌≤◌, Bool, true, false, eqb, List, All, Contains, length, get_or, sym, ap, ◌∙◌, subst, arith, inl, inr}
 use Rattle.std.specs.Prelude.{nat_lt, Some, None, drop, if◌then◌else◌, ◌-◌, IfOk, Result, Ok, Err}
-use Rattle.std.specs.FinSet.{contains, contains-empty, empty, is_subset, union}
+use Rattle.std.specs.FinSet.{contains, contains-empty, empty, is_subset}
 use Rattle.std.specs.Ordering.{nat_cmp}
 use Rattle.std.proofs.lemmas.Bool.{cases_Bool, eqb-false, eqb-true, ltb-false, ltb-true}
 use Rattle.std.proofs.lemmas.List.{get_or_default, get_or_past}
@@ -11,41 +11,32 @@ use Rattle.std.proofs.lemmas.Option.{none-some}
 use Rattle.pw_decl.proofs.KeptLemmas.{some_is}
 use Rattle.pw_info.specs.declared.kind.Kind.TheVariants as kinds
 use Rattle.pw_info.specs.declared.info.Info.{Info}
-use Rattle.pw_info.specs.Information.{allows, kind_of, meet, nothing, Implies}
-use Rattle.pw_info.proofs.Informations.{Implies-antisym, implies_nothing, kind-meet}
+use Rattle.pw_info.specs.Information.{allows, kind_of, nothing, Implies}
 use Rattle.pw_premises.specs.Premises.{Premises}
-use Rattle.pw_premises.specs.PremiseSubsets.{empty_is_subset, is_subset_trans, union_is_subset}
 use Rattle.pw_facts.specs.declared.fact.Fact.{Fact}
-use Rattle.pw_facts.specs.Facts.{IsLeastAbove, shows}
-use Rattle.pw_facts.proofs.Shown.{implies_same, kind-shows, shows-supported}
+use Rattle.pw_facts.specs.Facts.{shows}
+use Rattle.pw_facts.proofs.Shown.{implies_same, shows-supported}
 use Rattle.pw_cells.specs.declared.arrival.Arrival.{Arrival}
 use Rattle.pw_cells.specs.Arrivals.{IsKept, since}
-use Rattle.pw_cells.specs.Cells.{Cell, Store, kept_at, kept_in, kept_of, kind_in_store, new_cell}
+use Rattle.pw_cells.specs.Cells.{Store, kept_at, kept_in, kind_in_store}
 use Rattle.pw_network.specs.Network.{Network}
 use Rattle.pw_settle.specs.Growth.{CanContinue}
 use Rattle.pw_settle.specs.Settled.{Settled, info_at, support_at}
 use Rattle.pw_settle.specs.Sound.{LiesUpstream, RestsUpstream}
 use Rattle.pw_settle.specs.inside.Known.{AreKept, SaysTold}
 use Rattle.pw_settle.specs.inside.Since.{AreReadTo, IsKnown, IsNewHere, LieUpstreamAfter}
-use Rattle.pw_settle.proofs.KeptFacts.{implies_also, implies_merge, implies_shown, kind-kept}
-use Rattle.pw_settle.proofs.TakenNews.{as_many_infos, as_many_supports, both_upstream, info_elsewhere, info_here, more_known, news_known, support_elsewhere}
-
--- what is known about a cell rests on premises of the worldview under which as much is kept
-pub record IsPart (store : Store) (w : Premises) (cell : ℕ) (info : Info) (support : Premises) : Type 0 where
-  pub kind : kind_of info ≡ kind_in_store store cell
-  pub within : is_subset support w ≡ true
-  pub enough : IsLeastAbove support (kept_in store cell) info
+use Rattle.pw_settle.proofs.KeptFacts.{implies_also, implies_shown}
+use Rattle.pw_settle.proofs.KnownParts.{AreParts, IsPart, no_less, parts_kept, parts_taken, upstream_taken}
+use Rattle.pw_settle.proofs.TakenNews.{news_known}
 
 -- so far the last facts of the list were taken in, as many as this number
 pub record AreTakenIn (store : Store) (before : Settled) (list : List Arrival) (back : ℕ) (infos : List Info) (supports : List Premises) : Type 0 where
-  pub many : length infos ≡ length store.cells
-  pub as_many : length supports ≡ length infos
-  pub each : (cell : ℕ) → cell < length store.cells → IsPart store before.worldview cell (info_at infos cell) (support_at supports cell)
+  pub parts : AreParts store before.worldview infos supports
   pub more : (cell : ℕ) → cell < length before.infos → Implies (info_at infos cell) (info_at before.infos cell)
   pub new : (cell : ℕ) → length before.infos ≤ cell → cell < length store.cells → Implies (info_at infos cell) (kept_in store cell before.worldview)
   pub came : (k : ℕ) (d : Arrival) → length list ≤ k + back → k < length list →
       Implies (info_at infos (get_or list k d).cell) (shows before.worldview (get_or list k d).fact)
-  pub upstream : (network : Network) → LieUpstreamAfter network store before supports
+  pub upstream : (network : Network) → LieUpstreamAfter network store before.supports supports
 
 -- ---- one fact
 
@@ -94,7 +85,7 @@ module _ (store : Store) (before : Settled) (continues : CanContinue store befor
             record { kind = kept.kind; within = kept.within; enough = kept.larger }
       ]
 
-  first_upstream : (network : Network) → LieUpstreamAfter network store before supports
+  first_upstream : (network : Network) → LieUpstreamAfter network store before.supports supports
   first_upstream network given rests lie cell =
       elim (cases_Bool (nat_lt cell (length before.infos))) [
         | inl is ↦
@@ -116,9 +107,7 @@ module _ (store : Store) (before : Settled) (continues : CanContinue store befor
   -- at first none of the facts was
   pub taken_none : (list : List Arrival) → AreTakenIn store before list 0 infos supports
   taken_none list = record {
-    many = read.many;
-    as_many = read.as_many ∙ sym read.many;
-    each = first_each;
+    parts = record { many = read.many; as_many = read.as_many ∙ sym read.many; each = first_each };
     more = λ cell below. implies_same (info_at infos cell) (info_at before.infos cell) (read.infos_stay cell below);
     new = λ cell past there. implies_same (info_at infos cell) (kept_in store cell w) (read.read cell past there).info;
     came = λ k d least within. absurd (omega (arith, least, within));
@@ -141,10 +130,10 @@ module _ (store : Store) (before : Settled) (list : List Arrival) (back : ℕ) (
     (taken : AreTakenIn store before list back infos supports) (place : ℕ) (here : place + back + 1 ≡ length list) (a : Arrival)
     (is : (d : Arrival) → get_or list place d ≡ a) (kept : IsKept store a) where
   pub cell_known : a.cell < length infos
-  cell_known = omega (arith, kept.there, taken.many)
+  cell_known = omega (arith, kept.there, taken.parts.many)
 
   pub kind_known : kind_of a.fact.info ≡ kind_of (info_at infos a.cell)
-  kind_known = kept.kind ∙ sym (taken.each a.cell kept.there).kind
+  kind_known = kept.kind ∙ sym (taken.parts.each a.cell kept.there).kind
 
   -- what is known says what this fact shows
   came_more : (new_infos : List Info) → ((c : ℕ) → Implies (info_at new_infos c) (info_at infos c)) → Implies (info_at new_infos a.cell) (shows before.worldview a.fact) →
@@ -161,9 +150,7 @@ module _ (store : Store) (before : Settled) (list : List Arrival) (back : ℕ) (
   pub taken_known : (new_infos : List Info) (new_supports : List Premises) → IsKnown a.cell a.fact before.worldview infos new_infos supports new_supports →
       AreTakenIn store before list (back + 1) new_infos new_supports
   taken_known new_infos new_supports known = rw (known.infos_stay, known.supports_stay) (record {
-    many = taken.many;
-    as_many = taken.as_many;
-    each = taken.each;
+    parts = taken.parts;
     more = taken.more;
     new = taken.new;
     came = came_more infos (λ c u possible. possible) known.says;
@@ -172,72 +159,19 @@ module _ (store : Store) (before : Settled) (list : List Arrival) (back : ℕ) (
 
   module _ (upstream : (network : Network) (given : ℕ → ℕ → Bool) → RestsUpstream network given store → LiesUpstream network given a.cell a.fact.support)
       (new_infos : List Info) (new_supports : List Premises) (news : IsNewHere a.cell a.fact before.worldview infos new_infos supports new_supports) where
-    alike : kind_of (info_at infos a.cell) ≡ kind_of a.fact.info
-    alike = sym kind_known
-
-    no_less : (c : ℕ) → Implies (info_at new_infos c) (info_at infos c)
-    no_less = more_known a.cell a.fact infos new_infos supports new_supports news.taken cell_known alike
-
-    abbrev known : Fact
-    known = record { info = info_at infos a.cell; support = support_at supports a.cell }
-
-    abbrev after : Info
-    after = meet (info_at infos a.cell) a.fact.info
-
-    part : IsPart store before.worldview a.cell (info_at infos a.cell) (support_at supports a.cell)
-    part = taken.each a.cell kept.there
-
-    part_here : IsPart store before.worldview a.cell after (support_at new_supports a.cell)
-    part_here = record {
-      kind = kind-meet (info_at infos a.cell) a.fact.info ∙ part.kind;
-      within = is_subset_trans (support_at new_supports a.cell) (union (support_at supports a.cell) a.fact.support) before.worldview news.taken.rests
-          (union_is_subset (support_at supports a.cell) a.fact.support before.worldview part.within news.within);
-      enough = λ v inside.
-          implies_also (kept_in store a.cell v) (meet (shows v known) (shows v a.fact)) after (news.taken.together v inside)
-          (implies_merge (kept_in store a.cell v) (shows v known) (shows v a.fact) (kind-shows v known ∙ alike ∙ sym (kind-shows v a.fact))
-          (implies_shown (kept_in store a.cell v) known v (kind-kept store a.cell v ∙ sym part.kind) (λ has. part.enough v has))
-          (kept.says v));
-    }
-
-    each_taken : (c : ℕ) → c < length store.cells → IsPart store before.worldview c (info_at new_infos c) (support_at new_supports c)
-    each_taken c there =
-        elim (cases_Bool (eqb c a.cell)) [
-          | inl same ↦
-              subst (λ (n : ℕ). IsPart store before.worldview n (info_at new_infos n) (support_at new_supports n)) (sym (eqb-true c a.cell same))
-              (subst (λ (i : Info). IsPart store before.worldview a.cell i (support_at new_supports a.cell))
-              (sym (info_here a.cell a.fact infos new_infos supports new_supports news.taken cell_known alike)) part_here)
-          | inr other ↦
-              subst (λ (i : Info). IsPart store before.worldview c i (support_at new_supports c))
-              (sym (info_elsewhere a.cell a.fact infos new_infos supports new_supports news.taken c (eqb-false c a.cell other)))
-              (subst (λ (s : Premises). IsPart store before.worldview c (info_at infos c) s)
-              (sym (support_elsewhere a.cell a.fact infos new_infos supports new_supports news.taken c (eqb-false c a.cell other))) (taken.each c there))
-        ]
-
-    lie_taken : (network : Network) → LieUpstreamAfter network store before new_supports
-    lie_taken network given rests lie c =
-        elim (cases_Bool (eqb c a.cell)) [
-          | inl same ↦
-              subst (λ (n : ℕ). LiesUpstream network given n (support_at new_supports n)) (sym (eqb-true c a.cell same))
-              (both_upstream network given a.cell (support_at supports a.cell) a.fact.support (support_at new_supports a.cell) news.taken.rests
-              (taken.upstream network given rests lie a.cell) (upstream network given rests))
-          | inr other ↦
-              subst (λ (s : Premises). LiesUpstream network given c s)
-              (sym (support_elsewhere a.cell a.fact infos new_infos supports new_supports news.taken c (eqb-false c a.cell other)))
-              (taken.upstream network given rests lie c)
-        ]
+    still : (c : ℕ) → Implies (info_at new_infos c) (info_at infos c)
+    still = no_less store before.worldview infos supports taken.parts a.cell kept.there a.fact kept.kind news.within kept.says new_infos new_supports news.taken
 
     pub taken_new : AreTakenIn store before list (back + 1) new_infos new_supports
     taken_new = record {
-      many = as_many_infos a.cell a.fact infos new_infos supports new_supports news.taken ∙ taken.many;
-      as_many = as_many_supports a.cell a.fact infos new_infos supports new_supports news.taken ∙ taken.as_many
-          ∙ sym (as_many_infos a.cell a.fact infos new_infos supports new_supports news.taken);
-      each = each_taken;
-      more = λ cell below u possible. taken.more cell below u (no_less cell u possible);
-      new = λ cell past there u possible. taken.new cell past there u (no_less cell u possible);
-      came = came_more new_infos no_less
+      parts = parts_taken store before.worldview infos supports taken.parts a.cell kept.there a.fact kept.kind news.within kept.says new_infos new_supports news.taken;
+      more = λ cell below u possible. taken.more cell below u (still cell u possible);
+      new = λ cell past there u possible. taken.new cell past there u (still cell u possible);
+      came = came_more new_infos still
           (implies_also (info_at new_infos a.cell) a.fact.info (shows before.worldview a.fact) (sym (shows-supported before.worldview a.fact news.within))
-          (news_known a.cell a.fact infos new_infos supports new_supports news.taken cell_known alike));
-      upstream = lie_taken;
+          (news_known a.cell a.fact infos new_infos supports new_supports news.taken cell_known (sym kind_known)));
+      upstream = λ network. upstream_taken store before.worldview infos supports taken.parts a.cell kept.there a.fact kept.kind news.within kept.says
+          new_infos new_supports news.taken network before.supports (upstream network) (taken.upstream network);
     }
 
 -- ---- the end
@@ -249,44 +183,16 @@ module _ (store : Store) (before : Settled) (continues : CanContinue store befor
   says_kept cell there =
       elim (cases_Bool (nat_lt cell (length before.infos))) [
         | inl below ↦
-            continues.accounted.all list is cell (ltb-true cell (length before.infos) below) (info_at infos cell) (taken.each cell there).kind
+            continues.accounted.all list is cell (ltb-true cell (length before.infos) below) (info_at infos cell) (taken.parts.each cell there).kind
             (taken.more cell (ltb-true cell (length before.infos) below))
             (λ k d within same. subst (λ (c : ℕ). Implies (info_at infos c) (shows before.worldview (get_or list k d).fact)) same
             (taken.came k d (omega (arith, within)) within))
         | inr not ↦ taken.new cell (ltb-false cell (length before.infos) not) there
       ]
 
-  -- and no more
-  kept_here : (cell : ℕ) → cell < length store.cells → info_at infos cell ≡ kept_in store cell before.worldview
-  kept_here cell there =
-      Implies-antisym (info_at infos cell) (kept_in store cell before.worldview) ((taken.each cell there).kind ∙ sym (kind-kept store cell before.worldview)) (says_kept cell there)
-      ((taken.each cell there).enough before.worldview (taken.each cell there).within)
-
-  -- what holds of a cell that exists and of one past the last holds of all
-  of_each : (P : ℕ → Type 0) → ((cell : ℕ) → cell < length store.cells → P cell) → ((cell : ℕ) → length store.cells ≤ cell → P cell) → (cell : ℕ) → P cell
-  of_each P there past cell =
-      elim (cases_Bool (nat_lt cell (length store.cells))) [
-        | inl below ↦ there cell (ltb-true cell (length store.cells) below)
-        | inr not ↦ past cell (ltb-false cell (length store.cells) not)
-      ]
-
-  past_info : (cell : ℕ) → length store.cells ≤ cell → info_at infos cell ≡ nothing kinds.Interval
-  past_info cell past = get_or_past infos cell (nothing kinds.Interval) (omega (arith, past, taken.many))
-
+  -- so it is that
   pub taken_kept : AreKept store before.worldview infos supports
-  taken_kept = record {
-    many = taken.many;
-    as_many = taken.as_many ∙ taken.many;
-    infos_are = of_each (λ cell. info_at infos cell ≡ kept_in store cell before.worldview) kept_here
-        (λ cell past. past_info cell past ∙ sym (ap (λ (c : Cell). kept_of c before.worldview) (get_or_past store.cells cell (new_cell kinds.Interval) past)));
-    within = of_each (λ cell. is_subset (support_at supports cell) before.worldview ≡ true) (λ cell there. (taken.each cell there).within)
-        (λ cell past. subst (λ (p : Premises). is_subset p before.worldview ≡ true)
-        (sym (get_or_past supports cell empty (omega (arith, past, taken.many, taken.as_many)))) (empty_is_subset before.worldview));
-    enough = of_each (λ cell. IsLeastAbove (support_at supports cell) (kept_in store cell) (info_at infos cell)) (λ cell there. (taken.each cell there).enough)
-        (λ cell past s inside. subst (Implies (kept_in store cell s)) (sym (past_info cell past))
-        (implies_nothing (kept_in store cell s) kinds.Interval
-        (kind-kept store cell s ∙ ap (λ (c : Cell). c.kind) (get_or_past store.cells cell (new_cell kinds.Interval) past))));
-  }
+  taken_kept = parts_kept store before.worldview infos supports taken.parts says_kept
 
 -- ---- what came
 

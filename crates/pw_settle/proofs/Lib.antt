@@ -38,7 +38,11 @@ pub mod AsideEnds
 pub mod AsideGrowth
 pub mod Accounted
 pub mod TakenNews
+pub mod KnownParts
 pub mod CameSince
 pub mod NewlyQueued
 pub mod ReadSince
 pub mod QueuedNews
+pub mod ReadAgain
+pub mod InPlace
+pub mod RefusedSettlings

@@ -47,14 +47,18 @@ module _ (network : Network) (visible old : List Bool) (before after : List Info
   abbrev pub IsChangedBelow : ℕ → ℕ → Type 0
   IsChangedBelow count cell = (cell < count) × HasChanged before after cell
 
-  -- at first no cell was looked at
-  pub none_queued : QueuesReaders network visible (IsChangedBelow 0) old old
-  none_queued = record {
+  -- where none of the first cells has changed, nothing is queued for them
+  pub none_changed : (count : ℕ) → ((cell : ℕ) → cell < count → HasChanged before after cell → ⊥) → QueuesReaders network visible (IsChangedBelow count) old old
+  none_changed count stay = record {
     flags = refl;
     stay = λ n flag. flag;
-    readers = λ cell n one reader seen. absurd (omega (arith, one.0));
+    readers = λ cell n one reader seen. absurd (stay cell one.0 one.1);
     others = λ n flag. inl flag;
   }
+
+  -- at first no cell was looked at
+  pub none_queued : QueuesReaders network visible (IsChangedBelow 0) old old
+  none_queued = none_changed 0 (λ cell below has. absurd (omega (arith, below)))
 
   module _ (now : List Bool) (cell : ℕ) (so_far : QueuesReaders network visible (IsChangedBelow cell) old now) where
     -- a cell that has not changed is passed over

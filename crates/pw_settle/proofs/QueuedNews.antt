@@ -1,9 +1,9 @@
 -- The agenda while what came since an earlier settling is taken in: the readers of the cells are queued
 -- of which more is known than was found then.
-use Rattle.std.proofs.Common.{◌≡◌, ◌≢◌, ◌⊎◌, ℕ, ◌+◌, ◌<◌, ◌≤◌, Bool, true, false, eqb, List, length, get_or, refl, sym, ap, ◌∙◌, subst, arith, inl, inr}
+use Rattle.std.proofs.Common.{◌≡◌, ◌≢◌, ◌⊎◌, ℕ, ◌+◌, ◌<◌, ◌≤◌, Bool, true, false, eqb, List, length, get_or, take, refl, sym, ap, ◌∙◌, subst, arith, inl, inr}
 use Rattle.std.specs.Prelude.{◌↔◌, IsTrue, nat_lt, slice_index_or}
 use Rattle.std.proofs.lemmas.Bool.{cases_Bool, eqb-false, eqb-true, ltb-false, ltb-true}
-use Rattle.std.proofs.lemmas.List.{get_or_default, get_or_past}
+use Rattle.std.proofs.lemmas.List.{get_or-take, get_or_default, get_or_past}
 use Rattle.pw_kinds.proofs.Order.{not_both}
 use Rattle.pw_info.specs.declared.kind.Kind.{Kind}
 use Rattle.pw_info.specs.declared.kind.Kind.TheVariants as kinds
@@ -11,16 +11,20 @@ use Rattle.pw_info.specs.declared.info.Info.{Info}
 use Rattle.pw_info.specs.Information.{allows, kind_of, nothing, Implies, IsNothing}
 use Rattle.pw_info.proofs.Informations.{Implies-antisym, implies_nothing, is_nothing-nothing, kind-closest, nothing_is}
 use Rattle.pw_premises.specs.Premises.{Premises}
+use Rattle.pw_facts.specs.declared.fact.Fact.{Fact}
 use Rattle.pw_facts.proofs.Shown.{implies_same}
 use Rattle.pw_cells.specs.declared.arrival.Arrival.{Arrival}
 use Rattle.pw_cells.specs.Arrivals.{IsKept}
-use Rattle.pw_cells.specs.Cells.{Store}
+use Rattle.pw_cells.specs.Cells.{Store, IsUnsaid, kind_in_store}
 use Rattle.pw_network.specs.Network.{Network}
 use Rattle.pw_settle.specs.Settled.{Settled, info_at}
 use Rattle.pw_settle.specs.inside.Due.{HasChanged, QueuesReaders, found_of}
+use Rattle.pw_settle.specs.inside.Known.{TakesIn}
 use Rattle.pw_settle.specs.Sound.{LiesUpstream, RestsUpstream}
 use Rattle.pw_settle.specs.inside.Since.{IsKnown, IsNewHere, QueuesChanged}
-use Rattle.pw_settle.proofs.CameSince.{AreTakenIn, cell_known, kind_known, taken_known, taken_new}
+use Rattle.pw_settle.proofs.CameSince.{AreTakenIn, taken_known, taken_new}
+use Rattle.pw_settle.proofs.KnownParts.{AreParts}
+use Rattle.pw_settle.proofs.NewInstances.{none_changed}
 use Rattle.pw_settle.proofs.TakenNews.{info_elsewhere, more_known, news_known}
 
 -- ---- cells that came since
@@ -54,77 +58,91 @@ module _ (before now : List Info) (cell : ℕ) (item : Info) (is : item ≡ get_
       something_changed before now cell past
       (λ none. not_both flag (says.1 (subst IsNothing (sym (item_read ∙ none)) (is_nothing-nothing (kind_of (info_at now cell))))) clear)
 
+-- of the first cells of a list, the list says the same
+pub first_unchanged : (now : List Info) (first cell : ℕ) → first ≤ length now → cell < first → HasChanged (take first now) now cell → ⊥
+first_unchanged now first cell within below has =
+    has (implies_same (found_of (take first now) now cell) (info_at now cell)
+    (get_or-take first now cell (nothing (kind_of (info_at now cell))) below
+    ∙ get_or_default now cell (nothing (kind_of (info_at now cell))) (nothing kinds.Interval) (omega (arith, below, within))))
+
+-- so at first, where what is known is what was found, no cell has changed
+pub none_at_first : (network : Network) (visible : List Bool) (infos : List Info) (queued : List Bool) → QueuesChanged network visible infos infos queued queued
+none_at_first network visible infos queued =
+    none_changed network visible queued infos infos (length infos)
+    (λ cell below has. has (implies_same (found_of infos infos cell) (info_at infos cell)
+    (get_or_default infos cell (nothing (kind_of (info_at infos cell))) (nothing kinds.Interval) below)))
+
 -- ---- one fact more
 
-module _ (network : Network) (visible first queued new_queued : List Bool)
-    (store : Store) (before : Settled) (list : List Arrival) (back : ℕ) (infos : List Info) (supports : List Premises)
-    (taken : AreTakenIn store before list back infos supports) (place : ℕ) (here : place + back + 1 ≡ length list) (a : Arrival)
-    (is : (d : Arrival) → get_or list place d ≡ a) (kept : IsKept store a)
-    (new_infos : List Info) (new_supports : List Premises) (news : IsNewHere a.cell a.fact before.worldview infos new_infos supports new_supports)
-    (taken_now : AreTakenIn store before list (back + 1) new_infos new_supports) where
-  there : a.cell < length infos
-  there = cell_known store before list back infos supports taken place here a is kept
+module _ (network : Network) (visible first queued new_queued : List Bool) (store : Store) (w : Premises) (found infos : List Info) (supports : List Premises)
+    (parts : AreParts store w infos supports) (more : (c : ℕ) → c < length found → Implies (info_at infos c) (info_at found c))
+    (cell : ℕ) (there : cell < length store.cells) (fact : Fact) (kind : kind_of fact.info ≡ kind_in_store store cell)
+    (unsaid : IsUnsaid (info_at infos cell) fact.info)
+    (new_infos : List Info) (new_supports : List Premises) (takes : TakesIn cell fact infos new_infos supports new_supports)
+    (parts_now : AreParts store w new_infos new_supports) where
+  listed : cell < length infos
+  listed = omega (arith, there, parts.many)
 
-  alike : kind_of (info_at infos a.cell) ≡ kind_of a.fact.info
-  alike = sym (kind_known store before list back infos supports taken place here a is kept)
+  alike : kind_of (info_at infos cell) ≡ kind_of fact.info
+  alike = (parts.each cell there).kind ∙ sym kind
 
   no_less : (c : ℕ) → Implies (info_at new_infos c) (info_at infos c)
-  no_less = more_known a.cell a.fact infos new_infos supports new_supports news.taken there alike
+  no_less = more_known cell fact infos new_infos supports new_supports takes listed alike
 
   -- what was found is of the kind of the cell then and now
-  same_found : (c : ℕ) → c < length store.cells → found_of before.infos new_infos c ≡ found_of before.infos infos c
+  same_found : (c : ℕ) → c < length store.cells → found_of found new_infos c ≡ found_of found infos c
   same_found c below =
-      ap (λ (k : Kind). slice_index_or before.infos c (nothing k)) ((taken_now.each c below).kind ∙ sym (taken.each c below).kind)
+      ap (λ (k : Kind). slice_index_or found c (nothing k)) ((parts_now.each c below).kind ∙ sym (parts.each c below).kind)
 
   -- what had changed has
-  still_changed : (c : ℕ) → c < length store.cells → HasChanged before.infos infos c → HasChanged before.infos new_infos c
+  still_changed : (c : ℕ) → c < length store.cells → HasChanged found infos c → HasChanged found new_infos c
   still_changed c below has implies =
       has (λ u possible. no_less c u (implies u (subst (λ (i : Info). allows i u ≡ true) (sym (same_found c below)) possible)))
 
   -- no other cell changes
-  changed_elsewhere : (c : ℕ) → c ≢ a.cell → HasChanged before.infos new_infos c → HasChanged before.infos infos c
+  changed_elsewhere : (c : ℕ) → c ≢ cell → HasChanged found new_infos c → HasChanged found infos c
   changed_elsewhere c other has =
-      subst (λ (i : Info). Implies (slice_index_or before.infos c (nothing (kind_of i))) i → ⊥)
-      (info_elsewhere a.cell a.fact infos new_infos supports new_supports news.taken c other) has
+      subst (λ (i : Info). Implies (slice_index_or found c (nothing (kind_of i))) i → ⊥)
+      (info_elsewhere cell fact infos new_infos supports new_supports takes c other) has
 
   -- what is known says what was found
-  says_found : Implies (info_at infos a.cell) (found_of before.infos infos a.cell)
+  says_found : Implies (info_at infos cell) (found_of found infos cell)
   says_found =
-      elim (cases_Bool (nat_lt a.cell (length before.infos))) [
+      elim (cases_Bool (nat_lt cell (length found))) [
         | inl is_below ↦
-            let below = ltb-true a.cell (length before.infos) is_below in
-            subst (Implies (info_at infos a.cell))
-            (get_or_default before.infos a.cell (nothing kinds.Interval) (nothing (kind_of (info_at infos a.cell))) below) (taken.more a.cell below)
+            let below = ltb-true cell (length found) is_below in
+            subst (Implies (info_at infos cell))
+            (get_or_default found cell (nothing kinds.Interval) (nothing (kind_of (info_at infos cell))) below) (more cell below)
         | inr not ↦
-            subst (Implies (info_at infos a.cell))
-            (sym (get_or_past before.infos a.cell (nothing (kind_of (info_at infos a.cell))) (ltb-false a.cell (length before.infos) not)))
-            (implies_nothing (info_at infos a.cell) (kind_of (info_at infos a.cell)) refl)
+            subst (Implies (info_at infos cell))
+            (sym (get_or_past found cell (nothing (kind_of (info_at infos cell))) (ltb-false cell (length found) not)))
+            (implies_nothing (info_at infos cell) (kind_of (info_at infos cell)) refl)
       ]
 
   -- this one has changed
-  changed_here : HasChanged before.infos new_infos a.cell
+  changed_here : HasChanged found new_infos cell
   changed_here implies =
-      news.unsaid (λ u possible. news_known a.cell a.fact infos new_infos supports new_supports news.taken there alike u
-      (implies u (subst (λ (i : Info). allows i u ≡ true) (sym (same_found a.cell kept.there)) (says_found u possible))))
+      unsaid (λ u possible. news_known cell fact infos new_infos supports new_supports takes listed alike u
+      (implies u (subst (λ (i : Info). allows i u ≡ true) (sym (same_found cell there)) (says_found u possible))))
 
-  pub queued_more : QueuesChanged network visible before.infos infos first queued → QueuesReaders network visible (λ c. c ≡ a.cell) queued new_queued →
-      QueuesChanged network visible before.infos new_infos first new_queued
+  pub queued_more : QueuesChanged network visible found infos first queued → QueuesReaders network visible (λ c. c ≡ cell) queued new_queued →
+      QueuesChanged network visible found new_infos first new_queued
   queued_more so_far queues = record {
     flags = queues.flags ∙ so_far.flags;
     stay = λ n flag. queues.stay n (so_far.stay n flag);
-    readers = λ c n one reader seen. elim (cases_Bool (eqb c a.cell)) [
-      | inl same ↦ queues.readers c n (eqb-true c a.cell same) reader seen
+    readers = λ c n one reader seen. elim (cases_Bool (eqb c cell)) [
+      | inl same ↦ queues.readers c n (eqb-true c cell same) reader seen
       | inr other ↦
-          queues.stay n (so_far.readers c n (omega (arith, one.0, taken.many, taken_now.many), changed_elsewhere c (eqb-false c a.cell other) one.1) reader seen)
+          queues.stay n (so_far.readers c n (omega (arith, one.0, parts.many, parts_now.many), changed_elsewhere c (eqb-false c cell other) one.1) reader seen)
     ];
     others = λ n flag. elim (queues.others n flag) [
       | inl was ↦ elim (so_far.others n was) [
         | inl at_first ↦ inl at_first
         | inr (seen, (c, one, reader)) ↦
-            inr (seen, (c, (omega (arith, one.0, taken.many, taken_now.many), still_changed c (omega (arith, one.0, taken.many)) one.1), reader))
+            inr (seen, (c, (omega (arith, one.0, parts.many, parts_now.many), still_changed c (omega (arith, one.0, parts.many)) one.1), reader))
       ]
       | inr (seen, (c, same, reader)) ↦
-          inr (seen, (c, (omega (arith, same, kept.there, taken_now.many), subst (HasChanged before.infos new_infos) (sym same) changed_here), reader))
+          inr (seen, (c, (omega (arith, same, there, parts_now.many), subst (HasChanged found new_infos) (sym same) changed_here), reader))
     ];
   }
 
@@ -157,6 +175,6 @@ one_taken network visible store before list back infos supports taken place here
     record {
       taken = now;
       flags = readers.flags;
-      queues = λ first so_far. queued_more network visible first queued new_queued store before list back infos supports taken place here a is kept
-          new_infos new_supports news now so_far readers;
+      queues = λ first so_far. queued_more network visible first queued new_queued store before.worldview before.infos infos supports taken.parts taken.more
+          a.cell kept.there a.fact kept.kind news.unsaid new_infos new_supports news.taken now.parts so_far readers;
     }

@@ -1,8 +1,8 @@
 -- What is kept of the cells that came since an earlier settling is read, one cell after another.
-use Rattle.std.proofs.Common.{◌≡◌, ℕ, ◌+◌, ◌<◌, ◌≤◌, eqb, List, [], ◌∷◌, length, refl, sym, ap, ◌∙◌, subst, arith, inl, inr, length-append}
+use Rattle.std.proofs.Common.{◌≡◌, ℕ, ◌+◌, ◌<◌, ◌≤◌, ◌++◌, eqb, List, [], ◌∷◌, length, refl, sym, ap, ◌∙◌, subst, arith, inl, inr, length-append}
 use Rattle.std.specs.FinSet.{empty}
 use Rattle.std.proofs.lemmas.Bool.{cases_Bool, eqb-false, eqb-true}
-use Rattle.std.proofs.lemmas.List.{get_or_append_left, get_or_push}
+use Rattle.std.proofs.lemmas.List.{append_assoc, get_or_append_left, get_or_push}
 use Rattle.pw_info.specs.declared.kind.Kind.TheVariants as kinds
 use Rattle.pw_info.specs.declared.info.Info.{Info}
 use Rattle.pw_info.specs.Information.{nothing}
@@ -11,7 +11,16 @@ use Rattle.pw_cells.specs.Cells.{Store, fact_on}
 use Rattle.pw_cells.specs.Shown.{IsKeptIn}
 use Rattle.pw_settle.specs.Settled.{info_at, support_at}
 use Rattle.pw_settle.specs.inside.Known.{ListsOneMore}
-use Rattle.pw_settle.specs.inside.Since.{AreReadTo}
+use Rattle.pw_settle.specs.inside.Since.{AreReadTo, BeginsWith}
+
+-- what begins with a list that begins so begins so too
+pub begins_still : {A : Type 0} (first list longer : List A) → BeginsWith first list → BeginsWith list longer → BeginsWith first longer
+begins_still first list longer begins more =
+    (begins.0 ++ more.0, more.1 ∙ ap (λ l. l ++ more.0) begins.1 ∙ append_assoc first begins.0 more.0)
+
+-- so does one with one item more
+pub begins_more : {A : Type 0} (first list : List A) (item : A) (longer : List A) → BeginsWith first list → longer ≡ list ++ item ∷ [] → BeginsWith first longer
+begins_more first list item longer begins is = begins_still first list longer begins (item ∷ [], is)
 
 module _ (store : Store) (w : Premises) (first : List Info) (first_supports : List Premises) where
   -- at first none was read

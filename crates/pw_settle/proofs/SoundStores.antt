@@ -157,7 +157,7 @@ sound_told network well old new cell fact same kind gained gains others still so
 -- ---- what is kept rests on premises upstream
 
 -- premises that lie upstream do so if more is attached and more was given
-lie_still : (network wider : Network) → IsWider network wider → (given more : ℕ → ℕ → Bool) → ((c p : ℕ) → given c p ≡ true → more c p ≡ true) →
+pub lie_still : (network wider : Network) → IsWider network wider → (given more : ℕ → ℕ → Bool) → ((c p : ℕ) → given c p ≡ true → more c p ≡ true) →
     (cell : ℕ) (premises : Premises) → LiesUpstream network given cell premises → LiesUpstream wider more cell premises
 lie_still network wider wide given more all cell premises lies cells upstream has p one =
     elim (lies cells

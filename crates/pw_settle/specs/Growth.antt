@@ -1,6 +1,6 @@
 -- How a store and a network grow, and what it is for the values of an earlier settling to fit what
 -- is there now.
-use Rattle.std.specs.Prelude.{◌≡◌, ℕ, ◌<◌, ◌≤◌, true, length, slice_index_or, Bool, List, ◌++◌}
+use Rattle.std.specs.Prelude.{◌≡◌, ℕ, ◌<◌, ◌≤◌, true, false, length, slice_index_or, Bool, List, ◌++◌}
 use Rattle.pw_info.specs.Information.{kind_of, nothing, Implies}
 use Rattle.pw_info.specs.declared.info.Info.{Info}
 use Rattle.std.specs.FinSet.{is_subset}
@@ -8,7 +8,7 @@ use Rattle.pw_facts.specs.Facts.{IsLeastAbove}
 use Rattle.pw_cells.specs.Arrivals.{Continues, IsAccounted}
 use Rattle.pw_cells.specs.Cells.{Store, kept_in, kinds_of, told_in}
 use Rattle.pw_network.specs.Network.{Attached, Network, cells_in}
-use Rattle.pw_settle.specs.Calls.{is_instance_visible}
+use Rattle.pw_settle.specs.Calls.{is_instance_visible, visible_at}
 use Rattle.pw_settle.specs.Values.{IsSatisfied, attached_no, kinds_in, numbered, value_in}
 use Rattle.pw_settle.specs.Settled.{Settled, info_at, support_at, IsSettled}
 use Rattle.pw_premises.specs.Premises.{Premises}
@@ -45,6 +45,23 @@ pub record CanContinue (store : Store) (settled : Settled) : Type 0 where
       (info_at settled.infos cell)
   pub accounted : IsAccounted store settled.mark settled.worldview (length settled.infos)
       (info_at settled.infos)
+
+-- nothing is new to the settled values: they say what is kept in their worldview, and no instance came
+-- since that is visible there
+pub record IsUpToDate (network : Network) (store : Store) (settled : Settled) : Type 0 where
+  pub said : (cell : ℕ) → kept_in store cell settled.worldview ≡ said_of network settled cell
+  pub none_newer : (number : ℕ) → settled.instances ≤ number →
+      visible_at network settled.worldview number ≡ false
+
+-- a settling that continued from earlier values was refused: they still fit, and a settling can still
+-- continue from them. If nothing was new to them, they are unchanged
+pub record IsInterrupted (network : Network) (old new : Store) (before values : Settled) : Type 0
+  where
+    pub worldview : values.worldview ≡ before.worldview
+    pub cells : length before.infos ≤ length values.infos
+    pub fits : IsFitting network new values
+    pub continues : CanContinue new values
+    pub unchanged : IsUpToDate network old before → values ≡ before
 
 -- the premises of the settled values lie upstream, if what was kept rested only on premises upstream
 abbrev pub RestOnUpstream : Network → Store → Settled → Type 0

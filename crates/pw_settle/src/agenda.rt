@@ -1,7 +1,8 @@
 //! The instances that wait to be called.
 ghost use Rattle.std.specs.Prelude.{◌≡◌, ◌≤◌, ◌<◌, ◌++◌, ◌∷◌, [], false, true, drop, length};
-ghost use Rattle.std.specs.Prelude.{IfNone, IfOk, IfSome, replicate, slice_set, vec_capacity, ℕ};
-ghost use Rattle.pw_settle.specs.inside.Progress.{is_set};
+ghost use Rattle.std.specs.Prelude.{IfNone, IfOk, IfSome, OnOk, replicate, slice_set};
+ghost use Rattle.std.specs.Prelude.{vec_capacity, ℕ};
+ghost use Rattle.pw_settle.specs.inside.Progress.{IsIdle, is_set};
 
 use std::alloc::{AllocError, Allocator, Global};
 use std::marker::Model;
@@ -15,7 +16,7 @@ use std::mem::swap;
 #[derive(Drop)]
 pub(crate) struct Agenda<A: Allocator = Global> {
     queued: Vec<bool, A>,
-    // The instances of this turn, of which so many were taken.
+    // The instances of this turn, and how many of them were taken.
     turn: Vec<u32, A>,
     taken: usize,
     // Those of the next one.
@@ -52,6 +53,33 @@ impl<A: Allocator + Copy> Agenda<A> {
         })
     }
 
+    // An agenda for no instances, which takes no memory.
+    pub(crate) fn without_room(alloc: A) -> Agenda<A>
+        ensures { result ≡ [] }
+    {
+        Agenda {
+            queued: Vec::new(alloc),
+            turn: Vec::new(alloc),
+            taken: 0,
+            next: Vec::new(alloc),
+        }
+    }
+
+    // From now on it is an empty agenda for `count` instances, with room for all of them. Fails only
+    // when out of memory, as `new` does.
+    pub(crate) fn fit(&mut self, count: usize) -> Result<(), AllocError>
+        ensures idle { OnOk result (IsIdle self.new) }
+        ensures many { OnOk result (length self.new ≡ count) }
+    {
+        if count > u32::MAX as usize {
+            return Err(AllocError);
+        }
+        self.clear();
+        self.turn.reserve(count)?;
+        self.next.reserve(count)?;
+        self.queued.resize(count, false)
+    }
+
     // Queues an instance, unless it is queued already.
     #[inline(always)]
     pub(crate) fn add(&mut self, number: usize)
@@ -76,6 +104,20 @@ impl<A: Allocator + Copy> Agenda<A> {
         let number = first as usize;
         self.queued[number] = false;
         Some(number)
+    }
+
+    // No instance is queued any more.
+    fn clear(&mut self)
+        ensures idle { IsIdle self.new }
+        ensures many { length self.new ≡ length self.old }
+    {
+        if self.taken < self.turn.len() || !self.next.is_empty() {
+            // A settling was refused while instances waited.
+            self.queued.fill(false);
+        }
+        self.turn.clear();
+        self.taken = 0;
+        self.next.clear();
     }
 }
 

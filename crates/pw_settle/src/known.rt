@@ -1,13 +1,14 @@
 //! The kept information about each cell in a worldview, as a settling has it at hand.
 ghost use Rattle.std.specs.Prelude.{◌≡◌, ◌<◌, All, IfOk, IfSome, OnOk, OnErr, length};
 ghost use Rattle.pw_info.specs.Information.{kind_of};
-ghost use Rattle.pw_cells.specs.Cells.{IsUnsaid, fact_on, kind_in_store};
+ghost use Rattle.pw_cells.specs.Cells.{IsUnsaid, fact_on, kept_in, kind_in_store};
 ghost use Rattle.pw_network.specs.inside.Held.{attachment};
 ghost use Rattle.pw_network.specs.Network.{Network as Networks};
 ghost use Rattle.pw_cells.specs.Shown.{IsKeptIn};
 ghost use Rattle.pw_settle.specs.inside.Known.{AreKept, ListsOneMore, SaysTold, TakesIn, joined};
 ghost use Rattle.pw_settle.specs.Settled.{info_at};
 ghost use Rattle.pw_settle.specs.inside.Known.{ReadsUpstream, TakesInKept, news_on};
+ghost use Rattle.pw_settle.specs.inside.Since.{BeginsWith};
 
 use crate::support_list::SupportList;
 use pw_cells::CellStore;
@@ -60,6 +61,8 @@ pub(crate) fn push_kept<A: Allocator + Copy>(
     ensures kept { OnOk result (ListsOneMore (λ info support.
         IsKeptIn store.old cell worldview.now (fact_on info support)) infos.old.items
         infos.new.items supports.old supports.new) }
+    ensures infos { OnErr result (BeginsWith infos.old.items infos.new.items) }
+    ensures supports { OnErr result (supports.new ≡ supports.old) }
 {
     if let Some(fact) = store.kept_narrow(cell, worldview) {
         infos.push(fact.info)?;
@@ -83,6 +86,8 @@ fn push_wide_kept<A: Allocator + Copy>(
     ensures kept { OnOk result (ListsOneMore (λ info support.
         IsKeptIn store.old cell worldview.now (fact_on info support)) infos.old.items
         infos.new.items supports.old supports.new) }
+    ensures infos { OnErr result (BeginsWith infos.old.items infos.new.items) }
+    ensures supports { OnErr result (supports.new ≡ supports.old) }
 {
     let fact = store.kept(cell, worldview);
     infos.push(fact.info)?;
@@ -236,7 +241,7 @@ pub(crate) fn take_in<A: Allocator + Copy>(
 }
 
 // Merges what is kept of a cell in a worldview into what is known about it, if that is news, and
-// answers whether it was. If memory is refused, nothing changes.
+// answers whether it was. If memory is refused, it is news, and nothing changes.
 #[inline(always)]
 pub(crate) fn take_in_kept<A: Allocator + Copy>(
     store: &mut CellStore<A>,
@@ -252,6 +257,10 @@ pub(crate) fn take_in_kept<A: Allocator + Copy>(
     ensures unchanged { store.new ≡ store.old }
     ensures taken { IfOk result (λ is_news. TakesInKept store.old cell worldview.now is_news
         infos.old infos.new supports.old supports.new) }
+    ensures infos { OnErr result (infos.new ≡ infos.old) }
+    ensures supports { OnErr result (supports.new ≡ supports.old) }
+    ensures unsaid { OnErr result (IsUnsaid (info_at infos.old cell)
+        (kept_in store.old cell worldview.now)) }
 {
     if let Some(fact) = store.kept_narrow(cell, worldview) {
         if infos[cell as usize].implies(&fact.info) {
@@ -279,6 +288,10 @@ fn take_in_wide_kept<A: Allocator + Copy>(
     ensures unchanged { store.new ≡ store.old }
     ensures taken { IfOk result (λ is_news. TakesInKept store.old cell worldview.now is_news
         infos.old infos.new supports.old supports.new) }
+    ensures infos { OnErr result (infos.new ≡ infos.old) }
+    ensures supports { OnErr result (supports.new ≡ supports.old) }
+    ensures unsaid { OnErr result (IsUnsaid (info_at infos.old cell)
+        (kept_in store.old cell worldview.now)) }
 {
     let fact = store.kept(cell, worldview);
     if infos[cell as usize].implies(&fact.info) {

@@ -12,9 +12,11 @@ mod settled;
 mod settling;
 mod settling_aside;
 mod support_list;
+mod workspace;
 
 pub use resettling::{resettle, resettle_from};
 pub use resettling_since::resettle_since;
 pub use settled::Settled;
 pub use settling::settle;
 pub use settling_aside::{settle_aside, value_aside};
+pub use workspace::Workspace;

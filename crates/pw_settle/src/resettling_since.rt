@@ -1,27 +1,29 @@
 //! Settling that continues from the values of an earlier settling in the same worldview, with what
 //! came to be kept since.
-ghost use Rattle.std.specs.Prelude.{◌≡◌, ◌⊎◌, ◌<◌, ◌≤◌, ◌&&◌, ℕ, Bool, List, IfOk, OnOk};
-ghost use Rattle.std.specs.Prelude.{IsTrue, not, nat_lt, length, map, false};
+ghost use Rattle.std.specs.Prelude.{◌≡◌, ◌⊎◌, ◌<◌, ◌≤◌, ◌&&◌, ℕ, OnErr, OnOk, IsTrue};
+ghost use Rattle.std.specs.Prelude.{not, nat_lt, length, map, take};
 ghost use Rattle.pw_info.specs.Information.{kind_of};
-ghost use Rattle.pw_cells.specs.Cells.{kind_in_store, kinds_of};
+ghost use Rattle.pw_cells.specs.Cells.{IsUnsaid, kept_in, kind_in_store, kinds_of};
 ghost use Rattle.pw_network.specs.Network.{Network as Networks, cells_in};
 ghost use Rattle.pw_network.specs.Wiring.{wiring};
 ghost use Rattle.pw_settle.specs.Calls.{is_instance_visible, visible_at};
-ghost use Rattle.pw_settle.specs.Growth.{CanContinue, HasValues, IsFitting, KeepsIfSound, KeepsMore};
-ghost use Rattle.pw_settle.specs.Growth.{RestOnUpstreamAfter, StaysUpstreamAfter};
+ghost use Rattle.pw_settle.specs.Growth.{CanContinue, HasValues, IsFitting, IsInterrupted};
+ghost use Rattle.pw_settle.specs.Growth.{KeepsIfSound, KeepsMore, RestOnUpstreamAfter};
+ghost use Rattle.pw_settle.specs.Growth.{StaysUpstreamAfter};
 ghost use Rattle.pw_settle.specs.Settled.{info_at};
 ghost use Rattle.pw_settle.specs.Values.{kinds_in};
-ghost use Rattle.pw_settle.specs.inside.Due.{AreDue, CallsWhatIsDue, QueuesReaders};
-ghost use Rattle.pw_settle.specs.inside.Known.{AreKept, SaysTold};
-ghost use Rattle.pw_settle.specs.inside.Progress.{is_set};
-ghost use Rattle.pw_settle.specs.inside.Since.{AreReadTo, IsKnown, IsNewHere, LieUpstreamAfter};
-ghost use Rattle.pw_settle.specs.inside.Since.{KnowsWhatCame, QueuesChanged};
+ghost use Rattle.pw_settle.specs.inside.Due.{CallsWhatIsDue, QueuesReaders};
+ghost use Rattle.pw_settle.specs.inside.Known.{AreKept};
+ghost use Rattle.pw_settle.specs.inside.Progress.{IsIdle, is_set};
+ghost use Rattle.pw_settle.specs.inside.Since.{AreReadTo, BeginsWith, IsAtHand, IsBehind};
+ghost use Rattle.pw_settle.specs.inside.Since.{IsKnown, IsNewHere, IsReadAgain, KnowsWhatCame};
+ghost use Rattle.pw_settle.specs.inside.Since.{LieUpstreamAfter, QueuesChanged};
 
 use crate::agenda::Agenda;
-use crate::known::{Known, push_kept, take_in_narrow};
-use crate::resettling::resettle_from;
+use crate::known::{Known, push_kept, take_in_kept, take_in_narrow};
 use crate::settled::Settled;
-use crate::settling::{queue_visible_readers, settle_from};
+use crate::settling::{queue_visible_readers, work};
+use crate::workspace::Workspace;
 use pw_cells::{Arrival, CellStore};
 use pw_info::Info;
 use pw_network::Network;
@@ -36,7 +38,7 @@ fn queue_new_instances<A: Allocator + Copy>(
     agenda: &mut Agenda<A>,
 )
     requires flags { length agenda.old ≡ length (wiring network.now).attached }
-    requires none { (number : ℕ) → is_set agenda.old number ≡ false }
+    requires idle { IsIdle agenda.old }
     ensures flags { length agenda.new ≡ length (wiring network.now).attached }
     ensures new { (number : ℕ) → is_set agenda.new number
         ≡ (visible_at (wiring network.now) worldview.now number && not (nat_lt number first)) }
@@ -49,8 +51,9 @@ fn queue_new_instances<A: Allocator + Copy>(
     }
 }
 
-// Appends what is kept of the cells that came since. Fails only when out of memory.
-fn read_new_cells<A: Allocator + Copy>(
+// Appends what is kept of the cells that came since. Fails only when out of memory; then some of it
+// is appended.
+fn push_new_cells<A: Allocator + Copy>(
     store: &mut CellStore<A>,
     worldview: &PremiseSet,
     known: &mut Known<A>,
@@ -60,6 +63,8 @@ fn read_new_cells<A: Allocator + Copy>(
     ensures unchanged { store.new ≡ store.old }
     ensures read { OnOk result (AreReadTo store.old worldview.now (length store.old.cells)
         known.old.infos.items known.new.infos.items known.old.supports known.new.supports) }
+    ensures first { OnErr result (BeginsWith known.old.infos.items known.new.infos.items
+        × BeginsWith known.old.supports known.new.supports) }
 {
     let cells = store.cells();
     let first = known.infos.len() as u32;
@@ -75,27 +80,47 @@ fn read_new_cells<A: Allocator + Copy>(
     Ok(())
 }
 
-// Queues the visible readers of the cells that came since of which something is kept: of the other
-// cells the same is known as was found before.
+// The same. If memory is refused, nothing changes.
+fn read_new_cells<A: Allocator + Copy>(
+    store: &mut CellStore<A>,
+    worldview: &PremiseSet,
+    known: &mut Known<A>,
+) -> Result<(), AllocError>
+    requires cells { length known.old.infos.items ≤ length store.old.cells }
+    requires as_many { length known.old.supports ≡ length known.old.infos.items }
+    ensures unchanged { store.new ≡ store.old }
+    ensures read { OnOk result (AreReadTo store.old worldview.now (length store.old.cells)
+        known.old.infos.items known.new.infos.items known.old.supports known.new.supports) }
+    ensures infos { OnErr result (known.new.infos.items ≡ known.old.infos.items) }
+    ensures supports { OnErr result (known.new.supports ≡ known.old.supports) }
+{
+    let first = known.infos.len();
+    let outcome = push_new_cells(store, worldview, known);
+    if outcome.is_err() {
+        known.infos.truncate(first);
+        known.supports.truncate(first);
+    }
+    outcome
+}
+
+// Queues the visible readers of the cells from a number on of which something is known: of the
+// other cells the same is known as was found before.
 fn queue_new_cells<A: Allocator + Copy>(
     network: &Network<'_, '_, A>,
     worldview: &PremiseSet,
-    before: &[Info],
+    first: usize,
     now: &[Info],
     agenda: &mut Agenda<A>,
 )
     requires flags { length agenda.old ≡ length (wiring network.now).attached }
     requires cells { length now.now ≡ cells_in (wiring network.now) }
-    requires more { length before.now ≤ length now.now }
-    requires same { (cell : ℕ) → cell < length before.now
-        → info_at now.now cell ≡ info_at before.now cell }
+    requires more { first ≤ length now.now }
     ensures { QueuesChanged (wiring network.now) (map (is_instance_visible worldview.now)
-        (wiring network.now).attached) before.now now.now agenda.old
+        (wiring network.now).attached) (take first now.now) now.now agenda.old
         agenda.new }
 {
     let cells = network.cells();
-    let first = before.len() as u32;
-    for cell in first..cells {
+    for cell in first as u32..cells {
         if !now[cell as usize].is_nothing() {
             queue_visible_readers(network, worldview, agenda, cell);
         }
@@ -141,119 +166,202 @@ fn take_in_arrival<A: Allocator + Copy>(
     queue_visible_readers(network, worldview, agenda, cell);
 }
 
-// The same for all that came, the last first: it mostly says the most. Then what is known is what
-// is kept, and the readers of all cells are queued of which more is known than was found before.
+// The same for all that came since a mark, the last first: it mostly says the most.
 fn take_in_arrivals<A: Allocator + Copy>(
     network: &Network<'_, '_, A>,
     store: &CellStore<A>,
-    before: &Settled<A>,
+    worldview: &PremiseSet,
+    mark: u64,
     known: &mut Known<A>,
     agenda: &mut Agenda<A>,
 )
-    requires continues { CanContinue store.now before.now }
-    requires remembers { KnowsWhatCame store.now before.now }
-    requires kinds { (cell : ℕ) → cell < length before.now.infos
-        → kind_of (info_at before.now.infos cell) ≡ kind_in_store store.now cell }
-    requires read { AreReadTo store.now before.now.worldview (length store.now.cells)
-        before.now.infos known.old.infos.items before.now.supports known.old.supports }
+    requires kinds { kinds_of store.now ≡ kinds_in (wiring network.now) }
+    requires known { IsAtHand store.now worldview.now mark known.old.infos.items known.old.supports }
+    requires remembers { KnowsWhatCame store.now mark }
     requires flags { length agenda.old ≡ length (wiring network.now).attached }
-    ensures kept { AreKept store.now before.now.worldview known.new.infos.items known.new.supports }
-    ensures upstream { (network : Networks) → LieUpstreamAfter network store.now before.now
+    ensures kept { AreKept store.now worldview.now known.new.infos.items known.new.supports }
+    ensures upstream { (network : Networks) → LieUpstreamAfter network store.now known.old.supports
         known.new.supports }
-    ensures queued { (first : List Bool)
-        → QueuesChanged (wiring network.now) (map (is_instance_visible before.now.worldview)
-        (wiring network.now).attached) before.now.infos known.old.infos.items first
-        agenda.old
-        → QueuesChanged (wiring network.now) (map (is_instance_visible before.now.worldview)
-        (wiring network.now).attached) before.now.infos known.new.infos.items first
+    ensures queued { QueuesChanged (wiring network.now) (map (is_instance_visible worldview.now)
+        (wiring network.now).attached) known.old.infos.items known.new.infos.items agenda.old
         agenda.new }
 {
-    let Some(arrivals) = store.since(before.mark) else {
+    let Some(arrivals) = store.since(mark) else {
         return;
     };
     for back in 0..arrivals.len() {
         let arrival = &arrivals[arrivals.len() - 1 - back];
-        take_in_arrival(network, &before.worldview, arrival, known, agenda);
+        take_in_arrival(network, worldview, arrival, known, agenda);
     }
 }
 
-// What is kept of the cells, and an agenda of the instances that are due. Fails only when out of
-// memory.
-fn due_since<A: Allocator + Copy>(
-    alloc: A,
-    before: &Settled<A>,
+// Merges what is kept of a cell into what is known about it, and queues its visible readers, if it is
+// news. Fails only when out of memory; then it is news, and nothing changes.
+#[inline(always)]
+fn read_again<A: Allocator + Copy>(
     network: &Network<'_, '_, A>,
     store: &mut CellStore<A>,
-) -> Result<(Known<A>, Agenda<A>), AllocError>
-    requires kinds { kinds_of store.old ≡ kinds_in (wiring network.now) }
-    requires fits { IsFitting (wiring network.now) store.old before.now }
-    requires continues { CanContinue store.old before.now }
-    requires remembers { KnowsWhatCame store.old before.now }
+    worldview: &PremiseSet,
+    known: &mut Known<A>,
+    agenda: &mut Agenda<A>,
+    cell: u32,
+) -> Result<(), AllocError>
+    requires cell { cell < length store.old.cells }
+    requires there { cell < length known.old.infos.items }
+    requires as_many { length known.old.supports ≡ length known.old.infos.items }
+    requires kind { kind_of (info_at known.old.infos.items cell) ≡ kind_in_store store.old cell }
+    requires flags { length agenda.old ≡ length (wiring network.now).attached }
     ensures unchanged { store.new ≡ store.old }
-    ensures kept { IfOk result (λ (known, agenda).
-        AreKept store.old before.now.worldview known.infos.items known.supports) }
-    ensures told { IfOk result (λ (known, agenda). SaysTold store.old before.now.worldview) }
-    ensures upstream { IfOk result (λ (known, agenda).
-        LieUpstreamAfter (wiring network.now) store.old before.now known.supports) }
-    ensures due { IfOk result (λ (known, agenda).
-        AreDue (wiring network.now) store.old before.now.worldview before.now agenda) }
+    ensures read { OnOk result (IsReadAgain (wiring network.now) store.old cell worldview.now
+        known.old.infos.items known.new.infos.items known.old.supports known.new.supports
+        agenda.old agenda.new) }
+    ensures infos { OnErr result (known.new.infos.items ≡ known.old.infos.items) }
+    ensures supports { OnErr result (known.new.supports ≡ known.old.supports) }
+    ensures news { OnErr result (IsUnsaid (info_at known.old.infos.items cell)
+        (kept_in store.old cell worldview.now)) }
 {
-    let mut agenda = Agenda::new(alloc, network.instances().len())?;
-    let mut known = before.known_with_room(alloc, store.cells() as usize)?;
-    read_new_cells(store, &before.worldview, &mut known)?;
-    queue_new_instances(network, &before.worldview, before.instances, &mut agenda);
-    queue_new_cells(
-        network,
-        &before.worldview,
-        &before.known.infos,
-        &known.infos,
-        &mut agenda,
-    );
-    take_in_arrivals(network, store, before, &mut known, &mut agenda);
-    Ok((known, agenda))
+    let is_news = take_in_kept(
+        store,
+        cell,
+        worldview,
+        &mut known.infos,
+        &mut known.supports,
+    )?;
+    if is_news {
+        queue_visible_readers(network, worldview, agenda, cell);
+    }
+    Ok(())
 }
 
-// The store knows what came since, and it is less than reading all cells again would cost.
-fn is_little_new<A: Allocator + Copy>(before: &Settled<A>, store: &CellStore<A>) -> bool
-    ensures { IsTrue result → KnowsWhatCame store.now before.now }
+// The same for all cells. Fails only when out of memory; then what is known is still at hand, and
+// more is kept of a cell than was known before.
+fn read_all_again<A: Allocator + Copy>(
+    network: &Network<'_, '_, A>,
+    store: &mut CellStore<A>,
+    worldview: &PremiseSet,
+    mark: u64,
+    known: &mut Known<A>,
+    agenda: &mut Agenda<A>,
+) -> Result<(), AllocError>
+    requires kinds { kinds_of store.old ≡ kinds_in (wiring network.now) }
+    requires known { IsAtHand store.old worldview.now mark known.old.infos.items known.old.supports }
+    requires flags { length agenda.old ≡ length (wiring network.now).attached }
+    ensures unchanged { store.new ≡ store.old }
+    ensures kept { OnOk result (AreKept store.old worldview.now known.new.infos.items
+        known.new.supports) }
+    ensures upstream { (network : Networks) → LieUpstreamAfter network store.old known.old.supports
+        known.new.supports }
+    ensures queued { OnOk result (QueuesChanged (wiring network.now)
+        (map (is_instance_visible worldview.now) (wiring network.now).attached)
+        known.old.infos.items known.new.infos.items agenda.old agenda.new) }
+    ensures refused { OnErr result (IsAtHand store.old worldview.now mark known.new.infos.items
+        known.new.supports × IsBehind store.old worldview.now known.old.infos.items) }
 {
-    match store.since(before.mark) {
+    for cell in 0..store.cells() {
+        read_again(network, store, worldview, known, agenda, cell)?;
+    }
+    Ok(())
+}
+
+// The store knows what came since the mark, and it is less than reading all cells again would cost.
+fn is_little_new<A: Allocator + Copy>(store: &CellStore<A>, mark: u64) -> bool
+    ensures { IsTrue result → KnowsWhatCame store.now mark }
+{
+    match store.since(mark) {
         Some(arrivals) => arrivals.len() / 4 <= store.cells() as usize,
         None => false,
     }
 }
 
-/// The values in the worldview of the settled values, as `settle` answers them. It continues from
-/// the settled values, with what came to be kept since they were found; what is kept of the other
-/// cells is not read. If the store no longer knows what came, it goes on as `resettle_from` does.
-/// All that `settle` promises holds.
-///
-/// The earlier values stay with the caller, after a failure too.
-///
-/// The instances called at first are only the visible instances that came since, and the readers of
-/// cells of which more is kept now than was found then.
-pub fn resettle_since<A: Allocator + Copy>(
-    alloc: A,
-    before: &Settled<A>,
+// Takes in what came to be kept since the mark, and queues the visible readers of the cells about
+// which it is news. Fails only when out of memory.
+fn take_in_news<A: Allocator + Copy>(
     network: &Network<'_, '_, A>,
     store: &mut CellStore<A>,
-) -> Result<Settled<A>, AllocError>
+    worldview: &PremiseSet,
+    mark: u64,
+    known: &mut Known<A>,
+    agenda: &mut Agenda<A>,
+) -> Result<(), AllocError>
     requires kinds { kinds_of store.old ≡ kinds_in (wiring network.now) }
-    requires fits { IsFitting (wiring network.now) store.old before.now }
-    requires continues { CanContinue store.old before.now }
-    ensures found { IfOk result (HasValues (wiring network.now) store.old store.new
-        before.now.worldview) }
-    ensures kept { OnOk result (KeepsIfSound (wiring network.now) store.old store.new
-        before.now.worldview) }
-    ensures grows { KeepsMore (wiring network.now) store.old store.new }
-    ensures upstream { StaysUpstreamAfter (wiring network.now) before.now store.old store.new }
-    ensures lie { IfOk result (RestOnUpstreamAfter (wiring network.now) before.now store.old) }
-    ensures due { IfOk result (CallsWhatIsDue (wiring network.now) store.old store.new
-        before.now.worldview before.now) }
+    requires known { IsAtHand store.old worldview.now mark known.old.infos.items known.old.supports }
+    requires flags { length agenda.old ≡ length (wiring network.now).attached }
+    ensures unchanged { store.new ≡ store.old }
+    ensures kept { OnOk result (AreKept store.old worldview.now known.new.infos.items
+        known.new.supports) }
+    ensures upstream { (network : Networks) → LieUpstreamAfter network store.old known.old.supports
+        known.new.supports }
+    ensures queued { OnOk result (QueuesChanged (wiring network.now)
+        (map (is_instance_visible worldview.now) (wiring network.now).attached)
+        known.old.infos.items known.new.infos.items agenda.old agenda.new) }
+    ensures refused { OnErr result (IsAtHand store.old worldview.now mark known.new.infos.items
+        known.new.supports × IsBehind store.old worldview.now known.old.infos.items) }
 {
-    if !is_little_new(before, store) {
-        return resettle_from(alloc, before, network, store, &before.worldview);
+    if is_little_new(store, mark) {
+        take_in_arrivals(network, store, worldview, mark, known, agenda);
+        return Ok(());
     }
-    let (known, agenda) = due_since(alloc, before, network, store)?;
-    settle_from(network, store, &before.worldview, known, agenda)
+    read_all_again(network, store, worldview, mark, known, agenda)
+}
+
+/// Settles again in the worldview of the settled values, as `settle` does: they become the values that
+/// hold now. All that `settle` promises holds.
+///
+/// Only what came to be kept since they were found is read, if the store remembers it; otherwise all
+/// cells are. The instances called at first are only the visible instances that came since, and the
+/// readers of cells of which more is kept now than was found then.
+///
+/// The values must fit, and a settling must be able to continue from them. Both hold of what a
+/// settling answered, as long as cells, instances and facts are only added.
+///
+/// Fails only when out of memory. Then both still hold, and if nothing was new to the values, they
+/// are unchanged.
+pub fn resettle_since<A: Allocator + Copy>(
+    values: &mut Settled<A>,
+    workspace: &mut Workspace<A>,
+    network: &Network<'_, '_, A>,
+    store: &mut CellStore<A>,
+) -> Result<(), AllocError>
+    requires kinds { kinds_of store.old ≡ kinds_in (wiring network.now) }
+    requires fits { IsFitting (wiring network.now) store.old values.old }
+    requires continues { CanContinue store.old values.old }
+    ensures found { OnOk result (HasValues (wiring network.now) store.old store.new
+        values.old.worldview values.new) }
+    ensures kept { OnOk result (KeepsIfSound (wiring network.now) store.old store.new
+        values.old.worldview) }
+    ensures grows { KeepsMore (wiring network.now) store.old store.new }
+    ensures upstream { StaysUpstreamAfter (wiring network.now) values.old store.old store.new }
+    ensures lie { RestOnUpstreamAfter (wiring network.now) values.old store.old values.new }
+    ensures due { OnOk result (CallsWhatIsDue (wiring network.now) store.old store.new
+        values.old.worldview values.old values.new) }
+    ensures refused { OnErr result (IsInterrupted (wiring network.now) store.old store.new
+        values.old values.new) }
+{
+    let agenda = &mut workspace.agenda;
+    agenda.fit(network.instances().len())?;
+    let first = values.known.infos.len();
+    read_new_cells(store, &values.worldview, &mut values.known)?;
+    queue_new_instances(network, &values.worldview, values.instances, agenda);
+    queue_new_cells(
+        network,
+        &values.worldview,
+        first,
+        &values.known.infos,
+        agenda,
+    );
+    // Until the end, perhaps no instance is satisfied.
+    values.instances = 0;
+    let mark = values.mark;
+    take_in_news(
+        network,
+        store,
+        &values.worldview,
+        mark,
+        &mut values.known,
+        agenda,
+    )?;
+    values.calls = work(network, store, &values.worldview, &mut values.known, agenda)?;
+    values.instances = network.instances().len();
+    values.mark = store.mark();
+    Ok(())
 }

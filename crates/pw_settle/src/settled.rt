@@ -4,7 +4,7 @@ ghost use Rattle.std.specs.FinSet.{is_subset};
 ghost use Rattle.pw_settle.specs.Settled.{info_at, support_at};
 
 use crate::known::Known;
-use crate::support_list::{copied, copied_with_room};
+use crate::support_list::copied;
 use pw_cells::NarrowFact;
 use pw_facts::Fact;
 use pw_info::Info;
@@ -125,17 +125,6 @@ impl<A: Allocator + Copy> Settled<A> {
         Ok(Known {
             infos: copied(alloc, &self.known.infos)?,
             supports: self.known.supports.copied(alloc)?,
-        })
-    }
-
-    // The values, to go on from, with room for this many cells. Fails only when out of memory.
-    pub(crate) fn known_with_room(&self, alloc: A, cells: usize) -> Result<Known<A>, AllocError>
-        ensures infos { IfOk result (λ known. known.infos.items ≡ self.now.infos) }
-        ensures supports { IfOk result (λ known. known.supports ≡ self.now.supports) }
-    {
-        Ok(Known {
-            infos: copied_with_room(alloc, &self.known.infos, cells)?,
-            supports: self.known.supports.copied_with_room(alloc, cells)?,
         })
     }
 }

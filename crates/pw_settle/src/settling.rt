@@ -8,13 +8,13 @@ ghost use Rattle.pw_network.specs.Wiring.{wiring};
 ghost use Rattle.pw_network.specs.inside.Held.{attachment};
 ghost use Rattle.pw_network.specs.Network.{HaveSupportsByLine};
 ghost use Rattle.pw_network.specs.Readers.{readers_of};
-ghost use Rattle.pw_settle.specs.inside.Progress.{is_set, tally};
+ghost use Rattle.pw_settle.specs.inside.Progress.{IsIdle, is_set, tally};
 ghost use Rattle.pw_settle.specs.Calls.{gains, is_instance_visible, most_calls, reader_count};
 ghost use Rattle.pw_settle.specs.Calls.{visible_at};
 ghost use Rattle.pw_settle.specs.Calls.{visible_count};
 ghost use Rattle.pw_settle.specs.inside.Due.{QueuesReaders};
 ghost use Rattle.pw_settle.specs.Growth.{KeepsMore, RestOnUpstream, StaysUpstream};
-ghost use Rattle.pw_settle.specs.inside.Known.{AreKept, Keeps, SaysTold, TakesIn};
+ghost use Rattle.pw_settle.specs.inside.Known.{AreKept, Keeps, SaysTold, TakesIn, WereKept};
 ghost use Rattle.pw_settle.specs.inside.Known.{news_on};
 ghost use Rattle.pw_settle.specs.Settled.{info_at};
 ghost use Rattle.pw_settle.specs.inside.Progress.{AreOthersSatisfied};
@@ -152,6 +152,7 @@ fn keep_news<A: Allocator + Copy>(
         supports.new) }
     ensures store { OnErr result ((store.new ≡ store.old) ⊎ Keeps cell
         (news_on supports.old (attachment instance.now) info.now) store.old store.new) }
+    ensures infos { OnErr result (infos.new ≡ infos.old) }
     ensures supports { OnErr result (supports.new ≡ supports.old) }
 {
     if let Some(support) = joined_narrow(instance, supports) {
@@ -188,6 +189,7 @@ fn keep_wide_news<A: Allocator + Copy>(
         supports.new) }
     ensures store { OnErr result ((store.new ≡ store.old) ⊎ Keeps cell
         (news_on supports.old (attachment instance.now) info.now) store.old store.new) }
+    ensures infos { OnErr result (infos.new ≡ infos.old) }
     ensures supports { OnErr result (supports.new ≡ supports.old) }
 {
     let support = joined_support(instance, supports);
@@ -224,6 +226,8 @@ fn call<A: Allocator + Copy>(
         store.new known.new.supports }
     ensures kept { OnOk result (AreKept store.new worldview.now known.new.infos.items
         known.new.supports) }
+    ensures infos { OnErr result (known.new.infos.items ≡ known.old.infos.items) }
+    ensures supports { OnErr result (known.new.supports ≡ known.old.supports) }
     ensures flags { length agenda.new ≡ length agenda.old }
     ensures seen { AreQueuedVisible (wiring network.now) worldview.now agenda.new }
     ensures satisfied { OnOk result (AreMet (wiring network.now) store.new worldview.now
@@ -248,8 +252,8 @@ fn call<A: Allocator + Copy>(
 }
 
 // Calls queued instances until none is left, and answers the number of calls. Fails only when out
-// of memory.
-fn work<A: Allocator + Copy>(
+// of memory; then an instance was queued, and what is known was kept at some point.
+pub(crate) fn work<A: Allocator + Copy>(
     network: &Network<'_, '_, A>,
     store: &mut CellStore<A>,
     worldview: &PremiseSet,
@@ -268,7 +272,10 @@ fn work<A: Allocator + Copy>(
         known.new.supports) }
     ensures satisfied { OnOk result (AreMet (wiring network.now) store.new worldview.now
         agenda.new) }
-    ensures done { OnOk result ((n : ℕ) → is_set agenda.new n ≡ false) }
+    ensures between { OnErr result (WereKept (wiring network.now) store.old store.new worldview.now
+        known.new.infos.items known.new.supports) }
+    ensures waited { OnErr result (IsIdle agenda.old → ⊥) }
+    ensures done { OnOk result (IsIdle agenda.new) }
     ensures least { IfOk result (λ calls. tally agenda.old ≤ calls) }
     ensures most { IfOk result (CallsNoMore (wiring network.now) worldview.now store.old agenda.old
         store.new) }

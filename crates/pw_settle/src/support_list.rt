@@ -1,6 +1,6 @@
 //! A list of premises for each cell, in one width or the other.
 
-ghost use Rattle.std.specs.Prelude.{◌≡◌, ◌<◌, ◌++◌, ◌∷◌, [], length, set, IfOk, IfSome, OnOk, OnErr};
+ghost use Rattle.std.specs.Prelude.{◌≡◌, ◌<◌, ◌++◌, ◌∷◌, [], length, set, IfOk, IfSome, OnOk, OnErr, take};
 ghost use Rattle.std.specs.FinSet.{is_subset, union};
 ghost use Rattle.pw_settle.specs.Settled.{support_at};
 
@@ -53,21 +53,6 @@ impl<A: Allocator + Copy> SupportList<A> {
         let lists = match &self.lists {
             Widths::Narrow(list) => Widths::Narrow(copied(alloc, list.as_slice())?),
             Widths::Wide(list) => Widths::Wide(copied(alloc, list.as_slice())?),
-        };
-        Ok(SupportList { lists })
-    }
-
-    // The same premises, with room for this many cells. Fails only when out of memory.
-    pub(crate) fn copied_with_room(
-        &self,
-        alloc: A,
-        room: usize,
-    ) -> Result<SupportList<A>, AllocError>
-        ensures { IfOk result (λ list. list ≡ self.now) }
-    {
-        let lists = match &self.lists {
-            Widths::Narrow(list) => Widths::Narrow(copied_with_room(alloc, list.as_slice(), room)?),
-            Widths::Wide(list) => Widths::Wide(copied_with_room(alloc, list.as_slice(), room)?),
         };
         Ok(SupportList { lists })
     }
@@ -128,6 +113,16 @@ impl<A: Allocator + Copy> SupportList<A> {
 }
 
 impl<A: Allocator> SupportList<A> {
+    // Drops the premises of all but the first cells, as many as this.
+    pub(crate) fn truncate(&mut self, count: usize)
+        ensures { self.new ≡ take count self.old }
+    {
+        match &mut self.lists {
+            Widths::Narrow(list) => list.truncate(count),
+            Widths::Wide(list) => list.truncate(count),
+        }
+    }
+
     // The premises of the cells, if each list takes one word.
     #[inline(always)]
     pub(crate) fn narrow(&self) -> Option<&[NarrowSet]>
@@ -188,19 +183,6 @@ impl<A: Allocator> SupportList<A> {
     }
 }
 
-// The same items, in a list of their own with room for this many. Fails only when out of memory.
-pub(crate) fn copied_with_room<T: Copy, A: Allocator>(
-    alloc: A,
-    items: &[T],
-    room: usize,
-) -> Result<Vec<T, A>, AllocError>
-    ensures { IfOk result (λ copy. copy.items ≡ items.now) }
-{
-    let mut copy = Vec::with_capacity(alloc, room)?;
-    copy.extend_from_slice(items)?;
-    Ok(copy)
-}
-
 // The same items, in a list of their own. Fails only when out of memory.
 pub(crate) fn copied<T: Copy, A: Allocator>(alloc: A, items: &[T]) -> Result<Vec<T, A>, AllocError>
     ensures { IfOk result (λ copy. copy.items ≡ items.now) }
@@ -210,7 +192,7 @@ pub(crate) fn copied<T: Copy, A: Allocator>(alloc: A, items: &[T]) -> Result<Vec
     Ok(copy)
 }
 
-// The same premises, in sets of any premises, with room for so many. Fails only when out of memory.
+// The same premises, in sets of any premises, with room for this many. Fails only when out of memory.
 #[inline(never)]
 fn widened<A: Allocator>(
     alloc: A,

@@ -1,6 +1,7 @@
 -- The conditions that the steps of a command put on a workbench, and their results.
 use Rattle.std.specs.Prelude.{◌≡◌, ◌≢◌, ◌⊎◌, ℕ, ◌+◌, ◌<◌, ◌≤◌, Bool, true, ◌&&◌, List, ◌∷◌, ◌++◌, length}
-use Rattle.std.specs.Prelude.{map, nat_eq, All, Contains, None, Some, false, slice_index_or, slice_set}
+use Rattle.std.specs.Prelude.{map, nat_eq, All, Contains, None, Option, Some, false, position}
+use Rattle.std.specs.Prelude.{remove, slice_index_or, slice_set}
 use Rattle.std.specs.List.{list_any}
 use Rattle.std.specs.FinSet.{is_subset}
 use Rattle.pw_network.specs.Network.{Network}
@@ -15,7 +16,10 @@ use Rattle.pw_decl.specs.Declaration.{Declared}
 use Rattle.pw_decl.specs.Expansion.{inner_kinds_of}
 use Rattle.pw_network.specs.Network.{last_attachment_line}
 use Rattle.pw_network.specs.Network.{Attached, with_attached}
+use Rattle.pw_settle.specs.Calls.{gains}
 use Rattle.pw_settle.specs.Growth.{KeepsMore}
+use Rattle.pw_settle.specs.inside.Due.{AreDue}
+use Rattle.pw_settle.specs.inside.Progress.{tally}
 use Rattle.pw_settle.specs.Sound.{IsSound, LieUpstream, RestsUpstream}
 use Rattle.pw_settle.specs.Values.{kinds_in, value_in}
 use Rattle.pw_reasons.specs.Choice.{IsFirstConsistent}
@@ -30,7 +34,8 @@ use Rattle.pw_sessions.specs.declared.reply.Refusal.TheVariants as refusal
 use Rattle.pw_sessions.specs.Reply.{LineReading, Says}
 use Rattle.pw_sessions.specs.Command.{IsDeclared}
 use Rattle.pw_sessions.specs.Snapshot.{EachBecomes, IsAfterTell, Snapshot, after_entry, snapshot_in}
-use Rattle.pw_sessions.specs.Snapshot.{AllRestUpstream}
+use Rattle.pw_sessions.specs.Freshness.{AreCalls, CallsDueFor, CallsFew, IsFresh, IsSettledFor}
+use Rattle.pw_sessions.specs.Snapshot.{AllRestUpstream, IsCurrent, is_of}
 use Rattle.pw_sessions.specs.Workbench.{Workbench, IsLeftBy, IsSetUpFor, IsCarriedOut, SnapshotsFit}
 use Rattle.pw_sessions.specs.Workbench.{beliefs_in}
 use Rattle.pw_settle.specs.Settled.{Settled}
@@ -164,6 +169,14 @@ pub record OnlySpares (beliefs : List Premises) (old new : List Snapshot) : Type
   pub among : AreAmong new old
   pub stay : (w : Premises) → is_believed beliefs w ≡ true → snapshot_in new w ≡ snapshot_in old w
 
+-- the snapshot at this place is the first one, and of the others some were given up, but none of
+-- these beliefs
+pub record IsBroughtFirst (beliefs : List Premises) (place : ℕ) (old new : List Snapshot) : Type 0
+  where
+    pub left : List Snapshot
+    pub first : (d : Snapshot) → new ≡ slice_index_or old place d ∷ left
+    pub spares : OnlySpares beliefs (remove old place) left
+
 -- these values are the latest snapshot, and current; of the earlier ones some were given up, but
 -- none of another worldview that is one of these beliefs
 pub record IsLatest (beliefs : List Premises) (old : List Snapshot) (values : Settled)
@@ -178,6 +191,36 @@ pub record IsLatest (beliefs : List Premises) (old : List Snapshot) (values : Se
 pub record IsRemembered (old : Workbench) (values : Settled) (new : Workbench) : Type 0 where
   pub latest : IsLatest old.beliefs old.snapshots values new.snapshots
   pub rest : new ≡ record old { snapshots = new.snapshots }
+
+-- the place of the snapshot of what the user believes, if there is one; of several, the first
+abbrev pub place_in : Workbench → ℕ → Option ℕ
+place_in workbench user = position (is_of (beliefs_in workbench user)) workbench.snapshots
+
+-- the number of procedure calls of a settling that continued from earlier values in their worldview:
+-- one for each instance that was due, and at most as many more as the kept information about cells
+-- gained, for each visible reader
+abbrev pub CallsDueAgain : Network → Store → Store → Settled → Settled → Type 0
+CallsDueAgain network old new before values =
+    (due : List Bool) × AreDue network old before.worldview before due
+    × AreCalls (tally due) (gains network old new before.worldview) values.calls
+
+-- a settling of the user was done: the first snapshot has what settles under the user's beliefs, which
+-- is current, and the calls are those of this settling
+pub record HasSettled (old : Workbench) (user : ℕ) (new : Workbench) : Type 0 where
+  pub values : Settled
+  pub earlier : List Snapshot
+  pub latest : new.snapshots ≡ record { values = values; is_current = true } ∷ earlier
+  pub settled : IsSettledFor old user values
+  pub current : IsCurrent new.network new.store values
+  pub due : CallsDueFor old user new
+
+-- a settling of the user ended, done or refused: what the user believes, the network and the nogoods
+-- stay, and a user who was fresh still is
+pub record IsAfterSettling (old : Workbench) (user : ℕ) (new : Workbench) : Type 0 where
+  pub grows : OnlyKeepsMore old user new
+  pub few : CallsFew old user new.calls
+  pub stays : IsFresh old user → IsFresh new user
+  pub same : new ≡ record old { store = new.store; snapshots = new.snapshots; calls = new.calls }
 
 -- an ask of the cell by the user was answered: with what settles in the network under the user's
 -- beliefs; or, if a visible instance writes the cell, with out of memory

@@ -1,40 +1,37 @@
 //! Questions of users: what settles under a user's beliefs, starting from what an earlier question
 //! found in the same worldview, or in one within it.
 ghost use Rattle.std.specs.Prelude.{◌≡◌, ◌<◌, true, length, IfNone, IfOk, IfSome, None};
-ghost use Rattle.std.specs.Prelude.{OnErr, OnOk, Some};
+ghost use Rattle.std.specs.Prelude.{OnErr, OnOk, Some, position};
 ghost use Rattle.pw_cells.specs.Cells.{kinds_of};
 ghost use Rattle.pw_network.specs.Wiring.{wiring};
 ghost use Rattle.pw_premises.specs.Premises.{Premises};
 ghost use Rattle.pw_reasons.specs.Combinations.{groups_of, picked_in};
 ghost use Rattle.pw_reasons.specs.Nogood.{covers};
 ghost use Rattle.pw_settle.specs.Growth.{CanContinue, KeepsMore};
-ghost use Rattle.pw_sessions.specs.inside.Steps.{RestOnUpstreamOf, StaysUpstreamOf};
 ghost use Rattle.pw_settle.specs.Settled.{IsSettled};
 ghost use Rattle.pw_settle.specs.Sound.{IsSound};
 ghost use Rattle.pw_settle.specs.Values.{kinds_in};
-ghost use Rattle.pw_sessions.specs.inside.Fields.{state};
-ghost use Rattle.pw_sessions.specs.Freshness.{CallsDue, CallsDueFor, CallsFew, IsAsked, IsFresh};
-ghost use Rattle.pw_sessions.specs.Reply.{reply_by};
-ghost use Rattle.pw_sessions.specs.Snapshot.{IsCurrent, start_for};
-ghost use Rattle.pw_sessions.specs.Workbench.{SnapshotsFit};
-ghost use Rattle.pw_sessions.specs.inside.Steps.{AllContradict, AreOfPremises, IsChosen};
-ghost use Rattle.pw_sessions.specs.inside.Steps.{AnswersConflicts, AnswersWhy, IsFirstChoice};
-ghost use Rattle.pw_sessions.specs.inside.Steps.{CanAnswer, OnlyKeepsMore, is_written};
-ghost use Rattle.pw_sessions.specs.inside.Steps.{AnswersAskIfLeft, IsRemembered, SeesWriter};
-ghost use Rattle.pw_sessions.specs.Freshness.{CallsNoneAgain, IsSettledFor};
-ghost use Rattle.pw_sessions.specs.Freshness.{value_for};
 ghost use Rattle.pw_sessions.specs.Carrying.{KeepsNogoods};
+ghost use Rattle.pw_sessions.specs.Freshness.{CallsDue, IsAsked};
+ghost use Rattle.pw_sessions.specs.Reply.{reply_by};
+ghost use Rattle.pw_sessions.specs.Snapshot.{IsCurrent, is_of, start_for};
+ghost use Rattle.pw_sessions.specs.Workbench.{SnapshotsFit};
+ghost use Rattle.pw_sessions.specs.inside.Fields.{state};
+ghost use Rattle.pw_sessions.specs.inside.Steps.{AllContradict, AreOfPremises, IsChosen};
+ghost use Rattle.pw_sessions.specs.inside.Steps.{AnswersAskIfLeft, AnswersConflicts, AnswersWhy};
+ghost use Rattle.pw_sessions.specs.inside.Steps.{CanAnswer, HasSettled, IsAfterSettling};
+ghost use Rattle.pw_sessions.specs.inside.Steps.{IsFirstChoice, OnlyKeepsMore, RestOnUpstreamOf};
+ghost use Rattle.pw_sessions.specs.inside.Steps.{SeesWriter, StaysUpstreamOf, is_written, place_in};
 
 use super::Workbench;
 use super::snapshot::Snapshot;
-use super::snapshots::{place_of, place_within, remember};
+use super::snapshots::{bring_first, place_of, place_within, remember};
 use crate::reply::{Refusal, Reply};
 use pw_cells::CellStore;
-use pw_info::Info;
 use pw_network::Network;
 use pw_premises::PremiseSet;
 use pw_reasons::{Groups, Picks, choose, list_conflicts, reason, worldview_with};
-use pw_settle::{Settled, resettle_from, resettle_since, settle};
+use pw_settle::{Settled, resettle_from, settle};
 use std::alloc::{AllocError, Allocator};
 
 // Whether an instance that is visible in the worldview writes the declared cell. It looks at the
@@ -60,9 +57,9 @@ fn is_written_by<A: Allocator + Copy>(
     false
 }
 
-// Settles in a worldview. It continues from the snapshot of this worldview, with what came since, or
-// else goes on from the latest within it, if there is one. Fails only when out of memory.
-fn settle_after<A: Allocator + Copy>(
+// Settles in a worldview of which there is no snapshot. It goes on from the latest snapshot within it,
+// if there is one. Fails only when out of memory.
+fn settle_within<A: Allocator + Copy>(
     alloc: A,
     snapshots: &[Snapshot<A>],
     network: &Network<'_, '_, A>,
@@ -72,22 +69,17 @@ fn settle_after<A: Allocator + Copy>(
     requires kinds { kinds_of store.old ≡ kinds_in (wiring network.now) }
     requires sound { IsSound (wiring network.now) store.old }
     requires fit { SnapshotsFit (wiring network.now) store.old snapshots.now }
+    requires none { position (is_of worldview.now) snapshots.now ≡ None }
     ensures settled { IfOk result (λ settled.
         IsSettled (wiring network.now) store.old worldview.now settled) }
     ensures current { IfOk result (λ settled. IsCurrent (wiring network.now) store.new settled) }
     ensures continues { IfOk result (CanContinue store.new) }
-    ensures none { IfOk result (CallsNoneAgain (wiring network.now) store.old worldview.now
-        snapshots.now) }
     ensures due { IfOk result (λ settled. CallsDue (wiring network.now) store.old store.new
         worldview.now (start_for snapshots.now worldview.now) settled.calls) }
     ensures grows { KeepsMore (wiring network.now) store.old store.new }
     ensures upstream { StaysUpstreamOf (wiring network.now) store.old snapshots.now store.new }
     ensures lie { IfOk result (RestOnUpstreamOf (wiring network.now) store.old snapshots.now) }
 {
-    if let Some(place) = place_of(snapshots, worldview) {
-        let own = &snapshots[place];
-        return resettle_since(alloc, &own.values, network, store);
-    }
     let Some(place) = place_within(snapshots, worldview) else {
         return settle(alloc, network, store, worldview);
     };
@@ -96,62 +88,72 @@ fn settle_after<A: Allocator + Copy>(
 }
 
 impl<'d, 'r, A: Allocator + Copy> Workbench<'d, 'r, A> {
-    // Settles under the beliefs of the user, who must exist. Fails only when out of memory.
-    fn settle_for(&mut self, user: u8) -> Result<Settled<A>, AllocError>
+    // The place of the snapshot of the beliefs of the user, who must exist, if there is one.
+    fn place_for(&self, user: u8) -> Option<usize>
+        requires { user < length (state self.now).beliefs }
+        ensures { result ≡ place_in (state self.now) user }
+    {
+        place_of(&self.snapshots, &self.beliefs[usize::from(user)])
+    }
+
+    // Settles again in the worldview of the snapshot at this place, which becomes the first one. Fails
+    // only when out of memory.
+    fn settle_again(&mut self, user: u8, place: usize) -> Result<(), AllocError>
         requires can { CanAnswer (state self.old) user }
         requires calls { (state self.old).calls ≡ 0 }
-        ensures settled { IfOk result (IsSettledFor (state self.old) user) }
-        ensures current { IfOk result (IsCurrent (state self.new).network (state self.new).store) }
-        ensures continues { IfOk result (CanContinue (state self.new).store) }
-        ensures lie { IfOk result (RestOnUpstreamOf (state self.old).network
-            (state self.old).store (state self.old).snapshots) }
-        ensures calls { CallsFew (state self.old) user (state self.new).calls }
-        ensures due { IfOk result (λ settled.
-            CallsDueFor (state self.old) user (state self.new)) }
+        requires place { place_in (state self.old) user ≡ Some place }
+        ensures settled { OnOk result (HasSettled (state self.old) user (state self.new)) }
+        ensures after { IsAfterSettling (state self.old) user (state self.new) }
         ensures refused { OnErr result ((state self.new).calls ≡ 0) }
-        ensures nogoods { (state self.new).nogoods ≡ (state self.old).nogoods }
-        ensures same { state self.new ≡ record (state self.old) {
-          store = (state self.new).store;
-          calls = (state self.new).calls;
-        } }
-        ensures grows { OnlyKeepsMore (state self.old) user (state self.new) }
+    {
+        let snapshot = &mut self.snapshots[place];
+        let cells = snapshot.values.cells();
+        snapshot.settle_again(&mut self.workspace, &self.network, &mut self.store)?;
+        self.calls = snapshot.values.calls();
+        let has_grown = cells < snapshot.values.cells();
+        bring_first(&mut self.snapshots, place, has_grown, &self.beliefs);
+        Ok(())
+    }
+
+    // Settles under the beliefs of the user, of which there is no snapshot. From now on there is: it is
+    // the first one. Fails only when out of memory.
+    fn settle_anew(&mut self, user: u8) -> Result<(), AllocError>
+        requires can { CanAnswer (state self.old) user }
+        requires calls { (state self.old).calls ≡ 0 }
+        requires none { place_in (state self.old) user ≡ None }
+        ensures settled { OnOk result (HasSettled (state self.old) user (state self.new)) }
+        ensures after { IsAfterSettling (state self.old) user (state self.new) }
+        ensures refused { OnErr result ((state self.new).calls ≡ 0) }
     {
         let alloc = *self.beliefs.allocator();
         let beliefs = self.beliefs_of(user);
-        let settled = settle_after(
+        let settled = settle_within(
             alloc,
             &self.snapshots,
             &self.network,
             &mut self.store,
             &beliefs,
         )?;
-        self.calls = settled.calls();
-        Ok(settled)
+        let calls = settled.calls();
+        remember(&mut self.snapshots, settled, &self.beliefs)?;
+        self.calls = calls;
+        Ok(())
     }
 
-    // From now on these are the latest values, and they are current. Fails only when out of memory;
-    // then nothing changes.
-    fn remember(&mut self, settled: Settled<A>) -> Result<(), AllocError>
-        ensures ok { OnOk result (IsRemembered (state self.old) settled (state self.new)) }
-        ensures err { OnErr result (state self.new ≡ state self.old) }
+    // Settles under the beliefs of the user, who must exist. The place is that of their snapshot, if
+    // there is one. Then the first snapshot has the values. Fails only when out of memory.
+    fn settle_for(&mut self, user: u8, place: Option<usize>) -> Result<(), AllocError>
+        requires can { CanAnswer (state self.old) user }
+        requires calls { (state self.old).calls ≡ 0 }
+        requires place { place_in (state self.old) user ≡ place }
+        ensures settled { OnOk result (HasSettled (state self.old) user (state self.new)) }
+        ensures after { IsAfterSettling (state self.old) user (state self.new) }
+        ensures refused { OnErr result ((state self.new).calls ≡ 0) }
     {
-        remember(&mut self.snapshots, settled, &self.beliefs)
-    }
-
-    // The value of the declared cell under the beliefs of the user, who must exist, if a snapshot is
-    // known to have it.
-    fn known_to(&self, user: u8, cell: u32) -> Option<Info>
-        requires can { CanAnswer (state self.now) user }
-        requires cell { cell < length (state self.now).network.declared.cells }
-        ensures value { IfSome result (λ info. info ≡ value_for (state self.now) user cell) }
-        ensures fresh { IfSome result (λ info. IsFresh (state self.now) user) }
-    {
-        let place = place_of(&self.snapshots, &self.beliefs_of(user))?;
-        let snapshot = &self.snapshots[place];
-        if !snapshot.is_current {
-            return None;
+        match place {
+            Some(place) => self.settle_again(user, place),
+            None => self.settle_anew(user),
         }
-        Some(snapshot.values.value(cell).info)
     }
 
     // What is known about the declared cell under the beliefs of the user, who must exist.
@@ -165,38 +167,40 @@ impl<'d, 'r, A: Allocator + Copy> Workbench<'d, 'r, A> {
         ensures noted { KeepsNogoods (state self.old) (state self.new) (reply_by result) }
         ensures grows { OnlyKeepsMore (state self.old) user (state self.new) }
     {
-        if let Some(info) = self.known_to(user, cell) {
-            return Reply::Value(info);
+        let place = self.place_for(user);
+        if let Some(place) = place {
+            let snapshot = &self.snapshots[place];
+            if snapshot.is_current {
+                return Reply::Value(snapshot.values.info(cell));
+            }
         }
         let beliefs = &self.beliefs[usize::from(user)];
         if !is_written_by(&self.network, cell, beliefs) {
             return Reply::Value(self.store.recall(user, cell, beliefs));
         }
-        self.ask_settled(user, cell)
+        self.ask_settled(user, cell, place)
     }
 
     // The same, by settling, where an instance that the user sees writes the cell. Never inlined, so
     // that other questions make no room for the values of a settling.
     #[inline(never)]
-    fn ask_settled(&mut self, user: u8, cell: u32) -> Reply<A>
+    fn ask_settled(&mut self, user: u8, cell: u32, place: Option<usize>) -> Reply<A>
         requires can { CanAnswer (state self.old) user }
         requires cell { cell < length (state self.old).network.declared.cells }
         requires calls { (state self.old).calls ≡ 0 }
         requires written { SeesWriter (state self.old) user cell }
+        requires place { place_in (state self.old) user ≡ place }
         ensures answer { AnswersAskIfLeft (state self.old) user cell (reply_by result) }
         ensures asked { IsAsked (state self.old) user (SeesWriter (state self.old) user cell)
             (state self.new) (reply_by result) }
         ensures noted { KeepsNogoods (state self.old) (state self.new) (reply_by result) }
         ensures grows { OnlyKeepsMore (state self.old) user (state self.new) }
     {
-        let Ok(settled) = self.settle_for(user) else {
+        let Ok(()) = self.settle_for(user, place) else {
             return Reply::Refused(Refusal::Memory);
         };
-        let info = settled.value(cell).info;
-        let Ok(()) = self.remember(settled) else {
-            return Reply::Refused(Refusal::Memory);
-        };
-        Reply::Value(info)
+        let latest = &self.snapshots[0];
+        Reply::Value(latest.values.info(cell))
     }
 
     // What is known about the declared cell under the beliefs of the user, who must exist, and why.
@@ -212,24 +216,22 @@ impl<'d, 'r, A: Allocator + Copy> Workbench<'d, 'r, A> {
         ensures grows { OnlyKeepsMore (state self.old) user (state self.new) }
     {
         let alloc = *self.beliefs.allocator();
-        let Ok(settled) = self.settle_for(user) else {
+        let place = self.place_for(user);
+        let Ok(()) = self.settle_for(user, place) else {
             return Reply::Refused(Refusal::Memory);
         };
+        let latest = &self.snapshots[0];
         let Ok(reason) = reason(
             alloc,
             &self.network,
             &mut self.store,
             &mut self.nogoods,
-            &settled,
+            &latest.values,
             cell,
         ) else {
             return Reply::Refused(Refusal::Memory);
         };
-        let info = settled.value(cell).info;
-        let Ok(()) = self.remember(settled) else {
-            return Reply::Refused(Refusal::Memory);
-        };
-        Reply::Because(info, reason)
+        Reply::Because(latest.values.info(cell), reason)
     }
 
     // The first combination of the groups under which nothing is contradictory, for the user, who
@@ -294,13 +296,12 @@ impl<'d, 'r, A: Allocator + Copy> Workbench<'d, 'r, A> {
         ensures grows { OnlyKeepsMore (state self.old) user (state self.new) }
     {
         let alloc = *self.beliefs.allocator();
-        let Ok(settled) = self.settle_for(user) else {
+        let place = self.place_for(user);
+        let Ok(()) = self.settle_for(user, place) else {
             return Reply::Refused(Refusal::Memory);
         };
-        let Ok(conflicts) = list_conflicts(alloc, &self.network, &settled) else {
-            return Reply::Refused(Refusal::Memory);
-        };
-        let Ok(()) = self.remember(settled) else {
+        let latest = &self.snapshots[0];
+        let Ok(conflicts) = list_conflicts(alloc, &self.network, &latest.values) else {
             return Reply::Refused(Refusal::Memory);
         };
         Reply::Listed(conflicts)

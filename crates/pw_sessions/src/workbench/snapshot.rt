@@ -1,13 +1,22 @@
 //! What a question settled in one worldview.
-ghost use Rattle.std.specs.Prelude.{◌≡◌, ◌<◌, ◌↔◌, IsTrue, length};
+ghost use Rattle.std.specs.Prelude.{◌≡◌, ◌<◌, ◌↔◌, IsTrue, OnErr, OnOk, length, true};
 ghost use Rattle.pw_info.specs.Information.{kind_of};
-ghost use Rattle.pw_settle.specs.Settled.{info_at};
-ghost use Rattle.pw_sessions.specs.Snapshot.{IsAfterTell, SayAlready, after_entry};
+ghost use Rattle.pw_cells.specs.Cells.{kinds_of};
+ghost use Rattle.pw_network.specs.Wiring.{wiring};
+ghost use Rattle.pw_settle.specs.Growth.{KeepsMore, RestOnUpstreamAfter, StaysUpstreamAfter};
+ghost use Rattle.pw_settle.specs.Settled.{IsSettled, info_at};
+ghost use Rattle.pw_settle.specs.Sound.{IsSound};
+ghost use Rattle.pw_settle.specs.Values.{kinds_in};
+ghost use Rattle.pw_sessions.specs.Snapshot.{IsAfterTell, IsCurrent, IsSnapshotOf, SayAlready};
+ghost use Rattle.pw_sessions.specs.Snapshot.{after_entry};
+ghost use Rattle.pw_sessions.specs.inside.Steps.{CallsDueAgain};
 
+use pw_cells::CellStore;
 use pw_facts::Fact;
+use pw_network::Network;
 use pw_premises::PremiseSet;
-use pw_settle::Settled;
-use std::alloc::{Allocator, Global};
+use pw_settle::{Settled, Workspace, resettle_since};
+use std::alloc::{AllocError, Allocator, Global};
 use std::marker::Model;
 
 // The values of one worldview, and whether they are known to be current.
@@ -62,5 +71,41 @@ impl<A: Allocator> Snapshot<A> {
         if !self.say_already(cell, fact) {
             self.is_current = false;
         }
+    }
+}
+
+impl<A: Allocator + Copy> Snapshot<A> {
+    // Settles again in the worldview of the values, which are current then. Fails only when out of
+    // memory; then they are not known to be, and those that were are unchanged.
+    pub(super) fn settle_again(
+        &mut self,
+        workspace: &mut Workspace<A>,
+        network: &Network<'_, '_, A>,
+        store: &mut CellStore<A>,
+    ) -> Result<(), AllocError>
+        requires kinds { kinds_of store.old ≡ kinds_in (wiring network.now) }
+        requires sound { IsSound (wiring network.now) store.old }
+        requires fits { IsSnapshotOf (wiring network.now) store.old self.old }
+        ensures worldview { self.new.values.worldview ≡ self.old.values.worldview }
+        ensures settled { OnOk result (IsSettled (wiring network.now) store.old
+            self.old.values.worldview self.new.values) }
+        ensures known { OnOk result (self.new.is_current ≡ true) }
+        ensures current { OnOk result (IsCurrent (wiring network.now) store.new self.new.values) }
+        ensures due { OnOk result (CallsDueAgain (wiring network.now) store.old store.new
+            self.old.values self.new.values) }
+        ensures none { OnOk result (IsCurrent (wiring network.now) store.old self.old.values
+            → self.new.values.calls ≡ 0) }
+        ensures unchanged { OnErr result (IsCurrent (wiring network.now) store.old self.old.values
+            → self.new.values ≡ self.old.values) }
+        ensures fits { IsSnapshotOf (wiring network.now) store.new self.new }
+        ensures grows { KeepsMore (wiring network.now) store.old store.new }
+        ensures upstream { StaysUpstreamAfter (wiring network.now) self.old.values store.old
+            store.new }
+        ensures lie { RestOnUpstreamAfter (wiring network.now) self.old.values store.old
+            self.new.values }
+    {
+        let outcome = resettle_since(&mut self.values, workspace, network, store);
+        self.is_current = outcome.is_ok();
+        outcome
     }
 }

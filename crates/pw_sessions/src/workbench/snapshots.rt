@@ -1,10 +1,11 @@
 //! The snapshots of a workbench, in the order of their last use, the latest first.
 ghost use Rattle.std.specs.Prelude.{◌≡◌, ◌<◌, ◌≤◌, ◌∷◌, length, map, position, remove, IfSome};
-ghost use Rattle.std.specs.Prelude.{OnErr, OnOk, vec_capacity, vec_len};
+ghost use Rattle.std.specs.Prelude.{None, OnErr, OnOk, vec_capacity, vec_len};
 ghost use Rattle.pw_info.specs.Information.{kind_of};
 ghost use Rattle.pw_sessions.specs.Snapshot.{EachBecomes, HaveValues, IsAfterTell};
 ghost use Rattle.pw_sessions.specs.Snapshot.{after_entry, is_of, is_within};
-ghost use Rattle.pw_sessions.specs.inside.Steps.{CanBeSpared, IsLatest, OnlySpares, is_believed};
+ghost use Rattle.pw_sessions.specs.inside.Steps.{CanBeSpared, IsBroughtFirst, IsLatest, OnlySpares};
+ghost use Rattle.pw_sessions.specs.inside.Steps.{is_believed};
 
 use super::snapshot::Snapshot;
 use pw_facts::Fact;
@@ -133,21 +134,38 @@ fn make_room<A: Allocator>(snapshots: &mut Vec<Snapshot<A>, A>, beliefs: &[Premi
     }
 }
 
-// These values are the latest snapshot from now on, and current. Another of their worldview is given
-// up, and others if there is no room for them. Fails only when out of memory; then nothing changes.
+// The snapshot at this place is the first one from now on. If it has grown, others are given up where
+// there is no room for its values.
+pub(super) fn bring_first<A: Allocator>(
+    snapshots: &mut Vec<Snapshot<A>, A>,
+    place: usize,
+    has_grown: bool,
+    beliefs: &[PremiseSet],
+)
+    requires { place < length snapshots.old.items }
+    ensures { IsBroughtFirst beliefs.now place snapshots.old.items snapshots.new.items }
+{
+    let snapshot = snapshots.remove(place);
+    if has_grown {
+        make_room(snapshots, beliefs);
+    }
+    put_first(snapshots, snapshot);
+}
+
+// These values, of whose worldview there is no snapshot, are the latest snapshot from now on, and
+// current. Others are given up if there is no room for them. Fails only when out of memory; then
+// nothing changes.
 pub(super) fn remember<A: Allocator>(
     snapshots: &mut Vec<Snapshot<A>, A>,
     values: Settled<A>,
     beliefs: &[PremiseSet],
 ) -> Result<(), AllocError>
+    requires { position (is_of values.worldview) snapshots.old.items ≡ None }
     ensures ok { OnOk result (IsLatest beliefs.now snapshots.old.items values
         snapshots.new.items) }
     ensures err { OnErr result (snapshots.new.items ≡ snapshots.old.items) }
 {
     snapshots.reserve(1)?;
-    if let Some(place) = place_of(snapshots, values.worldview()) {
-        give_up(snapshots, place);
-    }
     make_room(snapshots, beliefs);
     let snapshot = Snapshot {
         values,

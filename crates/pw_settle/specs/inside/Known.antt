@@ -12,6 +12,7 @@ use Rattle.pw_cells.specs.Arrivals.{Continues, Remembers}
 use Rattle.pw_cells.specs.Changes.{AssimilatesAt, GainsKept, LeavesOthers}
 use Rattle.pw_network.specs.Network.{Network, Attached}
 use Rattle.pw_settle.specs.Settled.{info_at, support_at, Settled}
+use Rattle.pw_settle.specs.Growth.{KeepsMore}
 use Rattle.pw_settle.specs.Sound.{LieUpstream, RestsUpstream}
 use Rattle.pw_info.specs.declared.kind.Kind.{Kind}
 use Rattle.pw_procs.specs.Procedure.{Procedure}
@@ -30,6 +31,14 @@ pub record AreKept (store : Store) (w : Premises) (infos : List Info) (supports 
   pub within : (cell : ℕ) → is_subset (support_at supports cell) w ≡ true
   pub enough : (cell : ℕ) → IsLeastAbove (support_at supports cell) (kept_in store cell)
       (info_at infos cell)
+
+-- this was kept of the cells between two stores, in which no less is kept than before
+pub record WereKept (network : Network) (old new : Store) (w : Premises) (infos : List Info)
+    (supports : List Premises) : Type 0 where
+  pub between : Store
+  pub before : KeepsMore network old between
+  pub kept : AreKept between w infos supports
+  pub after : KeepsMore network between new
 
 -- one cell more is listed: an information of which this holds, with its premises
 pub record ListsOneMore (Is : Info → Premises → Type 0) (infos more_infos : List Info)
@@ -92,6 +101,7 @@ pub record TakesInKept (store : Store) (cell : ℕ) (w : Premises) (is_news : Bo
     (infos new_infos : List Info) (supports new_supports : List Premises) : Type 0 where
   pub news : is_news ≡ true → (fact : Fact) × IsKeptIn store cell w fact
       × TakesIn cell fact infos new_infos supports new_supports
+  pub unsaid : is_news ≡ true → IsUnsaid (info_at infos cell) (kept_in store cell w)
   pub none : is_news ≡ false → Implies (info_at infos cell) (kept_in store cell w)
       × (new_infos ≡ infos) × (new_supports ≡ supports)
 

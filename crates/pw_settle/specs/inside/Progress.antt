@@ -19,6 +19,10 @@ use Rattle.pw_settle.specs.Values.{propagators_of, IsSatisfied, attached_no}
 abbrev pub is_set : List Bool → ℕ → Bool
 is_set flags number = slice_index_or flags number false
 
+-- no flag is set
+abbrev pub IsIdle : List Bool → Type 0
+IsIdle flags = (number : ℕ) → is_set flags number ≡ false
+
 -- the number of set flags
 abbrev pub tally : List Bool → ℕ
 tally flags = count_by (λ flag. flag) flags

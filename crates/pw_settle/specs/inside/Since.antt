@@ -1,24 +1,54 @@
 -- What is known about each cell while a settling takes in what came since an earlier one.
-use Rattle.std.specs.Prelude.{◌≡◌, ℕ, Bool, ◌<◌, ◌≤◌, true, List, Some, length}
+use Rattle.std.specs.Prelude.{◌≡◌, ◌++◌, ℕ, Bool, ◌<◌, ◌≤◌, true, false, List, Some, length, map}
 use Rattle.std.specs.FinSet.{is_subset}
 use Rattle.pw_info.specs.declared.info.Info.{Info}
-use Rattle.pw_info.specs.Information.{Implies}
+use Rattle.pw_info.specs.Information.{Implies, kind_of}
 use Rattle.pw_premises.specs.Premises.{Premises}
 use Rattle.pw_facts.specs.declared.fact.Fact.{Fact}
 use Rattle.pw_facts.specs.Facts.{shows}
 use Rattle.pw_cells.specs.declared.arrival.Arrival.{Arrival}
 use Rattle.pw_cells.specs.Arrivals.{since}
-use Rattle.pw_cells.specs.Cells.{Store, IsUnsaid, fact_on}
+use Rattle.pw_cells.specs.Cells.{Store, IsUnsaid, fact_on, kept_in, kind_in_store}
 use Rattle.pw_cells.specs.Shown.{IsKeptIn}
 use Rattle.pw_network.specs.Network.{Network}
+use Rattle.pw_settle.specs.Calls.{is_instance_visible}
+use Rattle.pw_settle.specs.Growth.{CanContinue}
 use Rattle.pw_settle.specs.Settled.{Settled, info_at, support_at}
 use Rattle.pw_settle.specs.Sound.{LieUpstream, RestsUpstream}
 use Rattle.pw_settle.specs.inside.Due.{HasChanged, QueuesReaders}
-use Rattle.pw_settle.specs.inside.Known.{TakesIn}
+use Rattle.pw_settle.specs.inside.Known.{TakesIn, TakesInKept}
 
--- the store remembers all that came since the settled values were found
-abbrev pub KnowsWhatCame : Store → Settled → Type 0
-KnowsWhatCame store settled = (list : List Arrival) × (since store settled.mark ≡ Some list)
+-- the store remembers all that came since the mark
+abbrev pub KnowsWhatCame : Store → ℕ → Type 0
+KnowsWhatCame store mark = (list : List Arrival) × (since store mark ≡ Some list)
+
+-- what is known about the cells, as the values of a settling in this worldview that was marked so
+abbrev pub known_at : List Info → List Premises → Premises → ℕ → Settled
+known_at infos supports w mark = record {
+  infos = infos;
+  supports = supports;
+  worldview = w;
+  instances = 0;
+  calls = 0;
+  mark = mark;
+}
+
+-- something of its kind is known about each cell of the store, and a settling can continue from it
+pub record IsAtHand (store : Store) (w : Premises) (mark : ℕ) (infos : List Info)
+    (supports : List Premises) : Type 0 where
+  pub many : length infos ≡ length store.cells
+  pub kinds : (cell : ℕ) → cell < length infos →
+      kind_of (info_at infos cell) ≡ kind_in_store store cell
+  pub continues : CanContinue store (known_at infos supports w mark)
+
+-- more is kept of some cell in the worldview than is known about it
+abbrev pub IsBehind : Store → Premises → List Info → Type 0
+IsBehind store w infos =
+    (cell : ℕ) × (cell < length infos) × IsUnsaid (info_at infos cell) (kept_in store cell w)
+
+-- the list begins with the other one
+abbrev pub BeginsWith : {A : Type 0} → List A → List A → Type 0
+BeginsWith {A} first list = (more : List A) × (list ≡ first ++ more)
 
 -- of the first cells the same is known as before, and of the next ones, below this number, what is
 -- kept
@@ -47,11 +77,22 @@ pub record IsNewHere (cell : ℕ) (fact : Fact) (w : Premises) (infos new_infos 
   pub unsaid : IsUnsaid (info_at infos cell) fact.info
   pub taken : TakesIn cell fact infos new_infos supports new_supports
 
--- where what is kept rests on premises upstream alone, and the earlier values did, so do these
-abbrev pub LieUpstreamAfter : Network → Store → Settled → List Premises → Type 0
-LieUpstreamAfter network store before supports =
+-- what is kept of the cell was merged into what is known about it, and if it was news, the visible
+-- readers of the cell were queued
+pub record IsReadAgain (network : Network) (store : Store) (cell : ℕ) (w : Premises)
+    (infos new_infos : List Info) (supports new_supports : List Premises)
+    (queued new_queued : List Bool) : Type 0 where
+  pub is_news : Bool
+  pub taken : TakesInKept store cell w is_news infos new_infos supports new_supports
+  pub news : is_news ≡ true → QueuesReaders network
+      (map (is_instance_visible w) network.attached) (λ c. c ≡ cell) queued new_queued
+  pub none : is_news ≡ false → new_queued ≡ queued
+
+-- where what is kept rests on premises upstream alone, and these premises lay there, so do those
+abbrev pub LieUpstreamAfter : Network → Store → List Premises → List Premises → Type 0
+LieUpstreamAfter network store supports new_supports =
     (given : ℕ → ℕ → Bool) → RestsUpstream network given store →
-    LieUpstream network given before.supports → LieUpstream network given supports
+    LieUpstream network given supports → LieUpstream network given new_supports
 
 -- the visible readers of the cells are queued of which more is known now than was found before, and
 -- nothing else

@@ -10,7 +10,7 @@ use pw_cells::CellStore;
 use pw_decl::Declaration;
 use pw_network::Network;
 use pw_premises::PremiseSet;
-use pw_settle::{Settled, resettle_since, settle};
+use pw_settle::{Settled, Workspace, resettle_since, settle};
 use pw_testing::facts::fact;
 use pw_testing::worlds::{GENERAL, OverDeclaration, over_text};
 use std::alloc::{AllocError, Global};
@@ -26,9 +26,10 @@ fn settle_twice(
     requires { IsReady (wiring network.now) store.old }
     ensures { IfOk result (λ settled. length settled.infos ≡ cells_in (wiring network.now)) }
 {
-    let first = settle(alloc, network, store, worldview)?;
-    let second = resettle_since(alloc, &first, network, store)?;
-    Ok(second)
+    let mut settled = settle(alloc, network, store, worldview)?;
+    let mut workspace = Workspace::new(alloc);
+    resettle_since(&mut settled, &mut workspace, network, store)?;
+    Ok(settled)
 }
 
 // Settlings of the worldview with the first two premises.

@@ -1,3 +1,6 @@
+use Rattle.pw_cells.proofs.Stores.{OnErr_always}
+use Rattle.pw_cells.specs.Cells.{kept_in}
+use Rattle.pw_settle.proofs.KnownParts.{tested_unsaid}
 use Rattle.pw_settle.proofs.known.take_in_wide_kept.Goals as goal
 
 pub returns-clause-taken : goal.returns-clause-taken
@@ -16,5 +19,14 @@ returns-clause-taken g c = record {
     },
     c.in_ok-take_in.ensures.taken,
   );
+  unsaid = λ e. tested_unsaid c.args.infos.now c.args.cell c.index-infos-cell.result c.kept-fact.result.info
+      (kept_in c.args.store.now c.args.cell c.args.worldview.now) c.implies.result c.requires.there c.kept-fact.ensures.info c.implies.ensures
+      c.if-implies.false;
   none = λ e. absurd (cc);
 }
+
+pub returns-in_err-take_in-clause-unsaid : goal.returns-in_err-take_in-clause-unsaid
+returns-in_err-take_in-clause-unsaid g c =
+    OnErr_always c.from_residual.result (tested_unsaid c.args.infos.now c.args.cell c.index-infos-cell.result c.kept-fact.result.info
+    (kept_in c.args.store.now c.args.cell c.args.worldview.now) c.implies.result c.requires.there c.kept-fact.ensures.info c.implies.ensures
+    c.if-implies.false)

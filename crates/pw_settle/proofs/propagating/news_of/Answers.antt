@@ -34,9 +34,9 @@ returns-clause-news g c supports d =
     record {
       output = ap (λ (a : Attached). a.instance.output) (sym same);
       says = said_here (wiring c.args.network.now) c.args.network.now.well c.args.infos.now (procedures_in c.registry.result.now) c.args.number
-    (attachment c.index-instances-number.result) (c.registry.ensures ∙ ap (λ d. d.procedures) c.declaration.ensures) c.requires.kinds c.requires.there
-    (λ d. kept_instance (wiring c.args.network.now) c.instances.result.now c.args.number c.index-instances-number.result d c.instances.ensures.instances
-    c.requires.there c.index-instances-number.is) c.in_ok-info.info c.in_ok-info.ensures.news.gives d;
+          (attachment c.index-instances-number.result) (c.registry.ensures ∙ ap (λ d. d.procedures) c.declaration.ensures) c.requires.kinds c.requires.there
+          (λ d. kept_instance (wiring c.args.network.now) c.instances.result.now c.args.number c.index-instances-number.result d c.instances.ensures.instances
+          c.requires.there c.index-instances-number.is) c.in_ok-info.info c.in_ok-info.ensures.news.gives d;
       rests = refl;
       new = c.in_ok-info.ensures.news.news;
     }

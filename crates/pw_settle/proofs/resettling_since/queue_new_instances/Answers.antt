@@ -1,4 +1,4 @@
-use Rattle.std.proofs.Common.{◌≡◌, ◌+◌, ◌<◌, Bool, List, length, map, sym, ap, ◌∙◌, subst, arith}
+use Rattle.std.proofs.Common.{◌+◌, ◌<◌, length, map, sym, ap, ◌∙◌, subst, arith}
 use Rattle.std.specs.FinSet.{is_subset}
 use Rattle.std.proofs.lemmas.List.{length-map}
 use Rattle.pw_network.specs.declared.instance.Instance.{Instance}

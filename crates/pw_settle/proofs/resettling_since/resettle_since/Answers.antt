@@ -1,92 +1,233 @@
-use Rattle.std.proofs.Common.{◌≡◌, ℕ, ◌+◌, ◌≤◌, true, sym, ap, subst}
-use Rattle.std.specs.Prelude.{OnOk}
-use Rattle.pw_premises.specs.PremiseSubsets.{is_subset_refl}
+use Rattle.std.proofs.Common.{◌≡◌, ◌+◌, ◌≤◌, ℕ, Bool, List, length, map, take, sym, ap, ◌∙◌, subst, arith}
+use Rattle.std.proofs.lemmas.List.{length-map}
+use Rattle.pw_info.specs.declared.info.Info.{Info}
 use Rattle.pw_premises.specs.Premises.{Premises}
+use Rattle.pw_premises.specs.PremiseSubsets.{is_subset_refl}
 use Rattle.pw_cells.specs.Cells.{Store}
+use Rattle.pw_cells.proofs.Stores.{OnErr_always}
 use Rattle.pw_network.specs.Wiring.{wiring}
-use Rattle.pw_settle.specs.Calls.{gains, visible_at}
-use Rattle.pw_settle.specs.Growth.{KeepsIfSound, RestOnUpstream, RestOnUpstreamAfter}
+use Rattle.pw_network.specs.inside.Held.{attachment}
+use Rattle.pw_settle.specs.Calls.{gains, is_instance_visible}
+use Rattle.pw_settle.specs.Growth.{CanContinue, HasValues, IsFitting, IsInterrupted, KeepsIfSound, KeepsMore}
 use Rattle.pw_settle.specs.Settled.{Settled}
 use Rattle.pw_settle.specs.Sound.{LieUpstream, RestsUpstream}
-use Rattle.pw_settle.specs.inside.Known.{AreUpstream, SaysTold, StayUpstream}
-use Rattle.pw_settle.specs.inside.Progress.{AreMet, tally}
-use Rattle.pw_settle.proofs.CameSince.{ok_also}
+use Rattle.pw_settle.specs.inside.Due.{AreDue}
+use Rattle.pw_settle.specs.inside.Known.{AreKept, AreUpstream, SaysTold, WereKept}
+use Rattle.pw_settle.specs.inside.Progress.{AreMet, CallsNoMore, tally}
+use Rattle.pw_settle.specs.inside.Since.{IsAtHand, IsBehind, LieUpstreamAfter, QueuesChanged}
 use Rattle.pw_settle.proofs.FittingValues.{satisfied_but_due}
-use Rattle.pw_settle.proofs.NewInstances.{both_ok}
+use Rattle.pw_settle.proofs.InPlace.{due_since, read_at_hand, read_upstream, told_at_hand}
+use Rattle.pw_settle.proofs.RefusedSettlings.{as_many_cells, known_since, refused_calls, refused_news, values_found}
+use Rattle.pw_settle.proofs.SettledStores.{calls_by_gains, kept_settled}
 use Rattle.pw_settle.proofs.resettling_since.resettle_since.Given as given
 use Rattle.pw_settle.proofs.resettling_since.resettle_since.Goals as goal
-use Rattle.pw_settle.proofs.resettling_since.resettle_since.Goals.{After-settle_from-arg-1}
+use Rattle.pw_settle.proofs.resettling_since.resettle_since.Goals.{After-work-arg-3-1, In_ok-read_new_cells}
 
-pub returns-then-not-is_little_new-clause-upstream : goal.returns-then-not-is_little_new-clause-upstream
-returns-then-not-is_little_new-clause-upstream g c given rests lie = c.resettle_from.ensures.upstream given rests
-
-pub returns-then-not-is_little_new-clause-lie : goal.returns-then-not-is_little_new-clause-lie
-returns-then-not-is_little_new-clause-lie g c =
-    ok_also c.resettle_from.result (RestOnUpstream (wiring c.args.network.now) c.args.store.now)
-    (RestOnUpstreamAfter (wiring c.args.network.now) c.args.before.now c.args.store.now)
-    (λ settled after given rests lie. after given rests) c.resettle_from.ensures.lie
-
--- the worldview is the earlier one
-world : (g : given.Over) (c : After-settle_from-arg-1 g) → c.before-2.inside.worldview ≡ c.args.before.now.worldview
-world g c = ap (λ (s : Settled). s.worldview) c.before-2.view_is
-
-pub settle_from-requires-clause-told : goal.settle_from-requires-clause-told
-settle_from-requires-clause-told g c =
-    subst (λ (s : Store). SaysTold s c.before-2.inside.worldview) (sym {A = Store} c.due_since.ensures.unchanged)
-    (subst (SaysTold c.args.store.now) (sym {A = Premises} (world g c)) c.in_ok-known.ensures.told)
-
-pub settle_from-requires-clause-seen : goal.settle_from-requires-clause-seen
-settle_from-requires-clause-seen g c number flag =
-    subst (λ (w : Premises). visible_at (wiring c.args.network.now) w number ≡ true) (sym {A = Premises} (world g c))
-    ((c.in_ok-known.ensures.due.are number).0 flag).0
-
-pub settle_from-requires-clause-satisfied : goal.settle_from-requires-clause-satisfied
-settle_from-requires-clause-satisfied g c =
-    subst (λ (s : Store). AreMet (wiring c.args.network.now) s c.before-2.inside.worldview c.in_ok-known.agenda) (sym {A = Store} c.due_since.ensures.unchanged)
-    (subst (λ (w : Premises). AreMet (wiring c.args.network.now) c.args.store.now w c.in_ok-known.agenda) (sym {A = Premises} (world g c))
-    (satisfied_but_due (wiring c.args.network.now) c.args.network.now.well c.args.store.now c.args.before.now.worldview c.requires.kinds c.args.before.now
-    c.requires.fits (is_subset_refl c.args.before.now.worldview) c.in_ok-known.agenda c.in_ok-known.ensures.due))
-
--- what is kept rests upstream, and so does what is known, if the earlier values did
-upstream_then : (g : given.Over) (c : After-settle_from-arg-1 g) (given : ℕ → ℕ → _) → RestsUpstream (wiring c.args.network.now) given c.args.store.now →
-    LieUpstream (wiring c.args.network.now) given c.args.before.now.supports →
-    AreUpstream (wiring c.args.network.now) given c.due_since.new.store c.in_ok-known.known.supports
-upstream_then g c given rests lie = record {
-  kept = subst (RestsUpstream (wiring c.args.network.now) given) (sym {A = Store} c.due_since.ensures.unchanged) rests;
-  known = c.in_ok-known.ensures.upstream given rests lie;
+-- the values before
+abbrev before : (g : given.Over) (c : In_ok-read_new_cells g) → Settled
+before g c = record {
+  infos = c.values.inside.known.infos.items;
+  supports = c.values.inside.known.supports;
+  worldview = c.values.inside.worldview;
+  instances = c.values.inside.instances;
+  calls = c.values.inside.calls;
+  mark = c.values.inside.mark;
 }
 
-pub returns-clause-kept : goal.returns-clause-kept
-returns-clause-kept g c =
-    subst (λ (w : Premises). OnOk c.settle_from.result (KeepsIfSound (wiring c.args.network.now) c.args.store.now c.settle_from.new.store w))
-    (ap (λ (s : Settled). s.worldview) c.before-2.view_is)
-    (subst (λ (s : Store). OnOk c.settle_from.result (KeepsIfSound (wiring c.args.network.now) s c.settle_from.new.store c.before-2.inside.worldview))
-    c.due_since.ensures.unchanged c.settle_from.ensures.kept)
+fits : (g : given.Over) (c : In_ok-read_new_cells g) → IsFitting (wiring c.args.network.now) c.args.store.now (before g c)
+fits g c = subst (IsFitting (wiring c.args.network.now) c.args.store.now) (sym c.values.view_is) c.requires.fits
+
+continues : (g : given.Over) (c : In_ok-read_new_cells g) → CanContinue c.args.store.now (before g c)
+continues g c = subst (CanContinue c.args.store.now) (sym c.values.view_is) c.requires.continues
+
+-- what is known is at hand once the cells that came since are read
+hand : (g : given.Over) (c : In_ok-read_new_cells g) →
+    IsAtHand c.args.store.now c.values.inside.worldview c.values.inside.mark c.read_new_cells.new.known.infos.items c.read_new_cells.new.known.supports
+hand g c =
+    read_at_hand (wiring c.args.network.now) c.args.store.now c.requires.kinds (before g c) (fits g c) (continues g c)
+    c.read_new_cells.new.known.infos.items c.read_new_cells.new.known.supports c.in_ok-read_new_cells.ensures.read
+
+pub take_in_news-requires-clause-known : goal.take_in_news-requires-clause-known
+take_in_news-requires-clause-known g c =
+    subst (λ (s : Store). IsAtHand s c.values.inside.worldview c.values.inside.mark c.read_new_cells.new.known.infos.items c.read_new_cells.new.known.supports)
+    (sym {A = Store} c.read_new_cells.ensures.unchanged) (hand g (goal.at.take_in_news-requires-clause-known g c).In_ok-read_new_cells)
+
+-- ---- premises
+
+-- those of what is known lie upstream, if those of the earlier values did
+known_lie : (g : given.Over) (c : In_ok-read_new_cells g) (supports : List Premises) →
+    LieUpstreamAfter (wiring c.args.network.now) c.read_new_cells.new.store c.read_new_cells.new.known.supports supports →
+    LieUpstreamAfter (wiring c.args.network.now) c.args.store.now c.args.values.now.supports supports
+known_lie g c supports after given rests lie =
+    after given (subst (RestsUpstream (wiring c.args.network.now) given) (sym {A = Store} c.read_new_cells.ensures.unchanged) rests)
+    (read_upstream (wiring c.args.network.now) c.args.store.now c.requires.kinds (before g c) (fits g c) (continues g c)
+    c.read_new_cells.new.known.infos.items c.read_new_cells.new.known.supports c.in_ok-read_new_cells.ensures.read given rests
+    (subst (λ (s : Settled). LieUpstream (wiring c.args.network.now) given s.supports) (sym c.values.view_is) lie))
+
+pub returns-in_err-read_new_cells-clause-lie : goal.returns-in_err-read_new_cells-clause-lie
+returns-in_err-read_new_cells-clause-lie g c given rests lie =
+    subst (LieUpstream (wiring c.args.network.now) given)
+    (sym (c.in_err-read_new_cells.ensures.supports ∙ ap (λ (s : Settled). s.supports) c.values.view_is)) lie
+
+pub returns-in_err-take_in_news-clause-lie : goal.returns-in_err-take_in_news-clause-lie
+returns-in_err-take_in_news-clause-lie g c =
+    known_lie g (goal.at.returns-in_err-take_in_news-clause-lie g c).In_ok-read_new_cells c.take_in_news.new.known.supports
+    (c.take_in_news.ensures.upstream (wiring c.args.network.now))
+
+-- the store is unchanged until instances are called
+store_then : (g : given.Over) (c : After-work-arg-3-1 g) → c.take_in_news.new.store ≡ c.args.store.now
+store_then g c = c.take_in_news.ensures.unchanged ∙ c.read_new_cells.ensures.unchanged
+
+upstream_then : (g : given.Over) (c : After-work-arg-3-1 g) (given : ℕ → ℕ → Bool) → RestsUpstream (wiring c.args.network.now) given c.args.store.now →
+    LieUpstream (wiring c.args.network.now) given c.args.values.now.supports →
+    AreUpstream (wiring c.args.network.now) given c.take_in_news.new.store c.take_in_news.new.known.supports
+upstream_then g c given rests lie = record {
+  kept = subst (RestsUpstream (wiring c.args.network.now) given) (sym {A = Store} (store_then g c)) rests;
+  known = known_lie g (goal.at.work-requires-clause-satisfied g c).In_ok-read_new_cells c.take_in_news.new.known.supports
+      (c.take_in_news.ensures.upstream (wiring c.args.network.now)) given rests lie;
+}
+
+pub returns-in_err-values-inside-clause-upstream : goal.returns-in_err-values-inside-clause-upstream
+returns-in_err-values-inside-clause-upstream g c given rests lie =
+    (c.work.ensures.upstream given
+    (upstream_then g (goal.at.returns-in_err-values-inside-clause-upstream g c).After-work-arg-3-1 given rests lie)).kept
+
+pub returns-in_err-values-inside-clause-lie : goal.returns-in_err-values-inside-clause-lie
+returns-in_err-values-inside-clause-lie g c given rests lie =
+    (c.work.ensures.upstream given
+    (upstream_then g (goal.at.returns-in_err-values-inside-clause-lie g c).After-work-arg-3-1 given rests lie)).known
 
 pub returns-clause-upstream : goal.returns-clause-upstream
 returns-clause-upstream g c given rests lie =
-    c.settle_from.ensures.upstream given (upstream_then g (goal.at.returns-clause-upstream g c).After-settle_from-arg-1 given rests lie)
+    subst (RestsUpstream (wiring c.args.network.now) given) (sym {A = Store} c.mark-values-inside.ensures.unchanged)
+    (c.work.ensures.upstream given (upstream_then g (goal.at.returns-clause-upstream g c).After-work-arg-3-1 given rests lie)).kept
 
 pub returns-clause-lie : goal.returns-clause-lie
-returns-clause-lie g c =
-    ok_also c.settle_from.result
-    (λ settled. StayUpstream (wiring c.args.network.now) c.due_since.new.store c.in_ok-known.known.supports c.settle_from.new.store settled.supports)
-    (RestOnUpstreamAfter (wiring c.args.network.now) c.args.before.now c.args.store.now)
-    (λ settled stay given rests lie. (stay given (upstream_then g (goal.at.returns-clause-lie g c).After-settle_from-arg-1 given rests lie)).known)
-    c.settle_from.ensures.lie
+returns-clause-lie g c given rests lie =
+    (c.work.ensures.upstream given (upstream_then g (goal.at.returns-clause-lie g c).After-work-arg-3-1 given rests lie)).known
+
+-- ---- what waits
+
+-- the instances wait that are due
+due_then : (g : given.Over) (c : After-work-arg-3-1 g) →
+    AreDue (wiring c.args.network.now) c.args.store.now c.values.inside.worldview (before g (goal.at.work-requires-clause-satisfied g c).In_ok-read_new_cells)
+    c.take_in_news.new.agenda
+due_then g c =
+    let network = wiring c.args.network.now in
+    let read : List Info = c.read_new_cells.new.known.infos.items in
+    let w : Premises = c.values.inside.worldview in
+    let first : List Bool = c.queue_new_instances.new.agenda in
+    let next : List Bool = c.queue_new_cells.new.agenda in
+    let d = (goal.at.work-requires-clause-satisfied g c).In_ok-read_new_cells in
+    due_since network c.args.store.now c.requires.kinds (before g d) (fits g d) (continues g d)
+    read c.read_new_cells.new.known.supports c.in_ok-read_new_cells.ensures.read
+    c.take_in_news.new.known.infos.items c.take_in_news.new.known.supports
+    (subst (λ (s : Store). AreKept s w c.take_in_news.new.known.infos.items c.take_in_news.new.known.supports)
+    c.read_new_cells.ensures.unchanged c.in_ok-take_in_news.ensures.kept)
+    c.args.network.now.well first next c.take_in_news.new.agenda c.queue_new_instances.ensures.flags c.queue_new_instances.ensures.new
+    (subst (λ (n : ℕ). QueuesChanged network (map (is_instance_visible w) network.attached) (take n read) read first next)
+    (omega (arith, c.len-first.ensures, c.values.inside.known.infos.ok))
+    (subst (λ (l : List Info). QueuesChanged network (map (is_instance_visible w) network.attached) (take c.len-first.result l) l first next)
+    c.deref.ensures.value c.queue_new_cells.ensures)) c.in_ok-take_in_news.ensures.queued
+
+pub work-requires-clause-satisfied : goal.work-requires-clause-satisfied
+work-requires-clause-satisfied g c =
+    let d = (goal.at.work-requires-clause-satisfied g c).In_ok-read_new_cells in
+    subst (λ (s : Store). AreMet (wiring c.args.network.now) s c.values.inside.worldview c.take_in_news.new.agenda)
+    (sym {A = Store} (store_then g c))
+    (satisfied_but_due (wiring c.args.network.now) c.args.network.now.well c.args.store.now c.values.inside.worldview c.requires.kinds (before g d)
+    (fits g d) (is_subset_refl c.values.inside.worldview) c.take_in_news.new.agenda (due_then g c))
+
+-- ---- after a refusal
+
+pub returns-in_err-take_in_news-clause-refused : goal.returns-in_err-take_in_news-clause-refused
+returns-in_err-take_in_news-clause-refused g c =
+    let d = (goal.at.returns-in_err-take_in_news-clause-refused g c).In_ok-read_new_cells in
+    let now : Settled = known_since (before g d) c.take_in_news.new.known.infos.items c.take_in_news.new.known.supports in
+    OnErr_always c.from_residual-in_err-take_in_news.result
+    (subst (λ (s : Store). IsInterrupted (wiring c.args.network.now) c.args.store.now s c.args.values.now now)
+    (sym {A = Store} (c.take_in_news.ensures.unchanged ∙ c.read_new_cells.ensures.unchanged))
+    (subst (λ (s : Settled). IsInterrupted (wiring c.args.network.now) c.args.store.now c.args.store.now s now) c.values.view_is
+    (refused_news (wiring c.args.network.now) c.args.network.now.well c.args.store.now c.requires.kinds (before g d) (continues g d)
+    c.read_new_cells.new.known.infos.items c.take_in_news.new.known.infos.items c.read_new_cells.new.known.supports c.take_in_news.new.known.supports
+    c.in_ok-read_new_cells.ensures.read
+    (subst (λ (s : Store). IsAtHand s c.values.inside.worldview c.values.inside.mark c.take_in_news.new.known.infos.items c.take_in_news.new.known.supports)
+    c.read_new_cells.ensures.unchanged c.in_err-take_in_news.ensures.refused.0)
+    (subst (λ (s : Store). IsBehind s c.values.inside.worldview c.read_new_cells.new.known.infos.items)
+    c.read_new_cells.ensures.unchanged c.in_err-take_in_news.ensures.refused.1))))
+
+pub returns-in_err-values-inside-clause-refused : goal.returns-in_err-values-inside-clause-refused
+returns-in_err-values-inside-clause-refused g c =
+    let d = (goal.at.returns-in_err-values-inside-clause-refused g c).In_ok-read_new_cells in
+    let e = (goal.at.returns-in_err-values-inside-clause-refused g c).After-work-arg-3-1 in
+    let now : Settled = known_since (before g d) c.work.new.known.infos.items c.work.new.known.supports in
+    OnErr_always c.from_residual-in_err-values-inside.result
+    (subst (λ (s : Settled). IsInterrupted (wiring c.args.network.now) c.args.store.now c.work.new.store s now) c.values.view_is
+    (refused_calls (wiring c.args.network.now) c.args.network.now.well c.args.store.now c.requires.kinds (before g d) (continues g d) c.work.new.store
+    c.read_new_cells.new.known.infos.items c.work.new.known.infos.items c.read_new_cells.new.known.supports c.work.new.known.supports (hand g d)
+    (subst (λ (s : Store). WereKept (wiring c.args.network.now) s c.work.new.store c.values.inside.worldview c.work.new.known.infos.items
+    c.work.new.known.supports) (store_then g e) c.in_err-values-inside.ensures.between)
+    c.take_in_news.new.agenda (due_then g e) c.in_err-values-inside.ensures.waited))
+
+-- ---- the values
+
+grows_then : (g : given.Over) (c : After-work-arg-3-1 g) (new : Store) → KeepsMore (wiring c.args.network.now) c.take_in_news.new.store new →
+    KeepsMore (wiring c.args.network.now) c.args.store.now new
+grows_then g c new grows = subst (λ (s : Store). KeepsMore (wiring c.args.network.now) s new) (store_then g c) grows
+
+told_then : (g : given.Over) (c : In_ok-read_new_cells g) → SaysTold c.args.store.now c.values.inside.worldview
+told_then g c =
+    told_at_hand c.args.store.now c.values.inside.worldview c.values.inside.mark c.read_new_cells.new.known.infos.items c.read_new_cells.new.known.supports
+    (hand g c)
+
+pub returns-clause-found : goal.returns-clause-found
+returns-clause-found g c =
+    let network = wiring c.args.network.now in
+    let e = (goal.at.returns-clause-found g c).After-work-arg-3-1 in
+    let d = (goal.at.returns-clause-found g c).In_ok-read_new_cells in
+    let w : Premises = c.values.inside.worldview in
+    let many : ℕ = length c.instances-2.result.now in
+    let values : Settled = record {
+      infos = c.work.new.known.infos.items;
+      supports = c.work.new.known.supports;
+      worldview = w;
+      instances = many;
+      calls = c.in_ok-values-inside.field-0;
+      mark = c.mark-values-inside.result;
+    } in
+    subst (λ (s : Settled). HasValues network c.args.store.now c.mark-values-inside.new.self s.worldview values) c.values.view_is
+    (subst (λ (s : Store). HasValues network c.args.store.now s w values) (sym {A = Store} c.mark-values-inside.ensures.unchanged)
+    (values_found network c.args.network.now.well c.args.store.now c.work.new.store w c.requires.kinds (grows_then g e c.work.new.store c.work.ensures.grows) (told_then g d)
+    c.work.new.agenda c.in_ok-values-inside.ensures.satisfied c.in_ok-values-inside.ensures.done
+    c.work.new.known.infos.items c.work.new.known.supports c.in_ok-values-inside.ensures.kept many c.in_ok-values-inside.field-0 c.mark-values-inside.result
+    (sym (length-map c.instances-2.result.now attachment) ∙ ap length c.instances-2.ensures.instances) c.mark-values-inside.ensures.mark))
+
+pub returns-clause-kept : goal.returns-clause-kept
+returns-clause-kept g c =
+    let network = wiring c.args.network.now in
+    let e = (goal.at.returns-clause-kept g c).After-work-arg-3-1 in
+    let d = (goal.at.returns-clause-kept g c).In_ok-read_new_cells in
+    subst (λ (s : Settled). KeepsIfSound network c.args.store.now c.mark-values-inside.new.self s.worldview) c.values.view_is
+    (subst (λ (s : Store). KeepsIfSound network c.args.store.now s c.values.inside.worldview) (sym {A = Store} c.mark-values-inside.ensures.unchanged)
+    (λ sound. kept_settled network c.args.network.now.well c.args.store.now c.work.new.store c.values.inside.worldview c.requires.kinds
+    (grows_then g e c.work.new.store c.work.ensures.grows) (told_then g d) c.work.new.agenda c.in_ok-values-inside.ensures.satisfied c.in_ok-values-inside.ensures.done sound))
+
+-- ---- the calls
 
 pub returns-clause-due : goal.returns-clause-due
-returns-clause-due g c =
-    both_ok c.settle_from.result
-    (λ settled. tally c.in_ok-known.agenda ≤ settled.calls)
-    (λ settled. settled.calls ≤ tally c.in_ok-known.agenda
-    + gains (wiring c.args.network.now) c.due_since.new.store c.settle_from.new.store c.before-2.inside.worldview)
-    _ (λ settled least most within. (
-      c.in_ok-known.agenda,
-      c.in_ok-known.ensures.due,
-      least,
-      subst (λ (w : Premises). settled.calls ≤ tally c.in_ok-known.agenda + gains (wiring c.args.network.now) c.args.store.now c.settle_from.new.store w)
-          (ap (λ (s : Settled). s.worldview) c.before-2.view_is)
-          (subst (λ (s : Store). settled.calls ≤ tally c.in_ok-known.agenda
-          + gains (wiring c.args.network.now) s c.settle_from.new.store c.before-2.inside.worldview) c.due_since.ensures.unchanged most),
-    )) c.settle_from.ensures.least c.settle_from.ensures.most
+returns-clause-due g c within =
+    let network = wiring c.args.network.now in
+    let old : Store = c.args.store.now in
+    let e = (goal.at.returns-clause-due g c).After-work-arg-3-1 in
+    let d = (goal.at.returns-clause-due g c).In_ok-read_new_cells in
+    let queued : List Bool = c.take_in_news.new.agenda in
+    let calls : ℕ = c.in_ok-values-inside.field-0 in (
+      queued,
+      subst (λ (s : Settled). AreDue network old s.worldview s queued) c.values.view_is (due_then g e),
+      c.in_ok-values-inside.ensures.least,
+      subst (λ (s : Settled). calls ≤ tally queued + gains network old c.mark-values-inside.new.self s.worldview) c.values.view_is
+          (subst (λ (s : Store). calls ≤ tally queued + gains network old s c.values.inside.worldview) (sym {A = Store} c.mark-values-inside.ensures.unchanged)
+          (calls_by_gains network old c.work.new.store c.values.inside.worldview calls (tally queued) (as_many_cells old c.work.new.store (grows_then g e c.work.new.store c.work.ensures.grows).kinds)
+          (subst (λ (s : Store). CallsNoMore network c.values.inside.worldview s queued c.work.new.store calls) (store_then g e)
+          c.in_ok-values-inside.ensures.most))),
+    )

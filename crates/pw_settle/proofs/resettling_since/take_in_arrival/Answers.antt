@@ -1,4 +1,4 @@
-use Rattle.std.proofs.Common.{◌≡◌, ◌++◌, ℕ, List, drop, false, length, take, refl, sym, ap, ◌∙◌, subst, inl, inr, map}
+use Rattle.std.proofs.Common.{◌≡◌, ◌++◌, ℕ, List, drop, length, take, refl, sym, ap, ◌∙◌, subst, inl, inr, map}
 use Rattle.pw_settle.specs.Calls.{is_instance_visible}
 use Rattle.std.specs.FinSet.{is_subset}
 use Rattle.pw_kinds.proofs.Order.{not_both}

@@ -1,5 +1,4 @@
-use Rattle.std.proofs.Common.{◌≡◌, ◌<◌, Bool, List, ◌++◌, length, map, take, drop, refl, sym, ap, subst, ◌∙◌, inl, inr, arith}
-use Rattle.std.specs.List.{count_by}
+use Rattle.std.proofs.Common.{◌≡◌, ◌<◌, List, ◌++◌, length, map, take, drop, refl, sym, ap, subst, ◌∙◌, inl, inr, arith}
 use Rattle.std.proofs.lemmas.List.{get_or_default, length-set}
 use Rattle.pw_info.specs.declared.info.Info.{Info}
 use Rattle.pw_info.specs.Information.{kind_of}
@@ -8,9 +7,6 @@ use Rattle.pw_cells.specs.Cells.{IsUnsaid, Store, kept_in}
 use Rattle.pw_network.specs.Wiring.{wiring}
 use Rattle.pw_network.specs.inside.Held.{attachment}
 use Rattle.pw_network.specs.Network.{Attached}
-use Rattle.pw_network.specs.Readers.{readers_of}
-use Rattle.pw_settle.specs.inside.Progress.{is_set}
-use Rattle.pw_settle.specs.Calls.{reader_count}
 use Rattle.pw_settle.specs.Growth.{KeepsMore}
 use Rattle.pw_settle.specs.inside.Known.{AreUpstream, TakesIn, news_on}
 use Rattle.pw_settle.specs.inside.Progress.{IsNews}

@@ -1,4 +1,4 @@
-use Rattle.std.proofs.Common.{◌≡◌, ◌+◌, ◌≤◌, length, refl, sym, ap, ◌∙◌, subst}
+use Rattle.std.proofs.Common.{◌≡◌, ◌+◌, ◌≤◌, length, sym, ap, ◌∙◌, subst}
 use Rattle.std.proofs.lemmas.List.{length-map}
 use Rattle.pw_cells.specs.Cells.{Cell, Store}
 use Rattle.pw_network.specs.Wiring.{wiring}
@@ -9,10 +9,8 @@ use Rattle.pw_settle.specs.Settled.{Settled}
 use Rattle.pw_settle.specs.Sound.{RestsUpstream}
 use Rattle.pw_settle.specs.inside.Known.{AreUpstream}
 use Rattle.pw_settle.specs.inside.Progress.{tally}
-use Rattle.pw_settle.proofs.Accounted.{can_continue}
-use Rattle.pw_settle.proofs.FittingValues.{fits_now}
-use Rattle.pw_settle.proofs.StoreCells.{cells_kept}
-use Rattle.pw_settle.proofs.SettledStores.{calls_by_gains, kept_settled, settled_known}
+use Rattle.pw_settle.proofs.RefusedSettlings.{values_found}
+use Rattle.pw_settle.proofs.SettledStores.{calls_by_gains, kept_settled}
 use Rattle.pw_settle.proofs.settling.settle_from.Goals as goal
 
 pub returns-in_err-calls-clause-upstream : goal.returns-in_err-calls-clause-upstream
@@ -45,25 +43,13 @@ returns-clause-most g c =
 pub returns-clause-found : goal.returns-clause-found
 returns-clause-found g c =
     let network = wiring c.args.network.now in
-    let well = c.args.network.now.well in
-    let new = c.work.new.store in
     let infos = c.work.new.known.infos.items in
     let supports = c.work.new.known.supports in
     let many = length c.instances.result.now in
-    let kept = c.in_ok-calls.ensures.kept in
-    let kinds = c.work.ensures.grows.kinds ∙ c.requires.kinds in
     let all : many ≡ length network.attached = sym (length-map c.instances.result.now attachment) ∙ ap length c.instances.ensures.instances in
     let values : Settled =
     record { infos = infos; supports = supports; worldview = c.args.worldview.now; instances = many; calls = c.in_ok-calls.calls; mark = c.mark.result } in
     subst (λ (s : Store). HasValues network c.args.store.now s c.args.worldview.now values) (sym {A = Store} c.mark.ensures.unchanged)
-    (record {
-      settled = λ sound. settled_known network well c.args.store.now new c.args.worldview.now c.requires.kinds
-          c.work.ensures.grows c.requires.told c.work.new.agenda c.in_ok-calls.ensures.satisfied c.in_ok-calls.ensures.done sound
-          infos supports many c.in_ok-calls.calls c.mark.result kept;
-      cells = kept.many ∙ cells_kept network new well kinds;
-      fits = fits_now network well new values kinds all kept c.work.new.agenda c.in_ok-calls.ensures.satisfied c.in_ok-calls.ensures.done;
-      continues = can_continue network c.args.store.now new c.args.worldview.now c.work.ensures.grows c.requires.told infos supports kept
-          many c.in_ok-calls.calls c.mark.result c.mark.ensures.mark;
-      worldview = refl;
-      instances = all;
-    })
+    (values_found network c.args.network.now.well c.args.store.now c.work.new.store c.args.worldview.now c.requires.kinds c.work.ensures.grows
+    c.requires.told c.work.new.agenda c.in_ok-calls.ensures.satisfied c.in_ok-calls.ensures.done infos supports c.in_ok-calls.ensures.kept
+    many c.in_ok-calls.calls c.mark.result all c.mark.ensures.mark)

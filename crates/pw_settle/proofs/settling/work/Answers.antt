@@ -1,10 +1,10 @@
 use Rattle.std.proofs.Common.{◌≡◌, ◌+◌, Bool, false, List, length, ap, ◌∙◌, arith}
 use Rattle.std.proofs.lemmas.List.{length-map, length-set}
 use Rattle.std.proofs.lemmas.List.Sums.{count_by-le-length}
+use Rattle.pw_cells.proofs.Stores.{OnErr_always}
 use Rattle.pw_network.specs.Wiring.{wiring}
 use Rattle.pw_network.specs.inside.Held.{attachment}
 use Rattle.pw_settle.specs.inside.Progress.{is_set, tally}
-use Rattle.pw_settle.specs.Calls.{is_instance_visible}
 use Rattle.pw_settle.specs.inside.Progress.{weight}
 use Rattle.pw_settle.proofs.Growing.{keeps_more_then}
 use Rattle.pw_settle.proofs.SettledStores.{calls_fit, weight_most}
@@ -46,6 +46,7 @@ loop-number-preserved g c = record {
   flags = c.call.ensures.flags ∙ ap length c.in-Some.ensures.some.1 ∙ length-set c.loop-number.agenda c.in-Some.number false ∙ c.loop-number.invariant.flags;
   seen = c.call.ensures.seen;
   satisfied = c.in_ok-call.ensures.satisfied;
+  idle = λ was. let flag = c.in-Some.ensures.some.0 in let none = c.loop-number.invariant.idle was c.in-Some.number in absurd (cc);
   least = omega (arith, c.loop-number.invariant.least, c.call.ensures.least, c.call.ensures.counted, less g c);
   most = omega (arith, c.loop-number.invariant.most, c.in_ok-call.ensures.most, c.call.ensures.counted, less g c);
 }
@@ -62,3 +63,15 @@ returns-clause-done g c n = ap (λ (l : List Bool). is_set l n) c.in_default.ens
 
 pub returns-clause-least : goal.returns-clause-least
 returns-clause-least g c = omega (arith, c.loop-number.invariant.least, tally_none c.loop-number.agenda c.in_default.ensures.none)
+
+pub returns-in_err-call-clause-between : goal.returns-in_err-call-clause-between
+returns-in_err-call-clause-between g c = OnErr_always c.from_residual.result (record {
+  between = c.loop-number.store;
+  before = c.loop-number.invariant.grows;
+  kept = rw (c.in_err-call.ensures.infos, c.in_err-call.ensures.supports) c.loop-number.invariant.kept;
+  after = c.call.ensures.grows;
+})
+
+pub returns-in_err-call-clause-waited : goal.returns-in_err-call-clause-waited
+returns-in_err-call-clause-waited g c = OnErr_always c.from_residual.result (λ was.
+    let flag = c.in-Some.ensures.some.0 in let none = c.loop-number.invariant.idle was c.in-Some.number in absurd (cc))

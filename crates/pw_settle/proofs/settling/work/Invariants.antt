@@ -1,7 +1,7 @@
 use Rattle.std.proofs.Common.{◌≡◌, ◌+◌, ◌≤◌, ℕ, Bool, true, length}
 use Rattle.pw_cells.specs.Cells.{kept_in}
 use Rattle.pw_network.specs.Wiring.{wiring}
-use Rattle.pw_settle.specs.inside.Progress.{is_set, tally}
+use Rattle.pw_settle.specs.inside.Progress.{IsIdle, is_set, tally}
 use Rattle.pw_settle.specs.Calls.{visible_at}
 use Rattle.pw_settle.specs.Growth.{KeepsMore}
 use Rattle.pw_settle.specs.inside.Known.{AreKept, AreUpstream}
@@ -17,6 +17,7 @@ invariant-loop-number g l = record {
   flags : length l.agenda ≡ length (wiring l.network).attached;
   seen : (n : ℕ) → is_set l.agenda n ≡ true → visible_at (wiring l.network) l.worldview n ≡ true;
   satisfied : AreSatisfied (wiring l.network) l.worldview (λ cell. kept_in l.store cell l.worldview) l.agenda;
+  idle : IsIdle l.fn.agenda → IsIdle l.agenda;
   least : tally l.fn.agenda ≤ l.calls + tally l.agenda;
   most : l.calls + (tally l.agenda + weight (wiring l.network) l.store l.worldview)
       ≤ tally l.fn.agenda + weight (wiring l.network) l.fn.store l.worldview;

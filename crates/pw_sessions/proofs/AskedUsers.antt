@@ -1,0 +1,84 @@
+-- How a question ended that settled for its user.
+use Rattle.std.proofs.Common.{◌≡◌, ℕ, true, List, cond, length, get_or, Some, sym, ap, ◌∙◌, subst, inr, refl, arith}
+use Rattle.pw_premises.specs.Premises.{Premises}
+use Rattle.pw_premises.specs.PremiseSubsets.{same_numbers_equal}
+use Rattle.pw_cells.specs.Cells.{Store}
+use Rattle.pw_network.specs.Network.{Network}
+use Rattle.pw_settle.specs.Growth.{KeepsMore, StaysUpstream}
+use Rattle.pw_settle.specs.Settled.{IsSettled}
+use Rattle.pw_settle.proofs.Growing.{settled_still}
+use Rattle.pw_reasons.specs.Nogood.{AreNogoods}
+use Rattle.pw_sessions.specs.Freshness.{IsAsked, IsFresh, IsSettledFor}
+use Rattle.pw_sessions.specs.Reply.{Reply}
+use Rattle.pw_sessions.specs.Snapshot.{Snapshot, snapshot_in}
+use Rattle.pw_sessions.specs.inside.Steps.{CanAnswer, HasSettled, IsAfterSettling, OnlyKeepsMore}
+use Rattle.pw_sessions.specs.Workbench.{Workbench, beliefs_in}
+use Rattle.pw_sessions.proofs.AfterSettling.{due_for_still}
+use Rattle.pw_sessions.proofs.FreshUsers.{fresh_keeping}
+use Rattle.pw_sessions.proofs.LastValues.{beliefs_kept, fits_after, only_notes}
+
+module _ (old : Workbench) (user : ℕ) (found : Workbench) where
+  -- ---- the values that were settled
+
+  -- the first snapshot has them
+  latest_values : (d at : Snapshot) (has : HasSettled old user found) → at ≡ get_or found.snapshots 0 d → at.values ≡ has.values
+  latest_values d at has is = ap (λ (s : Snapshot). s.values) (is ∙ ap (λ (l : List Snapshot). get_or l 0 d) has.latest)
+
+  -- so it has what settles under what the user believes
+  pub latest_settled : (d at : Snapshot) → HasSettled old user found → at ≡ get_or found.snapshots 0 d → IsSettledFor old user at.values
+  latest_settled d at has is = subst (IsSettledFor old user) (sym (latest_values d at has is)) has.settled
+
+  -- and it still settles, though more is kept
+  pub latest_settled_still : (d at : Snapshot) → HasSettled old user found → OnlyKeepsMore old user found → at ≡ get_or found.snapshots 0 d →
+      IsSettled found.network found.store at.values.worldview at.values
+  latest_settled_still d at has keeps is =
+      subst (λ (n : Network). IsSettled n found.store at.values.worldview at.values) (sym keeps.network)
+      (settled_still old.network old.store found.store (beliefs_in old user) at.values keeps.grows (latest_settled d at has is))
+
+  -- ---- the user
+
+  -- is fresh, once it settled
+  fresh_settled : CanAnswer old user → HasSettled old user found → OnlyKeepsMore old user found → IsFresh found user
+  fresh_settled can has keeps = record {
+    exists = omega (arith, can.exists, ap length keeps.beliefs);
+    snapshot = first;
+    has =
+        ap (λ (l : List Snapshot). snapshot_in l (beliefs_in found user)) has.latest
+        ∙ ap (λ b. cond b (Some first) (snapshot_in has.earlier (beliefs_in found user)))
+        ((same_numbers_equal has.values.worldview (beliefs_in found user)).1 (has.settled.worldview_is ∙ sym (beliefs_kept old user found keeps)));
+    current = has.current;
+  } where
+    first : Snapshot
+    first = record { values = has.values; is_current = true }
+
+  -- ---- the question
+
+  module _ (Settling : Type 0) (settling : Settling) (after : IsAfterSettling old user found) where
+    -- settled, whatever its answer is
+    pub asked_settled : (answer : Reply) → CanAnswer old user → HasSettled old user found → IsAsked old user Settling found answer
+    asked_settled answer can has = record {
+      becomes = λ so. inr (fresh_settled can has after.grows);
+      stays = λ is. fresh_settled can has after.grows;
+      few = after.few;
+      due = λ so. inr has.due;
+      none = λ not. absurd (not settling);
+    }
+
+    -- settled, and then more was kept and noted
+    pub asked_noted : (store : Store) (nogoods : List Premises) (answer : Reply) → CanAnswer old user → HasSettled old user found →
+        KeepsMore found.network found.store store → StaysUpstream found.network found.store store → AreNogoods found.network found.store nogoods →
+        IsAsked old user Settling (record found { store = store; nogoods = nogoods }) answer
+    asked_noted store nogoods answer can has grows upstream are = record {
+      becomes = λ so. inr fresh;
+      stays = λ is. fresh;
+      few = after.few;
+      due = λ so. inr (due_for_still old found new user after.grows.network grows refl has.due);
+      none = λ not. absurd (not settling);
+    } where
+      new : Workbench
+      new = record found { store = store; nogoods = nogoods }
+
+      fresh : IsFresh new user
+      fresh =
+          fresh_keeping found user new (fits_after old user found after.grows can.fits) (only_notes found user store nogoods grows upstream (λ noted. are)) refl
+          user (fresh_settled can has after.grows)

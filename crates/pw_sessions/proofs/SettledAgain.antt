@@ -1,0 +1,240 @@
+-- A settling that changes the values of a snapshot in place: the snapshot after it, and the workbench.
+use Rattle.std.proofs.Common.{◌≡◌, ◌≢◌, ℕ, ◌<◌, ◌≤◌, Bool, true, false, List, ◌∷◌, All, length, get_or, set, Result, Ok, Err, Some, refl, sym, ap, ◌∙◌, subst, inl, inr, arith, get_or-set_other, get_or-set_same}
+use Rattle.std.specs.Prelude.{OnErr, OnOk, position, remove}
+use Rattle.std.specs.Result.{is_ok}
+use Rattle.std.proofs.lemmas.Bool.{both_ways, cases_Bool}
+use Rattle.std.proofs.lemmas.List.{get_or_default, length-set}
+use Rattle.std.proofs.lemmas.List.Folds.{find_past}
+use Rattle.std.proofs.lemmas.Option.{none-some, same_Some}
+use Rattle.pw_premises.specs.Premises.{Premises}
+use Rattle.pw_premises.specs.PremiseSubsets.{has_same_numbers, is_subset_refl, same_numbers_equal}
+use Rattle.pw_cells.specs.Cells.{Store, kinds_of}
+use Rattle.pw_network.specs.Network.{Network, IsWellNetwork}
+use Rattle.pw_settle.specs.Calls.{gains}
+use Rattle.pw_settle.specs.Growth.{HasValues, IsInterrupted, KeepsIfSound, KeepsMore, RestOnUpstreamAfter, StaysUpstreamAfter}
+use Rattle.pw_settle.specs.inside.Due.{AreDue, CallsWhatIsDue}
+use Rattle.pw_settle.specs.inside.Progress.{tally}
+use Rattle.pw_settle.specs.Settled.{IsSettled, Settled}
+use Rattle.pw_settle.specs.Sound.{IsSound}
+use Rattle.pw_settle.specs.Values.{kinds_in}
+use Rattle.pw_settle.proofs.KeptFacts.{by_cell}
+use Rattle.pw_reasons.proofs.NogoodLemmas.{nogoods_same}
+use Rattle.pw_sessions.specs.Freshness.{AreCalls, IsFresh}
+use Rattle.pw_sessions.specs.inside.Steps.{CallsDueAgain, CanAnswer, HasSettled, IsAfterSettling, IsRemembered, OnlyKeepsMore, OnlySpares, RestOnUpstreamOf, StaysUpstreamOf, place_in}
+use Rattle.pw_sessions.specs.Snapshot.{IsCurrent, IsSnapshotOf, Snapshot, is_of, snapshot_in, start_for}
+use Rattle.pw_sessions.specs.Workbench.{Workbench, beliefs_in}
+use Rattle.pw_sessions.proofs.CurrentValues.{current_keeping, current_settled}
+use Rattle.pw_sessions.proofs.FewCalls.{due_none, no_gains}
+use Rattle.pw_sessions.proofs.FreshUsers.{calls_few, calls_none, fresh_remembered}
+use Rattle.pw_sessions.proofs.LastValues.{only_remembers, only_settles, snapshots_keeping}
+use Rattle.pw_sessions.proofs.SnapshotLists.{found_becomes, its_worldview, latest_after, own_there, position_within, starts_there}
+use Rattle.pw_sessions.proofs.UpstreamSnapshots.{Rests}
+
+-- ---- the snapshot
+
+module _ (network : Network) (well : IsWellNetwork network) (old new : Store) (same : kinds_of old ≡ kinds_in network) (sound : IsSound network old)
+    (before values : Settled) where
+  -- its values are current, if they were found
+  pub current_again : {E : Type 0} (r : Result (Unit {0}) E) → KeepsMore network old new → OnOk r (HasValues network old new before.worldview values) →
+      OnOk r (KeepsIfSound network old new before.worldview) → OnOk r (IsCurrent network new values)
+  current_again (Ok u) grows has kept =
+      current_settled network well old new before.worldview values same grows (has.settled sound) has.fits has.instances (kept sound)
+  current_again (Err e) grows has kept = has
+
+  -- the number of calls
+  pub calls_again : {E : Type 0} (r : Result (Unit {0}) E) → OnOk r (CallsWhatIsDue network old new before.worldview before values) →
+      OnOk r (CallsDueAgain network old new before values)
+  calls_again (Ok u) due =
+      let (flags, are, least, most) = due (is_subset_refl before.worldview) in
+      (flags, are, record { least = least; most = most })
+  calls_again (Err e) due = due
+
+  -- none, if the values were current
+  pub no_calls_again : {E : Type 0} (r : Result (Unit {0}) E) → OnOk r (KeepsIfSound network old new before.worldview) →
+      OnOk r (CallsWhatIsDue network old new before.worldview before values) → OnOk r (IsCurrent network old before → values.calls ≡ 0)
+  no_calls_again (Ok u) kept due = λ current.
+      let (flags, are, least, most) = due (is_subset_refl before.worldview) in
+      let none = no_gains network old new before.worldview current.kept (kept sound) in
+      let zero = due_none network old before.worldview before flags refl current are in
+      omega (arith, most, zero, none)
+  no_calls_again (Err e) kept due = due
+
+  -- it fits, found or not
+  pub fits_again : {E : Type 0} (r : Result (Unit {0}) E) (known : Bool) → known ≡ is_ok r →
+      OnOk r (HasValues network old new before.worldview values) → OnErr r (IsInterrupted network old new before values) →
+      OnOk r (IsCurrent network new values) → length network.declared.cells ≤ length before.infos →
+      IsSnapshotOf network new (record { values = values; is_current = known })
+  fits_again (Ok u) known is has refused current declared = record {
+    fits = has.fits;
+    continues = has.continues;
+    declared = omega (arith, has.cells);
+    current = λ so. current;
+  }
+  fits_again (Err e) known is has refused current declared = record {
+    fits = refused.fits;
+    continues = refused.continues;
+    declared = omega (arith, declared, refused.cells);
+    current = λ so. absurd (both_ways known is so);
+  }
+
+-- ---- the workbench
+
+module _ (old : Workbench) (user place : ℕ) (d before after : Snapshot) (store : Store) (can : CanAnswer old user)
+    (at : place_in old user ≡ Some place) (read : before ≡ get_or old.snapshots place d) (worldview : after.values.worldview ≡ before.values.worldview)
+    (grows : KeepsMore old.network old.store store) (upstream : StaysUpstreamAfter old.network before.values old.store store)
+    (lie : RestOnUpstreamAfter old.network before.values old.store after.values) (fits : IsSnapshotOf old.network store after) where
+  abbrev w : Premises
+  w = beliefs_in old user
+
+  there : place < length old.snapshots
+  there = position_within (is_of w) old.snapshots place at
+
+  has : snapshot_in old.snapshots w ≡ Some before
+  has = own_there old.snapshots w place d before at read
+
+  own : before.values.worldview ≡ w
+  own = its_worldview old.snapshots w before has
+
+  -- what holds of all holds of this one
+  of_all : (P : Snapshot → Type 0) → All P old.snapshots → P before
+  of_all P all = subst P (sym read) (all place d there)
+
+  stays : StaysUpstreamOf old.network old.store old.snapshots store
+  stays given rests = upstream given rests.kept (of_all (Rests old.network given) rests.snapshots)
+
+  lies : RestOnUpstreamOf old.network old.store old.snapshots after.values
+  lies given rests = lie given rests.kept (of_all (Rests old.network given) rests.snapshots)
+
+  -- a settling that was done: the snapshot is the first one
+  module _ (list others : List Snapshot) (calls : ℕ) (listed : list ≡ after ∷ others)
+      (spares : OnlySpares old.beliefs (remove old.snapshots place) others) (counted : calls ≡ after.values.calls)
+      (known : after.is_current ≡ true) (current : IsCurrent old.network store after.values) where
+    abbrev found : Workbench
+    found = record old { store = store; calls = calls }
+
+    abbrev new : Workbench
+    new = record old { store = store; snapshots = list; calls = calls }
+
+    abbrev now : Snapshot
+    now = record { values = after.values; is_current = true }
+
+    is_now : after ≡ now
+    is_now = ap {B = Snapshot} (λ b. record { values = after.values; is_current = b }) known
+
+    first : list ≡ now ∷ others
+    first = listed ∙ ap (λ (s : Snapshot). s ∷ others) is_now
+
+    remembered : IsRemembered found after.values new
+    remembered = record {
+      latest = latest_after old.beliefs old.snapshots (remove old.snapshots place) others list after.values
+          (inr (place, ap (λ (u : Premises). position (is_of u) old.snapshots) (worldview ∙ own) ∙ at, refl))
+          spares first;
+      rest = refl;
+    }
+
+    starts : start_for old.snapshots w ≡ Some before
+    starts = starts_there old.snapshots w before has
+
+    pub settled_again : IsSettled old.network old.store before.values.worldview after.values →
+        CallsDueAgain old.network old.store store before.values after.values → HasSettled old user new
+    settled_again is due = record {
+      values = after.values;
+      earlier = others;
+      latest = first;
+      settled = subst (λ (u : Premises). IsSettled old.network old.store u after.values) own is;
+      current = current;
+      due = record {
+        anew = λ no. absurd (none-some before (sym no ∙ starts));
+        further = λ snapshot begins.
+            let (flags, are, count) = due in (
+              flags,
+              subst (λ (s : Snapshot). AreDue old.network old.store w s.values flags) (same_Some before snapshot (sym starts ∙ begins))
+                  (subst (λ (u : Premises). AreDue old.network old.store u before.values flags) own are),
+              subst (AreCalls (tally flags) (gains old.network old.store store w)) (sym counted)
+                  (subst (λ (u : Premises). AreCalls (tally flags) (gains old.network old.store store u) after.values.calls) own count),
+            );
+      };
+    }
+
+    pub after_settled_again : (IsCurrent old.network old.store before.values → after.values.calls ≡ 0) → IsAfterSettling old user new
+    after_settled_again none = record {
+      grows = only_remembers old user found after.values new (only_settles old user store calls grows stays) lies remembered
+          (worldview ∙ own) (subst (IsSnapshotOf old.network store) is_now fits);
+      few = calls_few old user calls can.exists
+          (λ snapshot begins was. counted
+          ∙ none (subst (λ (s : Snapshot). IsCurrent old.network old.store s.values) (same_Some snapshot before (sym begins ∙ has)) was));
+      stays = λ fresh. fresh_remembered found user after.values new remembered can.exists (worldview ∙ own) current;
+      same = refl;
+    }
+
+  -- one that was refused: the snapshot stays at its place
+  module _ (unchanged : IsCurrent old.network old.store before.values → after.values ≡ before.values) (uncounted : old.calls ≡ 0) where
+    abbrev list : List Snapshot
+    list = set old.snapshots place after
+
+    abbrev left : Workbench
+    left = record old { store = store; snapshots = list }
+
+    -- what held of all, and holds of the snapshot, holds of all
+    all_with : (P : Snapshot → Type 0) → P after → All P old.snapshots → All P list
+    all_with P this all k e below =
+        by_cell (λ k. k < length list → P (get_or list k e)) place (λ in_list. subst P (sym (get_or-set_same old.snapshots place after e there)) this)
+        (λ k other in_list. subst P (sym (get_or-set_other old.snapshots place k after e other))
+        (all k e (omega (arith, in_list, length-set old.snapshots place after)))) k below
+
+    apart : (other : ℕ) → beliefs_in old other ≢ w → (s : Snapshot) → s.values.worldview ≡ w → is_of (beliefs_in old other) s ≡ false
+    apart other differs s of = elim (cases_Bool (is_of (beliefs_in old other) s)) [
+      | inl same ↦ absurd (differs (sym ((same_numbers_equal s.values.worldview (beliefs_in old other)).0 same) ∙ of))
+      | inr not ↦ not
+    ]
+
+    keeps : OnlyKeepsMore old user left
+    keeps = record {
+      network = refl;
+      beliefs = refl;
+      others = λ other exists differs.
+          find_past (is_of (beliefs_in old other)) old.snapshots place after d
+          (ap (is_of (beliefs_in old other)) (sym read) ∙ apart other differs before own) (apart other differs after (worldview ∙ own));
+      snapshots = λ fit.
+          all_with (IsSnapshotOf old.network store) fits
+          (snapshots_keeping old.network old.store store old.snapshots fit.kinds fit.sound grows fit.snapshots);
+      nogoods = λ are. nogoods_same old.network old.store store grows.told old.nogoods are;
+      grows = grows;
+      upstream = λ given rests. record {
+        kept = stays given rests;
+        snapshots = all_with (Rests old.network given) (lies given rests) rests.snapshots;
+      };
+    }
+
+    -- each is of the same worldview as before, and current if it was
+    abbrev Still : Snapshot → Snapshot → Type 0
+    Still was is = (is.values.worldview ≡ was.values.worldview)
+        × (IsCurrent old.network old.store was.values → IsCurrent old.network store is.values)
+
+    kept : (s : Snapshot) → Still s s
+    kept s = (refl, λ is. current_keeping old.network old.store store s.values can.fits.kinds can.fits.sound grows is)
+
+    this_still : Still before after
+    this_still = (worldview, λ is. subst (IsCurrent old.network store) (sym (unchanged is)) ((kept before).1 is))
+
+    each_still : (k : ℕ) (e : Snapshot) → k < length old.snapshots → Still (get_or old.snapshots k e) (get_or list k e)
+    each_still k e below =
+        by_cell (λ k. k < length old.snapshots → Still (get_or old.snapshots k e) (get_or list k e)) place
+        (λ in_list. subst (Still (get_or old.snapshots place e)) (sym (get_or-set_same old.snapshots place after e there))
+        (subst (λ (s : Snapshot). Still s after) (read ∙ get_or_default old.snapshots place d e there) this_still))
+        (λ k other in_list. subst (Still (get_or old.snapshots k e)) (sym (get_or-set_other old.snapshots place k after e other))
+        (kept (get_or old.snapshots k e))) k below
+
+    fresh_still : IsFresh old user → IsFresh left user
+    fresh_still fresh =
+        let (now, begins, still) = found_becomes (is_of w) Still (λ was is came. ap (λ (u : Premises). has_same_numbers u w) came.0) old.snapshots list
+        (length-set old.snapshots place after) each_still fresh.snapshot fresh.has in
+        record { exists = can.exists; snapshot = now; has = begins; current = still.1 fresh.current }
+
+    pub after_refused_again : IsAfterSettling old user left
+    after_refused_again = record {
+      grows = keeps;
+      few = calls_none old user old.calls uncounted;
+      stays = fresh_still;
+      same = refl;
+    }
