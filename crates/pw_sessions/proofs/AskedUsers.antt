@@ -54,7 +54,7 @@ module _ (old : Workbench) (user : ℕ) (found : Workbench) where
   -- ---- the question
 
   module _ (Settling : Type 0) (settling : Settling) (after : IsAfterSettling old user found) where
-    -- settled, whatever its answer is
+    -- it settled; this holds of each answer
     pub asked_settled : (answer : Reply) → CanAnswer old user → HasSettled old user found → IsAsked old user Settling found answer
     asked_settled answer can has = record {
       becomes = λ so. inr (fresh_settled can has after.grows);
@@ -64,7 +64,7 @@ module _ (old : Workbench) (user : ℕ) (found : Workbench) where
       none = λ not. absurd (not settling);
     }
 
-    -- settled, and then more was kept and noted
+    -- it settled, and then more was kept and noted
     pub asked_noted : (store : Store) (nogoods : List Premises) (answer : Reply) → CanAnswer old user → HasSettled old user found →
         KeepsMore found.network found.store store → StaysUpstream found.network found.store store → AreNogoods found.network found.store nogoods →
         IsAsked old user Settling (record found { store = store; nogoods = nogoods }) answer
