@@ -1,8 +1,8 @@
 -- Queues of the numbers whose flags are set.
-use Rattle.std.proofs.Common.{◌≡◌, ◌≢◌, ℕ, ◌+◌, ◌<◌, ◌≤◌, suc, Bool, true, false, cond, eqb, inl, inr, List, [], ◌∷◌, ◌++◌, length, set, get_or, take, replicate, if◌then◌else◌, refl, sym, ap, ◌∙◌, subst, arith, length-append, append_assoc}
+use Rattle.std.proofs.Common.{◌≡◌, ◌≢◌, ℕ, ◌+◌, ◌<◌, ◌≤◌, suc, Bool, true, false, cond, eqb, inl, inr, List, [], ◌∷◌, ◌++◌, length, set, get_or, drop, take, replicate, if◌then◌else◌, refl, sym, ap, ◌∙◌, subst, arith, length-append}
 use Rattle.std.specs.Prelude.{All, nat_lt}
 use Rattle.std.proofs.lemmas.Bool.{cases_Bool, eqb-false, eqb-true, ltb-true, ltb-false}
-use Rattle.std.proofs.lemmas.List.{get_or_default, get_or_past, get_or-set_other, get_or-set_same, length-set}
+use Rattle.std.proofs.lemmas.List.{drop-append-le, drop_more, get_or_default, get_or_past, get_or-set_other, get_or-set_same, length-set}
 use Rattle.std.proofs.lemmas.List.Elements.{All-append, All-cons, All-head, All-nil, All-replicate, All-tail, All-take, All-weaker}
 use Rattle.std.proofs.lemmas.List.Quantifiers.{all_pairs_push}
 use Rattle.std.proofs.lemmas.List.Sums.{count_by-le-length, sum_by-set}
@@ -47,14 +47,16 @@ queue_more flags queue capacity one below free is = record {
   counted : length queue + length (one ∷ []) ≡ tally (set flags one true)
   counted = omega (arith, is.count, tally_more flags one below free)
 
--- the same where the queue goes on in a second list, and has perhaps more room than it had
-pub queue_later : (flags : List Bool) (queue next : List ℕ) (capacity more one : ℕ) → one < length flags → is_set flags one ≡ false → capacity ≤ more →
-    IsQueue flags (queue ++ next) capacity → IsQueue (set flags one true) (queue ++ (next ++ one ∷ [])) more
-queue_later flags queue next capacity more one below free room is =
-    let both : IsQueue (set flags one true) ((queue ++ next) ++ one ∷ []) capacity = queue_more flags (queue ++ next) capacity one below free is in
-    let last : IsQueue (set flags one true) (queue ++ (next ++ one ∷ [])) capacity =
-    subst (λ (l : List ℕ). IsQueue (set flags one true) l capacity) (append_assoc queue next (one ∷ [])) both in
-    record { flagged = last.flagged; once = last.once; count = last.count; room = omega (arith, last.room, room) }
+-- the same where those that wait are the last of a list, perhaps with more room than before
+pub queue_listed : (flags : List Bool) (queue listed new : List ℕ) (taken capacity more one : ℕ) → one < length flags → is_set flags one ≡ false →
+    capacity ≤ more → drop taken listed ≡ queue → taken ≤ length listed → new ≡ listed ++ one ∷ [] → IsQueue flags queue capacity →
+    IsQueue (set flags one true) (drop taken new) more
+queue_listed flags queue listed new taken capacity more one below free room waiting within is_new is =
+    let last = queue_more flags queue capacity one below free is in
+    let same : queue ++ one ∷ [] ≡ drop taken new =
+    sym (ap (drop taken) is_new ∙ drop-append-le taken listed (one ∷ []) within ∙ ap (λ l. l ++ one ∷ []) waiting) in
+    let now = subst (λ (l : List ℕ). IsQueue (set flags one true) l capacity) same last in
+    record { flagged = now.flagged; once = now.once; count = now.count; room = omega (arith, now.room, room) }
 
 -- the first number leaves the queue, and its flag is cleared
 pub queue_less : (flags : List Bool) (queue rest : List ℕ) (capacity one : ℕ) → queue ≡ one ∷ rest → IsQueue flags queue capacity →
@@ -71,12 +73,10 @@ queue_less flags queue rest capacity one is_first is_queue =
       room = omega (arith, is.room, length-set flags one false);
     }
 
--- the same where there is other room
-pub queue_taken : (flags : List Bool) (queue rest : List ℕ) (capacity more one : ℕ) → queue ≡ one ∷ rest → IsQueue flags queue capacity → length flags ≤ more →
-    IsQueue (set flags one false) rest more
-queue_taken flags queue rest capacity more one is_first is room =
-    let less = queue_less flags queue rest capacity one is_first is in
-    record { flagged = less.flagged; once = less.once; count = less.count; room = omega (arith, room, length-set flags one false) }
+-- the first of a list that was not taken is the first that waits
+pub first_waits : (listed : List ℕ) (taken one : ℕ) → taken < length listed → one ≡ get_or listed taken one → drop taken listed ≡ one ∷ drop (taken + 1) listed
+first_waits listed taken one within is =
+    drop_more listed taken one within ∙ ap (λ n. n ∷ drop (taken + 1) listed) (sym is)
 
 -- the first number of a queue is that of a flag
 pub first_below : (flags : List Bool) (queue rest : List ℕ) (capacity one : ℕ) → queue ≡ one ∷ rest → IsQueue flags queue capacity → one < length flags

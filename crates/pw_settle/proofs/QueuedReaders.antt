@@ -122,6 +122,25 @@ module _ (visible old now : List Bool) (readers left : List ℕ) (count : ℕ) (
     among = All-tail (Contains readers) number rest all_among;
   }
 
+  -- the next is queued already, and is passed over
+  pub waiting_one : is_set now number ≡ true → AreQueuedBut visible old now readers rest count
+  waiting_one flag_now = record {
+    queued = λ n reader visible_n. elim (so_far.queued n reader visible_n) [
+      | inl flag ↦ inl flag
+      | inr waits ↦ elim (first_or_other number n rest (subst (λ (l : List ℕ). Contains l n) next waits)) [
+        | inl same ↦ inl (ap (is_set now) (sym same) ∙ flag_now)
+        | inr other ↦ inr other
+      ]
+    ];
+    stay = so_far.stay;
+    others = so_far.others;
+    most = omega (arith, so_far.most, counted);
+    least = so_far.least;
+    flags = so_far.flags;
+    below = All-tail (λ n. n < count) number rest all_below;
+    among = All-tail (Contains readers) number rest all_among;
+  }
+
 -- when none is left, all that are visible are queued
 pub none_left : (visible old now : List Bool) (readers left : List ℕ) (count : ℕ) → AreQueuedBut visible old now readers left count → left ≡ [] →
     (n : ℕ) → Contains readers n → is_set visible n ≡ true → is_set now n ≡ true

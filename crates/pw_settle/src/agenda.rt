@@ -1,39 +1,38 @@
 //! The instances that wait to be called.
-ghost use Rattle.std.specs.Prelude.{◌≡◌, ◌≤◌, ◌<◌, ◌++◌, ◌∷◌, [], false, true, drop, length};
+ghost use Rattle.std.specs.Prelude.{◌≡◌, ◌≤◌, ◌<◌, [], false, true, drop, length};
 ghost use Rattle.std.specs.Prelude.{IfNone, IfOk, IfSome, OnOk, replicate, slice_set};
-ghost use Rattle.std.specs.Prelude.{vec_capacity, ℕ};
+ghost use Rattle.std.specs.Prelude.{vec_capacity, vec_len, ℕ};
 ghost use Rattle.pw_settle.specs.inside.Progress.{IsIdle, is_set};
 
 use std::alloc::{AllocError, Allocator, Global};
 use std::marker::Model;
-use std::mem::swap;
 
 // Numbers of instances, each at most once, in the order in which they came. Which one is taken next
 // is free: no contract depends on it. (First in, first out calls an instance once for the news of
 // several of its inputs.)
 //
-// It goes in turns, which is faster than a ring: those that come in one turn are taken in the next.
+// Those that were taken stay in the list until it is full, which is faster than a ring. It has room
+// for twice as many as there are instances, so it is seldom full.
 #[derive(Drop)]
 pub(crate) struct Agenda<A: Allocator = Global> {
     queued: Vec<bool, A>,
-    // The instances of this turn, and how many of them were taken.
-    turn: Vec<u32, A>,
+    // The instances that were taken, and then those that wait.
+    listed: Vec<u32, A>,
+    // How many were taken.
     taken: usize,
-    // Those of the next one.
-    next: Vec<u32, A>,
 }
 
 impl<A: Allocator> Model for Agenda<A> {
-    ghost use Rattle.std.specs.Prelude.{◌≤◌, ◌++◌, Bool, List, drop, length, vec_capacity};
+    ghost use Rattle.std.specs.Prelude.{◌≤◌, Bool, List, drop, length, vec_capacity};
     ghost use Rattle.pw_settle.specs.inside.Progress.{IsQueue};
 
     ghost Value = { List Bool };
 
     ghost view = { λ a. a.queued.items };
 
-    ghost invariant = { λ a. IsQueue a.queued.items (drop a.taken a.turn.items ++ a.next.items)
-        (vec_capacity a.next) × (length a.queued.items ≤ 4294967295)
-        × (a.taken ≤ length a.turn.items) × (length a.queued.items ≤ vec_capacity a.turn) };
+    ghost invariant = { λ a. IsQueue a.queued.items (drop a.taken a.listed.items)
+        (vec_capacity a.listed) × (length a.queued.items ≤ 4294967295)
+        × (a.taken ≤ length a.listed.items) };
 }
 
 impl<A: Allocator + Copy> Agenda<A> {
@@ -47,9 +46,8 @@ impl<A: Allocator + Copy> Agenda<A> {
         }
         Ok(Agenda {
             queued: vec![in alloc; false; count]?,
-            turn: Vec::with_capacity(alloc, count)?,
+            listed: Vec::with_capacity(alloc, 2 * count)?,
             taken: 0,
-            next: Vec::with_capacity(alloc, count)?,
         })
     }
 
@@ -59,9 +57,8 @@ impl<A: Allocator + Copy> Agenda<A> {
     {
         Agenda {
             queued: Vec::new(alloc),
-            turn: Vec::new(alloc),
+            listed: Vec::new(alloc),
             taken: 0,
-            next: Vec::new(alloc),
         }
     }
 
@@ -75,9 +72,17 @@ impl<A: Allocator + Copy> Agenda<A> {
             return Err(AllocError);
         }
         self.clear();
-        self.turn.reserve(count)?;
-        self.next.reserve(count)?;
+        self.listed.reserve(2 * count)?;
         self.queued.resize(count, false)
+    }
+
+    // Whether the instance is queued.
+    #[inline(always)]
+    pub(crate) fn has(&self, number: usize) -> bool
+        requires { number < length self.now }
+        ensures { result ≡ is_set self.now number }
+    {
+        self.queued[number]
     }
 
     // Queues an instance, unless it is queued already.
@@ -87,8 +92,9 @@ impl<A: Allocator + Copy> Agenda<A> {
         ensures { self.new ≡ slice_set self.old number true }
     {
         if !self.queued[number] {
+            make_room(&mut self.listed, &mut self.taken);
             self.queued[number] = true;
-            let _ = self.next.push(number as u32);
+            let _ = self.listed.push(number as u32);
         }
     }
 
@@ -100,8 +106,8 @@ impl<A: Allocator + Copy> Agenda<A> {
         ensures none { IfNone result ((number : ℕ) → is_set self.old number ≡ false) }
         ensures left { IfNone result (self.new ≡ self.old) }
     {
-        let first = first_waiting(&mut self.turn, &mut self.taken, &mut self.next)?;
-        let number = first as usize;
+        let number = *self.listed.get(self.taken)? as usize;
+        self.taken += 1;
         self.queued[number] = false;
         Some(number)
     }
@@ -111,60 +117,40 @@ impl<A: Allocator + Copy> Agenda<A> {
         ensures idle { IsIdle self.new }
         ensures many { length self.new ≡ length self.old }
     {
-        if self.taken < self.turn.len() || !self.next.is_empty() {
+        if self.taken < self.listed.len() {
             // A settling was refused while instances waited.
             self.queued.fill(false);
         }
-        self.turn.clear();
+        self.listed.clear();
         self.taken = 0;
-        self.next.clear();
     }
 }
 
-// Takes the first of those that wait: of this turn, or else of the next one.
+// Makes room for one more to wait: if the list is full, it forgets those that were taken.
 #[inline(always)]
-fn first_waiting<A: Allocator>(
-    turn: &mut Vec<u32, A>,
-    taken: &mut usize,
-    next: &mut Vec<u32, A>,
-) -> Option<u32>
-    requires { taken.old ≤ length turn.old.items }
-    ensures some { IfSome result (λ first. drop taken.old turn.old.items ++ next.old.items
-        ≡ first ∷ (drop taken.new turn.new.items ++ next.new.items)) }
-    ensures none { IfNone result (drop taken.old turn.old.items ++ next.old.items ≡ []) }
-    ensures left { IfNone result (drop taken.new turn.new.items ++ next.new.items ≡ []) }
-    ensures place { taken.new ≤ length turn.new.items }
-    ensures room { (count : ℕ) → count ≤ vec_capacity turn.old → count ≤ vec_capacity next.old
-        → (count ≤ vec_capacity turn.new) × (count ≤ vec_capacity next.new) }
+fn make_room<A: Allocator>(listed: &mut Vec<u32, A>, taken: &mut usize)
+    requires place { taken.old ≤ length listed.old.items }
+    requires room { length (drop taken.old listed.old.items) < vec_capacity listed.old }
+    ensures waiting { drop taken.new listed.new.items ≡ drop taken.old listed.old.items }
+    ensures place { taken.new ≤ length listed.new.items }
+    ensures room { vec_len listed.new < vec_capacity listed.new }
+    ensures capacity { vec_capacity listed.new ≡ vec_capacity listed.old }
 {
-    if *taken == turn.len() {
-        return first_of_next(turn, taken, next);
+    if listed.len() == listed.capacity() {
+        forget_taken(listed, taken);
     }
-    let first = turn[*taken];
-    *taken += 1;
-    Some(first)
 }
 
-// The same, where all of this turn were taken: the next one begins.
-#[inline(always)]
-fn first_of_next<A: Allocator>(
-    turn: &mut Vec<u32, A>,
-    taken: &mut usize,
-    next: &mut Vec<u32, A>,
-) -> Option<u32>
-    requires { taken.old ≡ length turn.old.items }
-    ensures some { IfSome result (λ first. drop taken.old turn.old.items ++ next.old.items
-        ≡ first ∷ (drop taken.new turn.new.items ++ next.new.items)) }
-    ensures none { IfNone result (drop taken.old turn.old.items ++ next.old.items ≡ []) }
-    ensures left { IfNone result (drop taken.new turn.new.items ++ next.new.items ≡ []) }
-    ensures place { taken.new ≤ length turn.new.items }
-    ensures room { (count : ℕ) → count ≤ vec_capacity turn.old → count ≤ vec_capacity next.old
-        → (count ≤ vec_capacity turn.new) × (count ≤ vec_capacity next.new) }
+// Forgets those that were taken.
+#[inline(never)]
+fn forget_taken<A: Allocator>(listed: &mut Vec<u32, A>, taken: &mut usize)
+    requires { taken.old ≤ length listed.old.items }
+    ensures waiting { listed.new.items ≡ drop taken.old listed.old.items }
+    ensures none { taken.new ≡ 0 }
+    ensures capacity { vec_capacity listed.new ≡ vec_capacity listed.old }
 {
-    turn.clear();
+    let left = listed.len() - *taken;
+    listed.rotate_left(*taken);
+    listed.truncate(left);
     *taken = 0;
-    swap(turn, next);
-    let first = *turn.first()?;
-    *taken = 1;
-    Some(first)
 }

@@ -17,6 +17,7 @@ use pw_info::{Info, Kind};
 use pw_network::{Instance, Network};
 use pw_procs::Registry;
 use std::alloc::Allocator;
+use std::slice;
 
 // The greatest number of inputs of a procedure.
 const MOST_INPUTS: usize = 8;
@@ -126,8 +127,8 @@ fn news_on(
 {
     match instance.inputs.as_slice() {
         [one] => {
-            let given = [known[*one as usize]];
-            let info = procedure_value(registry, instance, known, &given, calls);
+            let given = slice::from_ref(&known[*one as usize]);
+            let info = procedure_value(registry, instance, known, given, calls);
             unless_known(known, instance.output, info)
         }
         [one, another] => {

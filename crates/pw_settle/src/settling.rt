@@ -1,5 +1,5 @@
 //! Settling: the values of all cells of a network in a worldview.
-ghost use Rattle.std.specs.Prelude.{◌≡◌, ◌⊎◌, ◌+◌, ◌<◌, ◌≤◌, ℕ, true, false, All, length, map};
+ghost use Rattle.std.specs.Prelude.{◌≡◌, ◌⊎◌, ◌+◌, ◌<◌, ◌≤◌, true, false, All, length, map};
 ghost use Rattle.std.specs.Prelude.{IfOk, OnOk, OnErr};
 ghost use Rattle.std.specs.List.{count_by};
 ghost use Rattle.pw_info.specs.Information.{kind_of};
@@ -23,7 +23,7 @@ ghost use Rattle.pw_settle.specs.inside.Progress.{AreMet, AreQueuedVisible, Call
 ghost use Rattle.pw_settle.specs.inside.Progress.{LeavesNoMore};
 ghost use Rattle.pw_settle.specs.inside.Known.{SettlesUpstream, StayUpstream};
 ghost use Rattle.pw_settle.specs.Growth.{KeepsIfSound};
-ghost use Rattle.pw_settle.specs.Calls.{AreVisible, CallsAtMost};
+ghost use Rattle.pw_settle.specs.Calls.{CallsAtMost};
 ghost use Rattle.pw_settle.specs.Growth.{HasValues};
 
 use crate::agenda::Agenda;
@@ -102,7 +102,8 @@ pub(crate) fn queue_readers<A: Allocator + Copy>(
 }
 
 // Queues the readers of a cell that are visible in the worldview. Each is tested by itself: in a
-// large network few of the instances ever read news.
+// large network few of the instances ever read news. One that waits already is not looked up: many do,
+// and the flags of an agenda are close together.
 #[inline(always)]
 pub(crate) fn queue_visible_readers<A: Allocator + Copy>(
     network: &Network<'_, '_, A>,
@@ -118,7 +119,7 @@ pub(crate) fn queue_visible_readers<A: Allocator + Copy>(
     ensures least { tally agenda.old ≤ tally agenda.new }
 {
     for number in network.readers(cell) {
-        if network.instances()[number].support.is_subset(worldview) {
+        if !agenda.has(number) && network.instances()[number].support.is_subset(worldview) {
             agenda.add(number);
         }
     }

@@ -24,7 +24,8 @@ pub procedure_value-info-requires-clause-given : goal.procedure_value-info-requi
 procedure_value-info-requires-clause-given g c =
     let cells = c.as_slice.result.now in
     let first = is_there c.args.known.now _ cells 0 c.as_slice.ensures c.requires.placed.0.0 (omega (arith, c.in-len1.len_at_least)) in
-    one_given c.args.known.now cells c.index-known-one.result (omega (arith, c.in-len1.len_at_least)) (omega (arith, c.in-len1.len_below)) first c.index-known-one.is
+    c.from_ref-given.ensures.value
+    ∙ one_given c.args.known.now cells c.index-known-one.result (omega (arith, c.in-len1.len_at_least)) (omega (arith, c.in-len1.len_below)) first c.index-known-one.is
     ∙ ap (map (info_at c.args.known.now)) c.as_slice.ensures
 
 pub bounds-known-one-in-len2 : goal.bounds-known-one-in-len2

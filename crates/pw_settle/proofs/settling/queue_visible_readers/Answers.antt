@@ -5,8 +5,9 @@ use Rattle.pw_network.specs.Wiring.{wiring}
 use Rattle.pw_network.specs.Readers.{readers_of}
 use Rattle.pw_settle.specs.Calls.{is_instance_visible}
 use Rattle.pw_settle.proofs.SeenInstances.{listed_below, seen_at}
-use Rattle.pw_settle.proofs.QueuedReaders.{AreQueuedBut, all_left, next_below, passed_one, queued_one, queues_readers, readers_below}
+use Rattle.pw_settle.proofs.QueuedReaders.{AreQueuedBut, all_left, next_below, passed_one, queued_one, queues_readers, readers_below, waiting_one}
 use Rattle.pw_settle.proofs.settling.queue_visible_readers.Goals as goal
+use Rattle.pw_settle.proofs.settling.queue_visible_readers.Goals.{else-not-has-via-then-not-has+else-is_subset, else-not-has-via-else-not-has}
 
 pub loop-number-init : goal.loop-number-init
 loop-number-init g c = record {
@@ -45,11 +46,15 @@ loop-number-preserved g c =
     record {
       can_next = tt;
       is_finite = tt;
-      queued = passed_one visible c.args.agenda.now c.loop-number.agenda readers c.loop-number.number-iterator (length network.attached) so_far
-          c.in-Some.number c.next.new.self c.in-Some.ensures.steps
-          (seen_at network c.instances.result.now c.args.worldview.now c.in-Some.number c.index-instances-number.result
-          c.instances.ensures.instances below c.index-instances-number.is
-          ∙ ap (λ (i : Instance). is_subset i.support c.args.worldview.now) c.index-instances-number.is ∙ sym c.is_subset.ensures.subset ∙ c.if-is_subset.false);
+      queued = elim c.else-not-has.branch [
+        | else-not-has-via-then-not-has+else-is_subset w ↦ passed_one visible c.args.agenda.now c.loop-number.agenda readers c.loop-number.number-iterator
+            (length network.attached) so_far c.in-Some.number c.next.new.self c.in-Some.ensures.steps
+            (seen_at network w.instances.result.now c.args.worldview.now c.in-Some.number w.index-instances-number.result
+            w.instances.ensures.instances below w.index-instances-number.is
+            ∙ ap (λ (i : Instance). is_subset i.support c.args.worldview.now) w.index-instances-number.is ∙ sym w.is_subset.ensures.subset ∙ w.if-is_subset.false)
+        | else-not-has-via-else-not-has w ↦ waiting_one visible c.args.agenda.now c.loop-number.agenda readers c.loop-number.number-iterator
+            (length network.attached) so_far c.in-Some.number c.next.new.self c.in-Some.ensures.steps (sym c.has.ensures ∙ w.if-not-has.false)
+      ];
     }
 
 pub loop-number-preserved-then-is_subset : goal.loop-number-preserved-then-is_subset

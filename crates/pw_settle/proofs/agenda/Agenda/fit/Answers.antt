@@ -1,4 +1,4 @@
-use Rattle.std.proofs.Common.{◌++◌, Bool, List, drop, length, vec_capacity, vec_len, ap, subst, sym, arith}
+use Rattle.std.proofs.Common.{Bool, List, drop, length, vec_capacity, vec_len, ap, subst, sym, arith}
 use Rattle.pw_settle.specs.inside.Progress.{IsIdle}
 use Rattle.pw_settle.proofs.AgendaLemmas.{idle_resized, queue_idle, resized_fits}
 use Rattle.pw_settle.proofs.TakenIn.{OnOk_always}
@@ -8,23 +8,17 @@ pub invariant_of-self-2 : goal.invariant_of-self-2
 invariant_of-self-2 g c =
     let queued = c.self.inside.queued.items in
     let new = c.resize.new.self.items in
-    let room = c.self.invariant.0.room in
     let cleared : IsIdle queued = subst IsIdle (sym {A = List Bool} c.self.view_is) c.clear.ensures.idle in
-    let turns = c.in_ok-reserve.ensures.ok in
-    let nexts = c.in_ok-reserve-2.ensures.ok in
     let fits = resized_fits (vec_len c.resize.new.self) (vec_len c.self.inside.queued) c.args.count in
     let low = fits 4294967295 _ c.resize.ensures.len (omega (arith, c.if-count.false)) (omega (arith, c.self.invariant.1)) in
-    let in_turn = fits (vec_capacity c.reserve.new.self) _ c.resize.ensures.len (omega (arith, turns))
-    (omega (arith, c.self.invariant.3, c.reserve.ensures.capacity)) in
-    let in_next = fits (vec_capacity c.reserve-2.new.self) _ c.resize.ensures.len (omega (arith, nexts))
-    (omega (arith, room, c.reserve-2.ensures.capacity)) in (
-      queue_idle queued new (drop c.self.inside.taken c.self.inside.turn.items ++ c.self.inside.next.items)
-          (drop c.self.inside.taken c.reserve.new.self.items ++ c.reserve-2.new.self.items) (vec_capacity c.self.inside.next) (vec_capacity c.reserve-2.new.self)
-          cleared c.self.invariant.0 (λ i. drop c.self.inside.taken (c.reserve.ensures.items i) ++ c.reserve-2.ensures.items i)
-          (idle_resized queued new c.args.count _ _ cleared c.resize.ensures.items) (omega (arith, in_next)),
+    let listed = fits (vec_capacity c.reserve.new.self) _ c.resize.ensures.len (omega (arith, c.in_ok-reserve.ensures.ok))
+    (omega (arith, c.self.invariant.0.room, c.reserve.ensures.capacity)) in (
+      queue_idle queued new (drop c.self.inside.taken c.self.inside.listed.items) (drop c.self.inside.taken c.reserve.new.self.items)
+          (vec_capacity c.self.inside.listed) (vec_capacity c.reserve.new.self) cleared c.self.invariant.0
+          (ap (drop c.self.inside.taken) c.reserve.ensures.items) (idle_resized queued new c.args.count _ _ cleared c.resize.ensures.items)
+          (omega (arith, listed)),
       omega (arith, low),
       omega (arith, c.self.invariant.2, ap length c.reserve.ensures.items),
-      omega (arith, in_turn),
     )
 
 pub returns-clause-idle : goal.returns-clause-idle
