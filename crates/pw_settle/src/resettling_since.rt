@@ -13,11 +13,11 @@ ghost use Rattle.pw_settle.specs.Growth.{StaysUpstreamAfter};
 ghost use Rattle.pw_settle.specs.Settled.{info_at};
 ghost use Rattle.pw_settle.specs.Values.{kinds_in};
 ghost use Rattle.pw_settle.specs.inside.Due.{CallsWhatIsDue, QueuesReaders};
-ghost use Rattle.pw_settle.specs.inside.Known.{AreKept};
 ghost use Rattle.pw_settle.specs.inside.Progress.{IsIdle, is_set};
-ghost use Rattle.pw_settle.specs.inside.Since.{AreReadTo, BeginsWith, IsAtHand, IsBehind};
+ghost use Rattle.pw_settle.specs.inside.Since.{AreReadTo, BeginsWith, IsAtHand};
 ghost use Rattle.pw_settle.specs.inside.Since.{IsKnown, IsNewHere, IsReadAgain, KnowsWhatCame};
-ghost use Rattle.pw_settle.specs.inside.Since.{LieUpstreamAfter, QueuesChanged};
+ghost use Rattle.pw_settle.specs.inside.Since.{LeavesNews, LieUpstreamAfter, QueuesChanged};
+ghost use Rattle.pw_settle.specs.inside.Since.{TakesInNews};
 
 use crate::agenda::Agenda;
 use crate::known::{Known, push_kept, take_in_kept, take_in_narrow};
@@ -179,12 +179,10 @@ fn take_in_arrivals<A: Allocator + Copy>(
     requires known { IsAtHand store.now worldview.now mark known.old.infos.items known.old.supports }
     requires remembers { KnowsWhatCame store.now mark }
     requires flags { length agenda.old ≡ length (wiring network.now).attached }
-    ensures kept { AreKept store.now worldview.now known.new.infos.items known.new.supports }
+    ensures taken { TakesInNews (wiring network.now) store.now worldview.now known.old.infos.items
+        known.new.infos.items known.new.supports agenda.old agenda.new }
     ensures upstream { (network : Networks) → LieUpstreamAfter network store.now known.old.supports
         known.new.supports }
-    ensures queued { QueuesChanged (wiring network.now) (map (is_instance_visible worldview.now)
-        (wiring network.now).attached) known.old.infos.items known.new.infos.items agenda.old
-        agenda.new }
 {
     let Some(arrivals) = store.since(mark) else {
         return;
@@ -247,15 +245,12 @@ fn read_all_again<A: Allocator + Copy>(
     requires known { IsAtHand store.old worldview.now mark known.old.infos.items known.old.supports }
     requires flags { length agenda.old ≡ length (wiring network.now).attached }
     ensures unchanged { store.new ≡ store.old }
-    ensures kept { OnOk result (AreKept store.old worldview.now known.new.infos.items
-        known.new.supports) }
+    ensures taken { OnOk result (TakesInNews (wiring network.now) store.old worldview.now
+        known.old.infos.items known.new.infos.items known.new.supports agenda.old agenda.new) }
     ensures upstream { (network : Networks) → LieUpstreamAfter network store.old known.old.supports
         known.new.supports }
-    ensures queued { OnOk result (QueuesChanged (wiring network.now)
-        (map (is_instance_visible worldview.now) (wiring network.now).attached)
-        known.old.infos.items known.new.infos.items agenda.old agenda.new) }
-    ensures refused { OnErr result (IsAtHand store.old worldview.now mark known.new.infos.items
-        known.new.supports × IsBehind store.old worldview.now known.old.infos.items) }
+    ensures refused { OnErr result (LeavesNews store.old worldview.now mark known.old.infos.items
+        known.new.infos.items known.new.supports) }
 {
     for cell in 0..store.cells() {
         read_again(network, store, worldview, known, agenda, cell)?;
@@ -287,15 +282,12 @@ fn take_in_news<A: Allocator + Copy>(
     requires known { IsAtHand store.old worldview.now mark known.old.infos.items known.old.supports }
     requires flags { length agenda.old ≡ length (wiring network.now).attached }
     ensures unchanged { store.new ≡ store.old }
-    ensures kept { OnOk result (AreKept store.old worldview.now known.new.infos.items
-        known.new.supports) }
+    ensures taken { OnOk result (TakesInNews (wiring network.now) store.old worldview.now
+        known.old.infos.items known.new.infos.items known.new.supports agenda.old agenda.new) }
     ensures upstream { (network : Networks) → LieUpstreamAfter network store.old known.old.supports
         known.new.supports }
-    ensures queued { OnOk result (QueuesChanged (wiring network.now)
-        (map (is_instance_visible worldview.now) (wiring network.now).attached)
-        known.old.infos.items known.new.infos.items agenda.old agenda.new) }
-    ensures refused { OnErr result (IsAtHand store.old worldview.now mark known.new.infos.items
-        known.new.supports × IsBehind store.old worldview.now known.old.infos.items) }
+    ensures refused { OnErr result (LeavesNews store.old worldview.now mark known.old.infos.items
+        known.new.infos.items known.new.supports) }
 {
     if is_little_new(store, mark) {
         take_in_arrivals(network, store, worldview, mark, known, agenda);

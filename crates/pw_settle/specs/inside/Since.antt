@@ -16,7 +16,7 @@ use Rattle.pw_settle.specs.Growth.{CanContinue}
 use Rattle.pw_settle.specs.Settled.{Settled, info_at, support_at}
 use Rattle.pw_settle.specs.Sound.{LieUpstream, RestsUpstream}
 use Rattle.pw_settle.specs.inside.Due.{HasChanged, QueuesReaders}
-use Rattle.pw_settle.specs.inside.Known.{TakesIn, TakesInKept}
+use Rattle.pw_settle.specs.inside.Known.{AreKept, TakesIn, TakesInKept}
 
 -- the store remembers all that came since the mark
 abbrev pub KnowsWhatCame : Store → ℕ → Type 0
@@ -101,3 +101,17 @@ abbrev pub QueuesChanged : Network → List Bool → List Info → List Info →
 QueuesChanged network visible before now old queued =
     QueuesReaders network visible (λ cell. (cell < length now) × HasChanged before now cell) old
     queued
+
+-- what was new to what is known is taken in: what is known now is what is kept, and the visible
+-- readers of the cells about which more is known than before are queued
+pub record TakesInNews (network : Network) (store : Store) (w : Premises)
+    (infos new_infos : List Info) (new_supports : List Premises) (queued new_queued : List Bool)
+    : Type 0 where
+  pub kept : AreKept store w new_infos new_supports
+  pub queues : QueuesChanged network (map (is_instance_visible w) network.attached) infos new_infos
+      queued new_queued
+
+-- some of it is not: what is known is still at hand, and more is kept of a cell than was known before
+abbrev pub LeavesNews : Store → Premises → ℕ → List Info → List Info → List Premises → Type 0
+LeavesNews store w mark infos new_infos new_supports =
+    IsAtHand store w mark new_infos new_supports × IsBehind store w infos

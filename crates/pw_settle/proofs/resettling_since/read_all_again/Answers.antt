@@ -82,8 +82,10 @@ loop-cell-preserved g c =
           c.read_again.new.agenda new new_supports read c.loop-cell.invariant.queued;
     }
 
-pub returns-clause-kept : goal.returns-clause-kept
-returns-clause-kept g c =
-    again_kept c.args.store.now c.args.worldview.now c.args.mark c.args.known.now.infos.items c.args.known.now.supports c.requires.known c.loop-cell.cell
-    c.loop-cell.known.infos.items c.loop-cell.known.supports c.loop-cell.invariant.again
-    (omega (arith, c.loop-cell-test.false, c.cells-cell-end.ensures))
+pub returns-clause-taken : goal.returns-clause-taken
+returns-clause-taken g c = record {
+  kept = again_kept c.args.store.now c.args.worldview.now c.args.mark c.args.known.now.infos.items c.args.known.now.supports c.requires.known c.loop-cell.cell
+      c.loop-cell.known.infos.items c.loop-cell.known.supports c.loop-cell.invariant.again
+      (omega (arith, c.loop-cell-test.false, c.cells-cell-end.ensures));
+  queues = c.loop-cell.invariant.queued;
+}

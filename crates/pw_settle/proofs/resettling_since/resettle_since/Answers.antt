@@ -123,12 +123,12 @@ due_then g c =
     read c.read_new_cells.new.known.supports c.in_ok-read_new_cells.ensures.read
     c.take_in_news.new.known.infos.items c.take_in_news.new.known.supports
     (subst (λ (s : Store). AreKept s w c.take_in_news.new.known.infos.items c.take_in_news.new.known.supports)
-    c.read_new_cells.ensures.unchanged c.in_ok-take_in_news.ensures.kept)
+    c.read_new_cells.ensures.unchanged c.in_ok-take_in_news.ensures.taken.kept)
     c.args.network.now.well first next c.take_in_news.new.agenda c.queue_new_instances.ensures.flags c.queue_new_instances.ensures.new
     (subst (λ (n : ℕ). QueuesChanged network (map (is_instance_visible w) network.attached) (take n read) read first next)
     (omega (arith, c.len-first.ensures, c.values.inside.known.infos.ok))
     (subst (λ (l : List Info). QueuesChanged network (map (is_instance_visible w) network.attached) (take c.len-first.result l) l first next)
-    c.deref.ensures.value c.queue_new_cells.ensures)) c.in_ok-take_in_news.ensures.queued
+    c.deref.ensures.value c.queue_new_cells.ensures)) c.in_ok-take_in_news.ensures.taken.queues
 
 pub work-requires-clause-satisfied : goal.work-requires-clause-satisfied
 work-requires-clause-satisfied g c =

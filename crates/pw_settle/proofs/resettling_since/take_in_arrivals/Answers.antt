@@ -69,7 +69,9 @@ all_taken g c =
     subst (λ (n : ℕ). AreTakenIn c.args.store.now (first g c) c.in-Some.arrivals.now n c.loop-back.known.infos.items c.loop-back.known.supports) last
     c.loop-back.invariant.taken
 
-pub returns-clause-kept : goal.returns-clause-kept
-returns-clause-kept g c =
-    taken_kept c.args.store.now (first g c) c.requires.known.continues c.in-Some.arrivals.now c.in-Some.ensures.some
-    c.loop-back.known.infos.items c.loop-back.known.supports (all_taken g c)
+pub returns-clause-taken : goal.returns-clause-taken
+returns-clause-taken g c = record {
+  kept = taken_kept c.args.store.now (first g c) c.requires.known.continues c.in-Some.arrivals.now c.in-Some.ensures.some
+      c.loop-back.known.infos.items c.loop-back.known.supports (all_taken g c);
+  queues = c.loop-back.invariant.queued;
+}
