@@ -15,7 +15,7 @@ use Rattle.pw_settle.specs.Calls.{is_instance_visible}
 use Rattle.pw_settle.specs.Settled.{info_at}
 use Rattle.pw_settle.specs.Sound.{LiesUpstream, RestsUpstream}
 use Rattle.pw_settle.specs.inside.Due.{QueuesReaders}
-use Rattle.pw_settle.specs.inside.Known.{AreKept, TakesIn, TakesInKept}
+use Rattle.pw_settle.specs.inside.Known.{AreKept, IsAtHandFor, TakesIn, TakesInKept}
 use Rattle.pw_settle.specs.inside.Since.{IsAtHand, IsReadAgain, LieUpstreamAfter, QueuesChanged}
 use Rattle.pw_settle.proofs.KeptFacts.{implies_also, implies_shown, kind-kept}
 use Rattle.pw_settle.proofs.KnownParts.{AreParts, hand_parts, no_less, parts_kept, parts_taken, still_at_hand, upstream_taken}
@@ -64,6 +64,15 @@ module _ (store : Store) (w : Premises) (mark : ℕ) (first : List Info) (first_
     -- if no more is read, what is known is still at hand
     pub again_at_hand : IsAtHand store w mark infos supports
     again_at_hand = still_at_hand store w infos supports so_far.parts mark first first_supports hand so_far.more
+
+    -- something is at hand for each cell
+    pub again_for : (cell : ℕ) → cell < length store.cells → IsAtHandFor store cell infos supports
+    again_for cell there = record {
+      exists = there;
+      there = omega (arith, there, so_far.parts.many);
+      as_many = so_far.parts.as_many;
+      kind = (so_far.parts.each cell there).kind;
+    }
 
     -- and if more is kept of a cell than is known, more is than was known at first
     pub unsaid_first : (cell : ℕ) → cell < length store.cells → (kept : Info) → IsUnsaid (info_at infos cell) kept → IsUnsaid (info_at first cell) kept

@@ -1,5 +1,5 @@
 -- How a fact is merged into what is at hand for a cell.
-use Rattle.std.specs.Result.{OnOk}
+use Rattle.std.specs.Result.{OnErr, OnOk}
 use Rattle.std.specs.declared.result.Result.{Result}
 use Rattle.std.specs.declared.result.Result.TheVariants.{Ok, Err}
 use Rattle.std.proofs.Common.{◌≡◌, ℕ, ◌<◌, true, List, length, set, sym, refl, ap, subst, ◌∙◌}
@@ -58,3 +58,12 @@ module _ (infos : List Info) (supports : List Premises) (cell : ℕ) (info : Inf
 pub OnOk_always : {T E : Type 0} (r : Result T E) {P : Type 0} → P → OnOk r P
 OnOk_always (Ok x) p = p
 OnOk_always (Err e) p = tt
+
+-- and what follows from what holds where one succeeded, or failed, holds there too
+pub OnOk_more : {T E : Type 0} (r : Result T E) {P Q : Type 0} → (P → Q) → OnOk r P → OnOk r Q
+OnOk_more (Ok x) f p = f p
+OnOk_more (Err e) f p = tt
+
+pub OnErr_more : {T E : Type 0} (r : Result T E) {P Q : Type 0} → (P → Q) → OnErr r P → OnErr r Q
+OnErr_more (Ok x) f p = tt
+OnErr_more (Err e) f p = f p

@@ -7,7 +7,7 @@ ghost use Rattle.pw_settle.specs.Calls.{AreVisible, visible_at};
 ghost use Rattle.pw_settle.specs.Settled.{IsSettled};
 ghost use Rattle.pw_settle.specs.Sound.{IsSound};
 ghost use Rattle.pw_settle.specs.Values.{kinds_in};
-ghost use Rattle.pw_settle.specs.inside.Aside.{AreGrownTo};
+ghost use Rattle.pw_settle.specs.inside.Aside.{AreGrownTo, CanStart};
 ghost use Rattle.pw_settle.specs.inside.Progress.{is_set};
 
 use crate::agenda::Agenda;
@@ -135,9 +135,7 @@ pub(crate) fn grow_aside<A: Allocator + Copy>(
     store: &mut CellStore<A>,
     worldview: &PremiseSet,
 ) -> Result<Settled<A>, AllocError>
-    requires kinds { kinds_of store.old ≡ kinds_in (wiring network.now) }
-    requires sound { IsSound (wiring network.now) store.old }
-    requires before { IsSettled (wiring network.now) store.old before.now.worldview before.now }
+    requires start { CanStart (wiring network.now) store.old before.now }
     requires within { is_subset before.now.worldview worldview.now ≡ true }
     ensures settled { IfOk result (IsSettled (wiring network.now) store.old worldview.now) }
     ensures unchanged { store.new ≡ store.old }

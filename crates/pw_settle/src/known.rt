@@ -1,13 +1,13 @@
 //! The kept information about each cell in a worldview, as a settling has it at hand.
-ghost use Rattle.std.specs.Prelude.{◌≡◌, ◌<◌, All, IfOk, IfSome, OnOk, OnErr, length};
-ghost use Rattle.pw_info.specs.Information.{kind_of};
-ghost use Rattle.pw_cells.specs.Cells.{IsUnsaid, fact_on, kept_in, kind_in_store};
+ghost use Rattle.std.specs.Prelude.{◌≡◌, ◌<◌, IfOk, IfSome, OnOk, OnErr, length};
+ghost use Rattle.pw_cells.specs.Cells.{fact_on};
 ghost use Rattle.pw_network.specs.inside.Held.{attachment};
 ghost use Rattle.pw_network.specs.Network.{Network as Networks};
 ghost use Rattle.pw_cells.specs.Shown.{IsKeptIn};
-ghost use Rattle.pw_settle.specs.inside.Known.{AreKept, ListsOneMore, SaysTold, TakesIn, joined};
-ghost use Rattle.pw_settle.specs.Settled.{info_at};
-ghost use Rattle.pw_settle.specs.inside.Known.{ReadsUpstream, TakesInKept, news_on};
+ghost use Rattle.pw_settle.specs.inside.Known.{AreInputsThere, AreKept, IsAtHandFor, IsNewTo};
+ghost use Rattle.pw_settle.specs.inside.Known.{LeavesKept, ListsOneMore, SaysTold, StaysAtHand};
+ghost use Rattle.pw_settle.specs.inside.Known.{ReadsUpstream, TakesIn, TakesInKept, joined};
+ghost use Rattle.pw_settle.specs.inside.Known.{news_on};
 ghost use Rattle.pw_settle.specs.inside.Since.{BeginsWith};
 
 use crate::support_list::SupportList;
@@ -101,7 +101,7 @@ pub(crate) fn joined_support<A: Allocator>(
     instance: &Instance,
     supports: &SupportList<A>,
 ) -> PremiseSet
-    requires { All (λ input. input < length supports.now) (attachment instance.now).instance.inputs }
+    requires { AreInputsThere supports.now (attachment instance.now) }
     ensures { result ≡ joined supports.now instance.now.support
         (attachment instance.now).instance.inputs }
 {
@@ -118,7 +118,7 @@ pub(crate) fn joined_narrow<A: Allocator>(
     instance: &Instance,
     supports: &SupportList<A>,
 ) -> Option<NarrowSet>
-    requires { All (λ input. input < length supports.now) (attachment instance.now).instance.inputs }
+    requires { AreInputsThere supports.now (attachment instance.now) }
     ensures { IfSome result (λ narrow. narrow ≡ joined supports.now instance.now.support
         (attachment instance.now).instance.inputs) }
 {
@@ -140,17 +140,12 @@ pub(crate) fn take_in_news<A: Allocator + Copy>(
     instance: &Instance,
     info: &Info,
 ) -> Result<(), AllocError>
-    requires there { cell < length infos.old }
-    requires as_many { length supports.old ≡ length infos.old }
-    requires inputs { All (λ input. input < length supports.old)
-        (attachment instance.now).instance.inputs }
-    requires kind { kind_of info.now ≡ kind_of (info_at infos.old cell) }
-    requires news { IsUnsaid (info_at infos.old cell) info.now }
+    requires inputs { AreInputsThere supports.old (attachment instance.now) }
+    requires new { IsNewTo infos.old supports.old cell info.now }
     ensures taken { OnOk result (TakesIn cell
         (news_on supports.old (attachment instance.now) info.now) infos.old infos.new supports.old
         supports.new) }
-    ensures infos { OnErr result (infos.new ≡ infos.old) }
-    ensures supports { OnErr result (supports.new ≡ supports.old) }
+    ensures refused { OnErr result (StaysAtHand infos.old infos.new supports.old supports.new) }
 {
     if let Some(support) = joined_narrow(instance, supports) {
         take_in_narrow(infos, supports, cell, info, support);
@@ -169,17 +164,12 @@ fn take_in_wide_news<A: Allocator + Copy>(
     instance: &Instance,
     info: &Info,
 ) -> Result<(), AllocError>
-    requires there { cell < length infos.old }
-    requires as_many { length supports.old ≡ length infos.old }
-    requires inputs { All (λ input. input < length supports.old)
-        (attachment instance.now).instance.inputs }
-    requires kind { kind_of info.now ≡ kind_of (info_at infos.old cell) }
-    requires news { IsUnsaid (info_at infos.old cell) info.now }
+    requires inputs { AreInputsThere supports.old (attachment instance.now) }
+    requires new { IsNewTo infos.old supports.old cell info.now }
     ensures taken { OnOk result (TakesIn cell
         (news_on supports.old (attachment instance.now) info.now) infos.old infos.new supports.old
         supports.new) }
-    ensures infos { OnErr result (infos.new ≡ infos.old) }
-    ensures supports { OnErr result (supports.new ≡ supports.old) }
+    ensures refused { OnErr result (StaysAtHand infos.old infos.new supports.old supports.new) }
 {
     let support = joined_support(instance, supports);
     take_in(infos, supports, cell, info, support)
@@ -194,10 +184,7 @@ pub(crate) fn take_in_narrow<A: Allocator>(
     info: &Info,
     support: NarrowSet,
 )
-    requires there { cell < length infos.old }
-    requires as_many { length supports.old ≡ length infos.old }
-    requires kind { kind_of info.now ≡ kind_of (info_at infos.old cell) }
-    requires news { IsUnsaid (info_at infos.old cell) info.now }
+    requires { IsNewTo infos.old supports.old cell info.now }
     ensures { TakesIn cell (fact_on info.now support) infos.old infos.new supports.old supports.new }
 {
     let place = cell as usize;
@@ -219,14 +206,10 @@ pub(crate) fn take_in<A: Allocator + Copy>(
     info: &Info,
     support: PremiseSet,
 ) -> Result<(), AllocError>
-    requires there { cell < length infos.old }
-    requires as_many { length supports.old ≡ length infos.old }
-    requires kind { kind_of info.now ≡ kind_of (info_at infos.old cell) }
-    requires news { IsUnsaid (info_at infos.old cell) info.now }
+    requires { IsNewTo infos.old supports.old cell info.now }
     ensures taken { OnOk result (TakesIn cell (fact_on info.now support) infos.old infos.new
         supports.old supports.new) }
-    ensures infos { OnErr result (infos.new ≡ infos.old) }
-    ensures supports { OnErr result (supports.new ≡ supports.old) }
+    ensures refused { OnErr result (StaysAtHand infos.old infos.new supports.old supports.new) }
 {
     let place = cell as usize;
     if info.implies(&infos[place]) {
@@ -250,17 +233,12 @@ pub(crate) fn take_in_kept<A: Allocator + Copy>(
     infos: &mut [Info],
     supports: &mut SupportList<A>,
 ) -> Result<bool, AllocError>
-    requires cell { cell < length store.old.cells }
-    requires there { cell < length infos.old }
-    requires as_many { length supports.old ≡ length infos.old }
-    requires kind { kind_of (info_at infos.old cell) ≡ kind_in_store store.old cell }
+    requires { IsAtHandFor store.old cell infos.old supports.old }
     ensures unchanged { store.new ≡ store.old }
     ensures taken { IfOk result (λ is_news. TakesInKept store.old cell worldview.now is_news
         infos.old infos.new supports.old supports.new) }
-    ensures infos { OnErr result (infos.new ≡ infos.old) }
-    ensures supports { OnErr result (supports.new ≡ supports.old) }
-    ensures unsaid { OnErr result (IsUnsaid (info_at infos.old cell)
-        (kept_in store.old cell worldview.now)) }
+    ensures refused { OnErr result (LeavesKept store.old cell worldview.now infos.old infos.new
+        supports.old supports.new) }
 {
     if let Some(fact) = store.kept_narrow(cell, worldview) {
         if infos[cell as usize].implies(&fact.info) {
@@ -281,17 +259,12 @@ fn take_in_wide_kept<A: Allocator + Copy>(
     infos: &mut [Info],
     supports: &mut SupportList<A>,
 ) -> Result<bool, AllocError>
-    requires cell { cell < length store.old.cells }
-    requires there { cell < length infos.old }
-    requires as_many { length supports.old ≡ length infos.old }
-    requires kind { kind_of (info_at infos.old cell) ≡ kind_in_store store.old cell }
+    requires { IsAtHandFor store.old cell infos.old supports.old }
     ensures unchanged { store.new ≡ store.old }
     ensures taken { IfOk result (λ is_news. TakesInKept store.old cell worldview.now is_news
         infos.old infos.new supports.old supports.new) }
-    ensures infos { OnErr result (infos.new ≡ infos.old) }
-    ensures supports { OnErr result (supports.new ≡ supports.old) }
-    ensures unsaid { OnErr result (IsUnsaid (info_at infos.old cell)
-        (kept_in store.old cell worldview.now)) }
+    ensures refused { OnErr result (LeavesKept store.old cell worldview.now infos.old infos.new
+        supports.old supports.new) }
 {
     let fact = store.kept(cell, worldview);
     if infos[cell as usize].implies(&fact.info) {

@@ -84,30 +84,8 @@ fn unless_known(known: &[Info], cell: u32, info: Info) -> Option<Info>
 }
 
 // The value of the instance's procedure on what is known about its inputs, if it is news about its
-// output; for any number of inputs. Never inlined, like `answer_on_many`.
-#[inline(never)]
-fn news_on_many(
-    registry: &Registry,
-    instance: &Instance,
-    known: &[Info],
-    calls: &mut u128,
-) -> Option<Info>
-    requires room { calls.old < most_calls }
-    requires placed { IsPlaced (procedures_in registry.now) (map kind_of known.now)
-        (attachment instance.now).instance }
-    requires there { instance.now.output < length known.now }
-    ensures counted { calls.new ≡ calls.old + 1 }
-    ensures news { IfSome result (GivesNews (procedures_in registry.now) known.now
-        (attachment instance.now)) }
-    ensures none { IfNone result (GivesNone (procedures_in registry.now) known.now
-        (attachment instance.now)) }
-{
-    let info = answer_on_many(registry, instance, known, calls);
-    unless_known(known, instance.output, info)
-}
-
-// The same, where most procedures have one input or two. Each case tests its value by itself: a value
-// that waits in one place for all cases would be copied there, and slowly.
+// output. Most procedures have one input or two. Each case tests its value by itself: a value that
+// waits in one place for all cases would be copied there, and slowly.
 #[inline(always)]
 fn news_on(
     registry: &Registry,
@@ -136,7 +114,10 @@ fn news_on(
             let info = procedure_value(registry, instance, known, &given, calls);
             unless_known(known, instance.output, info)
         }
-        _ => news_on_many(registry, instance, known, calls),
+        _ => {
+            let info = answer_on_many(registry, instance, known, calls);
+            unless_known(known, instance.output, info)
+        }
     }
 }
 

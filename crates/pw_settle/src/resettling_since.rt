@@ -3,7 +3,7 @@
 ghost use Rattle.std.specs.Prelude.{◌≡◌, ◌⊎◌, ◌<◌, ◌≤◌, ◌&&◌, ℕ, OnErr, OnOk, IsTrue};
 ghost use Rattle.std.specs.Prelude.{not, nat_lt, length, map, take};
 ghost use Rattle.pw_info.specs.Information.{kind_of};
-ghost use Rattle.pw_cells.specs.Cells.{IsUnsaid, kept_in, kind_in_store, kinds_of};
+ghost use Rattle.pw_cells.specs.Cells.{kinds_of};
 ghost use Rattle.pw_network.specs.Network.{Network as Networks, cells_in};
 ghost use Rattle.pw_network.specs.Wiring.{wiring};
 ghost use Rattle.pw_settle.specs.Calls.{is_instance_visible, visible_at};
@@ -13,6 +13,7 @@ ghost use Rattle.pw_settle.specs.Growth.{StaysUpstreamAfter};
 ghost use Rattle.pw_settle.specs.Settled.{info_at};
 ghost use Rattle.pw_settle.specs.Values.{kinds_in};
 ghost use Rattle.pw_settle.specs.inside.Due.{CallsWhatIsDue, QueuesReaders};
+ghost use Rattle.pw_settle.specs.inside.Known.{IsAtHandFor, LeavesKept};
 ghost use Rattle.pw_settle.specs.inside.Progress.{IsIdle, is_set};
 ghost use Rattle.pw_settle.specs.inside.Since.{AreReadTo, BeginsWith, IsAtHand};
 ghost use Rattle.pw_settle.specs.inside.Since.{IsKnown, IsNewHere, IsReadAgain, KnowsWhatCame};
@@ -204,19 +205,14 @@ fn read_again<A: Allocator + Copy>(
     agenda: &mut Agenda<A>,
     cell: u32,
 ) -> Result<(), AllocError>
-    requires cell { cell < length store.old.cells }
-    requires there { cell < length known.old.infos.items }
-    requires as_many { length known.old.supports ≡ length known.old.infos.items }
-    requires kind { kind_of (info_at known.old.infos.items cell) ≡ kind_in_store store.old cell }
+    requires hand { IsAtHandFor store.old cell known.old.infos.items known.old.supports }
     requires flags { length agenda.old ≡ length (wiring network.now).attached }
     ensures unchanged { store.new ≡ store.old }
     ensures read { OnOk result (IsReadAgain (wiring network.now) store.old cell worldview.now
         known.old.infos.items known.new.infos.items known.old.supports known.new.supports
         agenda.old agenda.new) }
-    ensures infos { OnErr result (known.new.infos.items ≡ known.old.infos.items) }
-    ensures supports { OnErr result (known.new.supports ≡ known.old.supports) }
-    ensures news { OnErr result (IsUnsaid (info_at known.old.infos.items cell)
-        (kept_in store.old cell worldview.now)) }
+    ensures refused { OnErr result (LeavesKept store.old cell worldview.now known.old.infos.items
+        known.new.infos.items known.old.supports known.new.supports) }
 {
     let is_news = take_in_kept(
         store,

@@ -1,5 +1,5 @@
 //! Settling: the values of all cells of a network in a worldview.
-ghost use Rattle.std.specs.Prelude.{◌≡◌, ◌⊎◌, ◌+◌, ◌<◌, ◌≤◌, true, false, All, length, map};
+ghost use Rattle.std.specs.Prelude.{◌≡◌, ◌+◌, ◌<◌, ◌≤◌, true, false, All, length, map};
 ghost use Rattle.std.specs.Prelude.{IfOk, OnOk, OnErr};
 ghost use Rattle.std.specs.List.{count_by};
 ghost use Rattle.pw_info.specs.Information.{kind_of};
@@ -14,9 +14,8 @@ ghost use Rattle.pw_settle.specs.Calls.{visible_at};
 ghost use Rattle.pw_settle.specs.Calls.{visible_count};
 ghost use Rattle.pw_settle.specs.inside.Due.{QueuesReaders};
 ghost use Rattle.pw_settle.specs.Growth.{KeepsMore, RestOnUpstream, StaysUpstream};
-ghost use Rattle.pw_settle.specs.inside.Known.{AreKept, Keeps, SaysTold, TakesIn, WereKept};
-ghost use Rattle.pw_settle.specs.inside.Known.{news_on};
-ghost use Rattle.pw_settle.specs.Settled.{info_at};
+ghost use Rattle.pw_settle.specs.inside.Known.{AreInputsThere, AreKept, IsNewTo, KeepsAndTakesIn};
+ghost use Rattle.pw_settle.specs.inside.Known.{PerhapsKeeps, SaysTold, WereKept, news_on};
 ghost use Rattle.pw_settle.specs.inside.Progress.{AreOthersSatisfied};
 ghost use Rattle.pw_settle.specs.Values.{kinds_in};
 ghost use Rattle.pw_settle.specs.inside.Progress.{AreMet, AreQueuedVisible, CallsNoMore};
@@ -138,23 +137,16 @@ fn keep_news<A: Allocator + Copy>(
 ) -> Result<(), AllocError>
     requires cell { cell < length store.old.cells }
     requires kind { kind_of info.now ≡ kind_in_store store.old cell }
-    requires there { cell < length infos.old }
-    requires as_many { length supports.old ≡ length infos.old }
-    requires inputs { All (λ input. input < length supports.old)
-        (attachment instance.now).instance.inputs }
-    requires same_kind { kind_of info.now ≡ kind_of (info_at infos.old cell) }
-    requires news { IsUnsaid (info_at infos.old cell) info.now }
+    requires inputs { AreInputsThere supports.old (attachment instance.now) }
+    requires new { IsNewTo infos.old supports.old cell info.now }
     requires unsaid { IsUnsaid (kept_in store.old cell
         (news_on supports.old (attachment instance.now) info.now).support) info.now }
-    ensures kept { OnOk result (Keeps cell
-        (news_on supports.old (attachment instance.now) info.now) store.old store.new) }
-    ensures taken { OnOk result (TakesIn cell
-        (news_on supports.old (attachment instance.now) info.now) infos.old infos.new supports.old
-        supports.new) }
-    ensures store { OnErr result ((store.new ≡ store.old) ⊎ Keeps cell
-        (news_on supports.old (attachment instance.now) info.now) store.old store.new) }
-    ensures infos { OnErr result (infos.new ≡ infos.old) }
-    ensures supports { OnErr result (supports.new ≡ supports.old) }
+    ensures kept { OnOk result (KeepsAndTakesIn cell
+        (news_on supports.old (attachment instance.now) info.now) store.old store.new infos.old
+        infos.new supports.old supports.new) }
+    ensures refused { OnErr result (PerhapsKeeps cell
+        (news_on supports.old (attachment instance.now) info.now) store.old store.new infos.old
+        infos.new supports.old supports.new) }
 {
     if let Some(support) = joined_narrow(instance, supports) {
         store.keep_news(cell, *info, support)?;
@@ -177,21 +169,14 @@ fn keep_wide_news<A: Allocator + Copy>(
 ) -> Result<(), AllocError>
     requires cell { cell < length store.old.cells }
     requires kind { kind_of info.now ≡ kind_in_store store.old cell }
-    requires there { cell < length infos.old }
-    requires as_many { length supports.old ≡ length infos.old }
-    requires inputs { All (λ input. input < length supports.old)
-        (attachment instance.now).instance.inputs }
-    requires same_kind { kind_of info.now ≡ kind_of (info_at infos.old cell) }
-    requires news { IsUnsaid (info_at infos.old cell) info.now }
-    ensures kept { OnOk result (Keeps cell
-        (news_on supports.old (attachment instance.now) info.now) store.old store.new) }
-    ensures taken { OnOk result (TakesIn cell
-        (news_on supports.old (attachment instance.now) info.now) infos.old infos.new supports.old
-        supports.new) }
-    ensures store { OnErr result ((store.new ≡ store.old) ⊎ Keeps cell
-        (news_on supports.old (attachment instance.now) info.now) store.old store.new) }
-    ensures infos { OnErr result (infos.new ≡ infos.old) }
-    ensures supports { OnErr result (supports.new ≡ supports.old) }
+    requires inputs { AreInputsThere supports.old (attachment instance.now) }
+    requires new { IsNewTo infos.old supports.old cell info.now }
+    ensures kept { OnOk result (KeepsAndTakesIn cell
+        (news_on supports.old (attachment instance.now) info.now) store.old store.new infos.old
+        infos.new supports.old supports.new) }
+    ensures refused { OnErr result (PerhapsKeeps cell
+        (news_on supports.old (attachment instance.now) info.now) store.old store.new infos.old
+        infos.new supports.old supports.new) }
 {
     let support = joined_support(instance, supports);
     let fact = Fact {

@@ -10,8 +10,8 @@ ghost use Rattle.pw_settle.specs.Calls.{AreVisible, most_calls, visible_at};
 ghost use Rattle.pw_settle.specs.Settled.{IsSettled, info_at};
 ghost use Rattle.pw_settle.specs.Sound.{IsSound};
 ghost use Rattle.pw_settle.specs.Values.{kinds_in, value_in};
-ghost use Rattle.pw_settle.specs.inside.Aside.{AreFound, AreOthersMet, IsFound, StaysMet};
-ghost use Rattle.pw_settle.specs.inside.Aside.{AreAllSatisfied, weight_of};
+ghost use Rattle.pw_settle.specs.inside.Aside.{AreAllSatisfied, AreFound, AreOthersMet, CanStart};
+ghost use Rattle.pw_settle.specs.inside.Aside.{IsFound, StaysMet, weight_of};
 ghost use Rattle.pw_settle.specs.inside.Known.{ListsOneMore};
 ghost use Rattle.pw_settle.specs.inside.Progress.{AreOthersSatisfied, AreQueuedVisible};
 ghost use Rattle.pw_settle.specs.inside.Progress.{AreSatisfied, tally};
@@ -42,9 +42,7 @@ fn start_value<A: Allocator + Copy>(
     cell: u32,
     worldview: &PremiseSet,
 ) -> Fact
-    requires kinds { kinds_of store.old ≡ kinds_in (wiring network.now) }
-    requires sound { IsSound (wiring network.now) store.old }
-    requires before { IsSettled (wiring network.now) store.old before.now.worldview before.now }
+    requires start { CanStart (wiring network.now) store.old before.now }
     requires cell { cell < length store.old.cells }
     ensures unchanged { store.new ≡ store.old }
     ensures found { IsFound (wiring network.now) store.old worldview.now cell result.info
@@ -122,9 +120,7 @@ fn start_narrow<A: Allocator + Copy>(
     worldview: &PremiseSet,
     is_part: bool,
 ) -> Option<NarrowFact>
-    requires kinds { kinds_of store.old ≡ kinds_in (wiring network.now) }
-    requires sound { IsSound (wiring network.now) store.old }
-    requires before { IsSettled (wiring network.now) store.old before.now.worldview before.now }
+    requires start { CanStart (wiring network.now) store.old before.now }
     requires cell { cell < length store.old.cells }
     requires part { is_part ≡ true → is_subset worldview.now before.now.worldview ≡ true }
     ensures unchanged { store.new ≡ store.old }
@@ -156,9 +152,7 @@ fn push_start<A: Allocator + Copy>(
     infos: &mut Vec<Info, A>,
     supports: &mut SupportList<A>,
 ) -> Result<(), AllocError>
-    requires kinds { kinds_of store.old ≡ kinds_in (wiring network.now) }
-    requires sound { IsSound (wiring network.now) store.old }
-    requires before { IsSettled (wiring network.now) store.old before.now.worldview before.now }
+    requires start { CanStart (wiring network.now) store.old before.now }
     requires cell { cell < length store.old.cells }
     requires part { is_part ≡ true → is_subset worldview.now before.now.worldview ≡ true }
     ensures unchanged { store.new ≡ store.old }
@@ -184,9 +178,7 @@ fn push_wide_start<A: Allocator + Copy>(
     infos: &mut Vec<Info, A>,
     supports: &mut SupportList<A>,
 ) -> Result<(), AllocError>
-    requires kinds { kinds_of store.old ≡ kinds_in (wiring network.now) }
-    requires sound { IsSound (wiring network.now) store.old }
-    requires before { IsSettled (wiring network.now) store.old before.now.worldview before.now }
+    requires start { CanStart (wiring network.now) store.old before.now }
     requires cell { cell < length store.old.cells }
     ensures unchanged { store.new ≡ store.old }
     ensures found { OnOk result (ListsOneMore (IsFound (wiring network.now) store.old worldview.now
@@ -206,9 +198,7 @@ fn start_values<A: Allocator + Copy>(
     store: &mut CellStore<A>,
     worldview: &PremiseSet,
 ) -> Result<Known<A>, AllocError>
-    requires kinds { kinds_of store.old ≡ kinds_in (wiring network.now) }
-    requires sound { IsSound (wiring network.now) store.old }
-    requires before { IsSettled (wiring network.now) store.old before.now.worldview before.now }
+    requires start { CanStart (wiring network.now) store.old before.now }
     ensures unchanged { store.new ≡ store.old }
     ensures found { IfOk result (λ known. AreFound (wiring network.now) store.old worldview.now
         known.infos.items known.supports) }

@@ -1,12 +1,12 @@
 -- What is kept of each cell in a worldview, as a settling has it at hand.
-use Rattle.std.specs.Prelude.{◌≡◌, ℕ, ◌<◌, Bool, true, false, List, length, fold, set, refl, [], ◌∷◌, ◌++◌, All, map}
+use Rattle.std.specs.Prelude.{◌≡◌, ◌⊎◌, ℕ, ◌<◌, Bool, true, false, List, length, fold, set, refl, [], ◌∷◌, ◌++◌, All, map}
 use Rattle.std.specs.FinSet.{union, is_subset, code}
 use Rattle.pw_info.specs.declared.info.Info.{Info}
 use Rattle.pw_info.specs.Information.{Implies, kind_of, meet}
 use Rattle.pw_premises.specs.Premises.{Premises}
 use Rattle.pw_facts.specs.declared.fact.Fact.{Fact}
 use Rattle.pw_facts.specs.Facts.{ShowTogether, IsLeastAbove}
-use Rattle.pw_cells.specs.Cells.{IsUnsaid, Store, fact_on, kept_in, kinds_of, told_in}
+use Rattle.pw_cells.specs.Cells.{IsUnsaid, Store, fact_on, kept_in, kind_in_store, kinds_of, told_in}
 use Rattle.pw_cells.specs.Shown.{IsKeptIn}
 use Rattle.pw_cells.specs.Arrivals.{Continues, Remembers}
 use Rattle.pw_cells.specs.Changes.{AssimilatesAt, GainsKept, LeavesOthers}
@@ -95,6 +95,45 @@ pub record TakesIn (cell : ℕ) (fact : Fact) (infos new_infos : List Info)
             support_at new_supports cell;
       })
 
+-- an information can be merged into what is at hand for a cell: that is of its kind, and does not say
+-- it
+pub record IsNewTo (infos : List Info) (supports : List Premises) (cell : ℕ) (info : Info)
+    : Type 0 where
+  pub there : cell < length infos
+  pub as_many : length supports ≡ length infos
+  pub kind : kind_of info ≡ kind_of (info_at infos cell)
+  pub news : IsUnsaid (info_at infos cell) info
+
+-- what is at hand stays
+pub record StaysAtHand (infos new_infos : List Info) (supports new_supports : List Premises)
+    : Type 0 where
+  pub infos_are : new_infos ≡ infos
+  pub supports_are : new_supports ≡ supports
+
+-- there are premises at hand for each input of an instance
+abbrev pub AreInputsThere : List Premises → Attached → Type 0
+AreInputsThere supports a = All (λ input. input < length supports) a.instance.inputs
+
+-- the store keeps a fact about a cell, and it is merged into what is at hand
+pub record KeepsAndTakesIn (cell : ℕ) (fact : Fact) (old new : Store) (infos new_infos : List Info)
+    (supports new_supports : List Premises) : Type 0 where
+  pub keeps : Keeps cell fact old new
+  pub takes_in : TakesIn cell fact infos new_infos supports new_supports
+
+-- the store is as it was, or keeps a fact about a cell; what is at hand stays
+pub record PerhapsKeeps (cell : ℕ) (fact : Fact) (old new : Store) (infos new_infos : List Info)
+    (supports new_supports : List Premises) : Type 0 where
+  pub store : (new ≡ old) ⊎ Keeps cell fact old new
+  pub stays : StaysAtHand infos new_infos supports new_supports
+
+-- something is at hand for a cell of the store, and is of its kind
+pub record IsAtHandFor (store : Store) (cell : ℕ) (infos : List Info) (supports : List Premises)
+    : Type 0 where
+  pub exists : cell < length store.cells
+  pub there : cell < length infos
+  pub as_many : length supports ≡ length infos
+  pub kind : kind_of (info_at infos cell) ≡ kind_in_store store cell
+
 -- what is kept of a cell in a worldview is merged into what is at hand for it. Or it is no news:
 -- what is at hand says as much, and stays
 pub record TakesInKept (store : Store) (cell : ℕ) (w : Premises) (is_news : Bool)
@@ -104,6 +143,12 @@ pub record TakesInKept (store : Store) (cell : ℕ) (w : Premises) (is_news : Bo
   pub unsaid : is_news ≡ true → IsUnsaid (info_at infos cell) (kept_in store cell w)
   pub none : is_news ≡ false → Implies (info_at infos cell) (kept_in store cell w)
       × (new_infos ≡ infos) × (new_supports ≡ supports)
+
+-- what is kept of a cell in a worldview is news, and what is at hand for it stays
+pub record LeavesKept (store : Store) (cell : ℕ) (w : Premises) (infos new_infos : List Info)
+    (supports new_supports : List Premises) : Type 0 where
+  pub unsaid : IsUnsaid (info_at infos cell) (kept_in store cell w)
+  pub stays : StaysAtHand infos new_infos supports new_supports
 
 -- the instance reads and writes existing cells, of kinds that its procedure accepts
 abbrev pub IsPlaced : List Procedure → List Kind → Instance ℕ → Type 0

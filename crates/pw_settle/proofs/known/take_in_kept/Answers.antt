@@ -1,7 +1,7 @@
 use Rattle.std.proofs.Common.{subst}
 use Rattle.std.specs.Prelude.{OnErr}
-use Rattle.pw_cells.specs.Cells.{IsUnsaid, Store, fact_on, kept_in}
-use Rattle.pw_settle.specs.Settled.{info_at}
+use Rattle.pw_cells.specs.Cells.{Store, fact_on, kept_in}
+use Rattle.pw_settle.specs.inside.Known.{LeavesKept}
 use Rattle.pw_settle.proofs.KnownParts.{tested_unsaid}
 use Rattle.pw_settle.proofs.known.take_in_kept.Goals as goal
 
@@ -14,7 +14,8 @@ returns-in-Some-clause-taken g c = record {
   none = λ e. absurd (cc);
 }
 
-pub returns-clause-unsaid : goal.returns-clause-unsaid
-returns-clause-unsaid g c =
-    subst (λ (s : Store). OnErr c.take_in_wide_kept.result (IsUnsaid (info_at c.args.infos.now c.args.cell) (kept_in s c.args.cell c.args.worldview.now)))
-    c.in_default.ensures.unchanged c.take_in_wide_kept.ensures.unsaid
+pub returns-clause-refused : goal.returns-clause-refused
+returns-clause-refused g c =
+    subst (λ (s : Store). OnErr c.take_in_wide_kept.result (LeavesKept s c.args.cell c.args.worldview.now c.args.infos.now
+    c.take_in_wide_kept.new.infos c.args.supports.now c.take_in_wide_kept.new.supports))
+    c.in_default.ensures.unchanged c.take_in_wide_kept.ensures.refused

@@ -25,8 +25,11 @@ returns-clause-taken g c = record {
   none = λ e. absurd (cc);
 }
 
-pub returns-in_err-take_in-clause-unsaid : goal.returns-in_err-take_in-clause-unsaid
-returns-in_err-take_in-clause-unsaid g c =
-    OnErr_always c.from_residual.result (tested_unsaid c.args.infos.now c.args.cell c.index-infos-cell.result c.kept-fact.result.info
-    (kept_in c.args.store.now c.args.cell c.args.worldview.now) c.implies.result c.requires.there c.kept-fact.ensures.info c.implies.ensures
-    c.if-implies.false)
+pub returns-in_err-take_in-clause-refused : goal.returns-in_err-take_in-clause-refused
+returns-in_err-take_in-clause-refused g c =
+    OnErr_always c.from_residual.result (record {
+      unsaid = tested_unsaid c.args.infos.now c.args.cell c.index-infos-cell.result c.kept-fact.result.info
+          (kept_in c.args.store.now c.args.cell c.args.worldview.now) c.implies.result c.requires.there c.kept-fact.ensures.info
+          c.implies.ensures c.if-implies.false;
+      stays = c.in_err-take_in.ensures.refused;
+    })

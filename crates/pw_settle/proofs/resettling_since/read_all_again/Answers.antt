@@ -1,15 +1,15 @@
-use Rattle.std.proofs.Common.{◌≡◌, ◌<◌, ℕ, List, length, map, refl, sym, ◌∙◌, subst, arith}
+use Rattle.std.proofs.Common.{◌<◌, ℕ, List, length, map, refl, sym, ◌∙◌, subst, arith}
 use Rattle.pw_info.specs.declared.info.Info.{Info}
-use Rattle.pw_info.specs.Information.{kind_of}
 use Rattle.pw_premises.specs.Premises.{Premises}
-use Rattle.pw_cells.specs.Cells.{Store, IsUnsaid, kept_in, kind_in_store}
+use Rattle.pw_cells.specs.Cells.{Store, IsUnsaid, kept_in}
 use Rattle.pw_cells.proofs.Stores.{OnErr_always}
 use Rattle.pw_network.specs.Wiring.{wiring}
 use Rattle.pw_settle.specs.Calls.{is_instance_visible}
 use Rattle.pw_settle.specs.Settled.{info_at}
+use Rattle.pw_settle.specs.inside.Known.{IsAtHandFor}
 use Rattle.pw_settle.specs.inside.Since.{IsAtHand, IsReadAgain, LieUpstreamAfter}
 use Rattle.pw_settle.proofs.QueuedNews.{none_at_first}
-use Rattle.pw_settle.proofs.ReadAgain.{again_at_hand, again_flags, again_kept, again_more, again_none, again_queues, unsaid_first}
+use Rattle.pw_settle.proofs.ReadAgain.{again_at_hand, again_flags, again_for, again_kept, again_more, again_none, again_queues, unsaid_first}
 use Rattle.pw_settle.proofs.resettling_since.read_all_again.Goals as goal
 
 pub loop-cell-init : goal.loop-cell-init
@@ -21,16 +21,18 @@ loop-cell-init g c = record {
       c.args.known.now.infos.items c.args.agenda.now;
 }
 
-pub read_again-requires-clause-kind : goal.read_again-requires-clause-kind
-read_again-requires-clause-kind g c =
-    subst (λ (s : Store). kind_of (info_at c.loop-cell.known.infos.items c.loop-cell.cell) ≡ kind_in_store s c.loop-cell.cell)
+pub read_again-requires-clause-hand : goal.read_again-requires-clause-hand
+read_again-requires-clause-hand g c =
+    subst (λ (s : Store). IsAtHandFor s c.loop-cell.cell c.loop-cell.known.infos.items c.loop-cell.known.supports)
     (sym {A = Store} c.loop-cell.invariant.same)
-    (c.loop-cell.invariant.again.parts.each c.loop-cell.cell (omega (arith, c.loop-cell-test.true, c.cells-cell-end.ensures))).kind
+    (again_for c.args.store.now c.args.worldview.now c.args.mark c.args.known.now.infos.items c.args.known.now.supports c.requires.known
+    _ c.loop-cell.known.infos.items c.loop-cell.known.supports c.loop-cell.invariant.again c.loop-cell.cell
+    (omega (arith, c.loop-cell-test.true, c.cells-cell-end.ensures)))
 
 pub returns-in_err-read_again-clause-upstream : goal.returns-in_err-read_again-clause-upstream
 returns-in_err-read_again-clause-upstream g c network =
-    subst (LieUpstreamAfter network c.args.store.now c.args.known.now.supports) (sym {A = List Premises} c.in_err-read_again.ensures.supports)
-    (c.loop-cell.invariant.again.upstream network)
+    subst (LieUpstreamAfter network c.args.store.now c.args.known.now.supports)
+    (sym {A = List Premises} c.in_err-read_again.ensures.refused.stays.supports_are) (c.loop-cell.invariant.again.upstream network)
 
 pub returns-in_err-read_again-clause-refused : goal.returns-in_err-read_again-clause-refused
 returns-in_err-read_again-clause-refused g c =
@@ -43,10 +45,10 @@ returns-in_err-read_again-clause-refused g c =
     let cell : ℕ = c.loop-cell.cell in
     let below : cell < length store.cells = omega (arith, c.loop-cell-test.true, c.cells-cell-end.ensures) in
     let unsaid : IsUnsaid (info_at now cell) (kept_in store cell w) =
-    subst (λ (s : Store). IsUnsaid (info_at now cell) (kept_in s cell w)) c.loop-cell.invariant.same c.in_err-read_again.ensures.news in
+    subst (λ (s : Store). IsUnsaid (info_at now cell) (kept_in s cell w)) c.loop-cell.invariant.same c.in_err-read_again.ensures.refused.unsaid in
     OnErr_always c.from_residual.result (
-      subst (λ (l : List Info). IsAtHand store w c.args.mark l c.read_again.new.known.supports) (sym {A = List Info} c.in_err-read_again.ensures.infos)
-          (subst (IsAtHand store w c.args.mark now) (sym {A = List Premises} c.in_err-read_again.ensures.supports)
+      subst (λ (l : List Info). IsAtHand store w c.args.mark l c.read_again.new.known.supports) (sym {A = List Info} c.in_err-read_again.ensures.refused.stays.infos_are)
+          (subst (IsAtHand store w c.args.mark now) (sym {A = List Premises} c.in_err-read_again.ensures.refused.stays.supports_are)
           (again_at_hand store w c.args.mark first supports c.requires.known cell now now_supports c.loop-cell.invariant.again)),
       (
         cell,

@@ -3,12 +3,12 @@ use Rattle.std.proofs.lemmas.List.{get_or_default, length-set}
 use Rattle.pw_info.specs.declared.info.Info.{Info}
 use Rattle.pw_info.specs.Information.{kind_of}
 use Rattle.pw_facts.specs.declared.fact.Fact.{Fact}
-use Rattle.pw_cells.specs.Cells.{IsUnsaid, Store, kept_in}
+use Rattle.pw_cells.specs.Cells.{Store, kept_in}
 use Rattle.pw_network.specs.Wiring.{wiring}
 use Rattle.pw_network.specs.inside.Held.{attachment}
 use Rattle.pw_network.specs.Network.{Attached}
 use Rattle.pw_settle.specs.Growth.{KeepsMore}
-use Rattle.pw_settle.specs.inside.Known.{AreUpstream, TakesIn, news_on}
+use Rattle.pw_settle.specs.inside.Known.{AreUpstream, IsNewTo, TakesIn, news_on}
 use Rattle.pw_settle.specs.inside.Progress.{IsNews}
 use Rattle.pw_settle.specs.Values.{IsSatisfied, attached_no}
 use Rattle.pw_settle.specs.Settled.{info_at}
@@ -20,7 +20,7 @@ use Rattle.pw_settle.proofs.NewsLemmas.{inputs_there, kept_instance}
 use Rattle.pw_settle.proofs.SourceLists.{came_back}
 use Rattle.pw_settle.proofs.settling.call.Given as given
 use Rattle.pw_settle.proofs.settling.call.Goals as goal
-use Rattle.pw_settle.proofs.settling.call.Goals.{After-deref_mut, After-queue_visible_readers, In_err-keep_news}
+use Rattle.pw_settle.proofs.settling.call.Goals.{After-deref_mut, After-queue_visible_readers}
 
 pub news_of-requires-clause-kinds : goal.news_of-requires-clause-kinds
 news_of-requires-clause-kinds g c =
@@ -73,10 +73,16 @@ keep_news-requires-clause-inputs g c =
     (kinds_at_hand c.args.store.now c.args.worldview.now c.args.known.now.infos.items c.args.known.now.supports c.requires.kept ∙ c.requires.kinds)
     (low g d) (called g d) (length c.args.known.now.supports) (c.requires.kept.as_many ∙ sym c.requires.kept.many)
 
-pub keep_news-requires-clause-news : goal.keep_news-requires-clause-news
-keep_news-requires-clause-news g c =
-    let d = (goal.at.keep_news-requires-clause-news g c).After-deref_mut in
-    subst (λ (l : List Info). IsUnsaid (info_at l c.in-Some.news.cell) c.in-Some.news.info) (sym c.deref_mut.ensures.value) (news_is g d).new
+pub keep_news-requires-clause-new : goal.keep_news-requires-clause-new
+keep_news-requires-clause-new g c =
+    let d = (goal.at.keep_news-requires-clause-new g c).After-deref_mut in
+    subst (λ (l : List Info). IsNewTo l c.args.known.now.supports c.in-Some.news.cell c.in-Some.news.info) (sym c.deref_mut.ensures.value)
+    (record {
+      there = below g d;
+      as_many = c.requires.kept.as_many ∙ sym c.requires.kept.many;
+      kind = of_kind g d;
+      news = (news_is g d).new;
+    })
 
 pub keep_news-requires-clause-unsaid : goal.keep_news-requires-clause-unsaid
 keep_news-requires-clause-unsaid g c =
@@ -91,14 +97,14 @@ taken : (g : given.Over) (c : After-queue_visible_readers g) →
     TakesIn c.in-Some.news.cell (fact g (goal.at.returns-in_ok-keep_news-clause-grows g c).After-deref_mut) c.args.known.now.infos.items c.keep_news.new.infos c.args.known.now.supports c.keep_news.new.supports
 taken g c =
     subst (λ (l : List Info). TakesIn c.in-Some.news.cell (fact g (goal.at.returns-in_ok-keep_news-clause-grows g c).After-deref_mut) l c.keep_news.new.infos c.args.known.now.supports c.keep_news.new.supports)
-    c.deref_mut.ensures.value c.in_ok-keep_news.ensures.taken
+    c.deref_mut.ensures.value c.in_ok-keep_news.ensures.kept.takes_in
 
 -- and what there is afterwards
 after : (g : given.Over) (c : After-queue_visible_readers g) →
     IsAfterNews (wiring c.args.network.now) c.args.store.now c.keep_news.new.store c.args.worldview.now c.keep_news.new.infos
     c.args.known.now.supports c.keep_news.new.supports c.args.number c.in-Some.news.cell
 after g c =
-    let kept = c.in_ok-keep_news.ensures.kept in
+    let kept = c.in_ok-keep_news.ensures.kept.keeps in
     after_news (wiring c.args.network.now) c.args.network.now.well c.args.store.now c.keep_news.new.store c.requires.kinds c.args.worldview.now
     c.args.known.now.infos.items c.args.known.now.supports c.requires.kept c.args.number c.requires.number c.in-Some.news.cell (fact g (goal.at.returns-in_ok-keep_news-clause-grows g c).After-deref_mut) (news_is g (goal.at.returns-in_ok-keep_news-clause-grows g c).After-deref_mut)
     (below g (goal.at.returns-in_ok-keep_news-clause-grows g c).After-deref_mut) (of_kind g (goal.at.returns-in_ok-keep_news-clause-grows g c).After-deref_mut) kept.told kept.kept kept.assimilates kept.others kept.kinds kept.remembers kept.continues c.keep_news.new.infos c.keep_news.new.supports (taken g c)
@@ -114,7 +120,7 @@ infos_back g c =
 pub returns-in_err-keep_news-clause-grows : goal.returns-in_err-keep_news-clause-grows
 returns-in_err-keep_news-clause-grows g c =
     let d = (goal.at.returns-in_err-keep_news-clause-grows g c).After-deref_mut in
-    elim c.in_err-keep_news.ensures.store [
+    elim c.in_err-keep_news.ensures.refused.store [
       | inl same ↦ subst (λ (s : Store). KeepsMore (wiring c.args.network.now) c.args.store.now s) (sym {A = Store} same) (keeps_more_same (wiring c.args.network.now) c.args.store.now)
       | inr kept ↦
           keeps_news (wiring c.args.network.now) c.args.network.now.well c.args.store.now c.keep_news.new.store c.requires.kinds c.args.worldview.now
@@ -125,8 +131,8 @@ returns-in_err-keep_news-clause-grows g c =
 pub returns-in_err-keep_news-clause-upstream : goal.returns-in_err-keep_news-clause-upstream
 returns-in_err-keep_news-clause-upstream g c given are =
     let d = (goal.at.returns-in_err-keep_news-clause-upstream g c).After-deref_mut in
-    subst (AreUpstream (wiring c.args.network.now) given c.keep_news.new.store) (sym c.in_err-keep_news.ensures.supports)
-    (elim c.in_err-keep_news.ensures.store [
+    subst (AreUpstream (wiring c.args.network.now) given c.keep_news.new.store) (sym c.in_err-keep_news.ensures.refused.stays.supports_are)
+    (elim c.in_err-keep_news.ensures.refused.store [
       | inl same ↦ subst (λ (s : Store). AreUpstream (wiring c.args.network.now) given s c.args.known.now.supports) (sym {A = Store} same) are
       | inr kept ↦
           keeps_upstream (wiring c.args.network.now) c.args.network.now.well c.args.store.now c.keep_news.new.store c.requires.kinds c.args.worldview.now

@@ -2,9 +2,8 @@ use Rattle.std.proofs.Common.{inr, subst}
 use Rattle.pw_premises.specs.Premises.{Premises}
 use Rattle.pw_network.specs.inside.Held.{attachment}
 use Rattle.pw_cells.specs.Cells.{fact_on}
-use Rattle.pw_cells.proofs.Stores.{OnErr_always}
-use Rattle.pw_settle.specs.inside.Known.{Keeps, news_on}
-use Rattle.pw_settle.proofs.TakenIn.{OnOk_always}
+use Rattle.pw_settle.specs.inside.Known.{Keeps, TakesIn, news_on}
+use Rattle.pw_settle.proofs.TakenIn.{OnErr_more, OnOk_more}
 use Rattle.pw_settle.proofs.settling.keep_wide_news.Given as given
 use Rattle.pw_settle.proofs.settling.keep_wide_news.Goals as goal
 use Rattle.pw_settle.proofs.settling.keep_wide_news.Goals.{After-take_in}
@@ -24,8 +23,18 @@ keeps g c =
       continues = c.keep.ensures.continues;
     })
 
+-- and where they are taken in, they are so on the same premises
 pub returns-clause-kept : goal.returns-clause-kept
-returns-clause-kept g c = OnOk_always c.take_in.result (keeps g (goal.at.returns-clause-kept g c).After-take_in)
+returns-clause-kept g c =
+    OnOk_more c.take_in.result (λ taken. record {
+      keeps = keeps g (goal.at.returns-clause-kept g c).After-take_in;
+      takes_in = subst (λ (p : Premises). TakesIn c.args.cell (fact_on c.args.info.now p) c.args.infos.now c.take_in.new.infos
+          c.args.supports.now c.take_in.new.supports) c.joined_support-support.ensures taken;
+    }) c.take_in.ensures.taken
 
-pub returns-clause-store : goal.returns-clause-store
-returns-clause-store g c = OnErr_always c.take_in.result (inr (keeps g (goal.at.returns-clause-store g c).After-take_in))
+pub returns-clause-refused : goal.returns-clause-refused
+returns-clause-refused g c =
+    OnErr_more c.take_in.result (λ stays. record {
+      store = inr (keeps g (goal.at.returns-clause-refused g c).After-take_in);
+      stays = stays;
+    }) c.take_in.ensures.refused

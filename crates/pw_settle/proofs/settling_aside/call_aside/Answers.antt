@@ -9,8 +9,7 @@ use Rattle.pw_settle.specs.Calls.{reader_count}
 use Rattle.pw_settle.specs.Settled.{info_at}
 use Rattle.pw_settle.specs.Values.{IsSatisfied, attached_no}
 use Rattle.pw_settle.specs.inside.Aside.{AreFound, weight_of}
-use Rattle.pw_settle.specs.inside.Known.{TakesIn, news_on}
-use Rattle.pw_cells.specs.Cells.{IsUnsaid}
+use Rattle.pw_settle.specs.inside.Known.{IsNewTo, TakesIn, news_on}
 use Rattle.pw_settle.specs.inside.Progress.{AreSatisfied, IsNews, is_set, tally}
 use Rattle.pw_settle.proofs.AsideNews.{IsAfterAside, after_aside}
 use Rattle.pw_settle.proofs.AsideStarts.{found_kinds}
@@ -70,10 +69,16 @@ take_in_news-requires-clause-inputs g c =
     (found_kinds (wiring c.args.network.now) c.args.store.now c.args.worldview.now c.args.known.now.infos.items c.args.known.now.supports c.requires.found)
     (low g d) (called g d) (length c.args.known.now.supports) c.requires.found.as_many
 
-pub take_in_news-requires-clause-news : goal.take_in_news-requires-clause-news
-take_in_news-requires-clause-news g c =
-    let d = (goal.at.take_in_news-requires-clause-news g c).After-deref_mut in
-    subst (λ (l : List Info). IsUnsaid (info_at l c.in-Some.news.cell) c.in-Some.news.info) (sym c.deref_mut.ensures.value) (news_is g d).new
+pub take_in_news-requires-clause-new : goal.take_in_news-requires-clause-new
+take_in_news-requires-clause-new g c =
+    let d = (goal.at.take_in_news-requires-clause-new g c).After-deref_mut in
+    subst (λ (l : List Info). IsNewTo l c.args.known.now.supports c.in-Some.news.cell c.in-Some.news.info) (sym c.deref_mut.ensures.value)
+    (record {
+      there = below g d;
+      as_many = c.requires.found.as_many;
+      kind = of_kind g d;
+      news = (news_is g d).new;
+    })
 
 -- how they are taken in
 taken : (g : given.Over) (c : After-queue_readers g) →
