@@ -2,6 +2,7 @@
 ghost use Rattle.std.specs.Prelude.{◌≡◌, ◌<◌, ◌≤◌, ◌∷◌, length, map, position, remove, IfSome};
 ghost use Rattle.std.specs.Prelude.{None, OnErr, OnOk, vec_capacity, vec_len};
 ghost use Rattle.pw_info.specs.Information.{kind_of};
+ghost use Rattle.pw_premises.specs.PremiseSubsets.{has_same_numbers};
 ghost use Rattle.pw_sessions.specs.Snapshot.{EachBecomes, HaveValues, IsAfterTell};
 ghost use Rattle.pw_sessions.specs.Snapshot.{after_entry, is_of, is_within};
 ghost use Rattle.pw_sessions.specs.inside.Steps.{CanBeSpared, IsBroughtFirst, IsLatest, OnlySpares};
@@ -9,7 +10,7 @@ ghost use Rattle.pw_sessions.specs.inside.Steps.{is_believed};
 
 use super::snapshot::Snapshot;
 use pw_facts::Fact;
-use pw_premises::PremiseSet;
+use pw_premises::{NarrowSet, PremiseSet};
 use pw_settle::Settled;
 use std::alloc::{AllocError, Allocator};
 
@@ -24,6 +25,18 @@ pub(super) fn room_for(users: usize) -> usize {
     users.saturating_add(MOST_OTHERS)
 }
 
+// Whether two worldviews are the same. Mostly the first one lacks a premise below 64 of the other one:
+// then one word tells that they are not.
+#[inline(always)]
+fn are_same(one: &PremiseSet, other: &PremiseSet) -> bool
+    ensures { result ≡ has_same_numbers one.now other.now }
+{
+    match NarrowSet::of(other) {
+        Some(narrow) if !narrow.is_within(one) => false,
+        _ => *one == *other,
+    }
+}
+
 // The place of the snapshot of exactly this worldview, if there is one.
 pub(super) fn place_of<A: Allocator>(
     snapshots: &[Snapshot<A>],
@@ -31,9 +44,7 @@ pub(super) fn place_of<A: Allocator>(
 ) -> Option<usize>
     ensures { result ≡ position (is_of worldview.now) snapshots.now }
 {
-    snapshots
-        .iter()
-        .position(|snapshot| *snapshot.values.worldview() == *worldview)
+    snapshots.iter().position(|snapshot| are_same(snapshot.values.worldview(), worldview))
 }
 
 // The place of the latest snapshot whose worldview lies within this one, if there is one.
