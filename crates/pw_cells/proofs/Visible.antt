@@ -1,10 +1,11 @@
 -- Where no fact comes in, nothing more is shown.
-use Rattle.std.proofs.Common.{◌≡◌, List, [], ◌∷◌, true, not, inl, inr, refl, sym, ◌∙◌, subst}
+use Rattle.std.proofs.Common.{◌≡◌, ℕ, ◌+◌, ◌<◌, ◌≤◌, ◌&&◌, ◌++◌, Bool, List, [], ◌∷◌, true, false, not, length, take, drop, get_or}
+use Rattle.std.proofs.Common.{inl, inr, refl, sym, ◌∙◌, ap, ap₂, subst, true≢false, add-one, take-suc, take_all, take-append-drop}
 use Rattle.std.specs.Prelude.{fold, All}
 use Rattle.std.specs.List.{list_any}
 use Rattle.std.specs.FinSet.{is_subset}
 use Rattle.std.proofs.lemmas.Bool.{cases_Bool}
-use Rattle.std.proofs.lemmas.List.Elements.{All-head, All-tail, All-push, All-filter}
+use Rattle.std.proofs.lemmas.List.Elements.{All-head, All-tail, All-push, All-append, All-filter}
 use Rattle.pw_info.specs.declared.kind.Kind.{Kind}
 use Rattle.pw_info.specs.declared.info.Info.{Info}
 use Rattle.pw_info.specs.Information.{kind_of, meet, nothing, Implies}
@@ -40,6 +41,31 @@ fold_before before w i j (f ∷ fs) k implies seen =
 -- and so do facts together
 pub shown_before : (k : Kind) (before w : Premises) (fs : List Fact) → AreShownBefore before w fs → Implies (shown_by k before fs) (shown_by k w fs)
 shown_before k before w fs seen = fold_before before w (nothing k) (nothing k) fs refl (λ v h. h) seen
+
+-- ---- gone over one after another, or some at a time
+
+abbrev is_shown_before : Premises → Premises → Fact → Type 0
+is_shown_before before w f = is_subset f.support w ≡ true → is_subset f.support before ≡ true
+
+pub not_coming_in : (visible visible_before : Bool) → (visible && not visible_before) ≡ false → visible ≡ true → visible_before ≡ true
+not_coming_in visible true none is = refl
+not_coming_in true false none is = absurd (true≢false none)
+not_coming_in false false none is = absurd (true≢false (sym is))
+
+pub shown_before_next : (before w : Premises) (fs : List Fact) (n : ℕ) (f : Fact) → n < length fs → f ≡ get_or fs n f → AreShownBefore before w (take n fs)
+    → is_shown_before before w f → AreShownBefore before w (take (n + 1) fs)
+shown_before_next before w fs n f below is all one =
+    subst (λ (l : List Fact). AreShownBefore before w l) (sym {A = List Fact} (ap (λ (k : ℕ). take k fs) (add-one n) ∙ take-suc fs n f below ∙ ap (λ (x : Fact). take n fs ++ x ∷ []) (sym is)))
+    (All-push (is_shown_before before w) (take n fs) f all one)
+
+pub all_shown_before : (before w : Premises) (fs : List Fact) (n : ℕ) → length fs ≤ n → AreShownBefore before w (take n fs) → AreShownBefore before w fs
+all_shown_before before w fs n most all = subst (λ (l : List Fact). AreShownBefore before w l) (take_all n fs most) all
+
+pub shown_before_together : (before w : Premises) (first last fs : List Fact) (n : ℕ) → first ≡ take n fs → last ≡ drop n fs → AreShownBefore before w first
+    → AreShownBefore before w last → AreShownBefore before w fs
+shown_before_together before w first last fs n is_first is_last all rest =
+    subst (λ (l : List Fact). AreShownBefore before w l) (ap₂ (λ (l m : List Fact). l ++ m) is_first is_last ∙ take-append-drop n fs)
+    (All-append (is_shown_before before w) first last all rest)
 
 -- ---- what holds of the kept and the late facts holds of each that is kept in the end
 

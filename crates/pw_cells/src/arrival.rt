@@ -11,7 +11,7 @@ use pw_premises::NarrowSet;
 #[derive(Clone, Copy)]
 pub struct Arrival {
     pub(crate) cell: u32,
-    pub(crate) fact: Held<NarrowSet>,
+    pub(crate) fact: Held<Info, NarrowSet>,
 }
 
 impl Arrival {
@@ -28,7 +28,7 @@ impl Arrival {
     pub fn info(&self) -> &Info
         ensures { result.now ≡ self.now.fact.info }
     {
-        self.fact.info()
+        self.fact.info_here()
     }
 
     /// The premises that it rests on.

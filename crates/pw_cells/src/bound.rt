@@ -4,6 +4,7 @@ ghost use Rattle.pw_info.specs.Information.{kind_of};
 ghost use Rattle.pw_cells.specs.inside.OneCell.{Bounds};
 ghost use Rattle.pw_cells.specs.inside.OneCell.{AreOfKind};
 
+use crate::content::Content;
 use crate::held::Held;
 use crate::support::Support;
 use pw_info::{Info, Kind};
@@ -41,13 +42,13 @@ impl Bound {
     }
 
     // From now on all facts but the last few are older ones.
-    pub(crate) fn raise<S: Support>(&mut self, facts: &[Held<S>])
+    pub(crate) fn raise<C: Content, S: Support>(&mut self, facts: &[Held<C, S>])
         requires kinds { AreOfKind (kind_of self.old.info) facts.now }
         requires bounds { Bounds (kind_of self.old.info) facts.now self.old }
         ensures { Bounds (kind_of self.old.info) facts.now self.new }
     {
         while facts.len() - self.count > LATEST {
-            self.info = self.info.meet(facts[self.count].info());
+            self.info = self.info.meet(&facts[self.count].info());
             self.count += 1;
         }
     }

@@ -9,11 +9,11 @@ ghost use Rattle.pw_cells.specs.Shown.{IsKeptOf};
 ghost use Rattle.pw_cells.specs.inside.OneCell.{StandsFor};
 
 use crate::few_facts::FewFacts;
-use crate::held::Held;
 use crate::many_facts::ManyFacts;
 use crate::narrow_fact::NarrowFact;
 use pw_facts::Fact;
 use pw_info::{Info, Kind};
+use pw_kinds::Interval;
 use pw_premises::{NarrowSet, PremiseSet};
 use std::alloc::{AllocError, Allocator};
 use std::marker::Model;
@@ -25,10 +25,11 @@ pub(crate) struct CellFacts<A: Allocator> {
     all: Facts<A>,
 }
 
-// The facts of a cell, as few or as many.
+// The facts of a cell, as few or as many. Few ones are held as intervals or as any informations.
 #[derive(Drop)]
 enum Facts<A: Allocator> {
-    Few(FewFacts<A>),
+    FewIntervals(FewFacts<Interval, A>),
+    Few(FewFacts<Info, A>),
     Many(Box<ManyFacts<A>, A>),
 }
 
@@ -52,15 +53,18 @@ impl<A: Allocator + Copy> CellFacts<A> {
     pub(crate) fn new(alloc: A, kind: Kind) -> CellFacts<A>
         ensures { result ≡ new_cell kind }
     {
-        CellFacts {
-            all: Facts::Few(FewFacts::new(alloc, kind)),
-        }
+        let all = match kind {
+            Kind::Interval => Facts::FewIntervals(FewFacts::new(alloc, kind)),
+            _ => Facts::Few(FewFacts::new(alloc, kind)),
+        };
+        CellFacts { all }
     }
 
     pub(crate) fn kind(&self) -> Kind
         ensures { result ≡ self.now.kind }
     {
         match &self.all {
+            Facts::FewIntervals(few) => few.kind(),
             Facts::Few(few) => few.kind(),
             Facts::Many(many) => many.kind(),
         }
@@ -76,6 +80,12 @@ impl<A: Allocator + Copy> CellFacts<A> {
         ensures err { OnErr result (self.new ≡ self.old) }
     {
         match &mut self.all {
+            Facts::FewIntervals(few) => {
+                let mut many = boxed_intervals(few)?;
+                many.tell(fact)?;
+                self.all = Facts::Many(many);
+                Ok(())
+            }
             Facts::Few(few) => {
                 let mut many = boxed(few)?;
                 many.tell(fact)?;
@@ -98,6 +108,12 @@ impl<A: Allocator + Copy> CellFacts<A> {
         ensures err { OnErr result (self.new ≡ self.old) }
     {
         match &mut self.all {
+            Facts::FewIntervals(few) => {
+                let mut many = boxed_intervals(few)?;
+                let news = many.keep(fact)?;
+                self.all = Facts::Many(many);
+                Ok(news)
+            }
             Facts::Few(few) => {
                 let mut many = boxed(few)?;
                 let news = many.keep(fact)?;
@@ -111,12 +127,12 @@ impl<A: Allocator + Copy> CellFacts<A> {
     // Keeps information that says more than what is kept on these premises. If memory is refused,
     // nothing changes.
     #[inline(always)]
-    pub(crate) fn keep_news(&mut self, info: Info, support: NarrowSet) -> Result<(), AllocError>
-        requires kind { kind_of info ≡ self.old.kind }
-        requires news { IsUnsaid (kept_of self.old support) info }
-        ensures kept { OnOk result (GainsFact (fact_on info support) (kept_of self.old)
+    pub(crate) fn keep_news(&mut self, info: &Info, support: NarrowSet) -> Result<(), AllocError>
+        requires kind { kind_of info.now ≡ self.old.kind }
+        requires news { IsUnsaid (kept_of self.old support) info.now }
+        ensures kept { OnOk result (GainsFact (fact_on info.now support) (kept_of self.old)
             (kept_of self.new)) }
-        ensures assimilates { OnOk result (Assimilates (fact_on info support) self.old.kept
+        ensures assimilates { OnOk result (Assimilates (fact_on info.now support) self.old.kept
             self.new.kept) }
         ensures told { self.new.told ≡ self.old.told }
         ensures kind { self.new.kind ≡ self.old.kind }
@@ -130,21 +146,30 @@ impl<A: Allocator + Copy> CellFacts<A> {
 
     // The same, where few facts are kept. Never inlined: news of many facts are the ones in a hurry.
     #[inline(never)]
-    fn keep_few_news(&mut self, info: Info, support: NarrowSet) -> Result<(), AllocError>
-        requires kind { kind_of info ≡ self.old.kind }
-        requires news { IsUnsaid (kept_of self.old support) info }
-        ensures kept { OnOk result (GainsFact (fact_on info support) (kept_of self.old)
+    fn keep_few_news(&mut self, info: &Info, support: NarrowSet) -> Result<(), AllocError>
+        requires kind { kind_of info.now ≡ self.old.kind }
+        requires news { IsUnsaid (kept_of self.old support) info.now }
+        ensures kept { OnOk result (GainsFact (fact_on info.now support) (kept_of self.old)
             (kept_of self.new)) }
-        ensures assimilates { OnOk result (Assimilates (fact_on info support) self.old.kept
+        ensures assimilates { OnOk result (Assimilates (fact_on info.now support) self.old.kept
             self.new.kept) }
         ensures told { self.new.told ≡ self.old.told }
         ensures kind { self.new.kind ≡ self.old.kind }
         ensures err { OnErr result (self.new ≡ self.old) }
     {
         match &mut self.all {
+            Facts::FewIntervals(few) => {
+                if few.has_room() {
+                    return few.keep_news(&few.held(info, support));
+                }
+                let mut many = boxed_intervals(few)?;
+                many.keep_news(info, support)?;
+                self.all = Facts::Many(many);
+                Ok(())
+            }
             Facts::Few(few) => {
                 if few.has_room() {
-                    return few.keep_news(&Held::on(info, support));
+                    return few.keep_news(&few.held(info, support));
                 }
                 let mut many = boxed(few)?;
                 many.keep_news(info, support)?;
@@ -159,7 +184,7 @@ impl<A: Allocator + Copy> CellFacts<A> {
     #[inline(always)]
     pub(crate) fn is_told_little(&self) -> bool {
         match &self.all {
-            Facts::Few(_) => true,
+            Facts::FewIntervals(_) | Facts::Few(_) => true,
             Facts::Many(many) => many.is_told_little(),
         }
     }
@@ -171,6 +196,7 @@ impl<A: Allocator + Copy> CellFacts<A> {
         ensures larger { IsLeastAbove worldview.now (told_of self.now) result }
     {
         match &self.all {
+            Facts::FewIntervals(few) => Info::nothing(few.kind()),
             Facts::Few(few) => Info::nothing(few.kind()),
             Facts::Many(many) => many.told(worldview),
         }
@@ -187,6 +213,7 @@ impl<A: Allocator + Copy> CellFacts<A> {
         ensures smaller { IsMostBelow worldview.now (kept_of self.old) result.info }
     {
         match &mut self.all {
+            Facts::FewIntervals(few) => few.kept(worldview).fact(),
             Facts::Few(few) => few.kept(worldview).fact(),
             Facts::Many(many) => many.kept(worldview),
         }
@@ -200,6 +227,7 @@ impl<A: Allocator + Copy> CellFacts<A> {
             (fact_on fact.info fact.support)) }
     {
         match &mut self.all {
+            Facts::FewIntervals(few) => Some(few.kept_narrow(worldview)),
             Facts::Few(few) => Some(few.kept_narrow(worldview)),
             Facts::Many(many) => many.kept_narrow(worldview),
         }
@@ -213,6 +241,7 @@ impl<A: Allocator + Copy> CellFacts<A> {
         ensures told { Implies (kept_of self.now worldview.now) (told_of self.now worldview.now) }
     {
         match &self.all {
+            Facts::FewIntervals(few) => few.may_show_more(before, worldview),
             Facts::Few(few) => few.may_show_more(before, worldview),
             Facts::Many(many) => many.may_show_more(before, worldview),
         }
@@ -221,9 +250,20 @@ impl<A: Allocator + Copy> CellFacts<A> {
 
 // The same cell, in lists, in a box. Fails only when out of memory.
 #[inline(never)]
-fn boxed<A: Allocator + Copy>(few: &FewFacts<A>) -> Result<Box<ManyFacts<A>, A>, AllocError>
+fn boxed<A: Allocator + Copy>(few: &FewFacts<Info, A>) -> Result<Box<ManyFacts<A>, A>, AllocError>
     ensures { IfOk result (λ many. many.value ≡ few.now) }
 {
-    let many = few.listed()?;
+    let many = ManyFacts::narrow(few.listed()?);
+    Ok(Box::new(few.allocator(), many)?)
+}
+
+// The same for a cell of intervals.
+#[inline(never)]
+fn boxed_intervals<A: Allocator + Copy>(
+    few: &FewFacts<Interval, A>,
+) -> Result<Box<ManyFacts<A>, A>, AllocError>
+    ensures { IfOk result (λ many. many.value ≡ few.now) }
+{
+    let many = ManyFacts::intervals(few.listed()?);
     Ok(Box::new(few.allocator(), many)?)
 }

@@ -218,16 +218,16 @@ impl<A: Allocator + Copy> CellStore<A> {
         ensures { Notes cell fact.now self.old self.new }
     {
         match NarrowSet::of(&fact.support) {
-            Some(support) => self.note_narrow(cell, fact.info, support),
+            Some(support) => self.note_narrow(cell, &fact.info, support),
             None => self.arrivals.forget(),
         }
     }
 
     // The same for information on premises below 64.
     #[inline(always)]
-    fn note_narrow(&mut self, cell: u32, info: Info, support: NarrowSet)
+    fn note_narrow(&mut self, cell: u32, info: &Info, support: NarrowSet)
         requires { self.old.arrivals.past < most_past }
-        ensures { Notes cell (fact_on info support) self.old self.new }
+        ensures { Notes cell (fact_on info.now support) self.old self.new }
     {
         self.arrivals.note(Arrival {
             cell,
@@ -240,18 +240,23 @@ impl<A: Allocator + Copy> CellStore<A> {
     /// exist, and the information must be of its kind. Fails only when out of memory; then nothing
     /// changes.
     #[inline(always)]
-    pub fn keep_news(&mut self, cell: u32, info: Info, support: NarrowSet) -> Result<(), AllocError>
+    pub fn keep_news(
+        &mut self,
+        cell: u32,
+        info: &Info,
+        support: NarrowSet,
+    ) -> Result<(), AllocError>
         requires there { cell < length self.old.cells }
-        requires kind { kind_of info ≡ kind_in_store self.old cell }
-        requires news { IsUnsaid (kept_in self.old cell support) info }
+        requires kind { kind_of info.now ≡ kind_in_store self.old cell }
+        requires news { IsUnsaid (kept_in self.old cell support) info.now }
         ensures told { (w : Premises) → told_in self.new cell w ≡ told_in self.old cell w }
-        ensures kept { OnOk result (GainsKept cell (fact_on info support) self.old self.new) }
-        ensures assimilates { OnOk result (AssimilatesAt cell (fact_on info support) self.old
+        ensures kept { OnOk result (GainsKept cell (fact_on info.now support) self.old self.new) }
+        ensures assimilates { OnOk result (AssimilatesAt cell (fact_on info.now support) self.old
             self.new) }
         ensures others { LeavesOthers cell self.old self.new }
         ensures kinds { kinds_of self.new ≡ kinds_of self.old }
         ensures room { self.new.room ≡ self.old.room }
-        ensures remembers { Remembers cell (fact_on info support) self.old self.new }
+        ensures remembers { Remembers cell (fact_on info.now support) self.old self.new }
         // What accounted for what was kept still does, with what came since.
         ensures continues { Continues self.old self.new }
         ensures err { OnErr result (self.new ≡ self.old) }
@@ -266,13 +271,13 @@ impl<A: Allocator + Copy> CellStore<A> {
 
     // Assimilates such information. It is not noted as what came lately.
     #[inline(always)]
-    fn take_in_news(&mut self, cell: u32, info: Info, support: NarrowSet) -> Result<(), AllocError>
+    fn take_in_news(&mut self, cell: u32, info: &Info, support: NarrowSet) -> Result<(), AllocError>
         requires there { cell < length self.old.cells }
-        requires kind { kind_of info ≡ kind_in_store self.old cell }
-        requires news { IsUnsaid (kept_in self.old cell support) info }
+        requires kind { kind_of info.now ≡ kind_in_store self.old cell }
+        requires news { IsUnsaid (kept_in self.old cell support) info.now }
         ensures told { (w : Premises) → told_in self.new cell w ≡ told_in self.old cell w }
-        ensures kept { OnOk result (GainsKept cell (fact_on info support) self.old self.new) }
-        ensures assimilates { OnOk result (AssimilatesAt cell (fact_on info support) self.old
+        ensures kept { OnOk result (GainsKept cell (fact_on info.now support) self.old self.new) }
+        ensures assimilates { OnOk result (AssimilatesAt cell (fact_on info.now support) self.old
             self.new) }
         ensures others { LeavesOthers cell self.old self.new }
         ensures kinds { kinds_of self.new ≡ kinds_of self.old }

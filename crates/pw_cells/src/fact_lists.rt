@@ -1,4 +1,4 @@
-//! The facts of one cell, with supports of one width.
+//! The facts of one cell, in one form, with supports of one width.
 
 ghost use Rattle.std.specs.Prelude.{◌≡◌, ◌+◌, ◌<◌, ◌≤◌, ◌↔◌, ◌++◌, ◌∷◌, [], true, false};
 ghost use Rattle.std.specs.Prelude.{if◌then◌else◌};
@@ -6,13 +6,14 @@ ghost use Rattle.std.specs.Prelude.{length, vec_len, vec_capacity, IsTrue, IfOk,
 ghost use Rattle.pw_info.specs.Information.{kind_of, Implies};
 ghost use Rattle.pw_facts.specs.Facts.{IsLeastAbove, IsMostBelow};
 ghost use Rattle.pw_cells.specs.inside.OneCell.{Bounds};
-ghost use Rattle.pw_cells.specs.Cells.{told_of, kept_of, IsSubsumedBy, IsUnsaid};
+ghost use Rattle.pw_cells.specs.Cells.{fact_on, told_of, kept_of, IsSubsumedBy, IsUnsaid};
 ghost use Rattle.pw_cells.specs.Changes.{GainsFact, Assimilates, TellsNews};
 ghost use Rattle.pw_cells.specs.Cells.{assimilated, all_assimilated};
 ghost use Rattle.pw_cells.specs.inside.OneCell.{AreApart, AreOfKind, IsCellWhole, StandsFor};
 ghost use Rattle.pw_cells.specs.inside.OneCell.{cell_keeping};
 
 use crate::bound::Bound;
+use crate::content::Content;
 use crate::held::Held;
 use crate::merged_facts::merged;
 use crate::subsumed_facts::drop_subsumed;
@@ -33,19 +34,19 @@ const FEW: usize = 8;
 // often. Told facts are assimilated late, when the kept facts are first asked for. So a cell that
 // gets only tells and asks needs no walk over its facts.
 #[derive(Drop)]
-pub(crate) struct FactLists<S: Support, A: Allocator> {
+pub(crate) struct FactLists<C: Content, S: Support, A: Allocator> {
     kind: Kind,
     told: ToldFacts<S, A>,
     // The kept facts, except for the late ones. It has room for these.
-    kept: Vec<Held<S>, A>,
+    kept: Vec<Held<C, S>, A>,
     // A bound on what the older kept facts say.
     bound: Bound,
     // The facts told since, which are not assimilated yet.
-    late: Vec<Held<S>, A>,
+    late: Vec<Held<C, S>, A>,
 }
 
-impl<S: Support, A: Allocator> Model for FactLists<S, A> {
-    ghost use Rattle.std.specs.Prelude.{◌+◌, ◌≤◌, vec_len, vec_capacity};
+impl<C: Content, S: Support, A: Allocator> Model for FactLists<C, S, A> {
+    ghost use Rattle.std.specs.Prelude.{◌≡◌, ◌+◌, ◌≤◌, true, vec_len, vec_capacity};
     ghost use Rattle.pw_info.specs.contracts.kind.Kind as kinds;
     ghost use Rattle.pw_facts.specs.contracts.fact.Fact as facts;
     ghost use Rattle.pw_cells.specs.Cells.{all_assimilated};
@@ -65,18 +66,20 @@ impl<S: Support, A: Allocator> Model for FactLists<S, A> {
     } };
 
     ghost invariant = { λ a. IsCellWhole a.kind a.told a.kept.items a.late.items
-        × (vec_len a.kept + vec_len a.late ≤ vec_capacity a.kept) × Bounds a.kind a.kept.items a.bound };
+        × (vec_len a.kept + vec_len a.late ≤ vec_capacity a.kept) × Bounds a.kind a.kept.items a.bound
+        × (C.fits a.kind ≡ true) };
 }
 
-impl<S: Support, A: Allocator + Copy> FactLists<S, A> {
+impl<C: Content, S: Support, A: Allocator + Copy> FactLists<C, S, A> {
     // A cell of which these facts of its kind, none of which subsumes another, are kept, and about
     // which nothing was told. Fails only when out of memory.
     pub(crate) fn keeping(
         alloc: A,
         kind: Kind,
-        kept: &[Held<S>],
-    ) -> Result<FactLists<S, A>, AllocError>
-        requires { IsCellWhole kind [] kept.now [] }
+        kept: &[Held<C, S>],
+    ) -> Result<FactLists<C, S, A>, AllocError>
+        requires whole { IsCellWhole kind [] kept.now [] }
+        requires fits { C.fits kind ≡ true }
         ensures { IfOk result (λ lists. lists ≡ cell_keeping kind kept.now) }
     {
         Ok(FactLists {
@@ -94,8 +97,19 @@ impl<S: Support, A: Allocator + Copy> FactLists<S, A> {
         self.kind
     }
 
+    // A fact of their kind, as these lists hold it.
+    #[inline(always)]
+    pub(crate) fn held(&self, info: &Info, support: S) -> Held<C, S>
+        requires { kind_of info.now ≡ self.now.kind }
+        ensures { result ≡ fact_on info.now (S.premises support) }
+    {
+        // The form fits the kind.
+        let _kind = self.kind;
+        Held::on(info, support)
+    }
+
     // Records that a fact was told, and keeps it. If memory is refused, nothing changes.
-    pub(crate) fn tell(&mut self, fact: &Held<S>) -> Result<(), AllocError>
+    pub(crate) fn tell(&mut self, fact: &Held<C, S>) -> Result<(), AllocError>
         requires { kind_of fact.now.info ≡ self.old.kind }
         ensures told { OnOk result (GainsFact fact.now (told_of self.old) (told_of self.new)) }
         ensures kept { OnOk result (GainsFact fact.now (kept_of self.old) (kept_of self.new)) }
@@ -112,7 +126,7 @@ impl<S: Support, A: Allocator + Copy> FactLists<S, A> {
     }
 
     // Keeps a fact, and answers whether it was news. If memory is refused, nothing changes.
-    pub(crate) fn keep(&mut self, fact: &Held<S>) -> Result<bool, AllocError>
+    pub(crate) fn keep(&mut self, fact: &Held<C, S>) -> Result<bool, AllocError>
         requires { kind_of fact.now.info ≡ self.old.kind }
         ensures answer { IfOk result (λ news. TellsNews self.old.kept fact.now news) }
         ensures known { IfOk result (λ news. news ≡ false → self.new ≡ self.old) }
@@ -132,7 +146,7 @@ impl<S: Support, A: Allocator + Copy> FactLists<S, A> {
     // Keeps a fact that says more than what is kept on its premises: so no kept fact subsumes it. If
     // memory is refused, nothing changes.
     #[inline(always)]
-    pub(crate) fn keep_news(&mut self, fact: &Held<S>) -> Result<(), AllocError>
+    pub(crate) fn keep_news(&mut self, fact: &Held<C, S>) -> Result<(), AllocError>
         requires kind { kind_of fact.now.info ≡ self.old.kind }
         requires news { IsUnsaid (kept_of self.old fact.now.support) fact.now.info }
         ensures kept { OnOk result (GainsFact fact.now (kept_of self.old) (kept_of self.new)) }
@@ -165,7 +179,7 @@ impl<S: Support, A: Allocator + Copy> FactLists<S, A> {
     // The merge of the kept facts, in a worldview, with premises that it rests on. The late facts
     // are assimilated first.
     #[inline(always)]
-    pub(crate) fn kept(&mut self, worldview: &PremiseSet) -> Held<S>
+    pub(crate) fn kept(&mut self, worldview: &PremiseSet) -> Held<C, S>
         ensures same { self.new ≡ self.old }
         ensures stands { StandsFor self.old.kind worldview.now self.old.kept result }
         ensures kind { kind_of result.info ≡ self.old.kind }
@@ -192,7 +206,7 @@ impl<S: Support, A: Allocator + Copy> FactLists<S, A> {
     }
 
     // The same cell, with supports of any premises. Fails only when out of memory.
-    pub(crate) fn widened(&self) -> Result<FactLists<PremiseSet, A>, AllocError>
+    pub(crate) fn widened(&self) -> Result<FactLists<Info, PremiseSet, A>, AllocError>
         ensures { IfOk result (λ wide. wide ≡ self.now) }
     {
         let alloc = *self.kept.allocator();
@@ -211,10 +225,10 @@ impl<S: Support, A: Allocator + Copy> FactLists<S, A> {
 }
 
 // The same facts. Fails only when out of memory.
-fn copied<S: Support, A: Allocator>(
+fn copied<C: Content, S: Support, A: Allocator>(
     alloc: A,
-    facts: &[Held<S>],
-) -> Result<Vec<Held<S>, A>, AllocError>
+    facts: &[Held<C, S>],
+) -> Result<Vec<Held<C, S>, A>, AllocError>
     ensures { IfOk result (λ copy. copy.items ≡ facts.now) }
 {
     let mut copy = Vec::new(alloc);
@@ -224,11 +238,11 @@ fn copied<S: Support, A: Allocator>(
 
 // The same facts, with supports of any premises, and room for this many. Fails only when out of
 // memory.
-fn all_widened<S: Support, A: Allocator>(
+fn all_widened<C: Content, S: Support, A: Allocator>(
     alloc: A,
-    facts: &[Held<S>],
+    facts: &[Held<C, S>],
     room: usize,
-) -> Result<Vec<Held<PremiseSet>, A>, AllocError>
+) -> Result<Vec<Held<Info, PremiseSet>, A>, AllocError>
     requires { length facts.now ≤ room }
     ensures items { IfOk result (λ wide. wide.items ≡ facts.now) }
     ensures room { IfOk result (λ wide. room ≤ vec_capacity wide) }
@@ -242,7 +256,7 @@ fn all_widened<S: Support, A: Allocator>(
 
 // Whether one of the last few facts subsumes this one. Inlined, like `assimilate`.
 #[inline(always)]
-fn is_lately_subsumed<S: Support>(facts: &[Held<S>], fact: &Held<S>) -> bool
+fn is_lately_subsumed<C: Content, S: Support>(facts: &[Held<C, S>], fact: &Held<C, S>) -> bool
     requires { AreOfKind (kind_of fact.now.info) facts.now }
     ensures { IsTrue result → IsSubsumedBy facts.now fact.now }
 {
@@ -256,7 +270,7 @@ fn is_lately_subsumed<S: Support>(facts: &[Held<S>], fact: &Held<S>) -> bool
 }
 
 // Whether one of the facts subsumes this one.
-fn is_subsumed_by<S: Support>(facts: &[Held<S>], fact: &Held<S>) -> bool
+fn is_subsumed_by<C: Content, S: Support>(facts: &[Held<C, S>], fact: &Held<C, S>) -> bool
     requires { AreOfKind (kind_of fact.now.info) facts.now }
     ensures { IsTrue result ↔ IsSubsumedBy facts.now fact.now }
 {
@@ -271,7 +285,11 @@ fn is_subsumed_by<S: Support>(facts: &[Held<S>], fact: &Held<S>) -> bool
 // Whether a kept fact subsumes this one. The older facts are gone over only if one of them may say
 // as much.
 #[inline(always)]
-fn is_subsumed<S: Support>(kept: &[Held<S>], bound: &Bound, fact: &Held<S>) -> bool
+fn is_subsumed<C: Content, S: Support>(
+    kept: &[Held<C, S>],
+    bound: &Bound,
+    fact: &Held<C, S>,
+) -> bool
     requires kinds { AreOfKind (kind_of fact.now.info) kept.now }
     requires bounds { Bounds (kind_of fact.now.info) kept.now bound.now }
     ensures { IsTrue result ↔ IsSubsumedBy kept.now fact.now }
@@ -280,13 +298,13 @@ fn is_subsumed<S: Support>(kept: &[Held<S>], bound: &Bound, fact: &Held<S>) -> b
     if is_subsumed_by(newer, fact) {
         return true;
     }
-    bound.info.implies(fact.info()) && is_subsumed_by(older, fact)
+    bound.info.implies(&fact.info()) && is_subsumed_by(older, fact)
 }
 
 // Makes room for one more fact, unless the fact is known. A list begins with room for two: a fact
 // mostly subsumes the one before it, so most lists have no more.
-pub(crate) fn reserve_unless<S: Support, A: Allocator>(
-    facts: &mut Vec<Held<S>, A>,
+pub(crate) fn reserve_unless<C: Content, S: Support, A: Allocator>(
+    facts: &mut Vec<Held<C, S>, A>,
     known: bool,
 ) -> Result<(), AllocError>
     ensures items { facts.new.items ≡ facts.old.items }
@@ -303,9 +321,9 @@ pub(crate) fn reserve_unless<S: Support, A: Allocator>(
 
 // Makes room for one more late fact, and for all late facts among the kept ones, unless the fact is
 // known.
-fn reserve_late<S: Support, A: Allocator>(
-    kept: &mut Vec<Held<S>, A>,
-    late: &mut Vec<Held<S>, A>,
+fn reserve_late<C: Content, S: Support, A: Allocator>(
+    kept: &mut Vec<Held<C, S>, A>,
+    late: &mut Vec<Held<C, S>, A>,
     known: bool,
 ) -> Result<(), AllocError>
     requires { vec_len kept.old + vec_len late.old ≤ vec_capacity kept.old }
@@ -324,7 +342,11 @@ fn reserve_late<S: Support, A: Allocator>(
 }
 
 // Adds a fact to the late ones, where there is room, unless the fact is known.
-fn add_late<S: Support, A: Allocator>(late: &mut Vec<Held<S>, A>, known: bool, fact: &Held<S>)
+fn add_late<C: Content, S: Support, A: Allocator>(
+    late: &mut Vec<Held<C, S>, A>,
+    known: bool,
+    fact: &Held<C, S>,
+)
     requires { known ≡ false → vec_len late.old < vec_capacity late.old }
     ensures items { late.new.items ≡ (if known then late.old.items else late.old.items ++ fact.now ∷
         []) }
@@ -340,11 +362,11 @@ fn add_late<S: Support, A: Allocator>(late: &mut Vec<Held<S>, A>, known: bool, f
 // Assimilates the late facts; then none is late. The kept facts have room for them. Mostly none is
 // late: so the test is inlined, and the rest is not.
 #[inline(always)]
-fn assimilate_late<S: Support, A: Allocator>(
+fn assimilate_late<C: Content, S: Support, A: Allocator>(
     kind: Kind,
-    kept: &mut Vec<Held<S>, A>,
+    kept: &mut Vec<Held<C, S>, A>,
     bound: &mut Bound,
-    late: &mut Vec<Held<S>, A>,
+    late: &mut Vec<Held<C, S>, A>,
 )
     requires kinds { AreOfKind kind kept.old.items }
     requires late_kinds { AreOfKind kind late.old.items }
@@ -363,11 +385,11 @@ fn assimilate_late<S: Support, A: Allocator>(
 
 // The same, where some fact may be late.
 #[inline(never)]
-fn assimilate_all<S: Support, A: Allocator>(
+fn assimilate_all<C: Content, S: Support, A: Allocator>(
     kind: Kind,
-    kept: &mut Vec<Held<S>, A>,
+    kept: &mut Vec<Held<C, S>, A>,
     bound: &mut Bound,
-    late: &mut Vec<Held<S>, A>,
+    late: &mut Vec<Held<C, S>, A>,
 )
     requires kinds { AreOfKind kind kept.old.items }
     requires late_kinds { AreOfKind kind late.old.items }
@@ -389,11 +411,11 @@ fn assimilate_all<S: Support, A: Allocator>(
 // Keeps a fact, where there is room, and drops the facts that it subsumes. If the fact is known, a
 // kept fact subsumes it, and nothing is done.
 #[inline(always)]
-fn assimilate<S: Support, A: Allocator>(
-    kept: &mut Vec<Held<S>, A>,
+fn assimilate<C: Content, S: Support, A: Allocator>(
+    kept: &mut Vec<Held<C, S>, A>,
     bound: &mut Bound,
     known: bool,
-    fact: &Held<S>,
+    fact: &Held<C, S>,
 )
     requires kinds { AreOfKind (kind_of fact.now.info) kept.old.items }
     requires bounds { Bounds (kind_of fact.now.info) kept.old.items bound.old }
@@ -415,7 +437,10 @@ fn assimilate<S: Support, A: Allocator>(
 
 // Appends a fact where there is room.
 #[inline(always)]
-pub(crate) fn append<S: Support, A: Allocator>(facts: &mut Vec<Held<S>, A>, fact: &Held<S>)
+pub(crate) fn append<C: Content, S: Support, A: Allocator>(
+    facts: &mut Vec<Held<C, S>, A>,
+    fact: &Held<C, S>,
+)
     requires { vec_len facts.old < vec_capacity facts.old }
     ensures items { facts.new.items ≡ facts.old.items ++ fact.now ∷ [] }
     ensures capacity { vec_capacity facts.old ≤ vec_capacity facts.new }

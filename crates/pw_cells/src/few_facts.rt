@@ -1,6 +1,6 @@
 //! The few facts kept of a cell about which nothing was told.
 
-ghost use Rattle.std.specs.Prelude.{◌≡◌, [], false, IfOk, OnOk, OnErr};
+ghost use Rattle.std.specs.Prelude.{◌≡◌, [], true, false, IfOk, OnOk, OnErr};
 ghost use Rattle.pw_info.specs.Information.{kind_of, nothing, Implies};
 ghost use Rattle.pw_facts.specs.Facts.{IsLeastAbove, IsMostBelow};
 ghost use Rattle.pw_cells.specs.Cells.{IsUnsaid, fact_on, new_cell, told_of, kept_of};
@@ -8,14 +8,14 @@ ghost use Rattle.pw_cells.specs.Changes.{GainsFact, Assimilates};
 ghost use Rattle.pw_cells.specs.Shown.{IsKeptOf};
 ghost use Rattle.pw_cells.specs.inside.OneCell.{StandsFor};
 
-use crate::fact_lists::{append, reserve_unless};
+use crate::content::Content;
+use crate::fact_lists::{FactLists, append, reserve_unless};
 use crate::held::Held;
-use crate::many_facts::ManyFacts;
 use crate::merged_facts::merged_few;
 use crate::narrow_fact::NarrowFact;
 use crate::subsumed_facts::drop_subsumed;
 use crate::visible_facts::any_comes_in;
-use pw_info::Kind;
+use pw_info::{Info, Kind};
 use pw_premises::{NarrowSet, PremiseSet};
 use std::alloc::{AllocError, Allocator};
 use std::marker::Model;
@@ -25,13 +25,13 @@ const FEW: usize = 8;
 
 // The facts kept of a cell about which nothing was told. They are few: so they need no bound.
 #[derive(Drop)]
-pub(crate) struct FewFacts<A: Allocator> {
-    kept: Vec<Held<NarrowSet>, A>,
+pub(crate) struct FewFacts<C: Content, A: Allocator> {
+    kept: Vec<Held<C, NarrowSet>, A>,
     kind: Kind,
 }
 
-impl<A: Allocator> Model for FewFacts<A> {
-    ghost use Rattle.std.specs.Prelude.{[]};
+impl<C: Content, A: Allocator> Model for FewFacts<C, A> {
+    ghost use Rattle.std.specs.Prelude.{◌≡◌, [], true};
     ghost use Rattle.pw_info.specs.contracts.kind.Kind as kinds;
     ghost use Rattle.pw_facts.specs.contracts.fact.Fact as facts;
     ghost use Rattle.pw_cells.specs.Cells.{Cell};
@@ -44,12 +44,13 @@ impl<A: Allocator> Model for FewFacts<A> {
 
     ghost view = { λ a. record { kind = a.kind; told = []; kept = a.kept.items } };
 
-    ghost invariant = { λ a. IsCellWhole a.kind [] a.kept.items [] };
+    ghost invariant = { λ a. IsCellWhole a.kind [] a.kept.items [] × (C.fits a.kind ≡ true) };
 }
 
-impl<A: Allocator + Copy> FewFacts<A> {
+impl<C: Content, A: Allocator + Copy> FewFacts<C, A> {
     // A cell about which nothing was told. Takes no memory.
-    pub(crate) fn new(alloc: A, kind: Kind) -> FewFacts<A>
+    pub(crate) fn new(alloc: A, kind: Kind) -> FewFacts<C, A>
+        requires { C.fits kind ≡ true }
         ensures { result ≡ new_cell kind }
     {
         FewFacts {
@@ -71,6 +72,17 @@ impl<A: Allocator + Copy> FewFacts<A> {
         self.kind
     }
 
+    // A fact of their kind, as they hold it.
+    #[inline(always)]
+    pub(crate) fn held(&self, info: &Info, support: NarrowSet) -> Held<C, NarrowSet>
+        requires { kind_of info.now ≡ self.now.kind }
+        ensures { result ≡ fact_on info.now support }
+    {
+        // The form fits the kind.
+        let _kind = self.kind;
+        Held::on(info, support)
+    }
+
     // Whether they are still few with one more.
     #[inline(always)]
     pub(crate) fn has_room(&self) -> bool {
@@ -80,7 +92,7 @@ impl<A: Allocator + Copy> FewFacts<A> {
     // Keeps a fact that says more than what is kept on its premises. If memory is refused, nothing
     // changes.
     #[inline(always)]
-    pub(crate) fn keep_news(&mut self, fact: &Held<NarrowSet>) -> Result<(), AllocError>
+    pub(crate) fn keep_news(&mut self, fact: &Held<C, NarrowSet>) -> Result<(), AllocError>
         requires kind { kind_of fact.now.info ≡ self.old.kind }
         requires news { IsUnsaid (kept_of self.old fact.now.support) fact.now.info }
         ensures kept { OnOk result (GainsFact fact.now (kept_of self.old) (kept_of self.new)) }
@@ -97,7 +109,7 @@ impl<A: Allocator + Copy> FewFacts<A> {
 
     // The merge of the kept facts, in a worldview, with premises that it rests on.
     #[inline(always)]
-    pub(crate) fn kept(&self, worldview: &PremiseSet) -> Held<NarrowSet>
+    pub(crate) fn kept(&self, worldview: &PremiseSet) -> Held<C, NarrowSet>
         ensures stands { StandsFor self.now.kind worldview.now self.now.kept result }
         ensures kind { kind_of result.info ≡ self.now.kind }
         ensures told { Implies result.info (told_of self.now worldview.now) }
@@ -112,11 +124,7 @@ impl<A: Allocator + Copy> FewFacts<A> {
     pub(crate) fn kept_narrow(&self, worldview: &PremiseSet) -> NarrowFact
         ensures { IsKeptOf self.now worldview.now (fact_on result.info result.support) }
     {
-        let held = self.kept(worldview);
-        NarrowFact {
-            info: *held.info(),
-            support: held.support(),
-        }
+        self.kept(worldview).narrow()
     }
 
     // Whether more may be kept in the worldview than in the one before, as the supports tell.
@@ -130,9 +138,9 @@ impl<A: Allocator + Copy> FewFacts<A> {
     }
 
     // The same cell, in lists. Fails only when out of memory.
-    pub(crate) fn listed(&self) -> Result<ManyFacts<A>, AllocError>
-        ensures { IfOk result (λ many. many ≡ self.now) }
+    pub(crate) fn listed(&self) -> Result<FactLists<C, NarrowSet, A>, AllocError>
+        ensures { IfOk result (λ lists. lists ≡ self.now) }
     {
-        ManyFacts::keeping(self.allocator(), self.kind, self.kept.as_slice())
+        FactLists::keeping(self.allocator(), self.kind, self.kept.as_slice())
     }
 }

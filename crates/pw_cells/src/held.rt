@@ -1,25 +1,27 @@
-//! A fact as a cell holds it: with a support of the cell's width.
+//! A fact as a cell holds it: in the form of its kind, with a support of the cell's width.
 
-ghost use Rattle.std.specs.Prelude.{◌≡◌, ◌↔◌, ◌&&◌, not, IsTrue, ⊤};
+ghost use Rattle.std.specs.Prelude.{◌≡◌, ◌↔◌, ◌&&◌, not, IsTrue, true, ⊤};
 ghost use Rattle.std.specs.FinSet.{is_subset, union};
-ghost use Rattle.pw_info.specs.Information.{kind_of, meet};
+ghost use Rattle.pw_info.specs.Information.{kind_of, meet, Implies};
 ghost use Rattle.pw_facts.specs.Facts.{Subsumes, nothing_known};
 
+use crate::content::Content;
+use crate::narrow_fact::NarrowFact;
 use crate::support::Support;
 use pw_facts::Fact;
 use pw_info::{Info, Kind};
-use pw_premises::PremiseSet;
+use pw_premises::{NarrowSet, PremiseSet};
 use std::alloc::AllocError;
 use std::marker::Model;
 
-// A fact. Contracts see it as a fact, in each width.
-pub(crate) struct Held<S: Support> {
-    info: Info,
+// A fact. Contracts see it as a fact, in each form and in each width.
+pub(crate) struct Held<C: Content, S: Support> {
+    content: C,
     support: S,
 }
 
-impl<S: Support> Model for Held<S> {
-    ghost use Rattle.std.proofs.Common.{ap};
+impl<C: Content, S: Support> Model for Held<C, S> {
+    ghost use Rattle.std.proofs.Common.{ap₂};
     ghost use Rattle.pw_facts.specs.declared.fact.Fact.{Fact};
     ghost use Rattle.pw_facts.specs.contracts.fact.Fact as facts;
 
@@ -27,51 +29,58 @@ impl<S: Support> Model for Held<S> {
 
     ghost coded = { facts.the_row.coded };
 
-    ghost view = { λ a. record { info = a.info; support = S.premises a.support } };
+    ghost view = { λ a. record { info = C.said a.content; support = S.premises a.support } };
 
-    ghost inverse = { λ f. record { info = f.info; support = S.held f.support } };
+    ghost inverse = { λ f. record { content = C.form f.info; support = S.held f.support } };
 
-    ghost inverse_ok = { λ a h. ap (λ s. record { info = a.info; support = s }) (S.again a.support) };
+    ghost inverse_ok = { λ a h. ap₂ (λ c s. record { content = c; support = s }) (C.again a.content)
+        (S.again a.support) };
 }
 
-impl<S: Support> Clone for Held<S> {
+impl<C: Content, S: Support> Clone for Held<C, S> {
     ghost is_clone = { λ s r. r ≡ s };
 
     ghost is_infallible = { λ _. ⊤ };
 
-    fn clone(&self) -> Result<Held<S>, AllocError> {
+    fn clone(&self) -> Result<Held<C, S>, AllocError> {
         Ok(*self)
     }
 }
 
-impl<S: Support> Copy for Held<S> {}
+impl<C: Content, S: Support> Copy for Held<C, S> {}
 
-impl<S: Support> Held<S> {
+impl<C: Content, S: Support> Held<C, S> {
     // No information of a kind, on no premise.
-    pub(crate) fn nothing(kind: Kind) -> Held<S>
+    pub(crate) fn nothing(kind: Kind) -> Held<C, S>
+        requires { C.fits kind ≡ true }
         ensures exact { result ≡ nothing_known kind }
         ensures kind { kind_of result.info ≡ kind }
     {
         Held {
-            info: Info::nothing(kind),
+            content: C::nothing(kind),
             support: S::empty(),
         }
     }
 
     // This information on this support.
-    pub(crate) fn on(info: Info, support: S) -> Held<S>
-        ensures info { result.info ≡ info }
+    #[inline(always)]
+    pub(crate) fn on(info: &Info, support: S) -> Held<C, S>
+        requires { C.fits (kind_of info.now) ≡ true }
+        ensures info { result.info ≡ info.now }
         ensures support { result.support ≡ S.premises support }
     {
-        Held { info, support }
+        Held {
+            content: C::of(info),
+            support,
+        }
     }
 
     // What it says.
     #[inline(always)]
-    pub(crate) fn info(&self) -> &Info
-        ensures { result.now ≡ self.now.info }
+    pub(crate) fn info(&self) -> Info
+        ensures { result ≡ self.now.info }
     {
-        &self.info
+        self.content.info()
     }
 
     // The premises that it rests on.
@@ -99,19 +108,28 @@ impl<S: Support> Held<S> {
         self.is_visible(worldview) && !self.is_visible(before)
     }
 
+    // Whether it says at least what the other fact, of the same kind, says.
+    #[inline(always)]
+    pub(crate) fn implies(&self, other: &Held<C, S>) -> bool
+        requires { kind_of self.now.info ≡ kind_of other.now.info }
+        ensures { IsTrue result ↔ Implies self.now.info other.now.info }
+    {
+        self.content.implies(&other.content)
+    }
+
     // Whether it says at least what the other fact, of the same kind, says, and rests on a subset of
     // its premises.
     #[inline(always)]
-    pub(crate) fn subsumes(&self, other: &Held<S>) -> bool
+    pub(crate) fn subsumes(&self, other: &Held<C, S>) -> bool
         requires { kind_of self.now.info ≡ kind_of other.now.info }
         ensures answer { IsTrue result ↔ Subsumes self.now other.now }
     {
-        self.support.is_subset(&other.support) && self.info.implies(&other.info)
+        self.rests_within(other) && self.implies(other)
     }
 
     // Whether it rests on a subset of the premises of the other fact.
     #[inline(always)]
-    pub(crate) fn rests_within(&self, other: &Held<S>) -> bool
+    pub(crate) fn rests_within(&self, other: &Held<C, S>) -> bool
         ensures { result ≡ is_subset self.now.support other.now.support }
     {
         self.support.is_subset(&other.support)
@@ -120,23 +138,23 @@ impl<S: Support> Held<S> {
     // The merge with another fact of the same kind, if neither says as much as the other: both
     // informations on both supports.
     #[inline(always)]
-    pub(crate) fn joined(&self, other: &Held<S>) -> Held<S>
+    pub(crate) fn joined(&self, other: &Held<C, S>) -> Held<C, S>
         requires { kind_of self.now.info ≡ kind_of other.now.info }
         ensures info { result.info ≡ meet self.now.info other.now.info }
         ensures support { result.support ≡ union self.now.support other.now.support }
     {
         Held {
-            info: self.info.meet(&other.info),
+            content: self.content.meet(&other.content),
             support: self.support.join(other.support),
         }
     }
 
-    // The same fact, with a support of any premises.
-    pub(crate) fn widened(&self) -> Held<PremiseSet>
+    // The same fact, with any information and a support of any premises.
+    pub(crate) fn widened(&self) -> Held<Info, PremiseSet>
         ensures { result ≡ self.now }
     {
         Held {
-            info: self.info,
+            content: self.info(),
             support: self.support.widen(),
         }
     }
@@ -146,8 +164,32 @@ impl<S: Support> Held<S> {
         ensures { result ≡ self.now }
     {
         Fact {
-            info: self.info,
+            info: self.info(),
             support: self.support.widen(),
         }
+    }
+}
+
+impl<C: Content> Held<C, NarrowSet> {
+    // The same fact, as callers of a store see it, in little room.
+    #[inline(always)]
+    pub(crate) fn narrow(&self) -> NarrowFact
+        ensures info { result.info ≡ self.now.info }
+        ensures support { result.support ≡ self.now.support }
+    {
+        NarrowFact {
+            info: self.info(),
+            support: self.support,
+        }
+    }
+}
+
+impl<S: Support> Held<Info, S> {
+    // What it says, where it lies.
+    #[inline(always)]
+    pub(crate) fn info_here(&self) -> &Info
+        ensures { result.now ≡ self.now.info }
+    {
+        &self.content
     }
 }

@@ -6,6 +6,7 @@ mod arrivals;
 mod bound;
 mod cell_facts;
 mod cell_store;
+mod content;
 mod fact_lists;
 mod few_facts;
 mod held;

@@ -1,18 +1,19 @@
 //! The facts of a cell about which something was told, or of which several are kept.
 
-ghost use Rattle.std.specs.Prelude.{◌≡◌, [], false, IfOk, IfSome, OnOk, OnErr};
+ghost use Rattle.std.specs.Prelude.{◌≡◌, false, IfOk, IfSome, OnOk, OnErr};
 ghost use Rattle.pw_info.specs.Information.{kind_of, Implies};
 ghost use Rattle.pw_facts.specs.Facts.{IsLeastAbove, IsMostBelow};
 ghost use Rattle.pw_cells.specs.Cells.{IsUnsaid, fact_on, told_of, kept_of};
 ghost use Rattle.pw_cells.specs.Changes.{GainsFact, Assimilates, TellsNews};
 ghost use Rattle.pw_cells.specs.Shown.{IsKeptOf};
-ghost use Rattle.pw_cells.specs.inside.OneCell.{IsCellWhole, StandsFor, cell_keeping};
+ghost use Rattle.pw_cells.specs.inside.OneCell.{StandsFor};
 
 use crate::fact_lists::FactLists;
 use crate::held::Held;
 use crate::narrow_fact::NarrowFact;
 use pw_facts::Fact;
 use pw_info::{Info, Kind};
+use pw_kinds::Interval;
 use pw_premises::{NarrowSet, PremiseSet};
 use std::alloc::{AllocError, Allocator};
 use std::marker::Model;
@@ -23,11 +24,12 @@ pub(crate) struct ManyFacts<A: Allocator> {
     lists: Lists<A>,
 }
 
-// The lists of a cell's facts, in one width or the other.
+// The lists of a cell's facts: of intervals or of any informations, in one width or the other.
 #[derive(Drop)]
 enum Lists<A: Allocator> {
-    Narrow(FactLists<NarrowSet, A>),
-    Wide(FactLists<PremiseSet, A>),
+    Intervals(FactLists<Interval, NarrowSet, A>),
+    Narrow(FactLists<Info, NarrowSet, A>),
+    Wide(FactLists<Info, PremiseSet, A>),
 }
 
 impl<A: Allocator> Model for ManyFacts<A> {
@@ -46,25 +48,29 @@ impl<A: Allocator> Model for ManyFacts<A> {
 }
 
 impl<A: Allocator + Copy> ManyFacts<A> {
-    // A cell of which these facts of its kind, none of which subsumes another, are kept, and about
-    // which nothing was told. Fails only when out of memory.
-    pub(crate) fn keeping(
-        alloc: A,
-        kind: Kind,
-        kept: &[Held<NarrowSet>],
-    ) -> Result<ManyFacts<A>, AllocError>
-        requires { IsCellWhole kind [] kept.now [] }
-        ensures { IfOk result (λ many. many ≡ cell_keeping kind kept.now) }
+    // The cell with these lists.
+    pub(crate) fn narrow(lists: FactLists<Info, NarrowSet, A>) -> ManyFacts<A>
+        ensures { result ≡ lists }
     {
-        Ok(ManyFacts {
-            lists: Lists::Narrow(FactLists::keeping(alloc, kind, kept)?),
-        })
+        ManyFacts {
+            lists: Lists::Narrow(lists),
+        }
+    }
+
+    // The cell of intervals with these lists.
+    pub(crate) fn intervals(lists: FactLists<Interval, NarrowSet, A>) -> ManyFacts<A>
+        ensures { result ≡ lists }
+    {
+        ManyFacts {
+            lists: Lists::Intervals(lists),
+        }
     }
 
     pub(crate) fn kind(&self) -> Kind
         ensures { result ≡ self.now.kind }
     {
         match &self.lists {
+            Lists::Intervals(lists) => lists.kind(),
             Lists::Narrow(lists) => lists.kind(),
             Lists::Wide(lists) => lists.kind(),
         }
@@ -79,9 +85,11 @@ impl<A: Allocator + Copy> ManyFacts<A> {
         ensures kind { self.new.kind ≡ self.old.kind }
         ensures err { OnErr result (self.new ≡ self.old) }
     {
-        if let Lists::Narrow(lists) = &mut self.lists {
-            if let Some(support) = NarrowSet::of(&fact.support) {
-                return lists.tell(&Held::on(fact.info, support));
+        if let Some(support) = NarrowSet::of(&fact.support) {
+            match &mut self.lists {
+                Lists::Intervals(lists) => return lists.tell(&lists.held(&fact.info, support)),
+                Lists::Narrow(lists) => return lists.tell(&lists.held(&fact.info, support)),
+                Lists::Wide(_) => (),
             }
         }
         self.tell_wide(fact)
@@ -99,13 +107,19 @@ impl<A: Allocator + Copy> ManyFacts<A> {
         ensures err { OnErr result (self.new ≡ self.old) }
     {
         match &mut self.lists {
-            Lists::Narrow(lists) => {
+            Lists::Intervals(lists) => {
                 let mut wide = lists.widened()?;
-                wide.tell(&Held::on(fact.info, fact.support))?;
+                wide.tell(&Held::on(&fact.info, fact.support))?;
                 self.lists = Lists::Wide(wide);
                 Ok(())
             }
-            Lists::Wide(lists) => lists.tell(&Held::on(fact.info, fact.support)),
+            Lists::Narrow(lists) => {
+                let mut wide = lists.widened()?;
+                wide.tell(&Held::on(&fact.info, fact.support))?;
+                self.lists = Lists::Wide(wide);
+                Ok(())
+            }
+            Lists::Wide(lists) => lists.tell(&Held::on(&fact.info, fact.support)),
         }
     }
 
@@ -120,9 +134,11 @@ impl<A: Allocator + Copy> ManyFacts<A> {
         ensures kind { self.new.kind ≡ self.old.kind }
         ensures err { OnErr result (self.new ≡ self.old) }
     {
-        if let Lists::Narrow(lists) = &mut self.lists {
-            if let Some(support) = NarrowSet::of(&fact.support) {
-                return lists.keep(&Held::on(fact.info, support));
+        if let Some(support) = NarrowSet::of(&fact.support) {
+            match &mut self.lists {
+                Lists::Intervals(lists) => return lists.keep(&lists.held(&fact.info, support)),
+                Lists::Narrow(lists) => return lists.keep(&lists.held(&fact.info, support)),
+                Lists::Wide(_) => (),
             }
         }
         self.keep_wide(fact)
@@ -131,39 +147,40 @@ impl<A: Allocator + Copy> ManyFacts<A> {
     // Keeps information that says more than what is kept on these premises. If memory is refused,
     // nothing changes.
     #[inline(always)]
-    pub(crate) fn keep_news(&mut self, info: Info, support: NarrowSet) -> Result<(), AllocError>
-        requires kind { kind_of info ≡ self.old.kind }
-        requires news { IsUnsaid (kept_of self.old support) info }
-        ensures kept { OnOk result (GainsFact (fact_on info support) (kept_of self.old)
+    pub(crate) fn keep_news(&mut self, info: &Info, support: NarrowSet) -> Result<(), AllocError>
+        requires kind { kind_of info.now ≡ self.old.kind }
+        requires news { IsUnsaid (kept_of self.old support) info.now }
+        ensures kept { OnOk result (GainsFact (fact_on info.now support) (kept_of self.old)
             (kept_of self.new)) }
-        ensures assimilates { OnOk result (Assimilates (fact_on info support) self.old.kept
+        ensures assimilates { OnOk result (Assimilates (fact_on info.now support) self.old.kept
             self.new.kept) }
         ensures told { self.new.told ≡ self.old.told }
         ensures kind { self.new.kind ≡ self.old.kind }
         ensures err { OnErr result (self.new ≡ self.old) }
     {
-        if let Lists::Narrow(lists) = &mut self.lists {
-            return lists.keep_news(&Held::on(info, support));
+        match &mut self.lists {
+            Lists::Intervals(lists) => lists.keep_news(&lists.held(info, support)),
+            Lists::Narrow(lists) => lists.keep_news(&lists.held(info, support)),
+            Lists::Wide(_) => self.keep_wide_news(info, support),
         }
-        self.keep_wide_news(info, support)
     }
 
     // The same, in wide lists. Never inlined, like `keep_wide`, so that what is narrow makes no room
     // for a wide fact.
     #[inline(never)]
-    fn keep_wide_news(&mut self, info: Info, support: NarrowSet) -> Result<(), AllocError>
-        requires kind { kind_of info ≡ self.old.kind }
-        requires news { IsUnsaid (kept_of self.old support) info }
-        ensures kept { OnOk result (GainsFact (fact_on info support) (kept_of self.old)
+    fn keep_wide_news(&mut self, info: &Info, support: NarrowSet) -> Result<(), AllocError>
+        requires kind { kind_of info.now ≡ self.old.kind }
+        requires news { IsUnsaid (kept_of self.old support) info.now }
+        ensures kept { OnOk result (GainsFact (fact_on info.now support) (kept_of self.old)
             (kept_of self.new)) }
-        ensures assimilates { OnOk result (Assimilates (fact_on info support) self.old.kept
+        ensures assimilates { OnOk result (Assimilates (fact_on info.now support) self.old.kept
             self.new.kept) }
         ensures told { self.new.told ≡ self.old.told }
         ensures kind { self.new.kind ≡ self.old.kind }
         ensures err { OnErr result (self.new ≡ self.old) }
     {
         let fact = Fact {
-            info,
+            info: *info,
             support: support.widen(),
         };
         self.keep_wide(&fact)?;
@@ -183,13 +200,19 @@ impl<A: Allocator + Copy> ManyFacts<A> {
         ensures err { OnErr result (self.new ≡ self.old) }
     {
         match &mut self.lists {
-            Lists::Narrow(lists) => {
+            Lists::Intervals(lists) => {
                 let mut wide = lists.widened()?;
-                let news = wide.keep(&Held::on(fact.info, fact.support))?;
+                let news = wide.keep(&Held::on(&fact.info, fact.support))?;
                 self.lists = Lists::Wide(wide);
                 Ok(news)
             }
-            Lists::Wide(lists) => lists.keep(&Held::on(fact.info, fact.support)),
+            Lists::Narrow(lists) => {
+                let mut wide = lists.widened()?;
+                let news = wide.keep(&Held::on(&fact.info, fact.support))?;
+                self.lists = Lists::Wide(wide);
+                Ok(news)
+            }
+            Lists::Wide(lists) => lists.keep(&Held::on(&fact.info, fact.support)),
         }
     }
 
@@ -197,6 +220,7 @@ impl<A: Allocator + Copy> ManyFacts<A> {
     #[inline(always)]
     pub(crate) fn is_told_little(&self) -> bool {
         match &self.lists {
+            Lists::Intervals(lists) => lists.is_told_little(),
             Lists::Narrow(lists) => lists.is_told_little(),
             Lists::Wide(lists) => lists.is_told_little(),
         }
@@ -209,6 +233,7 @@ impl<A: Allocator + Copy> ManyFacts<A> {
         ensures larger { IsLeastAbove worldview.now (told_of self.now) result }
     {
         match &self.lists {
+            Lists::Intervals(lists) => lists.told(worldview),
             Lists::Narrow(lists) => lists.told(worldview),
             Lists::Wide(lists) => lists.told(worldview),
         }
@@ -225,6 +250,7 @@ impl<A: Allocator + Copy> ManyFacts<A> {
         ensures smaller { IsMostBelow worldview.now (kept_of self.old) result.info }
     {
         match &mut self.lists {
+            Lists::Intervals(lists) => lists.kept(worldview).fact(),
             Lists::Narrow(lists) => lists.kept(worldview).fact(),
             Lists::Wide(lists) => lists.kept(worldview).fact(),
         }
@@ -237,14 +263,11 @@ impl<A: Allocator + Copy> ManyFacts<A> {
         ensures kept { IfSome result (λ fact. IsKeptOf self.old worldview.now
             (fact_on fact.info fact.support)) }
     {
-        let Lists::Narrow(lists) = &mut self.lists else {
-            return None;
-        };
-        let held = lists.kept(worldview);
-        Some(NarrowFact {
-            info: *held.info(),
-            support: held.support(),
-        })
+        match &mut self.lists {
+            Lists::Intervals(lists) => Some(lists.kept(worldview).narrow()),
+            Lists::Narrow(lists) => Some(lists.kept(worldview).narrow()),
+            Lists::Wide(_) => None,
+        }
     }
 
     // Whether more may be kept in the worldview than in the one before, as the supports tell.
@@ -255,6 +278,7 @@ impl<A: Allocator + Copy> ManyFacts<A> {
         ensures told { Implies (kept_of self.now worldview.now) (told_of self.now worldview.now) }
     {
         match &self.lists {
+            Lists::Intervals(lists) => lists.may_show_more(before, worldview),
             Lists::Narrow(lists) => lists.may_show_more(before, worldview),
             Lists::Wide(lists) => may_show_more_wide(lists, before, worldview),
         }
@@ -264,7 +288,7 @@ impl<A: Allocator + Copy> ManyFacts<A> {
 // The same of wide lists. Never inlined, so that the tests of narrow supports stay short.
 #[inline(never)]
 fn may_show_more_wide<A: Allocator + Copy>(
-    lists: &FactLists<PremiseSet, A>,
+    lists: &FactLists<Info, PremiseSet, A>,
     before: &PremiseSet,
     worldview: &PremiseSet,
 ) -> bool

@@ -1,11 +1,12 @@
 //! What the facts of a cell say together in a worldview.
 
-ghost use Rattle.std.specs.Prelude.{◌≡◌, reverse};
+ghost use Rattle.std.specs.Prelude.{◌≡◌, reverse, true};
 ghost use Rattle.pw_info.specs.Information.{kind_of};
 ghost use Rattle.pw_facts.specs.Facts.{IsMerge, MergesTo, visible_facts};
 ghost use Rattle.pw_cells.specs.inside.OneCell.{AreOfKind, Bounds, StandsFor};
 
 use crate::bound::Bound;
+use crate::content::Content;
 use crate::held::Held;
 use crate::support::Support;
 use pw_info::Kind;
@@ -13,14 +14,15 @@ use pw_premises::PremiseSet;
 
 // A fact that stands for those that rest only on premises of the worldview: it says their merge.
 #[inline(always)]
-pub(crate) fn merged<S: Support>(
+pub(crate) fn merged<C: Content, S: Support>(
     kind: Kind,
-    facts: &[Held<S>],
+    facts: &[Held<C, S>],
     bound: &Bound,
     worldview: &PremiseSet,
-) -> Held<S>
+) -> Held<C, S>
     requires kinds { AreOfKind kind facts.now }
     requires bounds { Bounds kind facts.now bound.now }
+    requires fits { C.fits kind ≡ true }
     ensures { StandsFor kind worldview.now facts.now result }
 {
     let (older, newer) = facts.split_at(bound.count);
@@ -36,12 +38,13 @@ pub(crate) fn merged<S: Support>(
 
 // The same for few facts, which are all gone over.
 #[inline(always)]
-pub(crate) fn merged_few<S: Support>(
+pub(crate) fn merged_few<C: Content, S: Support>(
     kind: Kind,
-    facts: &[Held<S>],
+    facts: &[Held<C, S>],
     worldview: &PremiseSet,
-) -> Held<S>
-    requires { AreOfKind kind facts.now }
+) -> Held<C, S>
+    requires kinds { AreOfKind kind facts.now }
+    requires fits { C.fits kind ≡ true }
     ensures { StandsFor kind worldview.now facts.now result }
 {
     let mut merge = Held::nothing(kind);
@@ -51,7 +54,11 @@ pub(crate) fn merged_few<S: Support>(
 
 // Merges the facts that rest only on premises of the worldview into what is merged so far. The last
 // facts come first: they mostly say the most, and then one look at each of the others is enough.
-fn merge_all_in<S: Support>(merge: &mut Held<S>, facts: &[Held<S>], worldview: &PremiseSet)
+fn merge_all_in<C: Content, S: Support>(
+    merge: &mut Held<C, S>,
+    facts: &[Held<C, S>],
+    worldview: &PremiseSet,
+)
     requires { AreOfKind (kind_of merge.old.info) facts.now }
     ensures merges { MergesTo merge.old (visible_facts worldview.now (reverse facts.now)) merge.new }
     ensures kind { kind_of merge.new.info ≡ kind_of merge.old.info }
@@ -67,17 +74,17 @@ fn merge_all_in<S: Support>(merge: &mut Held<S>, facts: &[Held<S>], worldview: &
 // Merges one more fact into what is merged so far, as `merge_facts` does. Mostly the merge says as
 // much already. Then it is unchanged, and nothing is copied.
 #[inline(always)]
-fn merge_in<S: Support>(merge: &mut Held<S>, held: &Held<S>)
+fn merge_in<C: Content, S: Support>(merge: &mut Held<C, S>, held: &Held<C, S>)
     requires { kind_of merge.old.info ≡ kind_of held.now.info }
     ensures { IsMerge merge.old held.now merge.new }
 {
-    if !merge.info().implies(held.info()) {
-        *merge = if held.info().implies(merge.info()) {
+    if !merge.implies(held) {
+        *merge = if held.implies(merge) {
             *held
         } else {
             merge.joined(held)
         };
-    } else if held.rests_within(merge) && held.info().implies(merge.info()) {
+    } else if held.rests_within(merge) && held.implies(merge) {
         *merge = *held;
     }
 }

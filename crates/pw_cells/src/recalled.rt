@@ -73,15 +73,15 @@ impl Answers {
     {
         if let Some(slots) = &mut self.slots {
             match NarrowSet::of(&fact.support) {
-                Some(support) => take_into_each(slots, cell, &Held::on(fact.info, support)),
-                None => take_into_each(slots, cell, &Held::on(fact.info, fact.support)),
+                Some(support) => take_into_each(slots, cell, &Held::on(&fact.info, support)),
+                None => take_into_each(slots, cell, &Held::on(&fact.info, fact.support)),
             }
         }
     }
 }
 
 // Merges the fact into each of the answers on the cell.
-fn take_into_each<S: Support>(answers: &mut [Recalled], cell: u32, fact: &Held<S>)
+fn take_into_each<S: Support>(answers: &mut [Recalled], cell: u32, fact: &Held<Info, S>)
     requires { All (λ answer. answer.cell ≡ cell → kind_of answer.info ≡ kind_of fact.now.info)
         answers.old }
     ensures { answers.new ≡ map (after_tell cell fact.now) answers.old }
@@ -91,9 +91,9 @@ fn take_into_each<S: Support>(answers: &mut [Recalled], cell: u32, fact: &Held<S
         // Mostly the answer says as much already, and is unchanged.
         if answer.cell == cell
             && fact.is_visible(&answer.worldview)
-            && !answer.info.implies(fact.info())
+            && !answer.info.implies(fact.info_here())
         {
-            answers[place].info = answer.info.meet(fact.info());
+            answers[place].info = answer.info.meet(fact.info_here());
         }
     }
 }

@@ -7,6 +7,7 @@ ghost use Rattle.pw_facts.specs.declared.fact.Fact.{Fact};
 ghost use Rattle.pw_cells.specs.Cells.{does_subsume, unsubsumed};
 ghost use Rattle.pw_cells.specs.inside.OneCell.{AreOfKind};
 
+use crate::content::Content;
 use crate::held::Held;
 use crate::support::Support;
 use std::alloc::Allocator;
@@ -14,7 +15,10 @@ use std::alloc::Allocator;
 // Drops the facts that this one subsumes. Mostly it subsumes the last one alone, or none: that is
 // inlined, and the rest is not.
 #[inline(always)]
-pub(crate) fn drop_subsumed<S: Support, A: Allocator>(kept: &mut Vec<Held<S>, A>, fact: &Held<S>)
+pub(crate) fn drop_subsumed<C: Content, S: Support, A: Allocator>(
+    kept: &mut Vec<Held<C, S>, A>,
+    fact: &Held<C, S>,
+)
     requires { AreOfKind (kind_of fact.now.info) kept.old.items }
     ensures rest { kept.new.items ≡ unsubsumed fact.now kept.old.items }
     ensures len { vec_len kept.new ≤ vec_len kept.old }
@@ -31,7 +35,7 @@ pub(crate) fn drop_subsumed<S: Support, A: Allocator>(kept: &mut Vec<Held<S>, A>
 // The place of the first fact that this one subsumes. If it subsumes none, the number of facts. Never
 // inlined: a loop of its own is short.
 #[inline(never)]
-fn first_subsumed<S: Support>(facts: &[Held<S>], fact: &Held<S>) -> usize
+fn first_subsumed<C: Content, S: Support>(facts: &[Held<C, S>], fact: &Held<C, S>) -> usize
     requires { AreOfKind (kind_of fact.now.info) facts.now }
     ensures within { result ≤ length facts.now }
     // It subsumes none before that place.
@@ -51,7 +55,11 @@ fn first_subsumed<S: Support>(facts: &[Held<S>], fact: &Held<S>) -> usize
 // test that may be asked of facts of one kind alone.) Few facts are dropped at a time, so the later
 // ones move down together and not one by one.
 #[inline(never)]
-fn drop_from<S: Support, A: Allocator>(kept: &mut Vec<Held<S>, A>, fact: &Held<S>, first: usize)
+fn drop_from<C: Content, S: Support, A: Allocator>(
+    kept: &mut Vec<Held<C, S>, A>,
+    fact: &Held<C, S>,
+    first: usize,
+)
     requires kinds { AreOfKind (kind_of fact.now.info) kept.old.items }
     requires before { take first kept.old.items ≡ unsubsumed fact.now (take first kept.old.items) }
     ensures rest { kept.new.items ≡ unsubsumed fact.now kept.old.items }

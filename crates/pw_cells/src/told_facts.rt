@@ -5,6 +5,7 @@ ghost use Rattle.pw_info.specs.Information.{kind_of, meet};
 ghost use Rattle.pw_cells.specs.Cells.{shown_by};
 ghost use Rattle.pw_cells.specs.inside.OneCell.{AreOfKind, ShowsMore, place_of_support};
 
+use crate::content::Content;
 use crate::held::Held;
 use crate::support::Support;
 use indexmap::IndexMap;
@@ -58,7 +59,7 @@ impl<S: Support, A: Allocator + Copy> ToldFacts<S, A> {
 
     // Adds a fact of their kind: merges it into the one with the same support, if there is one, and
     // otherwise appends it. Fails only when out of memory; then nothing changes.
-    pub(crate) fn add(&mut self, fact: &Held<S>) -> Result<(), AllocError>
+    pub(crate) fn add<C: Content>(&mut self, fact: &Held<C, S>) -> Result<(), AllocError>
         requires { AreOfKind (kind_of fact.now.info) self.old }
         ensures kinds { OnOk result (AreOfKind (kind_of fact.now.info) self.new) }
         ensures shown { OnOk result (ShowsMore fact.now self.old self.new) }
@@ -66,9 +67,9 @@ impl<S: Support, A: Allocator + Copy> ToldFacts<S, A> {
     {
         let support = fact.support();
         match self.place_of(&support) {
-            Some(place) => self.infos[place] = self.infos[place].meet(fact.info()),
+            Some(place) => self.infos[place] = self.infos[place].meet(&fact.info()),
             None => {
-                self.infos.insert(support, *fact.info())?;
+                self.infos.insert(support, fact.info())?;
             }
         }
         Ok(())

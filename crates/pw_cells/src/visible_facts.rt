@@ -3,6 +3,7 @@
 ghost use Rattle.std.specs.Prelude.{◌≡◌, length, false};
 ghost use Rattle.pw_cells.specs.inside.OneCell.{AreShownBefore};
 
+use crate::content::Content;
 use crate::held::Held;
 use crate::support::Support;
 use pw_premises::PremiseSet;
@@ -10,8 +11,8 @@ use pw_premises::PremiseSet;
 // Whether one of the facts is visible in the worldview, and not in the one before. Mostly none is
 // visible in either. So four are tried at a time.
 #[inline(always)]
-pub(crate) fn any_comes_in<S: Support>(
-    facts: &[Held<S>],
+pub(crate) fn any_comes_in<C: Content, S: Support>(
+    facts: &[Held<C, S>],
     before: &PremiseSet,
     worldview: &PremiseSet,
 ) -> bool
@@ -30,8 +31,8 @@ pub(crate) fn any_comes_in<S: Support>(
 
 // The same for four facts. If none of them is visible, a test of each is enough.
 #[inline(always)]
-fn one_of_four_comes_in<S: Support>(
-    four: &[Held<S>],
+fn one_of_four_comes_in<C: Content, S: Support>(
+    four: &[Held<C, S>],
     before: &PremiseSet,
     worldview: &PremiseSet,
 ) -> bool
@@ -47,7 +48,11 @@ fn one_of_four_comes_in<S: Support>(
 
 // The same, one fact after another.
 #[inline(always)]
-fn one_comes_in<S: Support>(facts: &[Held<S>], before: &PremiseSet, worldview: &PremiseSet) -> bool
+fn one_comes_in<C: Content, S: Support>(
+    facts: &[Held<C, S>],
+    before: &PremiseSet,
+    worldview: &PremiseSet,
+) -> bool
     ensures { result ≡ false → AreShownBefore before.now worldview.now facts.now }
 {
     for held in facts {

@@ -149,7 +149,7 @@ fn keep_news<A: Allocator + Copy>(
         infos.new supports.old supports.new) }
 {
     if let Some(support) = joined_narrow(instance, supports) {
-        store.keep_news(cell, *info, support)?;
+        store.keep_news(cell, info, support)?;
         take_in_narrow(infos, supports, cell, info, support);
         return Ok(());
     }

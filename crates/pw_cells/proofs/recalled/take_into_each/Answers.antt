@@ -18,7 +18,7 @@ implies-requires g c =
     c.index-answers-place.is ∙ same_ahead c.loop-place.answers c.args.answers.now c.loop-place.place x c.loop-place.invariant.ahead in
     ap (λ (a : Recalled). kind_of a.info) was
     ∙ c.requires c.loop-place.place x c.loop-place-test.true (ap (λ (a : Recalled). a.cell) (sym was) ∙ c.if-answer-cell.true)
-    ∙ ap kind_of (sym c.info.ensures)
+    ∙ ap kind_of (sym c.info_here.ensures)
 
 pub meet-requires : goal.meet-requires
 meet-requires g c =
@@ -27,7 +27,7 @@ meet-requires g c =
     c.index-answers-place.is ∙ same_ahead c.loop-place.answers c.args.answers.now c.loop-place.place x c.loop-place.invariant.ahead in
     ap (λ (a : Recalled). kind_of a.info) was
     ∙ c.requires c.loop-place.place x c.loop-place-test.true (ap (λ (a : Recalled). a.cell) (sym was) ∙ c.if-answer-cell.true)
-    ∙ ap kind_of (sym c.info-then-not-implies.ensures)
+    ∙ ap kind_of (sym c.info_here-then-not-implies.ensures)
 
 pub loop-place-preserved : goal.loop-place-preserved
 loop-place-preserved g c =
@@ -54,7 +54,7 @@ loop-place-preserved g c =
             info = w.meet.result;
           })
           within c.loop-place.invariant.long c.loop-place.invariant.done c.loop-place.invariant.ahead read
-          ((λ j. record { cell = (again j).cell; worldview = (again j).worldview; info = (w.meet.ensures.exact ∙ ap (meet x.info) w.info-then-not-implies.ensures) j }) ∙ taken_in c.args.cell f x here seen) w.answers-is
+          ((λ j. record { cell = (again j).cell; worldview = (again j).worldview; info = (w.meet.ensures.exact ∙ ap (meet x.info) w.info_here-then-not-implies.ensures) j }) ∙ taken_in c.args.cell f x here seen) w.answers-is
       | else-answer-cell w ↦
           left_next (after_tell c.args.cell f) old now c.if-answer-cell.answers i x within c.loop-place.invariant.long c.loop-place.invariant.done c.loop-place.invariant.ahead read
           (elim w.else-answer-cell.branch [
@@ -63,7 +63,7 @@ loop-place-preserved g c =
                 let alike : kind_of x.info ≡ kind_of f.info =
                 ap (λ (a : Recalled). kind_of a.info) was
                 ∙ c.requires i x c.loop-place-test.true (ap (λ (a : Recalled). a.cell) (sym was) ∙ v.if-answer-cell.true) in
-                let implied : IsTrue v.implies.result ↔ Implies x.info f.info = rw v.info.ensures at v.implies.ensures in
+                let implied : IsTrue v.implies.result ↔ Implies x.info f.info = rw v.info_here.ensures at v.implies.ensures in
                 left_implied c.args.cell f x (eq-eqb _ _ v.if-answer-cell.true) seen alike (implied.0 v.if-not-implies.false)
             | else-answer-cell-via-then-answer-cell+else-is_visible v ↦ left_unseen c.args.cell f x (eq-eqb _ _ v.if-answer-cell.true) (sym v.is_visible.ensures ∙ v.if-is_visible.false)
             | else-answer-cell-via-else-answer-cell v ↦ left_elsewhere c.args.cell f x (ne_eqb _ _ v.if-answer-cell.false)

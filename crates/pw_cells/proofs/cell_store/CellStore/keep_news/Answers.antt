@@ -5,20 +5,20 @@ use Rattle.pw_cells.proofs.cell_store.CellStore.keep_news.Given as given
 use Rattle.pw_cells.proofs.cell_store.CellStore.keep_news.Goals as goal
 
 -- what the store gains before the fact is noted
-gains : (g : given.Over) (c : goal.After-note_narrow g) → Gains c.args.cell (fact_on c.args.info c.args.support) c.args.self.now c.take_in_news.new.self
+gains : (g : given.Over) (c : goal.After-note_narrow g) → Gains c.args.cell (fact_on c.args.info.now c.args.support) c.args.self.now c.take_in_news.new.self
 gains g c = record {
   there = c.requires.there;
   kind = c.requires.kind;
   kept = c.in_ok-take_in_news.ensures.kept;
-  told = told_unchanged c.args.cell (fact_on c.args.info c.args.support) c.args.self.now c.take_in_news.new.self c.requires.kind c.take_in_news.ensures.told;
+  told = told_unchanged c.args.cell (fact_on c.args.info.now c.args.support) c.args.self.now c.take_in_news.new.self c.requires.kind c.take_in_news.ensures.told;
   others = c.take_in_news.ensures.others;
   kinds = c.take_in_news.ensures.kinds;
 }
 
 -- and after it is noted
-gains_still : (g : given.Over) (c : goal.After-note_narrow g) → Gains c.args.cell (fact_on c.args.info c.args.support) c.args.self.now c.note_narrow.new.self
+gains_still : (g : given.Over) (c : goal.After-note_narrow g) → Gains c.args.cell (fact_on c.args.info.now c.args.support) c.args.self.now c.note_narrow.new.self
 gains_still g c =
-    gains_noted c.args.cell (fact_on c.args.info c.args.support) c.args.self.now c.take_in_news.new.self c.note_narrow.new.self c.note_narrow.ensures
+    gains_noted c.args.cell (fact_on c.args.info.now c.args.support) c.args.self.now c.take_in_news.new.self c.note_narrow.new.self c.note_narrow.ensures
     (gains g c)
 
 pub returns-clause-told : goal.returns-clause-told
@@ -34,10 +34,10 @@ returns-clause-others g c = (gains_still g c).others
 
 pub returns-clause-remembers : goal.returns-clause-remembers
 returns-clause-remembers g c =
-    remembers_noted c.args.cell (fact_on c.args.info c.args.support) c.args.self.now c.take_in_news.new.self c.note_narrow.new.self c.take_in_news.ensures.arrivals
+    remembers_noted c.args.cell (fact_on c.args.info.now c.args.support) c.args.self.now c.take_in_news.new.self c.note_narrow.new.self c.take_in_news.ensures.arrivals
     c.note_narrow.ensures
 
 pub returns-clause-continues : goal.returns-clause-continues
 returns-clause-continues g c =
-    continues_noted c.args.cell (fact_on c.args.info c.args.support) c.args.self.now c.take_in_news.new.self c.note_narrow.new.self c.take_in_news.ensures.arrivals
+    continues_noted c.args.cell (fact_on c.args.info.now c.args.support) c.args.self.now c.take_in_news.new.self c.note_narrow.new.self c.take_in_news.ensures.arrivals
     c.note_narrow.ensures (gains g c)

@@ -8,11 +8,11 @@ use Rattle.pw_cells.proofs.cell_store.CellStore.take_in_news.Goals as goal
 
 pub returns-clause-kept : goal.returns-clause-kept
 returns-clause-kept g c =
-    cell_changed (λ old new. OnOk c.keep_news.result (GainsFact (fact_on c.args.info c.args.support) (kept_of old) (kept_of new))) _ _ _ _ _ _ c.index_mut.ensures.value c.self.view_is c.requires.there c.keep_news.ensures.kept
+    cell_changed (λ old new. OnOk c.keep_news.result (GainsFact (fact_on c.args.info.now c.args.support) (kept_of old) (kept_of new))) _ _ _ _ _ _ c.index_mut.ensures.value c.self.view_is c.requires.there c.keep_news.ensures.kept
 
 pub returns-clause-assimilates : goal.returns-clause-assimilates
 returns-clause-assimilates g c =
-    cell_changed (λ old new. OnOk c.keep_news.result (Assimilates (fact_on c.args.info c.args.support) old.kept new.kept)) _ _ _ _ _ _ c.index_mut.ensures.value c.self.view_is c.requires.there c.keep_news.ensures.assimilates
+    cell_changed (λ old new. OnOk c.keep_news.result (Assimilates (fact_on c.args.info.now c.args.support) old.kept new.kept)) _ _ _ _ _ _ c.index_mut.ensures.value c.self.view_is c.requires.there c.keep_news.ensures.assimilates
 
 pub returns-clause-kinds : goal.returns-clause-kinds
 returns-clause-kinds g c = same_kinds _ _ _ _ _ c.index_mut.ensures.value c.self.view_is c.keep_news.ensures.kind

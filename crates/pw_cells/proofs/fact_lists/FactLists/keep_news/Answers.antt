@@ -26,6 +26,7 @@ invariant_of-self g c = (
   rw (c.reserve_unless.ensures.items, c.assimilate_late.ensures.kept, c.assimilate_late.ensures.late) (whole_caught_up _ _ _ _ c.self.invariant.0),
   omega (arith, c.assimilate_late.ensures.none, c.reserve_unless.new.facts.ok),
   subst (λ (l : List Fact). Bounds c.self.inside.kind l c.assimilate_late.new.bound) (sym {A = List Fact} c.reserve_unless.ensures.items) c.assimilate_late.ensures.bounds,
+  c.self.invariant.3,
 )
 
 pub assimilate-requires-clause-kinds : goal.assimilate-requires-clause-kinds
@@ -45,6 +46,7 @@ invariant_of-self-2 g c = (
   rw (c.assimilate.ensures.assimilated, c.reserve_unless.ensures.items, c.assimilate_late.ensures.kept, c.assimilate_late.ensures.late) (whole_kept _ _ _ _ (of_kind g c) (whole_caught_up _ _ _ _ c.self.invariant.0)),
   omega (arith, c.assimilate_late.ensures.none, c.assimilate.new.kept.ok),
   subst (λ (k : _). Bounds k c.assimilate.new.kept.items c.assimilate.new.bound) (of_kind g c) c.assimilate.ensures.bounds,
+  c.self.invariant.3,
 )
 
 -- what is kept afterwards

@@ -34,4 +34,5 @@ invariant_of-self g c = (
   rw (c.assimilate_late.ensures.kept, c.assimilate_late.ensures.late) (whole_caught_up _ _ _ _ c.self.invariant.0),
   omega (arith, c.assimilate_late.ensures.none, c.assimilate_late.new.kept.ok),
   c.assimilate_late.ensures.bounds,
+  c.self.invariant.3,
 )

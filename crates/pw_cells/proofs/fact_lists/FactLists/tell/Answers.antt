@@ -36,6 +36,7 @@ invariant_of-self-2 g c =
         | inr e ↦ let more = c.in_ok-reserve_late.ensures.more e in omega (arith, more, c.add_late.ensures.len)
       ],
       subst (λ (l : List Fact). Bounds self.kind l self.bound) (sym {A = List Fact} c.reserve_late.ensures.kept) c.self.invariant.2,
+      c.self.invariant.3,
     )
 
 -- what is kept afterwards

@@ -19,7 +19,7 @@ of_kind g c = c.requires.kind ∙ sym (ap (λ (cell : Cell). cell.kind) c.self.v
 is_new : (g : given.Over) (c : goal.After-append g) → IsSubsumedBy c.self.inside.kept.items c.args.fact.now → ⊥
 is_new g c =
     unsaid_unsubsumed (kind_of c.args.fact.now.info) c.self.inside.kept.items c.args.fact.now
-    (subst (λ (k : Kind). AreOfKind k c.self.inside.kept.items) (sym (of_kind g c)) c.self.invariant.kept_kinds) refl
+    (subst (λ (k : Kind). AreOfKind k c.self.inside.kept.items) (sym (of_kind g c)) c.self.invariant.0.kept_kinds) refl
     (subst (λ (i : Info). IsUnsaid i c.args.fact.now.info) (sym {A = Info} shown) c.requires.news)
   where
     shown : shown_by (kind_of c.args.fact.now.info) c.args.fact.now.support c.self.inside.kept.items ≡ kept_of c.args.self.now c.args.fact.now.support
@@ -32,15 +32,17 @@ kept_is g c =
     let kept : List Fact = c.self.inside.kept.items in
     c.append.ensures.items
     ∙ ap (λ (l : List Fact). l ++ f ∷ []) (c.drop_subsumed.ensures.rest ∙ ap (λ (l : List Fact). unsubsumed f l) c.reserve_unless.ensures.items)
-    ∙ sym (assimilated_news f kept (none_subsume c.self.inside.kind f kept (of_kind g c) c.self.invariant.kept_kinds (is_new g c)))
+    ∙ sym (assimilated_news f kept (none_subsume c.self.inside.kind f kept (of_kind g c) c.self.invariant.0.kept_kinds (is_new g c)))
 
 kept_then : (g : given.Over) (c : goal.After-append g) → KeepsMore c.args.fact.now c.args.self.now c.self.inside.kind c.append.new.facts.items
-kept_then g c = keeps_more _ _ _ [] c.self.inside.kept.items [] _ c.self.view_is (of_kind g c) c.self.invariant (kept_is g c)
+kept_then g c = keeps_more _ _ _ [] c.self.inside.kept.items [] _ c.self.view_is (of_kind g c) c.self.invariant.0 (kept_is g c)
 
 pub invariant_of-self-2 : goal.invariant_of-self-2
-invariant_of-self-2 g c =
-    subst (λ (l : List Fact). IsCellWhole c.self.inside.kind [] l []) (sym {A = List Fact} (kept_is g c))
-    (whole_kept _ _ [] c.self.inside.kept.items (of_kind g c) c.self.invariant)
+invariant_of-self-2 g c = (
+  subst (λ (l : List Fact). IsCellWhole c.self.inside.kind [] l []) (sym {A = List Fact} (kept_is g c))
+      (whole_kept _ _ [] c.self.inside.kept.items (of_kind g c) c.self.invariant.0),
+  c.self.invariant.1,
+)
 
 pub returns-clause-kept : goal.returns-clause-kept
 returns-clause-kept g c = (kept_then g c).gains

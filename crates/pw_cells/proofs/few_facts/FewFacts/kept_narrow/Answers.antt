@@ -1,13 +1,8 @@
+use Rattle.std.proofs.Common.{refl}
+use Rattle.pw_cells.proofs.Shown.{is_kept, is_kept_so}
 use Rattle.pw_cells.proofs.few_facts.FewFacts.kept_narrow.Goals as goal
 
 pub returns : goal.returns
-returns g c = rw (c.info.ensures, c.support.ensures) (record {
-  info = c.kept-held.ensures.stands.info;
-  kind = c.kept-held.ensures.kind;
-  within = c.kept-held.ensures.stands.within;
-  same = c.kept-held.ensures.stands.same;
-  rests = c.kept-held.ensures.stands.rests;
-  told = c.kept-held.ensures.told;
-  larger = c.kept-held.ensures.larger;
-  smaller = c.kept-held.ensures.smaller;
-})
+returns g c =
+    let e = c.kept.ensures in
+    is_kept_so _ _ _ _ _ _ refl c.narrow.ensures.info c.narrow.ensures.support (is_kept _ _ _ e.stands e.kind e.told e.larger e.smaller)

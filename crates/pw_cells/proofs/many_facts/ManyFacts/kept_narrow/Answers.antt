@@ -1,21 +1,23 @@
-use Rattle.std.proofs.Common.{◌≡◌, sym, ◌∙◌, ap, subst}
-use Rattle.pw_cells.specs.Cells.{Cell, fact_on}
+use Rattle.std.proofs.Common.{sym, ◌∙◌, ap, subst}
+use Rattle.std.specs.Prelude.{IfSome}
+use Rattle.pw_cells.specs.Cells.{fact_on}
 use Rattle.pw_cells.specs.Shown.{IsKeptOf}
 use Rattle.pw_cells.specs.inside.Widths.{cell_in}
+use Rattle.pw_cells.proofs.Shown.{is_kept, is_kept_so}
 use Rattle.pw_cells.proofs.many_facts.ManyFacts.kept_narrow.Goals as goal
+use Rattle.pw_cells.proofs.many_facts.ManyFacts.kept_narrow.Goals.{in-Intervals, in-Narrow, in-Wide}
 
 pub returns-clause-kept : goal.returns-clause-kept
-returns-clause-kept g c =
-    let cell : c.in-Narrow.lists ≡ c.args.self.now = ap cell_in (sym c.in-Narrow.is) ∙ c.self.view_is in
-    let one : IsKeptOf c.in-Narrow.lists c.args.worldview.now (fact_on c.info.result.now c.support.result) =
-    rw (c.info.ensures, c.support.ensures) (record {
-      info = c.kept-held.ensures.stands.info;
-      kind = c.kept-held.ensures.kind;
-      within = c.kept-held.ensures.stands.within;
-      same = c.kept-held.ensures.stands.same;
-      rests = c.kept-held.ensures.stands.rests;
-      told = c.kept-held.ensures.told;
-      larger = c.kept-held.ensures.larger;
-      smaller = c.kept-held.ensures.smaller;
-    }) in
-    subst (λ (cell : Cell). IsKeptOf cell c.args.worldview.now (fact_on c.info.result.now c.support.result)) cell one
+returns-clause-kept g c = elim c.match-self.branch [
+  | in-Intervals w ↦
+      let e = w.kept.ensures in
+      subst (λ r. IfSome r (λ fact. IsKeptOf c.args.self.now c.args.worldview.now (fact_on fact.info fact.support))) (sym w.result-is)
+      (is_kept_so _ _ _ _ _ _ (ap cell_in (sym w.in-Intervals.is) ∙ c.self.view_is) w.narrow.ensures.info w.narrow.ensures.support
+      (is_kept _ _ _ e.stands e.kind e.told e.larger e.smaller))
+  | in-Narrow w ↦
+      let e = w.kept-in-Narrow.ensures in
+      subst (λ r. IfSome r (λ fact. IsKeptOf c.args.self.now c.args.worldview.now (fact_on fact.info fact.support))) (sym w.result-is)
+      (is_kept_so _ _ _ _ _ _ (ap cell_in (sym w.in-Narrow.is) ∙ c.self.view_is) w.narrow-in-Narrow.ensures.info w.narrow-in-Narrow.ensures.support
+      (is_kept _ _ _ e.stands e.kind e.told e.larger e.smaller))
+  | in-Wide w ↦ subst (λ r. IfSome r (λ fact. IsKeptOf c.args.self.now c.args.worldview.now (fact_on fact.info fact.support))) (sym w.result-is) tt
+]
