@@ -11,6 +11,7 @@ use pw_testing::facts::fact;
 use std::alloc::AllocError;
 use std::test::Fail;
 
+mod contents;
 mod marks;
 mod refused;
 
