@@ -9,6 +9,7 @@ pub mod ToldFacts
 pub mod Late
 pub mod Tells
 pub mod RightAnswers
+mod One
 mod Shown
 mod Visible
 mod LastFirst

@@ -11,6 +11,7 @@ ghost use Rattle.pw_cells.specs.inside.OneCell.{StandsFor};
 use crate::few_facts::FewFacts;
 use crate::many_facts::ManyFacts;
 use crate::narrow_fact::NarrowFact;
+use crate::one_fact::OneFact;
 use pw_facts::Fact;
 use pw_info::{Info, Kind};
 use pw_kinds::Interval;
@@ -28,6 +29,7 @@ pub(crate) struct CellFacts<A: Allocator> {
 // The facts of a cell, as few or as many. Few ones are held as intervals or as any informations.
 #[derive(Drop)]
 enum Facts<A: Allocator> {
+    One(OneFact<A>),
     FewIntervals(FewFacts<Interval, A>),
     Few(FewFacts<Info, A>),
     Many(Box<ManyFacts<A>, A>),
@@ -64,6 +66,7 @@ impl<A: Allocator + Copy> CellFacts<A> {
         ensures { result ≡ self.now.kind }
     {
         match &self.all {
+            Facts::One(one) => one.kind(),
             Facts::FewIntervals(few) => few.kind(),
             Facts::Few(few) => few.kind(),
             Facts::Many(many) => many.kind(),
@@ -80,6 +83,12 @@ impl<A: Allocator + Copy> CellFacts<A> {
         ensures err { OnErr result (self.new ≡ self.old) }
     {
         match &mut self.all {
+            Facts::One(one) => {
+                let mut many = boxed_intervals(&one.listed()?)?;
+                many.tell(fact)?;
+                self.all = Facts::Many(many);
+                Ok(())
+            }
             Facts::FewIntervals(few) => {
                 let mut many = boxed_intervals(few)?;
                 many.tell(fact)?;
@@ -108,6 +117,12 @@ impl<A: Allocator + Copy> CellFacts<A> {
         ensures err { OnErr result (self.new ≡ self.old) }
     {
         match &mut self.all {
+            Facts::One(one) => {
+                let mut many = boxed_intervals(&one.listed()?)?;
+                let news = many.keep(fact)?;
+                self.all = Facts::Many(many);
+                Ok(news)
+            }
             Facts::FewIntervals(few) => {
                 let mut many = boxed_intervals(few)?;
                 let news = many.keep(fact)?;
@@ -158,7 +173,21 @@ impl<A: Allocator + Copy> CellFacts<A> {
         ensures err { OnErr result (self.new ≡ self.old) }
     {
         match &mut self.all {
+            Facts::One(one) => {
+                let fact = one.held(info, support);
+                if one.replace(&fact) {
+                    return Ok(());
+                }
+                let mut few = one.listed()?;
+                few.keep_news(&fact)?;
+                self.all = Facts::FewIntervals(few);
+                Ok(())
+            }
             Facts::FewIntervals(few) => {
+                if few.is_empty() {
+                    self.all = Facts::One(OneFact::new(few.allocator(), few.held(info, support)));
+                    return Ok(());
+                }
                 if few.has_room() {
                     return few.keep_news(&few.held(info, support));
                 }
@@ -184,7 +213,7 @@ impl<A: Allocator + Copy> CellFacts<A> {
     #[inline(always)]
     pub(crate) fn is_told_little(&self) -> bool {
         match &self.all {
-            Facts::FewIntervals(_) | Facts::Few(_) => true,
+            Facts::One(_) | Facts::FewIntervals(_) | Facts::Few(_) => true,
             Facts::Many(many) => many.is_told_little(),
         }
     }
@@ -196,6 +225,7 @@ impl<A: Allocator + Copy> CellFacts<A> {
         ensures larger { IsLeastAbove worldview.now (told_of self.now) result }
     {
         match &self.all {
+            Facts::One(one) => Info::nothing(one.kind()),
             Facts::FewIntervals(few) => Info::nothing(few.kind()),
             Facts::Few(few) => Info::nothing(few.kind()),
             Facts::Many(many) => many.told(worldview),
@@ -213,6 +243,7 @@ impl<A: Allocator + Copy> CellFacts<A> {
         ensures smaller { IsMostBelow worldview.now (kept_of self.old) result.info }
     {
         match &mut self.all {
+            Facts::One(one) => one.kept(worldview).fact(),
             Facts::FewIntervals(few) => few.kept(worldview).fact(),
             Facts::Few(few) => few.kept(worldview).fact(),
             Facts::Many(many) => many.kept(worldview),
@@ -227,6 +258,7 @@ impl<A: Allocator + Copy> CellFacts<A> {
             (fact_on fact.info fact.support)) }
     {
         match &mut self.all {
+            Facts::One(one) => Some(one.kept_narrow(worldview)),
             Facts::FewIntervals(few) => Some(few.kept_narrow(worldview)),
             Facts::Few(few) => Some(few.kept_narrow(worldview)),
             Facts::Many(many) => many.kept_narrow(worldview),
@@ -241,6 +273,7 @@ impl<A: Allocator + Copy> CellFacts<A> {
         ensures told { Implies (kept_of self.now worldview.now) (told_of self.now worldview.now) }
     {
         match &self.all {
+            Facts::One(one) => one.may_show_more(before, worldview),
             Facts::FewIntervals(few) => few.may_show_more(before, worldview),
             Facts::Few(few) => few.may_show_more(before, worldview),
             Facts::Many(many) => many.may_show_more(before, worldview),

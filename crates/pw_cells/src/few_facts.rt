@@ -1,12 +1,12 @@
 //! The few facts kept of a cell about which nothing was told.
 
-ghost use Rattle.std.specs.Prelude.{◌≡◌, [], true, false, IfOk, OnOk, OnErr};
+ghost use Rattle.std.specs.Prelude.{◌≡◌, ◌∷◌, [], true, false, IfOk, OnOk, OnErr};
 ghost use Rattle.pw_info.specs.Information.{kind_of, nothing, Implies};
 ghost use Rattle.pw_facts.specs.Facts.{IsLeastAbove, IsMostBelow};
 ghost use Rattle.pw_cells.specs.Cells.{IsUnsaid, fact_on, new_cell, told_of, kept_of};
 ghost use Rattle.pw_cells.specs.Changes.{GainsFact, Assimilates};
 ghost use Rattle.pw_cells.specs.Shown.{IsKeptOf};
-ghost use Rattle.pw_cells.specs.inside.OneCell.{StandsFor};
+ghost use Rattle.pw_cells.specs.inside.OneCell.{StandsFor, cell_keeping};
 
 use crate::content::Content;
 use crate::fact_lists::{FactLists, append, reserve_unless};
@@ -59,6 +59,22 @@ impl<C: Content, A: Allocator + Copy> FewFacts<C, A> {
         }
     }
 
+    // A cell of which one fact of its kind is kept. Fails only when out of memory.
+    pub(crate) fn keeping(
+        alloc: A,
+        kind: Kind,
+        fact: &Held<C, NarrowSet>,
+    ) -> Result<FewFacts<C, A>, AllocError>
+        requires kind { kind_of fact.now.info ≡ kind }
+        requires fits { C.fits kind ≡ true }
+        ensures { IfOk result (λ few. few ≡ cell_keeping kind (fact.now ∷ [])) }
+    {
+        let mut kept = Vec::new(alloc);
+        reserve_unless(&mut kept, false)?;
+        append(&mut kept, fact);
+        Ok(FewFacts { kept, kind })
+    }
+
     pub(crate) fn allocator(&self) -> A {
         *self.kept.allocator()
     }
@@ -81,6 +97,14 @@ impl<C: Content, A: Allocator + Copy> FewFacts<C, A> {
         // The form fits the kind.
         let _kind = self.kind;
         Held::on(info, support)
+    }
+
+    // Whether no fact is kept.
+    #[inline(always)]
+    pub(crate) fn is_empty(&self) -> bool
+        ensures { result ≡ true → self.now.kept ≡ [] }
+    {
+        self.kept.is_empty()
     }
 
     // Whether they are still few with one more.

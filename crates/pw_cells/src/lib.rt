@@ -14,6 +14,7 @@ pub mod laws;
 mod many_facts;
 mod merged_facts;
 mod narrow_fact;
+mod one_fact;
 mod recalled;
 mod subsumed_facts;
 mod support;

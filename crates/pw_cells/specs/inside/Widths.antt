@@ -9,7 +9,7 @@ use Rattle.pw_cells.specs.Cells.{Cell}
 use Rattle.pw_cells.specs.declared.many_facts.Lists.{Lists}
 use Rattle.pw_cells.specs.declared.many_facts.Lists.TheVariants.{Intervals, Narrow, Wide}
 use Rattle.pw_cells.specs.declared.cell_facts.Facts.{Facts}
-use Rattle.pw_cells.specs.declared.cell_facts.Facts.TheVariants.{FewIntervals, Few, Many}
+use Rattle.pw_cells.specs.declared.cell_facts.Facts.TheVariants.{One, FewIntervals, Few, Many}
 
 abbrev pub cell_in : {A : _} → Lists A → Cell
 cell_in (Intervals lists) = lists
@@ -17,6 +17,7 @@ cell_in (Narrow lists) = lists
 cell_in (Wide lists) = lists
 
 abbrev pub cell_of : {A : _} → Facts A → Cell
+cell_of (One one) = one
 cell_of (FewIntervals few) = few
 cell_of (Few few) = few
 cell_of (Many many) = many.value
