@@ -99,7 +99,7 @@ compound_attached declared inner inner_room inner_after instances instances_room
 pub procedure_attached : (declared : Declared) (inner : List InnerType) (instances instances_room instances_after : List InstanceType)
     (last line number : ℕ) (cells : List ℕ) (support : Premises) (x : InstanceType) →
     instances_room ≡ instances → instances_after ≡ instances_room ++ x ∷ [] →
-    instance_on number cells ≡ (attachment x).instance ∷ [] → x.line ≡ line → x.support ≡ support →
+    instance_on number cells ≡ (attachment x).instance ∷ [] → (attachment x).line ≡ line → (attachment x).support ≡ support →
     wiring_from declared inner instances_after line ≡ with_attached (wiring_from declared inner instances last) line (callables.Stored number) cells support
 procedure_attached declared inner instances instances_room instances_after last line number cells support x same_instances pushed made lines supports =
     let one : attachment x ∷ [] ≡ map (attached_at line support) (instance_on number cells) =

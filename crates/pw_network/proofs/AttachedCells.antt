@@ -60,7 +60,7 @@ pub instances_more : (line : ℕ) (support : Premises) (name : ℕ → ℕ) (old
     (calls : List FlatCall) (i : ℕ) (call : FlatCall) (placed : List ℕ) (x : InstanceType) →
     i < length calls → call ≡ get_or calls i call → after ≡ before ++ x ∷ [] →
     placed ≡ map name (cells_of call.places) → instance_on call.procedure placed ≡ (attachment x).instance ∷ [] →
-    x.line ≡ line → x.support ≡ support →
+    (attachment x).line ≡ line → (attachment x).support ≡ support →
     map attachment before ≡ old ++ map (attached_at line support) (map (renamed name) (instances_of (take i calls))) →
     map attachment after ≡ old ++ map (attached_at line support) (map (renamed name) (instances_of (take (i + 1) calls)))
 instances_more line support name old before after calls i call placed x there read pushed at made lines supports so_far =

@@ -10,13 +10,14 @@ ghost use Rattle.pw_network.specs.Writers.{AreWriters};
 ghost use Rattle.pw_network.specs.inside.Held.{attached_on};
 ghost use Rattle.pw_network.specs.inside.Lists.{listed_by, no_place};
 
+use crate::attachment::Attachment;
 use crate::instance::Instance;
 use crate::instance_lists::InstanceLists;
 use crate::network::InnerCell;
 use pw_decl::{FlatCall, place_cells};
 use pw_info::Kind;
-use pw_premises::PremiseSet;
 use std::alloc::{AllocError, Allocator, Global};
+use std::rc::Rc;
 
 // Appends an instance, and its number to the lists of the cells that it reads, and to that of the
 // cell that it writes, if that cell has a list of writers.
@@ -65,13 +66,13 @@ pub(crate) fn instances_of<A: Allocator>(
     calls: &[FlatCall],
     cells: &[u32],
     first: u32,
-    line: u32,
-    support: &PremiseSet,
+    attached: &Rc<Attachment>,
 ) -> Result<Vec<Instance, A>, AllocError>
     requires numbers { All (λ call. All (λ place. first + place ≤ 4294967295)
         (cells_of call.places)) calls.now }
     ensures items { IfOk result (λ made. map attachment made.items
-        ≡ attached_on line support.now cells.now first calls.now) }
+        ≡ attached_on attached.now.value.line attached.now.value.support cells.now first
+        calls.now) }
     ensures len { IfOk result (λ made. vec_len made ≡ length calls.now) }
     ensures few { IfOk result (λ made. All (λ instance. length instance.inputs ≤ 8)
         made.items) }
@@ -83,7 +84,7 @@ pub(crate) fn instances_of<A: Allocator>(
     let mut made = Vec::with_capacity(alloc, calls.len())?;
     for call in calls {
         let placed = place_cells(call.places, cells, first);
-        let instance = Instance::new(global, call.procedure, placed, support, line)?;
+        let instance = Instance::new(global, call.procedure, placed, attached)?;
         let _ = made.push(instance);
     }
     Ok(made)

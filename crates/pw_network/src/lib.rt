@@ -3,6 +3,7 @@
 #![tactic(auto)]
 
 mod attaching;
+mod attachment;
 mod inputs;
 mod instance;
 mod instance_lists;

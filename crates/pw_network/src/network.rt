@@ -26,6 +26,7 @@ ghost use Rattle.pw_network.specs.Writers.{AreWriters};
 ghost use Rattle.pw_network.specs.inside.Lists.{listed_by};
 
 use crate::attaching::{append_inner, append_instance, append_instances, instances_of};
+use crate::attachment::Attachment;
 use crate::instance::{Instance, MOST_INPUTS};
 use crate::instance_lists::{InstanceLists, reserve_numbered};
 use crate::instance_numbers::InstanceNumbers;
@@ -230,7 +231,8 @@ impl<'d, 'r, A: Allocator + Copy> Network<'d, 'r, A> {
         ensures err { OnErr result (wiring self.new ≡ wiring self.old) }
     {
         let global = self.declaration.registry().allocator();
-        let instance = Instance::new(global, procedure, cells, &support, line)?;
+        let attached = Attachment::shared(global, line, &support)?;
+        let instance = Instance::new(global, procedure, cells, &attached)?;
         reserve_numbered(&mut self.instances, 1)?;
         self.readers.reserve(0, MOST_INPUTS)?;
         self.writers.reserve(0, 1)?;
@@ -270,7 +272,8 @@ impl<'d, 'r, A: Allocator + Copy> Network<'d, 'r, A> {
         let first = self.cells();
         let alloc = *self.instances.allocator();
         let global = self.declaration.registry().allocator();
-        let attached = instances_of(alloc, global, calls, cells.cells(), first, line, &support)?;
+        let shared = Attachment::shared(global, line, &support)?;
+        let attached = instances_of(alloc, global, calls, cells.cells(), first, &shared)?;
         self.inner.reserve(kinds.len())?;
         reserve_numbered(&mut self.instances, calls.len())?;
         self.readers

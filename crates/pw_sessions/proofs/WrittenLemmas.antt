@@ -105,7 +105,7 @@ module _ (attached : List Attached) (cell : ℕ) (worldview : Premises) (left : 
 
     -- the code tests the instance of the next number
     module _ (instances : List Instance) (d : Instance) (same : map attachment instances ≡ attached) (seen : Bool)
-        (tells : seen ≡ is_subset (get_or instances number d).support worldview) where
+        (tells : seen ≡ is_subset (attachment (get_or instances number d)).support worldview) where
       abbrev see : Attached → Bool
       see a = is_subset a.support worldview
 

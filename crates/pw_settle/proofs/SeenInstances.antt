@@ -14,7 +14,7 @@ use Rattle.pw_settle.proofs.NewsLemmas.{kept_instance}
 -- its flag is whether its premises are all in the worldview
 pub seen_at : (network : Network) (instances : List Instance) (w : Premises) (number : ℕ) (instance : Instance) → map attachment instances ≡ network.attached →
     number < length network.attached → instance ≡ get_or instances number instance →
-    is_set (map (is_instance_visible w) network.attached) number ≡ is_subset instance.support w
+    is_set (map (is_instance_visible w) network.attached) number ≡ is_subset (attachment instance).support w
 seen_at network instances w number instance same below is =
     sym (visible_no network w number (attachment instance) below)
     ∙ ap (is_instance_visible w) (kept_instance network instances number instance (attachment instance) same below is)

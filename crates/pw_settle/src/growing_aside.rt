@@ -45,10 +45,11 @@ fn seen_anew<A: Allocator + Copy>(
     let mut was_visible = false;
     for number in 0..instances.len() {
         let instance = &instances[number];
-        if instance.line != line {
-            line = instance.line;
-            is_visible = instance.support.is_subset(worldview);
-            was_visible = instance.support.is_subset(earlier);
+        let its_line = instance.line();
+        if its_line != line {
+            line = its_line;
+            is_visible = instance.support().is_subset(worldview);
+            was_visible = instance.support().is_subset(earlier);
         }
         let _ = visible.push(is_visible);
         if is_visible && !was_visible {

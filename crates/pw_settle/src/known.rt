@@ -102,10 +102,10 @@ pub(crate) fn joined_support<A: Allocator>(
     supports: &SupportList<A>,
 ) -> PremiseSet
     requires { AreInputsThere supports.now (attachment instance.now) }
-    ensures { result ≡ joined supports.now instance.now.support
+    ensures { result ≡ joined supports.now (attachment instance.now).support
         (attachment instance.now).instance.inputs }
 {
-    let mut joined = instance.support.widen();
+    let mut joined = instance.support().widen();
     for input in instance.inputs.as_slice() {
         joined = joined.join(supports.get(*input as usize));
     }
@@ -119,11 +119,11 @@ pub(crate) fn joined_narrow<A: Allocator>(
     supports: &SupportList<A>,
 ) -> Option<NarrowSet>
     requires { AreInputsThere supports.now (attachment instance.now) }
-    ensures { IfSome result (λ narrow. narrow ≡ joined supports.now instance.now.support
+    ensures { IfSome result (λ narrow. narrow ≡ joined supports.now (attachment instance.now).support
         (attachment instance.now).instance.inputs) }
 {
     let narrow = supports.narrow()?;
-    let mut joined = NarrowSet::of(&instance.support.widen())?;
+    let mut joined = NarrowSet::of(&instance.support().widen())?;
     for input in instance.inputs.as_slice() {
         joined = joined.join(narrow[*input as usize]);
     }

@@ -42,7 +42,7 @@ fn is_newly_visible<A: Allocator + Copy>(
     visible[number]
         && !(number < before.instances
             && network.instances()[number]
-                .support
+                .support()
                 .is_subset(&before.worldview))
 }
 

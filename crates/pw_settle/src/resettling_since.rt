@@ -46,7 +46,7 @@ fn queue_new_instances<A: Allocator + Copy>(
 {
     let instances = network.instances();
     for number in first..instances.len() {
-        if instances[number].support.is_subset(worldview) {
+        if instances[number].support().is_subset(worldview) {
             agenda.add(number);
         }
     }

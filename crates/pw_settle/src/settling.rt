@@ -55,9 +55,10 @@ pub(crate) fn seen<A: Allocator + Copy>(
     let mut line = 0;
     let mut is_visible = false;
     for instance in instances {
-        if instance.line != line {
-            line = instance.line;
-            is_visible = instance.support.is_subset(worldview);
+        let its_line = instance.line();
+        if its_line != line {
+            line = its_line;
+            is_visible = instance.support().is_subset(worldview);
         }
         let _ = visible.push(is_visible);
     }
@@ -118,7 +119,7 @@ pub(crate) fn queue_visible_readers<A: Allocator + Copy>(
     ensures least { tally agenda.old ≤ tally agenda.new }
 {
     for number in network.readers(cell) {
-        if !agenda.has(number) && network.instances()[number].support.is_subset(worldview) {
+        if !agenda.has(number) && network.instances()[number].support().is_subset(worldview) {
             agenda.add(number);
         }
     }

@@ -192,9 +192,9 @@ fn show_instance(
     let name = PROCEDURES
         .get(usize::from(instance.procedure))
         .unwrap_or(&"no procedure");
-    write!(text, "{}: {name}", instance.line)?;
+    write!(text, "{}: {name}", instance.line())?;
     show_cells(text, network, instance)?;
-    for premise in instance.support.widen().numbers() {
+    for premise in instance.support().widen().numbers() {
         write!(text, " under {premise}")?;
     }
     text.push('\n')

@@ -20,8 +20,8 @@ attachment kept =
         output =
             kept.output;
       };
-      line = kept.line;
-      support = kept.support;
+      line = kept.attached.value.line;
+      support = kept.attached.value.support;
     }
 
 -- an inner cell

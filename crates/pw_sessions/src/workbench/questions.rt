@@ -50,7 +50,7 @@ fn is_written_by<A: Allocator + Copy>(
         return false;
     }
     for number in network.writers(cell) {
-        if instances[number].support.is_subset(worldview) {
+        if instances[number].support().is_subset(worldview) {
             return true;
         }
     }

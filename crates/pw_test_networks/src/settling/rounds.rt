@@ -49,7 +49,7 @@ fn add_answer(
     before: &[Info],
     known: &mut Vec<Info>,
 ) -> Result<(), Fail> {
-    if !instance.support.is_subset(worldview) {
+    if !instance.support().is_subset(worldview) {
         return Ok(());
     }
     let mut inputs = [Info::nothing(Kind::Interval); 8];

@@ -19,7 +19,7 @@ loop-call-preserved g c =
     let done = c.push.ensures.succeeds (omega (arith, c.loop-call.invariant.room, c.loop-call.invariant.len, c.loop-call-test.true)) in
     let pushed : after ≡ before ++ x ∷ [] = rw done at c.push.ensures.items in
     record {
-      items = instances_more c.args.line c.args.support.now name [] before after c.args.calls.now i c.call-item.result placed x
+      items = instances_more c.args.attached.now.value.line c.args.attached.now.value.support name [] before after c.args.calls.now i c.call-item.result placed x
           c.loop-call-test.true c.call-item.is pushed c.place_cells-placed.ensures c.in_ok-instance.ensures.instance
           c.in_ok-instance.ensures.line c.in_ok-instance.ensures.support c.loop-call.invariant.items;
       len = let long = rw done at c.push.ensures.len in omega (arith, long, c.loop-call.invariant.len);

@@ -10,7 +10,7 @@ use Rattle.pw_network.proofs.attaching.instances_of.Given as goal
 abbrev pub invariant-loop-call : goal.invariant-loop-call
 invariant-loop-call g l = record {
   items : map attachment l.made.items
-      ≡ map (attached_at l.line l.support) (map (renamed (at_place l.cells (λ j. l.first + j))) (instances_of (take l.call-index l.calls)));
+      ≡ map (attached_at l.attached.value.line l.attached.value.support) (map (renamed (at_place l.cells (λ j. l.first + j))) (instances_of (take l.call-index l.calls)));
   len : vec_len l.made ≡ l.call-index;
   room : length l.calls ≤ vec_capacity l.made;
   few : All (λ instance. length instance.inputs ≤ 8) l.made.items;

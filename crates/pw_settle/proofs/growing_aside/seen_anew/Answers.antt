@@ -1,5 +1,7 @@
 use Rattle.std.proofs.Common.{◌≡◌, ◌+◌, ◌<◌, ◌++◌, ◌∷◌, [], List, All, get_or, length, map, take, sym, subst, ap, ◌∙◌, arith}
+use Rattle.std.specs.FinSet.{is_subset}
 use Rattle.std.proofs.lemmas.List.{length-map, map_push, take_more}
+use Rattle.pw_premises.specs.Premises.{Premises}
 use Rattle.pw_network.specs.inside.Held.{attachment}
 use Rattle.pw_network.specs.Network.{Attached, HaveSupportsByLine}
 use Rattle.pw_network.specs.Wiring.{wiring}
@@ -9,7 +11,7 @@ use Rattle.pw_settle.proofs.KeptProgress.{visible_no}
 use Rattle.pw_settle.proofs.NewInstances.{item_is}
 use Rattle.pw_settle.proofs.SeenLines.{IsFlagged, flag_of_item, flag_of_line}
 use Rattle.pw_settle.proofs.growing_aside.seen_anew.Goals as goal
-use Rattle.pw_settle.proofs.growing_aside.seen_anew.Goals.{then-instance-line, else-instance-line, then-is_visible+then-not-was_visible, else-is_visible, else-is_visible-via-then-is_visible+else-not-was_visible, else-is_visible-via-else-is_visible}
+use Rattle.pw_settle.proofs.growing_aside.seen_anew.Goals.{then-its_line-line, else-its_line-line, then-is_visible+then-not-was_visible, else-is_visible, else-is_visible-via-then-is_visible+else-not-was_visible, else-is_visible-via-else-is_visible}
 
 pub loop-number-preserved : goal.loop-number-preserved
 loop-number-preserved g c =
@@ -20,7 +22,7 @@ loop-number-preserved g c =
     let i = c.loop-number.number in
     let item = c.index-instances-number.result in
     let a : Attached = attachment item in
-    let next = c.if-instance-line in
+    let next = c.if-its_line-line in
     let supports : HaveSupportsByLine all = c.args.network.now.well.supports in
     let long = length-map c.instances-instances.result.now attachment in
     let many = ap length c.instances-instances.ensures.instances in
@@ -28,15 +30,17 @@ loop-number-preserved g c =
     let here : a ≡ get_or all i a = item_is c.instances-instances.result.now all c.instances-instances.ensures.instances i item c.index-instances-number.is in
     let done = c.push.ensures.succeeds (omega (arith, c.loop-number.invariant.room, below)) in
     let longer : take (i + 1) all ≡ take i all ++ a ∷ [] = take_more all i a below ∙ ap (λ (x : Attached). take i all ++ x ∷ []) (sym here) in
-    let known : (next.line ≡ item.line) × All (IsFlagged w next.line next.is_visible) all × All (IsFlagged e next.line next.was_visible) all =
+    let known : (next.line ≡ (attachment item).line) × All (IsFlagged w next.line next.is_visible) all × All (IsFlagged e next.line next.was_visible) all =
     elim next.branch [
-      | then-instance-line b ↦ (
-        b.line-is,
-        flag_of_line w all i a below here next.line next.is_visible b.line-is supports (b.is_visible-is ∙ b.is_subset-is_visible.ensures.subset),
-        flag_of_line e all i a below here next.line next.was_visible b.line-is supports (b.was_visible-is ∙ b.is_subset-was_visible.ensures.subset),
+      | then-its_line-line b ↦ (
+        b.line-is ∙ c.line-its_line.ensures,
+        flag_of_line w all i a below here next.line next.is_visible (b.line-is ∙ c.line-its_line.ensures) supports
+            (b.is_visible-is ∙ b.is_subset-is_visible.ensures.subset ∙ ap (λ (s : Premises). is_subset s w) b.support.ensures),
+        flag_of_line e all i a below here next.line next.was_visible (b.line-is ∙ c.line-its_line.ensures) supports
+            (b.was_visible-is ∙ b.is_subset-was_visible.ensures.subset ∙ ap (λ (s : Premises). is_subset s e) b.support-then-its_line-line.ensures),
       )
-      | else-instance-line b ↦ (
-        b.line-is ∙ sym b.if-instance-line.false,
+      | else-its_line-line b ↦ (
+        b.line-is ∙ sym b.if-its_line-line.false ∙ c.line-its_line.ensures,
         λ k d there same. c.loop-number.invariant.flag k d there (sym b.line-is ∙ same) ∙ sym b.is_visible-is,
         λ k d there same. c.loop-number.invariant.was_flag k d there (sym b.line-is ∙ same) ∙ sym b.was_visible-is,
       )

@@ -1,7 +1,8 @@
 use Rattle.std.proofs.Common.{◌≡◌, drop}
+use Rattle.pw_network.specs.inside.Held.{attachment}
 use Rattle.pw_settle.specs.inside.Known.{joined}
 use Rattle.pw_settle.proofs.known.joined_support.Given as goal
 
 -- the rest, joined to what is joined so far, is all
 abbrev pub invariant-loop-input : goal.invariant-loop-input
-invariant-loop-input g l = joined l.supports l.joined (drop l.input-index l.input-items) ≡ joined l.supports l.instance.support l.input-items
+invariant-loop-input g l = joined l.supports l.joined (drop l.input-index l.input-items) ≡ joined l.supports (attachment l.instance).support l.input-items

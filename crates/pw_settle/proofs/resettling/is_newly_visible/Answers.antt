@@ -1,7 +1,7 @@
-use Rattle.std.proofs.Common.{◌<◌, ◌≤◌, ℕ, sym, ap, ◌∙◌, subst, arith}
+use Rattle.std.proofs.Common.{◌<◌, ◌≤◌, ℕ, ap, ◌∙◌, subst, arith}
 use Rattle.std.specs.Prelude.{not}
 use Rattle.std.specs.FinSet.{is_subset}
-use Rattle.pw_network.specs.declared.instance.Instance.{Instance}
+use Rattle.pw_premises.specs.Premises.{Premises}
 use Rattle.pw_network.specs.Wiring.{wiring}
 use Rattle.pw_network.specs.inside.Held.{attachment}
 use Rattle.pw_network.specs.Network.{Attached}
@@ -19,7 +19,7 @@ returns-after-number-before g c = elim c.if-number-before.branch [
       (subst (λ (n : ℕ). c.args.number < n) (ap (λ (s : Settled). s.instances) c.before-2.view_is) w.if-number-before.true)
       (attachment w.index-instances-number.result) (omega (arith, c.requires.there, c.requires.all)) w.is_subset.result
       (w.is_subset.ensures.subset
-      ∙ ap (λ (i : Instance). is_subset i.support c.before-2.inside.worldview) (sym w.index-instances-number.is)
+      ∙ ap (λ (s : Premises). is_subset s c.before-2.inside.worldview) w.support.ensures
       ∙ ap (λ (a : Attached). is_subset a.support c.before-2.inside.worldview)
       (item_is w.instances.result.now (wiring c.args.network.now).attached w.instances.ensures.instances c.args.number
       w.index-instances-number.result w.index-instances-number.is)

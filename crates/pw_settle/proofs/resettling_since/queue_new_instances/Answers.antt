@@ -1,7 +1,7 @@
 use Rattle.std.proofs.Common.{◌+◌, ◌<◌, length, map, sym, ap, ◌∙◌, subst, arith}
 use Rattle.std.specs.FinSet.{is_subset}
 use Rattle.std.proofs.lemmas.List.{length-map}
-use Rattle.pw_network.specs.declared.instance.Instance.{Instance}
+use Rattle.pw_premises.specs.Premises.{Premises}
 use Rattle.pw_network.specs.Wiring.{wiring}
 use Rattle.pw_network.specs.inside.Held.{attachment}
 use Rattle.pw_settle.specs.Calls.{is_instance_visible}
@@ -26,7 +26,7 @@ loop-number-preserved g c =
     let flag =
     seen_at network c.instances-instances.result.now c.args.worldview.now c.loop-number.number c.index-instances-number.result
     c.instances-instances.ensures.instances below c.index-instances-number.is
-    ∙ ap (λ (i : Instance). is_subset i.support c.args.worldview.now) c.index-instances-number.is ∙ sym c.is_subset.ensures.subset in
+    ∙ ap (λ (s : Premises). is_subset s c.args.worldview.now) (sym c.support.ensures) ∙ sym c.is_subset.ensures.subset in
     record {
       later = elim c.if-is_subset.branch [
         | then-is_subset w ↦

@@ -1,6 +1,6 @@
 use Rattle.std.proofs.Common.{Bool, List, length, map, sym, ap, ◌∙◌, subst, arith}
 use Rattle.std.specs.FinSet.{is_subset}
-use Rattle.pw_network.specs.declared.instance.Instance.{Instance}
+use Rattle.pw_premises.specs.Premises.{Premises}
 use Rattle.pw_network.specs.Wiring.{wiring}
 use Rattle.pw_network.specs.Readers.{readers_of}
 use Rattle.pw_settle.specs.Calls.{is_instance_visible}
@@ -35,6 +35,14 @@ offset_bounds-instances-number g c =
     c.loop-number.invariant.queued c.in-Some.number c.next.new.self c.in-Some.ensures.steps) in
     omega (arith, there)
 
+pub add-requires : goal.add-requires
+add-requires g c =
+    let below =
+    next_below (map (is_instance_visible c.args.worldview.now) (wiring c.args.network.now).attached) c.args.agenda.now c.loop-number.agenda
+    (readers_of (wiring c.args.network.now) c.args.cell) c.loop-number.number-iterator (length (wiring c.args.network.now).attached)
+    c.loop-number.invariant.queued c.in-Some.number c.next.new.self c.in-Some.ensures.steps in
+    omega (arith, below, c.requires.flags, c.loop-number.invariant.queued.flags)
+
 pub loop-number-preserved : goal.loop-number-preserved
 loop-number-preserved g c =
     let network = wiring c.args.network.now in
@@ -51,7 +59,7 @@ loop-number-preserved g c =
             (length network.attached) so_far c.in-Some.number c.next.new.self c.in-Some.ensures.steps
             (seen_at network w.instances.result.now c.args.worldview.now c.in-Some.number w.index-instances-number.result
             w.instances.ensures.instances below w.index-instances-number.is
-            ∙ ap (λ (i : Instance). is_subset i.support c.args.worldview.now) w.index-instances-number.is ∙ sym w.is_subset.ensures.subset ∙ w.if-is_subset.false)
+            ∙ ap (λ (s : Premises). is_subset s c.args.worldview.now) (sym w.support.ensures) ∙ sym w.is_subset.ensures.subset ∙ w.if-is_subset.false)
         | else-not-has-via-else-not-has w ↦ waiting_one visible c.args.agenda.now c.loop-number.agenda readers c.loop-number.number-iterator
             (length network.attached) so_far c.in-Some.number c.next.new.self c.in-Some.ensures.steps (sym c.has.ensures ∙ w.if-not-has.false)
       ];
@@ -73,7 +81,7 @@ loop-number-preserved-then-is_subset g c =
           c.in-Some.number c.next.new.self c.in-Some.ensures.steps (sym c.requires.flags)
           (seen_at network c.instances.result.now c.args.worldview.now c.in-Some.number c.index-instances-number.result
           c.instances.ensures.instances below c.index-instances-number.is
-          ∙ ap (λ (i : Instance). is_subset i.support c.args.worldview.now) c.index-instances-number.is ∙ sym c.is_subset.ensures.subset ∙ c.if-is_subset.true));
+          ∙ ap (λ (s : Premises). is_subset s c.args.worldview.now) (sym c.support.ensures) ∙ sym c.is_subset.ensures.subset ∙ c.if-is_subset.true));
     }
 
 pub returns-clause-readers : goal.returns-clause-readers

@@ -1,13 +1,15 @@
 use Rattle.std.proofs.Common.{◌≡◌, ◌+◌, ◌<◌, ◌++◌, ◌∷◌, [], All, get_or, length, map, refl, rules, take, sym, ap, ◌∙◌, arith}
 use Rattle.std.proofs.lemmas.Grind.{common_steps}
+use Rattle.std.specs.FinSet.{is_subset}
 use Rattle.std.proofs.lemmas.List.{length-map, map_push, take_more}
+use Rattle.pw_premises.specs.Premises.{Premises}
 use Rattle.pw_network.specs.declared.instance.Instance.{Instance}
 use Rattle.pw_network.specs.inside.Held.{attachment}
 use Rattle.pw_settle.specs.Calls.{is_instance_visible}
 use Rattle.pw_settle.proofs.NewInstances.{item_is}
 use Rattle.pw_settle.proofs.SeenLines.{IsFlagged, flag_of_item, flag_of_line, none_flagged}
 use Rattle.pw_settle.proofs.settling.seen.Goals as goal
-use Rattle.pw_settle.proofs.settling.seen.Goals.{then-instance-line, else-instance-line}
+use Rattle.pw_settle.proofs.settling.seen.Goals.{then-its_line-line, else-its_line-line}
 
 pub loop-instance-init : goal.loop-instance-init
 loop-instance-init g c = record {
@@ -22,17 +24,21 @@ loop-instance-preserved g c =
     let item = c.instance-item.result in
     let w = c.args.worldview.now in
     let all = map attachment c.args.instances.now in
-    let next = c.if-instance-line in
+    let next = c.if-its_line-line in
     let done = c.push.ensures.succeeds (omega (arith, c.loop-instance.invariant.room, c.loop-instance-test.true)) in
     let longer : take (i + 1) c.args.instances.now ≡ take i c.args.instances.now ++ item ∷ [] =
     take_more c.args.instances.now i item c.loop-instance-test.true
     ∙ ap (λ (x : Instance). take i c.args.instances.now ++ x ∷ []) (sym c.instance-item.is) in
     let below : i < length all = let long = length-map c.args.instances.now attachment in omega (arith, c.loop-instance-test.true) in
     let here : attachment item ≡ get_or all i (attachment item) = item_is c.args.instances.now all refl i item c.instance-item.is in
-    let known : (next.line ≡ item.line) × All (IsFlagged w next.line next.is_visible) all =
+    let known : (next.line ≡ (attachment item).line) × All (IsFlagged w next.line next.is_visible) all =
     elim next.branch [
-      | then-instance-line b ↦ (b.line-is, flag_of_line w all i (attachment item) below here next.line next.is_visible b.line-is c.requires.supports (b.is_visible-is ∙ b.is_subset-is_visible.ensures.subset))
-      | else-instance-line b ↦ (b.line-is ∙ sym b.if-instance-line.false, λ k d there same. c.loop-instance.invariant.flag k d there (sym b.line-is ∙ same) ∙ sym b.is_visible-is)
+      | then-its_line-line b ↦ (
+        b.line-is ∙ c.line-its_line.ensures,
+        flag_of_line w all i (attachment item) below here next.line next.is_visible (b.line-is ∙ c.line-its_line.ensures) c.requires.supports
+            (b.is_visible-is ∙ b.is_subset-is_visible.ensures.subset ∙ ap (λ (s : Premises). is_subset s w) b.support.ensures),
+      )
+      | else-its_line-line b ↦ (b.line-is ∙ sym b.if-its_line-line.false ∙ c.line-its_line.ensures, λ k d there same. c.loop-instance.invariant.flag k d there (sym b.line-is ∙ same) ∙ sym b.is_visible-is)
     ] in
     let shown = flag_of_item w all i (attachment item) below here next.line next.is_visible known.0 known.1 in
     record {

@@ -24,7 +24,7 @@ returns-clause-ok g c =
     c.args.self.now.last_line c.args.line c.args.compound c.args.calls.now c.args.kinds.now (cells_of c.args.cells) c.args.support
     c.args.self.now.well c.requires.calls c.requires.may c.requires.kinds c.requires.few c.cells-first.result c.cells-first.ensures.count
     c.reserve.ensures.items c.append_inner.ensures c.reserve_numbered.ensures.items c.append_instances.ensures.items
-    (rw c.cells.ensures.cells at c.in_ok-attached.ensures.items)
+    (rw (c.cells.ensures.cells, c.in_ok-shared.ensures.line, c.in_ok-shared.ensures.support) at c.in_ok-attached.ensures.items)
 
 pub invariant_of-self-2 : goal.invariant_of-self-2
 invariant_of-self-2 g c =
@@ -35,7 +35,7 @@ invariant_of-self-2 g c =
     c.args.self.now.last_line c.args.line c.args.compound c.args.calls.now c.args.kinds.now cells c.args.support
     c.args.self.now.well c.requires.calls c.requires.may c.requires.kinds c.requires.few c.cells-first.result c.cells-first.ensures.count
     c.reserve.ensures.items c.append_inner.ensures c.reserve_numbered.ensures.items c.append_instances.ensures.items
-    (rw c.cells.ensures.cells at c.in_ok-attached.ensures.items) in
+    (rw (c.cells.ensures.cells, c.in_ok-shared.ensures.line, c.in_ok-shared.ensures.support) at c.in_ok-attached.ensures.items) in
     let long = ap length c.requires.kinds in
     let more = cells_after network c.args.line (callables.Compound c.args.compound) cells c.args.support c.args.self.now.well in
     let here = ap cells_in after in

@@ -1,4 +1,4 @@
-use Rattle.std.proofs.Common.{subst, sym, arith}
+use Rattle.std.proofs.Common.{◌∙◌, subst, sym, arith}
 use Rattle.pw_procs.specs.Registry.{cells_of}
 use Rattle.pw_decl.specs.declared.step.Callable.TheVariants as callables
 use Rattle.pw_decl.specs.inside.Fields.{declared}
@@ -13,7 +13,7 @@ invariant_of-self-2-clause-well g c =
     let network = wiring c.args.self.now in
     let after = procedure_attached network.declared c.args.self.now.inner.items c.args.self.now.instances.items c.reserve_numbered.new.list.items c.append_instance.new.instances.items
     c.args.self.now.last_line c.args.line c.args.procedure (cells_of c.args.cells) c.args.support c.in_ok-instance.instance
-    c.reserve_numbered.ensures.items c.append_instance.ensures.items c.in_ok-instance.ensures.instance c.in_ok-instance.ensures.line c.in_ok-instance.ensures.support in
+    c.reserve_numbered.ensures.items c.append_instance.ensures.items c.in_ok-instance.ensures.instance (c.in_ok-instance.ensures.line ∙ c.in_ok-attached.ensures.line) (c.in_ok-instance.ensures.support ∙ c.in_ok-attached.ensures.support) in
     subst IsWellNetwork (sym after)
     (well_with_attached network c.args.line (callables.Stored c.args.procedure) (cells_of c.args.cells) c.args.support c.args.self.now.well c.requires (omega arith))
 
@@ -21,4 +21,4 @@ pub returns-clause-ok : goal.returns-clause-ok
 returns-clause-ok g c =
     procedure_attached (declared c.args.self.now.declaration.now) c.args.self.now.inner.items c.args.self.now.instances.items c.reserve_numbered.new.list.items c.append_instance.new.instances.items
     c.args.self.now.last_line c.args.line c.args.procedure (cells_of c.args.cells) c.args.support c.in_ok-instance.instance
-    c.reserve_numbered.ensures.items c.append_instance.ensures.items c.in_ok-instance.ensures.instance c.in_ok-instance.ensures.line c.in_ok-instance.ensures.support
+    c.reserve_numbered.ensures.items c.append_instance.ensures.items c.in_ok-instance.ensures.instance (c.in_ok-instance.ensures.line ∙ c.in_ok-attached.ensures.line) (c.in_ok-instance.ensures.support ∙ c.in_ok-attached.ensures.support)

@@ -1,6 +1,9 @@
 use Rattle.std.proofs.Common.{◌≡◌, length, ap, sym, ◌∙◌, arith}
+use Rattle.std.specs.FinSet.{is_subset}
 use Rattle.std.proofs.lemmas.Bool.{eqb-true}
 use Rattle.std.proofs.lemmas.List.{length-map}
+use Rattle.pw_premises.specs.Premises.{Premises}
+use Rattle.pw_network.specs.declared.instance.Instance.{Instance}
 use Rattle.pw_network.specs.inside.Held.{attachment}
 use Rattle.pw_network.specs.Wiring.{wiring}
 use Rattle.pw_sessions.proofs.WrittenLemmas.{all_left, found_one, none_attached, passed_one}
@@ -27,11 +30,13 @@ loop-number-preserved g c = record {
   is_finite = tt;
   left = passed_one (wiring c.args.network.now).attached c.args.cell c.args.worldview.now c.loop-number.number-iterator c.loop-number.invariant.left
       c.in-Some.number c.next.new.self c.in-Some.ensures.steps c.instances-instances.result.now c.index-instances-number.result
-      c.instances-instances.ensures.instances c.is_subset.result c.is_subset.ensures.subset c.if-is_subset.false;
+      c.instances-instances.ensures.instances c.is_subset.result (c.is_subset.ensures.subset ∙ ap (λ (s : Premises). is_subset s c.args.worldview.now) c.support.ensures
+      ∙ ap (λ (i : Instance). is_subset (attachment i).support c.args.worldview.now) c.index-instances-number.is) c.if-is_subset.false;
 }
 
 pub returns-then-is_subset : goal.returns-then-is_subset
 returns-then-is_subset g c =
     found_one (wiring c.args.network.now).attached c.args.cell c.args.worldview.now c.loop-number.number-iterator c.loop-number.invariant.left
     c.in-Some.number c.next.new.self c.in-Some.ensures.steps c.instances-instances.result.now c.index-instances-number.result
-    c.instances-instances.ensures.instances c.is_subset.result c.is_subset.ensures.subset c.if-is_subset.true
+    c.instances-instances.ensures.instances c.is_subset.result (c.is_subset.ensures.subset ∙ ap (λ (s : Premises). is_subset s c.args.worldview.now) c.support.ensures
+    ∙ ap (λ (i : Instance). is_subset (attachment i).support c.args.worldview.now) c.index-instances-number.is) c.if-is_subset.true
