@@ -2,11 +2,10 @@
 
 ghost use Rattle.std.specs.Prelude.{◌≡◌, [], true, false, IfOk, OnOk, OnErr, IsErrOf};
 ghost use Rattle.pw_decl.specs.inside.Fields.{declared};
-ghost use Rattle.pw_sessions.specs.inside.Fields.{state};
 ghost use Rattle.pw_transcript.specs.FromScratch.{RepliesToAll, RepliesToEnded, RepliesUpToLimit};
 ghost use Rattle.pw_transcript.specs.FromScratch.{RepliesInPart};
-ghost use Rattle.pw_sessions.specs.Workbench.{IsLeftBy};
 ghost use Rattle.pw_transcript.specs.inside.Gathering.{output_of, held_of, GatheredPasses};
+ghost use Rattle.pw_transcript.specs.inside.Running.{progress, AnsweredSoFar, IsRunning};
 
 use crate::gathered::Gathered;
 use crate::input::Input;
@@ -50,15 +49,17 @@ pub enum RunFault {
     Limit,
 }
 
-// Answers all lines of the input. Takes it chunk by chunk, and answers each chunk before it takes
-// the next.
+// Answers all lines of the input, of which nothing has come so far. Takes it chunk by chunk, and
+// answers each chunk before it takes the next.
 fn answer_all<A: Allocator + Copy, I: Input, O: Output>(
-    workbench: Workbench<'_, '_, A>,
+    so_far: &mut Progress<'_, '_, A>,
     d: &Declaration<'_, A>,
     input: &mut I,
     output: &mut Gathered<'_, O>,
 ) -> Result<Lines, RunFault>
-    requires start { IsLeftBy (declared d.now) [] (state workbench) }
+    requires start { AnsweredSoFar (GatheredPasses O.passes) (declared d.now) output.old output.old
+        (progress so_far.old) [] }
+    requires running { IsRunning (declared d.now) (progress so_far.old) }
     requires empty { held_of output.old ≡ [] }
     ensures ok { IfOk result (RepliesToAll I.takes (GatheredPasses O.passes)
         (declared d.now) input.old input.new output.old output.new) }
@@ -80,7 +81,6 @@ fn answer_all<A: Allocator + Copy, I: Input, O: Output>(
     ensures limit_passed_on { IsErrOf result RunFault.Limit → held_of output.new ≡ [] }
     ensures no_memory { IsErrOf result RunFault.Memory → ⊥ }
 {
-    let mut progress = Progress::new(workbench);
     let mut chunk = [0u8; CHUNK];
     let mut total = 0u32;
     loop {
@@ -93,7 +93,7 @@ fn answer_all<A: Allocator + Copy, I: Input, O: Output>(
             break;
         }
         let kept = taken.min((MOST_BYTES - total) as usize);
-        let fed = match progress.feed(d, &chunk[..kept], output) {
+        let fed = match so_far.feed(d, &chunk[..kept], output) {
             Ok(fed) => fed,
             Err(_) => return Err(RunFault::Write),
         };
@@ -111,12 +111,12 @@ fn answer_all<A: Allocator + Copy, I: Input, O: Output>(
         }
         total += taken as u32;
     }
-    match progress.end(d, output) {
+    match so_far.end(d, output) {
         Ok(()) => {}
         Err(_) => return Err(RunFault::Write),
     }
     match output.flush() {
-        Ok(()) => Ok(progress.counts),
+        Ok(()) => Ok(so_far.counts),
         Err(_) => Err(RunFault::Write),
     }
 }
@@ -166,6 +166,7 @@ pub fn run<A: Allocator + Copy, I: Input, O: Output>(
     let Ok(workbench) = Workbench::new(alloc, d, network) else {
         return Err(RunFault::Memory);
     };
+    let mut so_far = Progress::new(workbench);
     let mut gathered = Gathered::new(output);
-    answer_all(workbench, d, input, &mut gathered)
+    answer_all(&mut so_far, d, input, &mut gathered)
 }

@@ -1,37 +1,27 @@
 use Rattle.std.proofs.Common.{◌≡◌, ◌+◌, ◌<◌, ◌≤◌, ℕ, true, List, [], ◌++◌, length, take, drop, length-take-le, refl, sym, ap, ◌∙◌, subst, arith}
 use Rattle.std.proofs.lemmas.List.{take-append-le}
-use Rattle.std.proofs.lemmas.Grind.{common_steps}
 use Rattle.pw_decl.specs.inside.Fields.{declared}
 use Rattle.pw_transcript.specs.inside.Running.{progress}
 use Rattle.pw_transcript.specs.Limits.{most_bytes, most_at_once}
-use Rattle.pw_sessions.specs.Workbench.{IsLeftBy}
-use Rattle.pw_transcript.specs.inside.Gathering.{GatheredPasses, GatheredPasses-none, GatheredPasses-joins}
+use Rattle.pw_transcript.specs.inside.Gathering.{GatheredPasses, GatheredPasses-joins}
 use Rattle.pw_transcript.specs.inside.Running.{AnsweredSoFar}
 use Rattle.pw_transcript.proofs.RunParts.{kept_whole, kept_all, kept_size, length_taken, length_kept}
-use Rattle.pw_transcript.proofs.RunLemmas.{SoFar-start, SoFar-still, SoFar-ended_lines, LimitSoFar-still, PassesAll-still, PassesAll-front, flush_failed}
+use Rattle.pw_transcript.proofs.RunLemmas.{SoFar-still, SoFar-ended_lines, LimitSoFar-still, PassesAll-still, PassesAll-front, flush_failed}
 use Rattle.pw_transcript.proofs.RunEnds.{replies_in_part, replies_in_part_at_end, replies_up_to_line, replies_up_to_byte, taken_no_more}
 use Rattle.pw_transcript.proofs.transcript.answer_all.Given as given
 use Rattle.pw_transcript.proofs.transcript.answer_all.Goals as goal
 use Rattle.pw_transcript.proofs.transcript.answer_all.Goals.{After-feed, After-end}
 
 pub loop-taken-init : goal.loop-taken-init
-loop-taken-init g c =
-    let new = c.new-progress.ensures in
-    record {
-      bytes = [];
-      taken = g.met.I.Input.none c.args.input.now;
-      so_far = SoFar-start (GatheredPasses g.O.Output.passes) (declared c.args.d.now) c.args.output.now (progress c.new-progress.result)
-          (GatheredPasses-none g.O.Output.passes g.met.O.Output.none c.args.output.now) (subst (IsLeftBy (declared c.args.d.now) []) (sym new.workbench) c.requires.start) new.line new.lines new.replies;
-      count = refl;
-      bound = omega arith;
-      passed_on = c.requires.empty;
-      running = record {
-        left = ([], omega (arith, new.lines), subst (IsLeftBy (declared c.args.d.now) []) (sym new.workbench) c.requires.start);
-        lines = omega (arith, new.lines);
-        replies = omega (arith, new.lines, new.replies);
-        last = λ _. new.line;
-      };
-    }
+loop-taken-init g c = record {
+  bytes = [];
+  taken = g.met.I.Input.none c.args.input.now;
+  so_far = c.requires.start;
+  count = refl;
+  bound = omega arith;
+  passed_on = c.requires.empty;
+  running = c.requires.running;
+}
 
 -- the take failed
 pub returns-in-Err-clause-read : goal.returns-in-Err-clause-read
@@ -41,7 +31,7 @@ returns-in-Err-clause-read g c = λ _.
       bytes = inv.bytes;
       taken = taken_no_more g.I.Input.takes g.met.I.Input.joins _ _ _ inv.bytes inv.taken c.in-Err.ensures.taken;
       within = record { lines = inv.so_far.few; bytes = omega (arith, inv.count, inv.bound) };
-      passed = SoFar-ended_lines (GatheredPasses g.O.Output.passes) (declared c.args.d.now) _ _ (progress c.loop-taken.progress) inv.bytes inv.so_far;
+      passed = SoFar-ended_lines (GatheredPasses g.O.Output.passes) (declared c.args.d.now) _ _ (progress c.loop-taken.so_far) inv.bytes inv.so_far;
     }
 
 -- ---- a chunk
@@ -65,8 +55,9 @@ chunk g c =
     let kept = c.min-kept.result in
     let taken = c.in-Ok.taken in
     let within : taken ≤ length new = c.in-Ok.ensures.taken.0 in
-    let size : length new ≤ c.min-room.result = grind (arith, common_steps) in
-    let below : kept ≤ taken = grind (arith, common_steps) in
+    let room : c.min-room.result ≤ length c.loop-taken.chunk = omega (arith, c.min-room.ensures) in
+    let size : length new ≤ c.min-room.result = omega (arith, c.take.auto.buffer, length-take-le c.min-room.result c.loop-taken.chunk room) in
+    let below : kept ≤ taken = omega (arith, c.min-kept.ensures) in
     record {
       within = within;
       below = below;
@@ -104,7 +95,7 @@ pub returns-then-kept-taken-clause-limit : goal.returns-then-kept-taken-clause-l
 returns-then-kept-taken-clause-limit g c = λ _.
     let inv = c.loop-taken.invariant in
     let last = chunk g (goal.at.returns-then-kept-taken-clause-limit g c).After-feed in
-    let full : length inv.bytes + c.min-kept.result ≡ most_bytes = grind (arith, common_steps) in
+    let full : length inv.bytes + c.min-kept.result ≡ most_bytes = omega (arith, inv.count, inv.bound, c.min-kept.ensures) in
     let count = length_taken inv.bytes c.take.new.buffer c.in-Ok.taken last.within in
     replies_up_to_byte g.I.Input.takes _ _ _ _ _ _ (progress c.feed.new.self) _ _ _ last.all last.parts
     (length_kept inv.bytes c.take.new.buffer _ c.min-kept.result (omega (arith, last.within, last.below)) ∙ full) (omega (arith, full, count, last.most))
@@ -124,7 +115,7 @@ loop-taken-preserved g c =
           (SoFar-still _ _ (GatheredPasses-joins g.O.Output.passes g.met.O.Output.joins) _ _ _ (progress c.feed.new.self) _
           (c.in-Ok-feed.ensures.whole c.in-Whole.is _ inv.bytes inv.so_far) c.flush.ensures.passed);
       count = length_taken inv.bytes c.take.new.buffer c.in-Ok.taken last.within ∙ ap (λ n. n + c.in-Ok.taken) inv.count;
-      bound = grind (arith, common_steps);
+      bound = omega (arith, same, inv.bound, c.min-kept.ensures);
       passed_on = c.in-Ok-flush.ensures.ok;
       running = c.in-Ok-feed.ensures.running;
     }
@@ -137,7 +128,8 @@ no_more : (g : given.Over) (c : After-end g) →
 no_more g c =
     let inv = c.loop-taken.invariant in
     let nothing : take c.in-Ok.taken c.take.new.buffer ≡ [] = ap (λ n. take n c.take.new.buffer) c.if-taken-eq0.true in
-    let room : 0 < length c.take.new.buffer = grind (arith, common_steps) in (
+    let room : 0 < length c.take.new.buffer =
+    omega (arith, c.take.auto.buffer, length-take-le c.min-room.result c.loop-taken.chunk (omega arith), c.min-room.ensures, inv.bound) in (
       taken_no_more g.I.Input.takes g.met.I.Input.joins _ _ _ inv.bytes inv.taken
           (subst (λ (l : List ℕ). g.I.Input.takes c.loop-taken.input l c.take.new.self) nothing c.in-Ok.ensures.taken.1),
       c.in-Ok.ensures.ended room c.if-taken-eq0.true,
@@ -161,10 +153,10 @@ returns-in-Ok-flush-2-clause-ok g c =
           (c.in-Ok-end.ensures.ok _ inv.bytes inv.so_far) c.flush-2.ensures.passed;
     }
 
-pub returns-clause-write : goal.returns-clause-write
-returns-clause-write g c = λ _.
+pub returns-in-Err-flush-2-clause-write : goal.returns-in-Err-flush-2-clause-write
+returns-in-Err-flush-2-clause-write g c = λ _.
     let inv = c.loop-taken.invariant in
-    let end = no_more g (goal.at.returns-clause-write g c).After-end in
+    let end = no_more g (goal.at.returns-in-Err-flush-2-clause-write g c).After-end in
     replies_in_part_at_end g.I.Input.takes _ _ g.I.Input.has_ended _ _ _ _ inv.bytes end.0 (omega (arith, inv.count, inv.bound)) end.1
     (PassesAll-front _ _ _ _ c.end.new.self.counts inv.bytes inv.so_far.few
     (PassesAll-still _ _ (GatheredPasses-joins g.O.Output.passes g.met.O.Output.joins) _ _ _ c.end.new.self.counts inv.bytes

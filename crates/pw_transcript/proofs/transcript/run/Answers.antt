@@ -1,8 +1,29 @@
-use Rattle.std.proofs.Common.{rules}
+use Rattle.std.proofs.Common.{[], rules, arith, sym, subst}
 use Rattle.pw_decl.specs.inside.Fields.{declared}
 use Rattle.pw_transcript.proofs.RunParts.{if_ok_both}
 use Rattle.pw_transcript.proofs.RunEnds.{gathered_to_all, gathered_to_ended, gathered_failed, gathered_in_part, gathered_up_to_limit, gathered_works, nothing_in_part}
+use Rattle.pw_sessions.specs.Workbench.{IsLeftBy}
+use Rattle.pw_transcript.specs.inside.Gathering.{GatheredPasses, GatheredPasses-none}
+use Rattle.pw_transcript.specs.inside.Running.{progress}
+use Rattle.pw_transcript.proofs.RunLemmas.{SoFar-start}
 use Rattle.pw_transcript.proofs.transcript.run.Goals as goal
+
+pub answer_all-requires-clause-start : goal.answer_all-requires-clause-start
+answer_all-requires-clause-start g c =
+    let new = c.new-so_far.ensures in
+    SoFar-start (GatheredPasses g.O.Output.passes) (declared c.args.d.now) c.new-gathered.result (progress c.new-so_far.result)
+    (GatheredPasses-none g.O.Output.passes g.met.O.Output.none c.new-gathered.result) (subst (IsLeftBy (declared c.args.d.now) []) (sym new.workbench) c.in-Ok-new.ensures.left)
+    new.line new.lines new.replies
+
+pub answer_all-requires-clause-running : goal.answer_all-requires-clause-running
+answer_all-requires-clause-running g c =
+    let new = c.new-so_far.ensures in
+    record {
+      left = ([], omega (arith, new.lines), subst (IsLeftBy (declared c.args.d.now) []) (sym new.workbench) c.in-Ok-new.ensures.left);
+      lines = omega (arith, new.lines);
+      replies = omega (arith, new.lines, new.replies);
+      last = λ _. new.line;
+    }
 
 pub returns-clause-ok : goal.returns-clause-ok
 returns-clause-ok g c =
@@ -40,4 +61,5 @@ returns-then-failed-clause-write g c = λ e.
 pub returns-clause-works : goal.returns-clause-works
 returns-clause-works g c =
     if_ok_both c.answer_all.result _ _ c.answer_all.ensures.ok c.answer_all.ensures.works
-    (λ counts all works. search (rules, gathered_works))
+    (λ counts all works. gathered_works g.O.Output.passes (declared c.args.d.now) _ c.args.output.now _ c.new-gathered.result c.answer_all.new.output
+    g.I.Input.takes c.args.input.now c.answer_all.new.input g.O.Output.has_failed counts c.new-gathered.ensures.same_reference all works c.output-1.given.1)
