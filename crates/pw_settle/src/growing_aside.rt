@@ -127,6 +127,43 @@ fn grow_cells<A: Allocator + Copy>(
     Ok(())
 }
 
+// The earlier values, merged with what is kept of each cell in a worldview that includes the earlier
+// one. It queues the visible readers of the cells about which that is news. Fails only when out of
+// memory.
+fn grown_values<A: Allocator + Copy>(
+    alloc: A,
+    before: &Settled<A>,
+    network: &Network<'_, '_, A>,
+    store: &mut CellStore<A>,
+    worldview: &PremiseSet,
+    visible: &[bool],
+    agenda: &mut Agenda<A>,
+) -> Result<Known<A>, AllocError>
+    requires start { CanStart (wiring network.now) store.old before.now }
+    requires within { is_subset before.now.worldview worldview.now ≡ true }
+    requires visible { AreVisible (wiring network.now) worldview.now visible.now }
+    requires flags { length agenda.old ≡ length (wiring network.now).attached }
+    requires new { (number : ℕ) → is_set agenda.old number
+        ≡ (visible_at (wiring network.now) worldview.now number
+        && not (visible_at (wiring network.now) before.now.worldview number)) }
+    ensures unchanged { store.new ≡ store.old }
+    ensures grown { IfOk result (λ known. AreGrownTo (wiring network.now) store.old
+        before.now.worldview worldview.now (length store.old.cells) known.infos.items known.supports
+        agenda.new) }
+{
+    let mut known = before.known(alloc)?;
+    grow_cells(
+        network,
+        store,
+        before.worldview(),
+        worldview,
+        visible,
+        &mut known,
+        agenda,
+    )?;
+    Ok(known)
+}
+
 // What `settle_aside` answers in a worldview that includes the earlier one. There each earlier value
 // still follows, and each instance that was visible still is. Fails only when out of memory.
 pub(crate) fn grow_aside<A: Allocator + Copy>(
@@ -141,16 +178,14 @@ pub(crate) fn grow_aside<A: Allocator + Copy>(
     ensures settled { IfOk result (IsSettled (wiring network.now) store.old worldview.now) }
     ensures unchanged { store.new ≡ store.old }
 {
-    let earlier = before.worldview();
-    let (visible, mut agenda) = seen_anew(alloc, network, earlier, worldview)?;
-    let mut known = before.known(alloc)?;
-    grow_cells(
+    let (visible, mut agenda) = seen_anew(alloc, network, before.worldview(), worldview)?;
+    let mut known = grown_values(
+        alloc,
+        before,
         network,
         store,
-        earlier,
         worldview,
         &visible,
-        &mut known,
         &mut agenda,
     )?;
     let calls = work_aside(network, store, worldview, &mut known, &visible, agenda)?;

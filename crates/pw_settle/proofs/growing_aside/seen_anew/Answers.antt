@@ -1,4 +1,4 @@
-use Rattle.std.proofs.Common.{◌≡◌, ◌+◌, ◌<◌, ◌++◌, ◌∷◌, [], List, All, get_or, length, map, take, sym, subst, ap, ◌∙◌, arith}
+use Rattle.std.proofs.Common.{◌≡◌, ◌+◌, ◌<◌, ◌≤◌, ◌++◌, ◌∷◌, [], List, All, get_or, length, map, take, sym, subst, ap, ◌∙◌, arith}
 use Rattle.std.specs.FinSet.{is_subset}
 use Rattle.std.proofs.lemmas.List.{length-map, map_push, take_more}
 use Rattle.pw_premises.specs.Premises.{Premises}
@@ -6,12 +6,28 @@ use Rattle.pw_network.specs.inside.Held.{attachment}
 use Rattle.pw_network.specs.Network.{Attached, HaveSupportsByLine}
 use Rattle.pw_network.specs.Wiring.{wiring}
 use Rattle.pw_settle.specs.Calls.{is_instance_visible, visible_at}
-use Rattle.pw_settle.proofs.AsideGrowth.{AreNewTo, new_before, new_hidden, new_queued}
+use Rattle.pw_settle.proofs.AsideGrowth.{AreNewTo, new_before, new_hidden, new_none, new_queued}
 use Rattle.pw_settle.proofs.KeptProgress.{visible_no}
 use Rattle.pw_settle.proofs.NewInstances.{item_is}
-use Rattle.pw_settle.proofs.SeenLines.{IsFlagged, flag_of_item, flag_of_line}
+use Rattle.pw_settle.proofs.SeenLines.{IsFlagged, flag_of_item, flag_of_line, lines_of_items, none_flagged}
 use Rattle.pw_settle.proofs.growing_aside.seen_anew.Goals as goal
 use Rattle.pw_settle.proofs.growing_aside.seen_anew.Goals.{then-its_line-line, else-its_line-line, then-is_visible+then-not-was_visible, else-is_visible, else-is_visible-via-then-is_visible+else-not-was_visible, else-is_visible-via-else-is_visible}
+
+pub loop-number-init : goal.loop-number-init
+loop-number-init g c =
+    let network = wiring c.args.network.now in
+    let lines = lines_of_items network c.args.network.now.well c.instances-instances.result.now c.instances-instances.ensures.instances in
+    let many : length (map attachment c.instances-instances.result.now) ≡ length network.attached = ap length c.instances-instances.ensures.instances in
+    let long = length-map c.instances-instances.result.now attachment in
+    let lines_here : All (λ (a : Attached). 1 ≤ a.line) network.attached =
+    subst (All (λ (a : Attached). 1 ≤ a.line)) c.instances-instances.ensures.instances lines in
+    record {
+      items = c.in_ok-visible.ensures.items;
+      room = omega (arith, c.in_ok-visible.ensures.len, c.in_ok-visible.ensures.capacity, many, long);
+      new = new_none network c.args.earlier.now c.args.worldview.now c.in_ok-agenda.agenda (length c.instances-instances.result.now) (sym long ∙ many) c.in_ok-agenda.ensures;
+      flag = none_flagged c.args.worldview.now _ network.attached lines_here;
+      was_flag = none_flagged c.args.earlier.now _ network.attached lines_here;
+    }
 
 pub loop-number-preserved : goal.loop-number-preserved
 loop-number-preserved g c =

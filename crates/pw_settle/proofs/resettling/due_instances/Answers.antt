@@ -1,10 +1,13 @@
 use Rattle.std.proofs.Common.{◌≡◌, ◌<◌, Bool, List, length, sym, ap, subst, ◌∙◌}
+use Rattle.std.proofs.lemmas.List.{length-map}
 use Rattle.pw_info.specs.declared.info.Info.{Info}
 use Rattle.pw_info.specs.Information.{kind_of}
 use Rattle.pw_network.specs.Wiring.{wiring}
+use Rattle.pw_settle.specs.Calls.{is_instance_visible}
 use Rattle.pw_settle.specs.inside.Due.{HasChanged, QueuesReaders, found_of}
 use Rattle.pw_settle.specs.Settled.{Settled, info_at}
 use Rattle.pw_settle.proofs.FittingValues.{due_flags, kinds_found}
+use Rattle.pw_settle.proofs.StoreCells.{cells_kept}
 use Rattle.pw_settle.proofs.resettling.due_instances.Goals as goal
 
 pub queue_changed-requires-clause-kinds : goal.queue_changed-requires-clause-kinds
@@ -32,3 +35,18 @@ returns-clause-due g c =
 
 pub returns-clause-upstream : goal.returns-clause-upstream
 returns-clause-upstream g c given rests = c.in_ok-known.ensures.upstream (wiring c.args.network.now) given rests
+
+pub queue_changed-requires-clause-flags : goal.queue_changed-requires-clause-flags
+queue_changed-requires-clause-flags g c =
+    c.in_ok-agenda.ensures.flags ∙ ap length c.requires.visible ∙ length-map (wiring c.args.network.now).attached (is_instance_visible c.args.worldview.now)
+
+pub queue_changed-requires-clause-cells : goal.queue_changed-requires-clause-cells
+queue_changed-requires-clause-cells g c =
+    ap length c.deref-2.ensures.value ∙ c.in_ok-known.ensures.kept.many
+    ∙ cells_kept (wiring c.args.network.now) c.args.store.now c.args.network.now.well c.requires.kinds
+
+pub returns-clause-kept : goal.returns-clause-kept
+returns-clause-kept g c = c.in_ok-known.ensures.kept
+
+pub returns-clause-told : goal.returns-clause-told
+returns-clause-told g c = c.in_ok-known.ensures.told

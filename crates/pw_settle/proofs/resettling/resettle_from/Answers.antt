@@ -1,15 +1,16 @@
-use Rattle.std.proofs.Common.{◌≡◌, ℕ, ◌+◌, ◌≤◌, sym, ap, subst, ◌∙◌}
+use Rattle.std.proofs.Common.{◌≡◌, ℕ, ◌+◌, ◌≤◌, true, false, sym, ap, subst, ◌∙◌}
 use Rattle.std.specs.Prelude.{IfOk, OnOk}
 use Rattle.std.proofs.lemmas.Result.{IfOk-weaker}
 use Rattle.std.specs.FinSet.{is_subset}
-use Rattle.pw_cells.specs.Cells.{Store, kept_in}
+use Rattle.pw_cells.specs.Cells.{Store, kept_in, kinds_of}
 use Rattle.pw_network.specs.Wiring.{wiring}
 use Rattle.pw_settle.specs.inside.Progress.{tally}
-use Rattle.pw_settle.specs.Calls.{gains}
+use Rattle.pw_settle.specs.Calls.{CallsAtMost, gains, visible_count}
 use Rattle.pw_settle.specs.inside.Progress.{AreSatisfied}
 use Rattle.pw_settle.specs.Settled.{Settled}
-use Rattle.pw_settle.specs.Growth.{HasValues, RestOnUpstream}
-use Rattle.pw_settle.specs.inside.Known.{StayUpstream}
+use Rattle.pw_settle.specs.Growth.{HasValues, KeepsMore, RestOnUpstream}
+use Rattle.pw_settle.specs.inside.Due.{CallsEachAtLeast, CallsEachAtMost, CallsWhatIsDue}
+use Rattle.pw_settle.specs.inside.Known.{AreKept, SaysTold, StayUpstream}
 use Rattle.pw_settle.specs.Sound.{IsSound, RestsUpstream}
 use Rattle.pw_settle.specs.Values.{value_in}
 use Rattle.pw_settle.proofs.FittingValues.{satisfied_but_due}
@@ -26,6 +27,24 @@ seen-requires-clause-supports g c = supports_of_items (wiring c.args.network.now
 pub due_instances-requires-clause-within : goal.due_instances-requires-clause-within
 due_instances-requires-clause-within g c =
     ap (λ (s : Settled). is_subset s.worldview c.args.worldview.now) (sym c.before-2.view_is) ∙ sym c.is_subset.ensures.subset ∙ c.if-not-is_subset.false
+
+pub settle_from-requires-clause-kinds : goal.settle_from-requires-clause-kinds
+settle_from-requires-clause-kinds g c = ap kinds_of c.due_instances.ensures.unchanged ∙ c.requires.kinds
+
+pub settle_from-requires-clause-kept : goal.settle_from-requires-clause-kept
+settle_from-requires-clause-kept g c =
+    subst (λ (s : Store). AreKept s c.args.worldview.now c.in_ok-known.known.infos.items c.in_ok-known.known.supports)
+    (sym {A = Store} c.due_instances.ensures.unchanged) c.in_ok-known.ensures.kept
+
+pub settle_from-requires-clause-told : goal.settle_from-requires-clause-told
+settle_from-requires-clause-told g c =
+    subst (λ (s : Store). SaysTold s c.args.worldview.now) (sym {A = Store} c.due_instances.ensures.unchanged) c.in_ok-known.ensures.told
+
+pub settle_from-requires-clause-flags : goal.settle_from-requires-clause-flags
+settle_from-requires-clause-flags g c = c.in_ok-known.ensures.due.many
+
+pub settle_from-requires-clause-seen : goal.settle_from-requires-clause-seen
+settle_from-requires-clause-seen g c n flag = ((c.in_ok-known.ensures.due.are n).0 flag).0
 
 pub settle_from-requires-clause-satisfied : goal.settle_from-requires-clause-satisfied
 settle_from-requires-clause-satisfied g c =
@@ -79,3 +98,43 @@ returns-clause-lie g c =
       known = c.in_ok-known.ensures.upstream given rests;
     })).known)
     c.settle_from.ensures.lie
+
+pub returns-clause-grows : goal.returns-clause-grows
+returns-clause-grows g c =
+    subst (λ (s : Store). KeepsMore (wiring c.args.network.now) s c.settle_from.new.store) c.due_instances.ensures.unchanged c.settle_from.ensures.grows
+
+pub returns-clause-least : goal.returns-clause-least
+returns-clause-least g c =
+    let within : is_subset c.args.before.now.worldview c.args.worldview.now ≡ true =
+    ap (λ (s : Settled). is_subset s.worldview c.args.worldview.now) (sym c.before-2.view_is) ∙ sym c.is_subset.ensures.subset ∙ c.if-not-is_subset.false in
+    IfOk-weaker c.settle_from.result (λ settled. tally c.in_ok-known.agenda ≤ settled.calls)
+    (CallsEachAtLeast (wiring c.args.network.now) c.args.worldview.now c.args.before.now)
+    (λ settled least apart. absurd (cc)) c.settle_from.ensures.least
+
+pub returns-clause-most : goal.returns-clause-most
+returns-clause-most g c =
+    let within : is_subset c.args.before.now.worldview c.args.worldview.now ≡ true =
+    ap (λ (s : Settled). is_subset s.worldview c.args.worldview.now) (sym c.before-2.view_is) ∙ sym c.is_subset.ensures.subset ∙ c.if-not-is_subset.false in
+    IfOk-weaker c.settle_from.result (λ settled. tally c.in_ok-known.agenda ≤ settled.calls)
+    (CallsEachAtMost (wiring c.args.network.now) c.args.store.now c.settle_from.new.store c.args.worldview.now c.args.before.now)
+    (λ settled least apart. absurd (cc)) c.settle_from.ensures.least
+
+pub returns-then-not-is_subset-clause-due : goal.returns-then-not-is_subset-clause-due
+returns-then-not-is_subset-clause-due g c =
+    let apart : is_subset c.args.before.now.worldview c.args.worldview.now ≡ false =
+    ap (λ (s : Settled). is_subset s.worldview c.args.worldview.now) (sym c.before-2.view_is) ∙ sym c.is_subset.ensures.subset ∙ c.if-not-is_subset.true in
+    IfOk-weaker c.settle.result (λ settled. visible_count (wiring c.args.network.now) c.args.worldview.now ≤ settled.calls)
+    (CallsWhatIsDue (wiring c.args.network.now) c.args.store.now c.settle.new.store c.args.worldview.now c.args.before.now)
+    (λ settled least within. absurd (cc)) c.settle.ensures.least
+
+pub returns-then-not-is_subset-clause-least : goal.returns-then-not-is_subset-clause-least
+returns-then-not-is_subset-clause-least g c =
+    IfOk-weaker c.settle.result (λ settled. visible_count (wiring c.args.network.now) c.args.worldview.now ≤ settled.calls)
+    (CallsEachAtLeast (wiring c.args.network.now) c.args.worldview.now c.args.before.now)
+    (λ settled least apart. least) c.settle.ensures.least
+
+pub returns-then-not-is_subset-clause-most : goal.returns-then-not-is_subset-clause-most
+returns-then-not-is_subset-clause-most g c =
+    IfOk-weaker c.settle.result (CallsAtMost (wiring c.args.network.now) c.args.store.now c.settle.new.store c.args.worldview.now)
+    (CallsEachAtMost (wiring c.args.network.now) c.args.store.now c.settle.new.store c.args.worldview.now c.args.before.now)
+    (λ settled most apart. most) c.settle.ensures.most

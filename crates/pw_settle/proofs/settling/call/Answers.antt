@@ -1,9 +1,10 @@
-use Rattle.std.proofs.Common.{◌≡◌, ◌<◌, List, ◌++◌, length, map, take, drop, refl, sym, ap, subst, ◌∙◌, inl, inr, arith}
+use Rattle.std.proofs.Common.{◌≡◌, ℕ, ◌<◌, List, ◌++◌, length, map, take, drop, refl, sym, ap, subst, ◌∙◌, inl, inr, arith}
 use Rattle.std.proofs.lemmas.List.{get_or_default, length-set}
 use Rattle.pw_info.specs.declared.info.Info.{Info}
 use Rattle.pw_info.specs.Information.{kind_of}
 use Rattle.pw_facts.specs.declared.fact.Fact.{Fact}
 use Rattle.pw_cells.specs.Cells.{Store, kept_in}
+use Rattle.pw_cells.proofs.Stores.{OnErr_always}
 use Rattle.pw_network.specs.Wiring.{wiring}
 use Rattle.pw_network.specs.inside.Held.{attachment}
 use Rattle.pw_network.specs.Network.{Attached}
@@ -59,6 +60,10 @@ below g c = subst (λ (l : List Info). c.in-Some.news.cell < length l) c.deref.e
 
 of_kind : (g : given.Over) (c : After-deref_mut g) → kind_of c.in-Some.news.info ≡ kind_of (info_at c.args.known.now.infos.items c.in-Some.news.cell)
 of_kind g c = c.in-Some.ensures.kind ∙ ap (λ (l : List Info). kind_of (info_at l c.in-Some.news.cell)) c.deref.ensures.value
+
+pub keep_news-requires-clause-cell : goal.keep_news-requires-clause-cell
+keep_news-requires-clause-cell g c =
+    subst (λ (n : ℕ). c.in-Some.news.cell < n) c.requires.kept.many (below g (goal.at.keep_news-requires-clause-cell g c).After-deref_mut)
 
 pub keep_news-requires-clause-kind : goal.keep_news-requires-clause-kind
 keep_news-requires-clause-kind g c =
@@ -140,11 +145,24 @@ returns-in_err-keep_news-clause-upstream g c given are =
           (below g d) (of_kind g d) kept.told kept.kept kept.assimilates kept.others kept.kinds kept.remembers kept.continues given are
     ])
 
+pub returns-in_err-keep_news-clause-infos : goal.returns-in_err-keep_news-clause-infos
+returns-in_err-keep_news-clause-infos g c =
+    let same = c.in_err-keep_news.ensures.refused.stays.infos_are ∙ c.deref_mut.ensures.value in
+    OnErr_always c.from_residual.result
+    (came_back c.keep_news.new.infos c.args.known.now.infos.items c.args.known.now.infos.len
+    (sym c.deref.ensures.len ∙ ap length c.deref.ensures.value) (ap length same) ∙ same)
+
 pub returns-in_ok-keep_news-clause-grows : goal.returns-in_ok-keep_news-clause-grows
 returns-in_ok-keep_news-clause-grows g c = (after g c).grows
 
 pub returns-in_ok-keep_news-clause-upstream : goal.returns-in_ok-keep_news-clause-upstream
 returns-in_ok-keep_news-clause-upstream g c given are = (after g c).upstream given are
+
+pub returns-in_ok-keep_news-clause-seen : goal.returns-in_ok-keep_news-clause-seen
+returns-in_ok-keep_news-clause-seen g c n flag = elim (c.queue_visible_readers.ensures.readers.others n flag) [
+  | inl was ↦ c.requires.seen n was
+  | inr read ↦ read.0
+]
 
 pub returns-in_ok-keep_news-clause-kept : goal.returns-in_ok-keep_news-clause-kept
 returns-in_ok-keep_news-clause-kept g c =

@@ -1,14 +1,16 @@
-use Rattle.std.proofs.Common.{◌≡◌, ℕ, ◌+◌, ◌≤◌, map, sym, ap, subst, ◌∙◌}
+use Rattle.std.proofs.Common.{◌≡◌, ℕ, ◌+◌, ◌≤◌, Bool, true, List, length, map, sym, ap, subst, ◌∙◌}
 use Rattle.std.specs.Prelude.{IfOk, OnOk}
+use Rattle.std.proofs.lemmas.List.{length-map}
 use Rattle.std.proofs.lemmas.Result.{IfOk-weaker}
-use Rattle.pw_cells.specs.Cells.{Store, kept_in}
+use Rattle.pw_cells.specs.Cells.{Store, kept_in, kinds_of}
 use Rattle.pw_network.specs.Wiring.{wiring}
-use Rattle.pw_settle.specs.inside.Progress.{tally}
+use Rattle.pw_settle.specs.inside.Progress.{is_set, tally}
 use Rattle.pw_settle.specs.Calls.{gains, is_instance_visible, visible_count}
-use Rattle.pw_settle.specs.Growth.{HasValues, RestOnUpstream}
-use Rattle.pw_settle.specs.inside.Known.{StayUpstream}
+use Rattle.pw_settle.specs.Growth.{HasValues, KeepsMore, RestOnUpstream}
+use Rattle.pw_settle.specs.inside.Known.{AreKept, SaysTold, StayUpstream}
 use Rattle.pw_settle.specs.Sound.{IsSound, RestsUpstream}
 use Rattle.pw_settle.specs.Values.{value_in}
+use Rattle.pw_settle.proofs.KeptProgress.{visible_no}
 use Rattle.pw_settle.proofs.SettledStores.{tally_visible}
 use Rattle.pw_settle.proofs.SeenLines.{lines_of_items, supports_of_items}
 use Rattle.pw_settle.proofs.settling.settle.Goals as goal
@@ -18,6 +20,47 @@ seen-requires-clause-lines g c = lines_of_items (wiring c.args.network.now) c.ar
 
 pub seen-requires-clause-supports : goal.seen-requires-clause-supports
 seen-requires-clause-supports g c = supports_of_items (wiring c.args.network.now) c.args.network.now.well c.instances.result.now c.instances.ensures.instances
+
+pub settle_from-requires-clause-kinds : goal.settle_from-requires-clause-kinds
+settle_from-requires-clause-kinds g c = ap kinds_of c.read_kept.ensures.unchanged ∙ c.requires
+
+pub settle_from-requires-clause-kept : goal.settle_from-requires-clause-kept
+settle_from-requires-clause-kept g c =
+    subst (λ (s : Store). AreKept s c.args.worldview.now c.in_ok-known.known.infos.items c.in_ok-known.known.supports)
+    (sym {A = Store} c.read_kept.ensures.unchanged) c.in_ok-known.ensures.kept
+
+pub settle_from-requires-clause-told : goal.settle_from-requires-clause-told
+settle_from-requires-clause-told g c = subst (λ (s : Store). SaysTold s c.args.worldview.now) (sym {A = Store} c.read_kept.ensures.unchanged) c.in_ok-known.ensures.told
+
+pub settle_from-requires-clause-flags : goal.settle_from-requires-clause-flags
+settle_from-requires-clause-flags g c =
+    let network = wiring c.args.network.now in
+    let w = c.args.worldview.now in
+    let flags : c.in_ok-agenda.agenda ≡ map (is_instance_visible w) network.attached =
+    c.in_ok-agenda.ensures ∙ c.deref.ensures.value ∙ c.in_ok-visible.ensures ∙ ap (map (is_instance_visible w)) c.instances.ensures.instances in
+    ap length flags ∙ length-map network.attached (is_instance_visible w)
+
+pub settle_from-requires-clause-seen : goal.settle_from-requires-clause-seen
+settle_from-requires-clause-seen g c n flag =
+    let network = wiring c.args.network.now in
+    let w = c.args.worldview.now in
+    let flags : c.in_ok-agenda.agenda ≡ map (is_instance_visible w) network.attached =
+    c.in_ok-agenda.ensures ∙ c.deref.ensures.value ∙ c.in_ok-visible.ensures ∙ ap (map (is_instance_visible w)) c.instances.ensures.instances in
+    sym (ap (λ (l : List Bool). is_set l n) flags) ∙ flag
+
+pub settle_from-requires-clause-satisfied : goal.settle_from-requires-clause-satisfied
+settle_from-requires-clause-satisfied g c n d below seen free =
+    let network = wiring c.args.network.now in
+    let w = c.args.worldview.now in
+    let flags : c.in_ok-agenda.agenda ≡ map (is_instance_visible w) network.attached =
+    c.in_ok-agenda.ensures ∙ c.deref.ensures.value ∙ c.in_ok-visible.ensures ∙ ap (map (is_instance_visible w)) c.instances.ensures.instances in
+    let flag : is_set c.in_ok-agenda.agenda n ≡ true =
+    ap (λ (l : List Bool). is_set l n) flags ∙ sym (visible_no network w n d below) ∙ seen in
+    absurd (cc)
+
+pub returns-clause-grows : goal.returns-clause-grows
+returns-clause-grows g c =
+    subst (λ (s : Store). KeepsMore (wiring c.args.network.now) s c.settle_from.new.store) c.read_kept.ensures.unchanged c.settle_from.ensures.grows
 
 pub returns-clause-upstream : goal.returns-clause-upstream
 returns-clause-upstream g c given rests =

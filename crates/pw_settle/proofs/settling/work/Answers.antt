@@ -6,9 +6,9 @@ use Rattle.pw_network.specs.Wiring.{wiring}
 use Rattle.pw_network.specs.inside.Held.{attachment}
 use Rattle.pw_settle.specs.inside.Progress.{is_set, tally}
 use Rattle.pw_settle.specs.inside.Progress.{weight}
-use Rattle.pw_settle.proofs.Growing.{keeps_more_then}
+use Rattle.pw_settle.proofs.Growing.{keeps_more_same, keeps_more_then}
 use Rattle.pw_settle.proofs.SettledStores.{calls_fit, weight_most}
-use Rattle.pw_settle.proofs.TakenFlags.{taken_less, taken_others, tally_none}
+use Rattle.pw_settle.proofs.TakenFlags.{taken_less, taken_others, taken_were, tally_none}
 use Rattle.pw_settle.proofs.settling.work.Given as given
 use Rattle.pw_settle.proofs.settling.work.Goals as goal
 
@@ -29,6 +29,21 @@ call-requires-clause-room g c =
       length-map c.instances-instances.result.now attachment,
     ))
 
+pub call-requires-clause-kinds : goal.call-requires-clause-kinds
+call-requires-clause-kinds g c = c.loop-number.invariant.grows.kinds ∙ c.requires.kinds
+
+pub call-requires-clause-flags : goal.call-requires-clause-flags
+call-requires-clause-flags g c =
+    ap length c.in-Some.ensures.some.1 ∙ length-set c.loop-number.agenda c.in-Some.number false ∙ c.loop-number.invariant.flags
+
+pub call-requires-clause-seen : goal.call-requires-clause-seen
+call-requires-clause-seen g c n flag =
+    c.loop-number.invariant.seen n
+    (taken_were c.loop-number.agenda c.take.new.self c.in-Some.number n c.in-Some.ensures.some.1 c.in-Some.ensures.some.0 flag)
+
+pub call-requires-clause-number : goal.call-requires-clause-number
+call-requires-clause-number g c = c.loop-number.invariant.seen c.in-Some.number c.in-Some.ensures.some.0
+
 pub call-requires-clause-others : goal.call-requires-clause-others
 call-requires-clause-others g c n d below other seen free =
     c.loop-number.invariant.satisfied n d below seen
@@ -37,6 +52,19 @@ call-requires-clause-others g c n d below other seen free =
 -- the one that was taken is one less
 less : (g : given.Over) (c : goal.In_ok-call g) → tally c.take.new.self + 1 ≡ tally c.loop-number.agenda
 less g c = taken_less c.loop-number.agenda c.take.new.self c.in-Some.number c.in-Some.ensures.some.1 c.in-Some.ensures.some.0
+
+pub loop-number-init : goal.loop-number-init
+loop-number-init g c = record {
+  grows = keeps_more_same (wiring c.args.network.now) c.args.store.now;
+  upstream = λ given are. are;
+  kept = c.requires.kept;
+  flags = c.requires.flags;
+  seen = c.requires.seen;
+  satisfied = c.requires.satisfied;
+  idle = λ was. was;
+  least = omega arith;
+  most = omega arith;
+}
 
 pub loop-number-preserved : goal.loop-number-preserved
 loop-number-preserved g c = record {
