@@ -1,12 +1,12 @@
 -- Ranges as words, cut at their first '.'.
-use Rattle.std.proofs.Common.{rules, ◌≡◌, ℕ, zero, suc, ℤ, pos, negsuc, ◌≤ℤ◌, List, [], ◌∷◌, ◌++◌, refl, sym, ◌∙◌, subst, inl, inr, arith, Option, Some, None, IfNone, is_some}
+use Rattle.std.proofs.Common.{rules, ◌≡◌, ℕ, zero, suc, ℤ, pos, negsuc, ◌≤ℤ◌, List, [], ◌∷◌, ◌++◌, refl, sym, ◌∙◌, subst, inl, inr, arith, Option, Some, None, IfNone, is_some, ◌-◌, ◌<◌, length, get_or, take, drop, take_all}
 use Rattle.std.proofs.lemmas.Bool.{cases_Bool}
 use Rattle.std.proofs.lemmas.Bool.Decides.{Decides-int_eq}
 use Rattle.std.proofs.lemmas.Str.Parse.{digit_at}
 use Rattle.std.specs.Fmt.{signed_decimal}
 use Rattle.std.specs.Ordering.{int_eq}
 use Rattle.std.specs.Str.Parse.{AllDigits}
-use Rattle.pw_info.specs.Number.{IsUpTo, SpellsNumber}
+use Rattle.pw_info.specs.Number.{IsUpTo, SpellsNumber, HoldsOfNoneUpTo}
 use Rattle.pw_info.specs.inside.Scanning.{HasNoDot, SpellsCut}
 use Rattle.pw_info.specs.Number.{SpellsRange, text_of_range}
 use Rattle.pw_info.proofs.Cuts.{no_cut, one_cut}
@@ -58,6 +58,48 @@ text_spells lo hi order low high =
           rw equal (inl (one, same))
       | inr apart ↦ rw apart (inr (signed_decimal lo, signed_decimal hi, refl, one, other, order))
     ]
+
+-- ---- the parts before and after the first dot, as LO..HI
+
+-- the bytes behind a first one
+pub behind_first : (byte : ℕ) (rest : List ℕ) → 0 < length rest → get_or rest 0 0 ≡ byte
+    → rest ≡ byte ∷ take (length rest - 1) (drop 1 rest)
+behind_first byte [] some first = absurd (omega arith)
+behind_first byte (c ∷ rest) some first =
+    let same : take (length (c ∷ rest) - 1) rest ≡ rest = take_all (length (c ∷ rest) - 1) rest (omega arith) in cc
+
+-- numbers that are read spell it, in their order
+pub ends_spell : (front rest back : List ℕ) (lo hi from to : ℤ) → rest ≡ 46 ∷ back → from ≡ lo → to ≡ hi
+    → SpellsNumber front lo → SpellsNumber back hi → lo ≤ℤ hi → SpellsCut front rest from to
+ends_spell front rest back lo hi from to is same_lo same_hi low high order =
+    subst (λ (n : ℤ). SpellsCut front rest n to) (sym same_lo)
+    (subst (λ (n : ℤ). SpellsCut front rest lo n) (sym same_hi) (back, is, low, high, order))
+
+-- without a second dot there are no ends
+pub none_without_dot : (front rest : List ℕ) (most : ℕ) → ((back : List ℕ) → rest ≡ 46 ∷ back → ⊥)
+    → HoldsOfNoneUpTo most (SpellsCut front rest)
+none_without_dot front rest most none lo hi (back, is, low, high, order) at_lo at_hi = none back is
+
+-- a front that is no number is no end
+pub none_of_front : (front rest : List ℕ) (most : ℕ) → ((n : ℤ) → SpellsNumber front n → IsUpTo most n → ⊥)
+    → HoldsOfNoneUpTo most (SpellsCut front rest)
+none_of_front front rest most none lo hi (back, is, low, high, order) at_lo at_hi = none lo low at_lo
+
+-- nor is what comes after the dots, if it is no number
+pub none_of_back : (front rest back : List ℕ) (most : ℕ) → rest ≡ 46 ∷ back
+    → ((n : ℤ) → SpellsNumber back n → IsUpTo most n → ⊥) → HoldsOfNoneUpTo most (SpellsCut front rest)
+none_of_back front rest back most parts none lo hi (other, is, low, high, order) at_lo at_hi =
+    let same : other ≡ back = cc in
+    none hi (subst (λ (w : List ℕ). SpellsNumber w hi) same high) at_hi
+
+-- ends that are read in the wrong order are none
+pub none_in_order : (front rest back : List ℕ) (most : ℕ) (lo hi : ℤ) → rest ≡ 46 ∷ back → SpellsNumber front lo
+    → SpellsNumber back hi → (lo ≤ℤ hi → ⊥) → HoldsOfNoneUpTo most (SpellsCut front rest)
+none_in_order front rest back most lo hi parts least greatest apart low high (other, is, spelled, spelled', order) at_lo at_hi =
+    let same : other ≡ back = cc in
+    let same_lo = one_number_lem front low lo spelled least in
+    let same_hi = one_number_lem back high hi (subst (λ (w : List ℕ). SpellsNumber w high) same spelled') greatest in
+    apart (subst (λ (n : ℤ). n ≤ℤ hi) same_lo (subst (λ (n : ℤ). low ≤ℤ n) same_hi order))
 
 -- what a word that is cut at its first dot does not spell within most, as LO..HI, it spells in no
 -- way

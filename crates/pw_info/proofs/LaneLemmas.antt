@@ -1,6 +1,6 @@
 -- From the mask of bytes that are tested together to the bytes before the first that ends a run,
 -- and on from run to run.
-use Rattle.std.proofs.Common.{◌≡◌, ℕ, suc, ◌+◌, ◌%◌, ◌^◌, ◌<◌, ◌≤◌, cond, eqb, Bool, true, not, List, [], ◌∷◌, map, length, get_or, drop, Fits, w8, refl, sym, ap, ◌∙◌, subst, arith, inl, inr}
+use Rattle.std.proofs.Common.{◌≡◌, ℕ, suc, ◌+◌, ◌%◌, ◌^◌, ◌<◌, ◌≤◌, cond, eqb, Bool, true, false, not, List, [], ◌∷◌, map, length, get_or, drop, drop-cons, length-drop, Fits, w8, refl, sym, ap, ◌∙◌, subst, arith, inl, inr}
 use Rattle.std.proofs.lemmas.Bool.{agree_below, agree_below_at, cases_Bool, cases_eq, eq-eqb, ne_eqb, cond-true, cond-false}
 use Rattle.std.proofs.lemmas.Simd.{map-map, mask_l-mod, length-chunk, get_or-chunk, chunk-drop, leading_from_mask_l, trailing_mask_l}
 use Rattle.std.proofs.lemmas.List.{length-map}
@@ -91,3 +91,30 @@ run_goes_on p bytes at n room whole =
 -- so many bytes at the front are in the run, and it goes on with those behind them as from there
 abbrev pub IsInRun : (ℕ → Bool) → List ℕ → ℕ → Type 0
 IsInRun p bytes end = (end ≤ length bytes) × (prefix_len p bytes ≡ end + prefix_len p (drop end bytes))
+
+-- The first of the bytes behind so many.
+first_behind : (bytes : List ℕ) (end : ℕ) → end < length bytes → drop end bytes ≡ get_or bytes end 0 ∷ drop (end + 1) bytes
+first_behind bytes end within =
+    let next : suc end ≡ end + 1 = omega arith in
+    drop-cons bytes end 0 within ∙ ap (λ (n : ℕ). get_or bytes end 0 ∷ drop n bytes) next
+
+-- A byte of the run lies in it.
+pub one_more_in_run : (p : ℕ → Bool) (bytes : List ℕ) (end : ℕ) → end < length bytes → p (get_or bytes end 0) ≡ true
+    → IsInRun p bytes end → IsInRun p bytes (end + 1)
+one_more_in_run p bytes end within passes (most, run) =
+    let cut = first_behind bytes end within in
+    let more : prefix_len p (drop end bytes) ≡ 1 + prefix_len p (drop (end + 1) bytes) = rw (cut, passes) refl in
+    (omega (arith, within), omega (arith, run, more))
+
+-- The run ends where the bytes do.
+pub run_at_end : (p : ℕ → Bool) (bytes : List ℕ) (end : ℕ) → length bytes ≤ end → IsInRun p bytes end → end ≡ prefix_len p bytes
+run_at_end p bytes end last (most, run) =
+    omega (arith, last, run, prefix_len-le-length p (drop end bytes), length-drop end bytes)
+
+-- And at a byte that is not of it.
+pub run_stops : (p : ℕ → Bool) (bytes : List ℕ) (end : ℕ) → end < length bytes → p (get_or bytes end 0) ≡ false
+    → IsInRun p bytes end → end ≡ prefix_len p bytes
+run_stops p bytes end within fails (most, run) =
+    let cut = first_behind bytes end within in
+    let none : prefix_len p (drop end bytes) ≡ 0 = rw (cut, fails) refl in
+    omega (arith, run, none)

@@ -138,11 +138,13 @@ pub is_read : (names : List (List ℕ)) (word : List ℕ) (place : ℕ) (seen mo
 is_read names word place seen more old known named found tested is size values =
     record { known = known; named = named; found = found; new = sym tested ∙ is; size = size; values = values }
 
+-- a name that is found is at a place below the size
+pub place_below : (names : List (List ℕ)) (word : List ℕ) (place : ℕ) (seen : Members) → length names ≡ size_of seen
+    → slice_get names place ≡ Some word → place < size_of seen
+place_below names word place seen named found = let inside : place < length names = slice_get_within names place word found in omega arith
+
 read_below : (names : List (List ℕ)) (word : List ℕ) (place : ℕ) (seen more : Members) → IsRead names word place seen more → place < size_of seen
-read_below names word place seen more read =
-    let inside : place < length names = slice_get_within names place word read.found in
-    let size : length names ≡ size_of seen = read.named in
-    omega arith
+read_below names word place seen more read = place_below names word place seen read.named read.found
 
 IsDistinct-nil : (e : ℕ → ℕ → Bool) → IsDistinct e []
 unfolding IsDistinct

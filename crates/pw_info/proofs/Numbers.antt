@@ -1,5 +1,5 @@
 -- Which words spell a number, and that these are its decimal digits.
-use Rattle.std.proofs.Common.{rules, ◌≡◌, ℕ, zero, suc, ℤ, pos, negsuc, ◌-ℤ◌, ◌-◌, ◌^◌, ◌<◌, ◌≤◌, List, [], ◌∷◌, length, get_or, take, drop, refl, sym, subst, arith, ◌∙◌}
+use Rattle.std.proofs.Common.{rules, ◌≡◌, ℕ, zero, suc, ℤ, pos, negsuc, ◌-ℤ◌, ◌-◌, ◌^◌, ◌<◌, ◌≤◌, List, [], ◌∷◌, length, get_or, take, drop, refl, sym, subst, ap, arith, ◌∙◌}
 use Rattle.std.proofs.lemmas.Int.{ints}
 use Rattle.std.proofs.lemmas.List.{take_all}
 use Rattle.std.proofs.lemmas.Fmt.{digits_decimal, digits_value-decimal, first_decimal, decimal_nonempty, decimal-digits_value, decimal_digit}
@@ -42,6 +42,33 @@ below_zero (c ∷ word) (suc n) most z is some minus spelled small =
     let negative : z ≡ negsuc n = omega (arith, ints) in
     subst (λ (v : ℤ). SpellsNumber (c ∷ word) v × IsUpTo most v) (sym negative)
     ((minus, subst (λ (digits : List ℕ). SpellsPositive digits (suc n)) same spelled), (omega (arith, ints), omega (arith, ints)))
+
+-- a word of one byte
+pub one_byte : (byte : ℕ) (word : List ℕ) → 1 ≤ length word → length word < 2 → get_or word 0 0 ≡ byte → word ≡ byte ∷ []
+one_byte byte [] some few first = absurd (omega arith)
+one_byte byte (c ∷ []) some few first = cc
+one_byte byte (c ∷ (d ∷ word)) some few first = absurd (omega arith)
+
+-- a word with a minus spells no number if no number of this form stands behind it
+pub none_below : (word : List ℕ) (most : ℕ) → 0 < length word → get_or word 0 0 ≡ 45
+    → ((n : ℕ) → SpellsPositive (take (length word - 1) (drop 1 word)) n → n ≤ most → ⊥)
+    → (n : ℤ) → SpellsNumber word n → IsUpTo most n → ⊥
+none_below word most some minus none (pos zero) spelled within =
+    let first : get_or word 0 0 ≡ 48 = ap (λ (l : List ℕ). get_or l 0 0) spelled in omega arith
+none_below word most some minus none (pos (suc n)) spelled within = let first = spelled.first in omega arith
+none_below [] most some minus none (negsuc n) spelled within = absurd spelled
+none_below (c ∷ word) most some minus none (negsuc n) (first, spelled) within =
+    let same : take (length (c ∷ word) - 1) word ≡ word = take_all (length (c ∷ word) - 1) word (omega arith) in
+    none (suc n) (subst (λ (digits : List ℕ). SpellsPositive digits (suc n)) (sym same) spelled) (omega (arith, ints))
+
+-- a word with no minus that is not zero spells no number if it is none of this form
+pub none_above : (word : List ℕ) (most : ℕ) → (0 < length word → get_or word 0 0 ≡ 45 → ⊥) → (length word ≡ 1 → get_or word 0 0 ≡ 48 → ⊥)
+    → ((n : ℕ) → SpellsPositive word n → n ≤ most → ⊥)
+    → (n : ℤ) → SpellsNumber word n → IsUpTo most n → ⊥
+none_above word most plain other none (pos zero) spelled within = other (ap length spelled) (ap (λ (l : List ℕ). get_or l 0 0) spelled)
+none_above word most plain other none (pos (suc n)) spelled within = none (suc n) spelled (omega (arith, ints))
+none_above [] most plain other none (negsuc n) spelled within = absurd spelled
+none_above (c ∷ word) most plain other none (negsuc n) (first, spelled) within = plain (omega arith) first
 
 -- std's lemmas on decimal digits, at its own words for digits
 own : IsNumeralModel (AllDigits 10) (digits_value 10)

@@ -70,6 +70,12 @@ text_of_some part lo hi from to same_lo same_hi lacks low high = elim (cases_Boo
       ∙ ap (λ (n : ℤ). text_of_range n hi) (sym same_lo) ∙ ap (λ (n : ℤ). text_of_range from n) (sym same_hi)
 ]
 
+-- the text of two numbers that are equal
+pub text_of_same : (lo hi from : ℤ) → from ≡ lo → lo ≡ hi → text_of_range lo hi ≡ signed_decimal from
+text_of_same lo hi from same equal =
+    ap (λ (b : Bool). if b then signed_decimal lo else signed_decimal lo ++ (codes ".." ++ signed_decimal hi)) ((Decides-int_eq lo hi).1 equal)
+    ∙ ap signed_decimal (sym same)
+
 -- the text of two numbers that differ
 pub text_of_two : (lo hi from to : ℤ) → from ≡ lo → to ≡ hi → (lo ≡ hi → ⊥)
     → text_of_range lo hi ≡ signed_decimal from ++ (codes ".." ++ signed_decimal to)

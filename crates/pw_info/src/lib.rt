@@ -2,6 +2,7 @@
 //! is made.
 #![tactic(auto)]
 
+mod cut;
 mod info;
 mod kind;
 mod kind_names;

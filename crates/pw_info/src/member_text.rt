@@ -10,6 +10,7 @@ ghost use Rattle.pw_info.specs.Spelling.{SpellsValues, SpellsNoValues};
 ghost use Rattle.pw_info.specs.SetNames.{text_of_set};
 ghost use Rattle.pw_info.specs.Text.{possible_places, text_of_members};
 
+use crate::cut::cut_at;
 use crate::info::Info;
 use crate::kind::SetKind;
 use crate::kind_names::KindNames;
@@ -22,8 +23,8 @@ fn cut_at_comma(text: &[u8]) -> (&[u8], Option<&[u8]>)
     ensures some { IfSome result.1 (λ rest. text.now ≡ result.0.now ++ (codes "," ++ rest.now)) }
     ensures none { IfNone result.1 (text.now ≡ result.0.now) }
 {
-    match text.iter().position(|byte| *byte == b',') {
-        Some(at) => (&text[..at], Some(&text[at + 1..])),
+    match cut_at(text, b',') {
+        Some((name, rest)) => (name, Some(rest)),
         None => (text, None),
     }
 }
@@ -107,7 +108,6 @@ fn write_set<N: KindNames, O: Output>(
 }
 
 // Writes a mark and a name.
-#[tactic(auto, using(crate::proofs::PassingFacts::first_fails, crate::proofs::PassingFacts::second_writes))]
 fn write_name<O: Output>(mark: &[u8], name: &str, output: &mut O) -> Result<(), Failed>
     ensures { Writes O.passes O.has_failed output.old output.new result (mark.now ++ name.now) }
 {

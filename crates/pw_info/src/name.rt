@@ -1,6 +1,7 @@
 //! The test of a name of a user, a premise, a set kind, a member, a cell.
-ghost use Rattle.std.specs.Prelude.{◌≡◌};
-ghost use Rattle.std.specs.List.{list_all};
+ghost use Rattle.std.specs.Prelude.{◌≡◌, ◌∷◌, [], codes};
+ghost use Rattle.std.specs.List.{list_all, list_any};
+ghost use Rattle.std.specs.Str.{bytes_eq};
 ghost use Rattle.pw_info.specs.Name as spec;
 
 const MOST_BYTES: usize = 32;
@@ -26,6 +27,17 @@ fn begins_with_letter(word: &[u8]) -> bool
     }
 }
 
+// One of the reserved words of declarations.
+fn is_reserved_in_declarations(word: &[u8]) -> bool
+    ensures { result ≡ list_any (bytes_eq word.now)
+        (codes "line" ∷ codes "of" ∷ codes "local" ∷ codes "end" ∷ []) }
+{
+    word == b"line".as_slice()
+        || word == b"of".as_slice()
+        || word == b"local".as_slice()
+        || word == b"end".as_slice()
+}
+
 #[tactic(auto, unfolding(crate::specs::Name::is_reserved))]
 fn is_reserved(word: &[u8]) -> bool
     ensures { result ≡ spec.is_reserved word.now }
@@ -34,10 +46,7 @@ fn is_reserved(word: &[u8]) -> bool
         || word == b"none".as_slice()
         || word == b"nothing".as_slice()
         || word == b"contradiction".as_slice()
-        || word == b"line".as_slice()
-        || word == b"of".as_slice()
-        || word == b"local".as_slice()
-        || word == b"end".as_slice()
+        || is_reserved_in_declarations(word)
 }
 
 fn are_name_bytes(word: &[u8]) -> bool

@@ -1,20 +1,11 @@
 //! Reading ranges.
-ghost use Rattle.std.specs.Prelude.{◌≡◌, ◌≤◌, ◌++◌, codes, IfSome, IfNone};
+ghost use Rattle.std.specs.Prelude.{◌≤◌, IfSome, IfNone};
 ghost use Rattle.pw_info.specs.Number.{IsUpTo, HoldsOfNoneUpTo, greatest_number};
-ghost use Rattle.pw_info.specs.inside.Scanning.{HasNoDot, SpellsCut};
+ghost use Rattle.pw_info.specs.inside.Scanning.{SpellsCut};
 ghost use Rattle.pw_info.specs.Number.{SpellsRange};
 
+use crate::cut::cut_at;
 use crate::number::read_number;
-
-// The parts before and after the first '.' of a word.
-fn split_at_dot(word: &[u8]) -> Option<(&[u8], &[u8])>
-    ensures some { IfSome result (λ parts. word.now ≡ parts.0.now ++ (codes "." ++ parts.1.now)) }
-    ensures first { IfSome result (λ parts. HasNoDot parts.0.now) }
-    ensures none { IfNone result (HasNoDot word.now) }
-{
-    let at = word.iter().position(|byte| *byte == b'.')?;
-    Some((&word[..at], &word[at + 1..]))
-}
 
 // Reads `LO..HI` with LO at most HI, from the parts before and after the first '.'.
 fn read_ends(front: &[u8], rest: &[u8], most: u32) -> Option<(i64, i64)>
@@ -45,7 +36,7 @@ pub(crate) fn read_range(word: &[u8], most: u32) -> Option<(i64, i64)>
     ensures within { IfSome result (λ ends. IsUpTo most ends.0 × IsUpTo most ends.1) }
     ensures none { IfNone result (HoldsOfNoneUpTo most (SpellsRange word.now)) }
 {
-    match split_at_dot(word) {
+    match cut_at(word, b'.') {
         Some((front, rest)) => read_ends(front, rest, most),
         None => read_number(word, most).map(|number| (number, number)),
     }

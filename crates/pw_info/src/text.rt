@@ -116,7 +116,6 @@ fn write_exact<O: Output>(part: Exact, output: &mut O) -> Result<(), Failed>
     }
 }
 
-#[tactic(auto, using(crate::proofs::PassingFacts::first_fails, crate::proofs::PassingFacts::second_writes))]
 // Writes `N` if both ends are that number, and otherwise `LO..HI`.
 fn write_range<O: Output>(lo: i64, hi: i64, output: &mut O) -> Result<(), Failed>
     ensures { Writes O.passes O.has_failed output.old output.new result (text_of_range lo hi) }
@@ -129,7 +128,6 @@ fn write_range<O: Output>(lo: i64, hi: i64, output: &mut O) -> Result<(), Failed
 }
 
 // Writes `..` and a number.
-#[tactic(auto, using(crate::proofs::PassingFacts::first_fails, crate::proofs::PassingFacts::second_writes))]
 fn write_end<O: Output>(number: i64, output: &mut O) -> Result<(), Failed>
     ensures { Writes O.passes O.has_failed output.old output.new result
         (codes ".." ++ signed_decimal number) }

@@ -19,6 +19,10 @@ use Rattle.pw_procs.proofs.Hulls.{image_one, is_hull_of, hull_between}
 abbrev pub IsBetween : ℤ → ℤ → ℤ → Type 0
 IsBetween lo hi z = (lo ≤ℤ z) × (z ≤ℤ hi)
 
+-- a number in range as the code passes it on
+pub in_range_passed : (n : ℤ) → IsInIntervalRange n → IsInIntervalRange (to_z w64 (of_z w64 n))
+in_range_passed n within = (omega (arith, ints, within), omega (arith, ints, within))
+
 -- the product of two numbers in range is the same after each is written to 64 bits and read again
 pub product_read : (a b p : ℤ) → IsInIntervalRange a → IsInIntervalRange b → p ≡ to_z w64 (of_z w64 a) *ℤ to_z w64 (of_z w64 b) → to_z w64 (of_z w64 p) ≡ a *ℤ b
 product_read a b p at_a at_b e =

@@ -16,9 +16,13 @@ use Rattle.pw_procs.specs.Registering.{taken_names, IsFaultAfter, IsFirstNameFau
 use Rattle.pw_procs.specs.declared.registry.RegistryFault.{RegistryFault}
 use Rattle.pw_procs.specs.declared.registry.RegistryFault.TheVariants.{DuplicateName, BadName, TooMany, Memory}
 
--- the name of the item at a place
-name_at : {K : Type 0} (f : K → List ℕ) (xs : List K) (i : ℕ) (x : K) → i < length xs → x ≡ get_or xs i x → slice_get (map f xs) i ≡ Some (f x)
-name_at f xs i x within here = slice_get-map f xs i ∙ ap (option_map f) (slice_get_read xs (length xs) i x refl within here)
+-- what is made of the item at a place
+pub made_there : {K P : Type 0} (g : K → P) (xs : List K) (i : ℕ) (x : K) → i < length xs → x ≡ get_or xs i x → slice_get (map g xs) i ≡ Some (g x)
+made_there g xs i x within here = slice_get-map g xs i ∙ ap (option_map g) (slice_get_read xs (length xs) i x refl within here)
+
+-- each item has a name
+pub all_named : {K P : Type 0} (f : P → List ℕ) (g : K → P) (xs : List K) → length (map f (map g xs)) ≡ length xs
+all_named f g xs = length-map (map g xs) f ∙ length-map xs g
 
 -- what is made of the item at a place is at that place of the list that is made of the items
 pub made_at : {K P : Type 0} (g : K → P) (xs : List K) (i : ℕ) (x : K) → i < length xs → x ≡ get_or xs i x → (i < length (map g xs)) × (g x ≡ get_or (map g xs) i (g x))
@@ -97,7 +101,7 @@ free_more f xs i x within here free before k name fault below at wrong =
     elim (up_to k i below) [
       | inl earlier ↦ before k name fault earlier at wrong
       | inr last ↦ (
-          let stands : Some name ≡ Some (f x) = sym at ∙ ap (slice_get (map f xs)) last ∙ name_at f xs i x within here in
+          let stands : Some name ≡ Some (f x) = sym at ∙ ap (slice_get (map f xs)) last ∙ made_there f xs i x within here in
           let same : name ≡ f x = cc in
           let names : take k (map f xs) ≡ map f (take i xs) = ap (λ n. take n (map f xs)) last ∙ take-map f i xs in
           free fault (subst (λ l. IsFaultAfter l (f x) fault) names (subst (λ n. IsFaultAfter (take k (map f xs)) n fault) same wrong)))
@@ -110,7 +114,7 @@ first_named f xs i x fault few within here wrong before = record {
   most = omega (arith, length-map xs f);
   place = i;
   name = f x;
-  stands = name_at f xs i x within here;
+  stands = made_there f xs i x within here;
   wrong = subst (λ l. IsFaultAfter l (f x) fault) (sym (take-map f i xs)) wrong;
   first = before;
 }
@@ -126,7 +130,7 @@ first_is f xs i x Memory few within here wrong before = absurd wrong
 pub is_new : {K : Type 0} (f : K → List ℕ) (xs : List K) (i : ℕ) (x : K) → i < length xs → x ≡ get_or xs i x → AreRegistered (map f xs) → place_of_name (map f (take i xs)) (f x) ≡ None
 is_new f xs i x within here names =
     let free : (fault : RegistryFault) → IsFaultAfter (map f (take i xs)) (f x) fault → ⊥ =
-    λ fault wrong. names.free i (f x) fault (omega (arith, length-map xs f)) (name_at f xs i x within here)
+    λ fault wrong. names.free i (f x) fault (omega (arith, length-map xs f)) (made_there f xs i x within here)
     (subst (λ l. IsFaultAfter l (f x) fault) (sym (take-map f i xs)) wrong) in
     none_from 0 (map f (take i xs)) (f x) (λ there. free DuplicateName (free BadName, there))
 

@@ -3,7 +3,7 @@ use Rattle.std.proofs.lemmas.Option.{IfSome_then}
 use Rattle.pw_info.specs.inside.Scanning.{AddsPlaces}
 use Rattle.pw_info.proofs.Dots.{IfNone_then}
 use Rattle.pw_info.proofs.Spellings.{IfNone_holds}
-use Rattle.pw_info.proofs.NamesInARow.{begins_cut, is_read, no_member, seen_member, one_name_adds, name_and_row_add, no_row_behind}
+use Rattle.pw_info.proofs.NamesInARow.{begins_cut, is_read, no_member, seen_member, one_name_adds, name_and_row_add, no_row_behind, place_below}
 use Rattle.pw_info.proofs.member_text.+read_names.Goals as goal
 
 pub returns-in_err-place-clause-none : goal.returns-in_err-place-clause-none
@@ -38,3 +38,9 @@ returns-in-None-clause-some g t c =
     (sym (rw c.in-None.is at c.cut_at_comma.ensures.none))
     (one_name_adds _ _ c.in_ok-place.place c.args.seen c.with-seen.result
     (is_read _ _ _ _ _ _ c.place.ensures.names c.requires.named c.in_ok-place.ensures.found c.contains.ensures c.if-contains.false c.with-seen.ensures.size c.with-seen.ensures.values))
+
+pub with-seen-requires : goal.with-seen-requires
+with-seen-requires g t c = place_below _ _ _ c.args.seen c.requires.named c.in_ok-place.ensures.found
+
+pub returns-in_err-place-clause-some : goal.returns-in_err-place-clause-some
+returns-in_err-place-clause-some g t c = rw c.from_residual.ensures tt

@@ -3,8 +3,8 @@ use Rattle.std.specs.String.{string_bytes}
 use Rattle.std.proofs.lemmas.Bool.Decides.{nat_tests}
 use Rattle.std.proofs.lemmas.List.{length-map, take-map}
 use Rattle.pw_procs.specs.Procedure.{procedure_of, procedures_of, names_of}
-use Rattle.pw_procs.specs.Registering.{IsFaultAfter}
-use Rattle.pw_procs.proofs.RegistryNames.{made_at, free_more, first_is}
+use Rattle.pw_procs.specs.Registering.{AreFreeBelow, IsFaultAfter}
+use Rattle.pw_procs.proofs.RegistryNames.{all_named, made_at, free_more, first_is}
 use Rattle.pw_procs.proofs.registry.first_fault.Goals as goal
 
 pub returns-in-Some-clause-fault : goal.returns-in-Some-clause-fault
@@ -32,3 +32,16 @@ loop-place-preserved g c =
           (subst (λ l. IsFaultAfter (names_of l) (string_bytes c.index-entries-place.result.name) fault) (take-map procedure_of c.loop-place.place c.args.entries.now) wrong)))
           c.loop-place.invariant.free;
     }
+
+pub returns-then-entries-gt-MOST_PROCEDURES-clause-fault : goal.returns-then-entries-gt-MOST_PROCEDURES-clause-fault
+returns-then-entries-gt-MOST_PROCEDURES-clause-fault g c = omega (arith, c.if-entries-gt-MOST_PROCEDURES.true, all_named (λ p. p.name) procedure_of c.args.entries.now)
+
+pub loop-place-init : goal.loop-place-init
+loop-place-init g c = record { within = omega arith; free = λ k name fault below at wrong. omega (arith, below) }
+
+pub returns-clause-none : goal.returns-clause-none
+returns-clause-none g c =
+    let names = names_of (procedures_of c.args.entries.now) in
+    let long = all_named (λ p. p.name) procedure_of c.args.entries.now in
+    let end : c.loop-place.place ≡ length names = omega (arith, c.loop-place-test.false, c.loop-place.invariant.within, long) in
+    record { most = omega (arith, c.if-entries-gt-MOST_PROCEDURES.false, long); free = subst (AreFreeBelow names) end c.loop-place.invariant.free }

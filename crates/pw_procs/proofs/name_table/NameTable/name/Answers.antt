@@ -26,3 +26,9 @@ returns-clause-own g c =
     let at : c.index-as_slice-number.result ≡ get_or c.self.inside.set.keys c.args.number c.index-as_slice-number.result = rw c.as_slice.ensures.keys at c.index-as_slice-number.is in
     rw (c.in-Ok.ensures.cases.0, c.bytes.ensures)
     (own_name name_bytes c.self.inside.set.keys c.args.self.now c.args.number c.index-as_slice-number.result c.self.view_is c.requires at c.as_slice.ensures.unique)
+
+pub offset_bounds-as_slice-number : goal.offset_bounds-as_slice-number
+offset_bounds-as_slice-number g c = omega (arith, c.requires, ap length c.self.view_is, length-map c.self.inside.set.keys name_bytes, ap length c.as_slice.ensures.keys)
+
+pub bounds-as_slice-number : goal.bounds-as_slice-number
+bounds-as_slice-number g c = omega (arith, c.requires, ap length c.self.view_is, length-map c.self.inside.set.keys name_bytes, ap length c.as_slice.ensures.keys)
