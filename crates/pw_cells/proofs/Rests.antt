@@ -94,3 +94,15 @@ all_sifted f all left place sifted end =
     let many = as_many_ahead all left sifted.seen place sifted.ahead in
     let last : length all ≤ sifted.seen = omega (arith, many, end) in
     sym (take_all place left end) ∙ sifted.stay ∙ ap (unsubsumed f) (take_all sifted.seen all last)
+
+-- if the fact subsumes the last one, and none before it, the others are left
+pub last_dropped : (f : Fact) (all : List Fact) (place : ℕ) → take place all ≡ unsubsumed f (take place all) → length all ≡ place + 1
+    → does_subsume f (get_or all place f) ≡ true → take place all ≡ unsubsumed f all
+last_dropped f all place before last subsumed =
+    let longer : take (place + 1) all ≡ take place all ++ get_or all place f ∷ [] = take_more all place f (omega (arith, last)) in
+    let whole : take (place + 1) all ≡ all = take_all (place + 1) all (omega (arith, last)) in
+    unsubsumed_drops f (get_or all place f) (take place all) (take place all) before subsumed ∙ ap (unsubsumed f) (sym longer ∙ whole)
+
+-- if it subsumes none of them, all are left
+pub none_dropped : (f : Fact) (all : List Fact) (place : ℕ) → take place all ≡ unsubsumed f (take place all) → length all ≤ place → all ≡ unsubsumed f all
+none_dropped f all place before end = let whole : take place all ≡ all = take_all place all end in sym whole ∙ before ∙ ap (unsubsumed f) whole

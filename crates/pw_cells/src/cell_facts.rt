@@ -9,6 +9,7 @@ ghost use Rattle.pw_cells.specs.Shown.{IsKeptOf};
 ghost use Rattle.pw_cells.specs.inside.OneCell.{StandsFor};
 
 use crate::few_facts::FewFacts;
+use crate::held::Held;
 use crate::many_facts::ManyFacts;
 use crate::narrow_fact::NarrowFact;
 use crate::one_fact::OneFact;
@@ -82,27 +83,15 @@ impl<A: Allocator + Copy> CellFacts<A> {
         ensures kind { self.new.kind ≡ self.old.kind }
         ensures err { OnErr result (self.new ≡ self.old) }
     {
-        match &mut self.all {
-            Facts::One(one) => {
-                let mut many = boxed_intervals(&one.listed()?)?;
-                many.tell(fact)?;
-                self.all = Facts::Many(many);
-                Ok(())
-            }
-            Facts::FewIntervals(few) => {
-                let mut many = boxed_intervals(few)?;
-                many.tell(fact)?;
-                self.all = Facts::Many(many);
-                Ok(())
-            }
-            Facts::Few(few) => {
-                let mut many = boxed(few)?;
-                many.tell(fact)?;
-                self.all = Facts::Many(many);
-                Ok(())
-            }
-            Facts::Many(many) => many.tell(fact),
-        }
+        let mut many = match &mut self.all {
+            Facts::One(one) => boxed_intervals(&one.listed()?)?,
+            Facts::FewIntervals(few) => boxed_intervals(few)?,
+            Facts::Few(few) => boxed(few)?,
+            Facts::Many(many) => return many.tell(fact),
+        };
+        many.tell(fact)?;
+        self.all = Facts::Many(many);
+        Ok(())
     }
 
     // Keeps a fact, and answers whether it was news. If memory is refused, nothing changes.
@@ -116,27 +105,15 @@ impl<A: Allocator + Copy> CellFacts<A> {
         ensures kind { self.new.kind ≡ self.old.kind }
         ensures err { OnErr result (self.new ≡ self.old) }
     {
-        match &mut self.all {
-            Facts::One(one) => {
-                let mut many = boxed_intervals(&one.listed()?)?;
-                let news = many.keep(fact)?;
-                self.all = Facts::Many(many);
-                Ok(news)
-            }
-            Facts::FewIntervals(few) => {
-                let mut many = boxed_intervals(few)?;
-                let news = many.keep(fact)?;
-                self.all = Facts::Many(many);
-                Ok(news)
-            }
-            Facts::Few(few) => {
-                let mut many = boxed(few)?;
-                let news = many.keep(fact)?;
-                self.all = Facts::Many(many);
-                Ok(news)
-            }
-            Facts::Many(many) => many.keep(fact),
-        }
+        let mut many = match &mut self.all {
+            Facts::One(one) => boxed_intervals(&one.listed()?)?,
+            Facts::FewIntervals(few) => boxed_intervals(few)?,
+            Facts::Few(few) => boxed(few)?,
+            Facts::Many(many) => return many.keep(fact),
+        };
+        let news = many.keep(fact)?;
+        self.all = Facts::Many(many);
+        Ok(news)
     }
 
     // Keeps information that says more than what is kept on these premises. If memory is refused,
@@ -178,9 +155,7 @@ impl<A: Allocator + Copy> CellFacts<A> {
                 if one.replace(&fact) {
                     return Ok(());
                 }
-                let mut few = one.listed()?;
-                few.keep_news(&fact)?;
-                self.all = Facts::FewIntervals(few);
+                self.all = Facts::FewIntervals(listed_with(one, &fact)?);
                 Ok(())
             }
             Facts::FewIntervals(few) => {
@@ -191,18 +166,14 @@ impl<A: Allocator + Copy> CellFacts<A> {
                 if few.has_room() {
                     return few.keep_news(&few.held(info, support));
                 }
-                let mut many = boxed_intervals(few)?;
-                many.keep_news(info, support)?;
-                self.all = Facts::Many(many);
+                self.all = Facts::Many(with_news(boxed_intervals(few)?, info, support)?);
                 Ok(())
             }
             Facts::Few(few) => {
                 if few.has_room() {
                     return few.keep_news(&few.held(info, support));
                 }
-                let mut many = boxed(few)?;
-                many.keep_news(info, support)?;
-                self.all = Facts::Many(many);
+                self.all = Facts::Many(with_news(boxed(few)?, info, support)?);
                 Ok(())
             }
             Facts::Many(many) => many.keep_news(info, support),
@@ -299,4 +270,42 @@ fn boxed_intervals<A: Allocator + Copy>(
 {
     let many = ManyFacts::intervals(few.listed()?);
     Ok(Box::new(few.allocator(), many)?)
+}
+
+// The one fact of a cell, and one that says more than what is kept on its premises, in a list. Fails
+// only when out of memory.
+fn listed_with<A: Allocator + Copy>(
+    one: &OneFact<A>,
+    fact: &Held<Interval, NarrowSet>,
+) -> Result<FewFacts<Interval, A>, AllocError>
+    requires kind { kind_of fact.now.info ≡ one.now.kind }
+    requires news { IsUnsaid (kept_of one.now fact.now.support) fact.now.info }
+    ensures kept { IfOk result (λ few. GainsFact fact.now (kept_of one.now) (kept_of few)) }
+    ensures assimilates { IfOk result (λ few. Assimilates fact.now one.now.kept few.kept) }
+    ensures told { IfOk result (λ few. few.told ≡ one.now.told) }
+    ensures kind { IfOk result (λ few. few.kind ≡ one.now.kind) }
+{
+    let mut few = one.listed()?;
+    few.keep_news(fact)?;
+    Ok(few)
+}
+
+// The facts in a box, with information that says more than what is kept on these premises. Fails
+// only when out of memory.
+fn with_news<A: Allocator + Copy>(
+    mut many: Box<ManyFacts<A>, A>,
+    info: &Info,
+    support: NarrowSet,
+) -> Result<Box<ManyFacts<A>, A>, AllocError>
+    requires kind { kind_of info.now ≡ many.value.kind }
+    requires news { IsUnsaid (kept_of many.value support) info.now }
+    ensures kept { IfOk result (λ new. GainsFact (fact_on info.now support) (kept_of many.value)
+        (kept_of new.value)) }
+    ensures assimilates { IfOk result (λ new. Assimilates (fact_on info.now support)
+        many.value.kept new.value.kept) }
+    ensures told { IfOk result (λ new. new.value.told ≡ many.value.told) }
+    ensures kind { IfOk result (λ new. new.value.kind ≡ many.value.kind) }
+{
+    many.keep_news(info, support)?;
+    Ok(many)
 }

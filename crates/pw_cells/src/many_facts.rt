@@ -106,21 +106,14 @@ impl<A: Allocator + Copy> ManyFacts<A> {
         ensures kind { self.new.kind ≡ self.old.kind }
         ensures err { OnErr result (self.new ≡ self.old) }
     {
-        match &mut self.lists {
-            Lists::Intervals(lists) => {
-                let mut wide = lists.widened()?;
-                wide.tell(&Held::on(&fact.info, fact.support))?;
-                self.lists = Lists::Wide(wide);
-                Ok(())
-            }
-            Lists::Narrow(lists) => {
-                let mut wide = lists.widened()?;
-                wide.tell(&Held::on(&fact.info, fact.support))?;
-                self.lists = Lists::Wide(wide);
-                Ok(())
-            }
-            Lists::Wide(lists) => lists.tell(&Held::on(&fact.info, fact.support)),
+        let held = Held::on(&fact.info, fact.support);
+        if let Lists::Wide(lists) = &mut self.lists {
+            return lists.tell(&held);
         }
+        let mut wide = self.widened()?;
+        wide.tell(&held)?;
+        self.hold_wide(wide);
+        Ok(())
     }
 
     // Keeps a fact, and answers whether it was news. If memory is refused, nothing changes.
@@ -199,21 +192,33 @@ impl<A: Allocator + Copy> ManyFacts<A> {
         ensures kind { self.new.kind ≡ self.old.kind }
         ensures err { OnErr result (self.new ≡ self.old) }
     {
-        match &mut self.lists {
-            Lists::Intervals(lists) => {
-                let mut wide = lists.widened()?;
-                let news = wide.keep(&Held::on(&fact.info, fact.support))?;
-                self.lists = Lists::Wide(wide);
-                Ok(news)
-            }
-            Lists::Narrow(lists) => {
-                let mut wide = lists.widened()?;
-                let news = wide.keep(&Held::on(&fact.info, fact.support))?;
-                self.lists = Lists::Wide(wide);
-                Ok(news)
-            }
-            Lists::Wide(lists) => lists.keep(&Held::on(&fact.info, fact.support)),
+        let held = Held::on(&fact.info, fact.support);
+        if let Lists::Wide(lists) = &mut self.lists {
+            return lists.keep(&held);
         }
+        let mut wide = self.widened()?;
+        let news = wide.keep(&held)?;
+        self.hold_wide(wide);
+        Ok(news)
+    }
+
+    // The same facts, in wide lists. Fails only when out of memory.
+    fn widened(&self) -> Result<FactLists<Info, PremiseSet, A>, AllocError>
+        ensures { IfOk result (λ wide. wide ≡ self.now) }
+    {
+        match &self.lists {
+            Lists::Intervals(lists) => lists.widened(),
+            Lists::Narrow(lists) => lists.widened(),
+            Lists::Wide(lists) => lists.widened(),
+        }
+    }
+
+    // Holds these wide lists instead of its own.
+    #[inline(always)]
+    fn hold_wide(&mut self, wide: FactLists<Info, PremiseSet, A>)
+        ensures { self.new ≡ wide }
+    {
+        self.lists = Lists::Wide(wide);
     }
 
     // Whether there are few told facts to go over.

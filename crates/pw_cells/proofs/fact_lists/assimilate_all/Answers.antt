@@ -1,6 +1,6 @@
-use Rattle.std.proofs.Common.{◌≡◌, ◌+◌, ◌<◌, List, [], ◌∷◌, ◌++◌, length, get_or, take, sym, ◌∙◌, ap, subst, arith}
+use Rattle.std.proofs.Common.{◌≡◌, ◌+◌, ◌<◌, ℕ, List, [], ◌∷◌, ◌++◌, length, get_or, take, refl, sym, ◌∙◌, ap, subst, arith}
 use Rattle.std.specs.Prelude.{◌↔◌, IsTrue}
-use Rattle.std.proofs.lemmas.List.{take_more}
+use Rattle.std.proofs.lemmas.List.{take_all, take_more}
 use Rattle.pw_info.specs.Information.{kind_of}
 use Rattle.pw_facts.specs.declared.fact.Fact.{Fact}
 use Rattle.pw_info.specs.declared.kind.Kind.{Kind}
@@ -11,9 +11,57 @@ use Rattle.pw_cells.specs.inside.OneCell.{AreApart, AreOfKind}
 use Rattle.pw_cells.proofs.Late.{assimilation, late_push}
 use Rattle.pw_cells.proofs.fact_lists.assimilate_all.Goals as goal
 
+-- a late fact is of the kind
+late_kind : (k : Kind) (late held : List Fact) (i : ℕ) (f : Fact) → AreOfKind k late → held ≡ late → i < length held → f ≡ get_or held i f
+    → kind_of f.info ≡ k
+late_kind k late held i f kinds same below is =
+    ap (λ (x : Fact). kind_of x.info) is ∙ subst (AreOfKind k) (sym {A = List Fact} same) kinds i f below
+
+pub loop-fact-init : goal.loop-fact-init
+loop-fact-init g c = record {
+  kept = refl;
+  kinds = c.requires.kinds;
+  apart = c.requires.apart;
+  bounds = c.requires.bounds;
+  room = omega (arith, c.requires.room, c.as_slice-fact-items.ensures.len, ap length c.as_slice-fact-items.ensures.value);
+}
+
+pub is_subsumed-known-requires-clause-kinds : goal.is_subsumed-known-requires-clause-kinds
+is_subsumed-known-requires-clause-kinds g c =
+    let is =
+    late_kind c.args.kind c.args.late.now.items c.as_slice-fact-items.result.now c.loop-fact.fact-index c.fact-item.result c.requires.late_kinds
+    c.as_slice-fact-items.ensures.value c.loop-fact-test.true c.fact-item.is in
+    subst (λ (k : Kind). AreOfKind k c.as_slice.result.now) (sym is)
+    (subst (AreOfKind c.args.kind) (sym {A = List Fact} c.as_slice.ensures.value) c.loop-fact.invariant.kinds)
+
+pub is_subsumed-known-requires-clause-bounds : goal.is_subsumed-known-requires-clause-bounds
+is_subsumed-known-requires-clause-bounds g c =
+    let is =
+    late_kind c.args.kind c.args.late.now.items c.as_slice-fact-items.result.now c.loop-fact.fact-index c.fact-item.result c.requires.late_kinds
+    c.as_slice-fact-items.ensures.value c.loop-fact-test.true c.fact-item.is in
+    subst (λ (k : Kind). Bounds k c.as_slice.result.now c.loop-fact.bound) (sym is)
+    (subst (λ (l : List Fact). Bounds c.args.kind l c.loop-fact.bound) (sym {A = List Fact} c.as_slice.ensures.value) c.loop-fact.invariant.bounds)
+
+pub assimilate-requires-clause-kinds : goal.assimilate-requires-clause-kinds
+assimilate-requires-clause-kinds g c =
+    let is =
+    late_kind c.args.kind c.args.late.now.items c.as_slice-fact-items.result.now c.loop-fact.fact-index c.fact-item.result c.requires.late_kinds
+    c.as_slice-fact-items.ensures.value c.loop-fact-test.true c.fact-item.is in
+    subst (λ (k : Kind). AreOfKind k c.loop-fact.kept.items) (sym is) c.loop-fact.invariant.kinds
+
+pub assimilate-requires-clause-bounds : goal.assimilate-requires-clause-bounds
+assimilate-requires-clause-bounds g c =
+    let is =
+    late_kind c.args.kind c.args.late.now.items c.as_slice-fact-items.result.now c.loop-fact.fact-index c.fact-item.result c.requires.late_kinds
+    c.as_slice-fact-items.ensures.value c.loop-fact-test.true c.fact-item.is in
+    subst (λ (k : Kind). Bounds k c.loop-fact.kept.items c.loop-fact.bound) (sym is) c.loop-fact.invariant.bounds
+
 pub assimilate-requires-clause-known : goal.assimilate-requires-clause-known
 assimilate-requires-clause-known g c =
     subst (λ (l : List Fact). IsTrue c.is_subsumed-known.result ↔ IsSubsumedBy l c.fact-item.result) c.as_slice.ensures.value c.is_subsumed-known.ensures
+
+pub assimilate-requires-clause-room : goal.assimilate-requires-clause-room
+assimilate-requires-clause-room g c = λ _. omega (arith, c.loop-fact.invariant.room, c.loop-fact-test.true, ap length c.as_slice-fact-items.ensures.value)
 
 pub loop-fact-preserved : goal.loop-fact-preserved
 loop-fact-preserved g c =
@@ -35,3 +83,13 @@ loop-fact-preserved g c =
       bounds = subst (λ (k : Kind). Bounds k c.assimilate.new.kept.items c.assimilate.new.bound) is c.assimilate.ensures.bounds;
       room = omega (arith, c.loop-fact.invariant.room, c.assimilate.ensures.len, c.assimilate.ensures.capacity);
     }
+
+pub returns-clause-kept : goal.returns-clause-kept
+returns-clause-kept g c =
+    let late = c.args.late.now.items in
+    let all : take c.loop-fact.fact-index late ≡ late =
+    take_all c.loop-fact.fact-index late (omega (arith, c.loop-fact-test.false, ap length c.as_slice-fact-items.ensures.value)) in
+    c.loop-fact.invariant.kept ∙ ap (all_assimilated c.args.kept.now.items) all
+
+pub returns-clause-bounds : goal.returns-clause-bounds
+returns-clause-bounds g c = c.loop-fact.invariant.bounds

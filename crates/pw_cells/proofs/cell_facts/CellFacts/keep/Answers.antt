@@ -1,19 +1,99 @@
-use Rattle.std.proofs.Common.{◌≡◌, sym, ◌∙◌, ap}
-use Rattle.pw_cells.specs.Cells.{Cell}
+use Rattle.std.proofs.Common.{◌≡◌, false, sym, ◌∙◌, ap, subst}
+use Rattle.std.specs.Prelude.{IfOk, OnOk, OnErr}
+use Rattle.pw_cells.specs.Cells.{Cell, kept_of}
+use Rattle.pw_cells.specs.Changes.{Assimilates, GainsFact, TellsNews}
 use Rattle.pw_cells.specs.inside.Widths.{cell_of}
+use Rattle.pw_cells.proofs.cell_facts.CellFacts.keep.Given.{Over}
 use Rattle.pw_cells.proofs.cell_facts.CellFacts.keep.Goals as goal
+use Rattle.pw_cells.proofs.cell_facts.CellFacts.keep.Goals.{in-One+in_ok-listed-in-One+in_ok-many-in-One, in-FewIntervals+in_ok-many-in-FewIntervals, in-Few+in_ok-many-in-Few}
 
-pub returns-in_ok-news-in-One-clause-answer : goal.returns-in_ok-news-in-One-clause-answer
-returns-in_ok-news-in-One-clause-answer g c =
-    let cell : c.deref_mut.result.now ≡ c.args.self.now = c.deref_mut.ensures.value ∙ c.in_ok-many-in-One.ensures ∙ c.in_ok-listed-in-One.ensures ∙ ap cell_of (sym c.in-One.is) ∙ c.self.view_is in
-    rw (ap (λ (cell : Cell). cell.kept) cell) at c.in_ok-news-in-One.ensures.answer
+-- the facts in the box are the same cell
+boxed_same : (g : Over) (c : goal.Joined-self-2 g) → c.match-self.many.value ≡ c.args.self.now
+boxed_same g c = elim c.match-self.branch [
+  | in-One+in_ok-listed-in-One+in_ok-many-in-One w ↦
+      (λ j. (w.many-is j).value) ∙ w.in_ok-many-in-One.ensures ∙ w.in_ok-listed-in-One.ensures ∙ ap cell_of (sym w.in-One.is) ∙ c.self.view_is
+  | in-FewIntervals+in_ok-many-in-FewIntervals w ↦
+      (λ j. (w.many-is j).value) ∙ w.in_ok-many-in-FewIntervals.ensures ∙ ap cell_of (sym w.in-FewIntervals.is) ∙ c.self.view_is
+  | in-Few+in_ok-many-in-Few w ↦
+      (λ j. (w.many-is j).value) ∙ w.in_ok-many-in-Few.ensures ∙ ap cell_of (sym w.in-Few.is) ∙ c.self.view_is
+]
 
-pub returns-in_ok-news-in-FewIntervals-clause-answer : goal.returns-in_ok-news-in-FewIntervals-clause-answer
-returns-in_ok-news-in-FewIntervals-clause-answer g c =
-    let cell : c.deref_mut-in-FewIntervals.result.now ≡ c.args.self.now = c.deref_mut-in-FewIntervals.ensures.value ∙ c.in_ok-many-in-FewIntervals.ensures ∙ ap cell_of (sym c.in-FewIntervals.is) ∙ c.self.view_is in
-    rw (ap (λ (cell : Cell). cell.kept) cell) at c.in_ok-news-in-FewIntervals.ensures.answer
+-- they are so before they keep the fact too
+boxed_before : (g : Over) (c : goal.After-deref_mut-2 g) → c.match-self.many.value ≡ c.args.self.now
+boxed_before g c = elim c.match-self.branch [
+  | in-One+in_ok-listed-in-One+in_ok-many-in-One w ↦
+      (λ j. (w.many-is j).value) ∙ w.in_ok-many-in-One.ensures ∙ w.in_ok-listed-in-One.ensures ∙ ap cell_of (sym w.in-One.is) ∙ c.self.view_is
+  | in-FewIntervals+in_ok-many-in-FewIntervals w ↦
+      (λ j. (w.many-is j).value) ∙ w.in_ok-many-in-FewIntervals.ensures ∙ ap cell_of (sym w.in-FewIntervals.is) ∙ c.self.view_is
+  | in-Few+in_ok-many-in-Few w ↦
+      (λ j. (w.many-is j).value) ∙ w.in_ok-many-in-Few.ensures ∙ ap cell_of (sym w.in-Few.is) ∙ c.self.view_is
+]
 
-pub returns-in_ok-news-in-Few-clause-answer : goal.returns-in_ok-news-in-Few-clause-answer
-returns-in_ok-news-in-Few-clause-answer g c =
-    let cell : c.deref_mut-in-Few.result.now ≡ c.args.self.now = c.deref_mut-in-Few.ensures.value ∙ c.in_ok-many-in-Few.ensures ∙ ap cell_of (sym c.in-Few.is) ∙ c.self.view_is in
-    rw (ap (λ (cell : Cell). cell.kept) cell) at c.in_ok-news-in-Few.ensures.answer
+many_same : (g : Over) (c : goal.Joined-self-2 g) → c.deref_mut-2.result.now ≡ c.args.self.now
+many_same g c = c.deref_mut-2.ensures.value ∙ boxed_same g c
+
+pub returns-clause-answer : goal.returns-clause-answer
+returns-clause-answer g c =
+    subst (λ (cell : Cell). TellsNews cell.kept c.args.fact.now c.in_ok-news.news) (many_same g c) c.in_ok-news.ensures.answer
+
+pub returns-clause-known : goal.returns-clause-known
+returns-clause-known g c = λ old. c.in_ok-news.ensures.known old ∙ many_same g c
+
+pub returns-clause-kept : goal.returns-clause-kept
+returns-clause-kept g c =
+    subst (λ (cell : Cell). GainsFact c.args.fact.now (kept_of cell) (kept_of c.keep-2.new.self)) (many_same g c) c.in_ok-news.ensures.kept
+
+pub returns-clause-assimilates : goal.returns-clause-assimilates
+returns-clause-assimilates g c =
+    subst (λ (cell : Cell). Assimilates c.args.fact.now cell.kept c.keep-2.new.self.kept) (many_same g c) c.in_ok-news.ensures.assimilates
+
+pub returns-clause-told : goal.returns-clause-told
+returns-clause-told g c = c.in_ok-news.ensures.told ∙ ap (λ (cell : Cell). cell.told) (many_same g c)
+
+pub returns-clause-kind : goal.returns-clause-kind
+returns-clause-kind g c = c.in_ok-news.ensures.kind ∙ ap (λ (cell : Cell). cell.kind) (many_same g c)
+
+pub keep-requires : goal.keep-requires
+keep-requires g c =
+    let same : c.deref_mut.result.now ≡ c.args.self.now = c.deref_mut.ensures.value ∙ ap cell_of (sym c.in-Many.is) ∙ c.self.view_is in
+    c.requires ∙ sym (ap (λ (x : Cell). x.kind) same)
+
+pub returns-in-Many-clause-answer : goal.returns-in-Many-clause-answer
+returns-in-Many-clause-answer g c =
+    let same : c.deref_mut.result.now ≡ c.args.self.now = c.deref_mut.ensures.value ∙ ap cell_of (sym c.in-Many.is) ∙ c.self.view_is in
+    subst (λ (x : Cell). IfOk c.keep.result (TellsNews x.kept c.args.fact.now)) same c.keep.ensures.answer
+
+pub returns-in-Many-clause-known : goal.returns-in-Many-clause-known
+returns-in-Many-clause-known g c =
+    let same : c.deref_mut.result.now ≡ c.args.self.now = c.deref_mut.ensures.value ∙ ap cell_of (sym c.in-Many.is) ∙ c.self.view_is in
+    subst (λ (x : Cell). IfOk c.keep.result (λ news. news ≡ false → c.keep.new.self ≡ x)) same c.keep.ensures.known
+
+pub returns-in-Many-clause-kept : goal.returns-in-Many-clause-kept
+returns-in-Many-clause-kept g c =
+    let same : c.deref_mut.result.now ≡ c.args.self.now = c.deref_mut.ensures.value ∙ ap cell_of (sym c.in-Many.is) ∙ c.self.view_is in
+    subst (λ (x : Cell). OnOk c.keep.result (GainsFact c.args.fact.now (kept_of x) (kept_of c.keep.new.self))) same c.keep.ensures.kept
+
+pub returns-in-Many-clause-assimilates : goal.returns-in-Many-clause-assimilates
+returns-in-Many-clause-assimilates g c =
+    let same : c.deref_mut.result.now ≡ c.args.self.now = c.deref_mut.ensures.value ∙ ap cell_of (sym c.in-Many.is) ∙ c.self.view_is in
+    subst (λ (x : Cell). OnOk c.keep.result (Assimilates c.args.fact.now x.kept c.keep.new.self.kept)) same c.keep.ensures.assimilates
+
+pub returns-in-Many-clause-told : goal.returns-in-Many-clause-told
+returns-in-Many-clause-told g c =
+    let same : c.deref_mut.result.now ≡ c.args.self.now = c.deref_mut.ensures.value ∙ ap cell_of (sym c.in-Many.is) ∙ c.self.view_is in
+    c.keep.ensures.told ∙ ap (λ (x : Cell). x.told) same
+
+pub returns-in-Many-clause-kind : goal.returns-in-Many-clause-kind
+returns-in-Many-clause-kind g c =
+    let same : c.deref_mut.result.now ≡ c.args.self.now = c.deref_mut.ensures.value ∙ ap cell_of (sym c.in-Many.is) ∙ c.self.view_is in
+    c.keep.ensures.kind ∙ ap (λ (x : Cell). x.kind) same
+
+pub returns-in-Many-clause-err : goal.returns-in-Many-clause-err
+returns-in-Many-clause-err g c =
+    let same : c.deref_mut.result.now ≡ c.args.self.now = c.deref_mut.ensures.value ∙ ap cell_of (sym c.in-Many.is) ∙ c.self.view_is in
+    subst (λ (x : Cell). OnErr c.keep.result (c.keep.new.self ≡ x)) same c.keep.ensures.err
+
+pub keep-requires-2 : goal.keep-requires-2
+keep-requires-2 g c =
+    let same : c.deref_mut-2.result.now ≡ c.args.self.now = c.deref_mut-2.ensures.value ∙ boxed_before g c in
+    c.requires ∙ sym (ap (λ (x : Cell). x.kind) same)

@@ -1,28 +1,101 @@
-use Rattle.std.proofs.Common.{◌≡◌, sym, ◌∙◌, ap}
-use Rattle.pw_cells.specs.Cells.{Cell}
+use Rattle.std.proofs.Common.{◌≡◌, false, sym, ◌∙◌, ap, subst}
+use Rattle.std.specs.Prelude.{IfOk, OnOk, OnErr}
+use Rattle.pw_info.specs.Information.{kind_of}
+use Rattle.pw_facts.specs.declared.fact.Fact.{Fact}
+use Rattle.pw_cells.specs.Cells.{Cell, kept_of}
+use Rattle.pw_cells.specs.Changes.{Assimilates, GainsFact, TellsNews}
 use Rattle.pw_cells.specs.inside.Widths.{cell_in}
 use Rattle.pw_cells.proofs.many_facts.ManyFacts.keep_wide.Goals as goal
 
-pub returns-in_ok-news-in-Intervals-clause-answer : goal.returns-in_ok-news-in-Intervals-clause-answer
-returns-in_ok-news-in-Intervals-clause-answer g c =
-    let cell : c.in_ok-wide-in-Intervals.wide ≡ c.args.self.now = c.in_ok-wide-in-Intervals.ensures ∙ ap cell_in (sym c.in-Intervals.is) ∙ c.self.view_is in
-    let held : c.on.result ≡ c.args.fact.now = λ j. record { info = c.on.ensures.info j; support = c.on.ensures.support j } in
-    rw (held, ap (λ (cell : Cell). cell.kept) cell) at c.in_ok-news-in-Intervals.ensures.answer
+-- facts with the same information and the same support are the same
+fact_same : (held fact : Fact) → held.info ≡ fact.info → held.support ≡ fact.support → held ≡ fact
+fact_same held fact info support = λ j. record { info = info j; support = support j }
 
-pub returns-in_ok-news-in-Narrow-clause-answer : goal.returns-in_ok-news-in-Narrow-clause-answer
-returns-in_ok-news-in-Narrow-clause-answer g c =
-    let cell : c.in_ok-wide-in-Narrow.wide ≡ c.args.self.now = c.in_ok-wide-in-Narrow.ensures ∙ ap cell_in (sym c.in-Narrow.is) ∙ c.self.view_is in
-    let held : c.on-in-Narrow.result ≡ c.args.fact.now = λ j. record { info = c.on-in-Narrow.ensures.info j; support = c.on-in-Narrow.ensures.support j } in
-    rw (held, ap (λ (cell : Cell). cell.kept) cell) at c.in_ok-news-in-Narrow.ensures.answer
+pub keep-requires : goal.keep-requires
+keep-requires g c =
+    let same : c.in-Wide.lists ≡ c.args.self.now = ap cell_in (sym c.in-Wide.is) ∙ c.self.view_is in
+    ap kind_of c.on-held.ensures.info ∙ c.requires ∙ sym (ap (λ (x : Cell). x.kind) same)
+
+pub keep-requires-2 : goal.keep-requires-2
+keep-requires-2 g c =
+    let same : c.in_ok-wide.wide ≡ c.args.self.now = c.in_ok-wide.ensures ∙ c.self.view_is in
+    ap kind_of c.on-held.ensures.info ∙ c.requires ∙ sym (ap (λ (x : Cell). x.kind) same)
 
 pub returns-in-Wide-clause-answer : goal.returns-in-Wide-clause-answer
 returns-in-Wide-clause-answer g c =
-    let cell : c.in-Wide.lists ≡ c.args.self.now = ap cell_in (sym c.in-Wide.is) ∙ c.self.view_is in
-    let held : c.on-in-Wide.result ≡ c.args.fact.now = λ j. record { info = c.on-in-Wide.ensures.info j; support = c.on-in-Wide.ensures.support j } in
-    rw (held, ap (λ (cell : Cell). cell.kept) cell) at c.keep-in-Wide.ensures.answer
+    let same : c.in-Wide.lists ≡ c.args.self.now = ap cell_in (sym c.in-Wide.is) ∙ c.self.view_is in
+    let held : c.on-held.result ≡ c.args.fact.now = fact_same c.on-held.result c.args.fact.now c.on-held.ensures.info c.on-held.ensures.support in
+    subst (λ (x : Cell). IfOk c.keep.result (TellsNews x.kept c.args.fact.now)) same
+    (subst (λ (x : Fact). IfOk c.keep.result (TellsNews c.in-Wide.lists.kept x)) held c.keep.ensures.answer)
+
+pub returns-in-Wide-clause-known : goal.returns-in-Wide-clause-known
+returns-in-Wide-clause-known g c =
+    let same : c.in-Wide.lists ≡ c.args.self.now = ap cell_in (sym c.in-Wide.is) ∙ c.self.view_is in
+    subst (λ (x : Cell). IfOk c.keep.result (λ news. news ≡ false → c.keep.new.self ≡ x)) same c.keep.ensures.known
+
+pub returns-in-Wide-clause-kept : goal.returns-in-Wide-clause-kept
+returns-in-Wide-clause-kept g c =
+    let same : c.in-Wide.lists ≡ c.args.self.now = ap cell_in (sym c.in-Wide.is) ∙ c.self.view_is in
+    let held : c.on-held.result ≡ c.args.fact.now = fact_same c.on-held.result c.args.fact.now c.on-held.ensures.info c.on-held.ensures.support in
+    subst (λ (x : Cell). OnOk c.keep.result (GainsFact c.args.fact.now (kept_of x) (kept_of c.keep.new.self))) same
+    (subst (λ (x : Fact). OnOk c.keep.result (GainsFact x (kept_of c.in-Wide.lists) (kept_of c.keep.new.self))) held c.keep.ensures.kept)
 
 pub returns-in-Wide-clause-assimilates : goal.returns-in-Wide-clause-assimilates
 returns-in-Wide-clause-assimilates g c =
-    let cell : c.in-Wide.lists ≡ c.args.self.now = ap cell_in (sym c.in-Wide.is) ∙ c.self.view_is in
-    let held : c.on-in-Wide.result ≡ c.args.fact.now = λ j. record { info = c.on-in-Wide.ensures.info j; support = c.on-in-Wide.ensures.support j } in
-    rw (held, ap (λ (cell : Cell). cell.kept) cell) at c.keep-in-Wide.ensures.assimilates
+    let same : c.in-Wide.lists ≡ c.args.self.now = ap cell_in (sym c.in-Wide.is) ∙ c.self.view_is in
+    let held : c.on-held.result ≡ c.args.fact.now = fact_same c.on-held.result c.args.fact.now c.on-held.ensures.info c.on-held.ensures.support in
+    subst (λ (x : Cell). OnOk c.keep.result (Assimilates c.args.fact.now x.kept c.keep.new.self.kept)) same
+    (subst (λ (x : Fact). OnOk c.keep.result (Assimilates x c.in-Wide.lists.kept c.keep.new.self.kept)) held c.keep.ensures.assimilates)
+
+pub returns-in-Wide-clause-told : goal.returns-in-Wide-clause-told
+returns-in-Wide-clause-told g c =
+    let same : c.in-Wide.lists ≡ c.args.self.now = ap cell_in (sym c.in-Wide.is) ∙ c.self.view_is in
+    c.keep.ensures.told ∙ ap (λ (x : Cell). x.told) same
+
+pub returns-in-Wide-clause-kind : goal.returns-in-Wide-clause-kind
+returns-in-Wide-clause-kind g c =
+    let same : c.in-Wide.lists ≡ c.args.self.now = ap cell_in (sym c.in-Wide.is) ∙ c.self.view_is in
+    c.keep.ensures.kind ∙ ap (λ (x : Cell). x.kind) same
+
+pub returns-in-Wide-clause-err : goal.returns-in-Wide-clause-err
+returns-in-Wide-clause-err g c =
+    let same : c.in-Wide.lists ≡ c.args.self.now = ap cell_in (sym c.in-Wide.is) ∙ c.self.view_is in
+    subst (λ (x : Cell). OnErr c.keep.result (c.keep.new.self ≡ x)) same c.keep.ensures.err
+
+pub returns-clause-answer : goal.returns-clause-answer
+returns-clause-answer g c =
+    let same : c.in_ok-wide.wide ≡ c.args.self.now = c.in_ok-wide.ensures ∙ c.self.view_is in
+    let held : c.on-held.result ≡ c.args.fact.now = fact_same c.on-held.result c.args.fact.now c.on-held.ensures.info c.on-held.ensures.support in
+    subst (λ (x : Cell). TellsNews x.kept c.args.fact.now c.in_ok-news.news) same
+    (subst (λ (x : Fact). TellsNews c.in_ok-wide.wide.kept x c.in_ok-news.news) held c.in_ok-news.ensures.answer)
+
+pub returns-clause-known : goal.returns-clause-known
+returns-clause-known g c =
+    let same : c.in_ok-wide.wide ≡ c.args.self.now = c.in_ok-wide.ensures ∙ c.self.view_is in
+    λ old. c.hold_wide.ensures ∙ c.in_ok-news.ensures.known old ∙ same
+
+pub returns-clause-kept : goal.returns-clause-kept
+returns-clause-kept g c =
+    let same : c.in_ok-wide.wide ≡ c.args.self.now = c.in_ok-wide.ensures ∙ c.self.view_is in
+    let held : c.on-held.result ≡ c.args.fact.now = fact_same c.on-held.result c.args.fact.now c.on-held.ensures.info c.on-held.ensures.support in
+    subst (λ (x : Cell). GainsFact c.args.fact.now (kept_of c.args.self.now) (kept_of x)) (sym c.hold_wide.ensures)
+    (subst (λ (x : Cell). GainsFact c.args.fact.now (kept_of x) (kept_of c.keep-2.new.self)) same
+    (subst (λ (x : Fact). GainsFact x (kept_of c.in_ok-wide.wide) (kept_of c.keep-2.new.self)) held c.in_ok-news.ensures.kept))
+
+pub returns-clause-assimilates : goal.returns-clause-assimilates
+returns-clause-assimilates g c =
+    let same : c.in_ok-wide.wide ≡ c.args.self.now = c.in_ok-wide.ensures ∙ c.self.view_is in
+    let held : c.on-held.result ≡ c.args.fact.now = fact_same c.on-held.result c.args.fact.now c.on-held.ensures.info c.on-held.ensures.support in
+    subst (λ (x : Cell). Assimilates c.args.fact.now c.args.self.now.kept x.kept) (sym c.hold_wide.ensures)
+    (subst (λ (x : Cell). Assimilates c.args.fact.now x.kept c.keep-2.new.self.kept) same
+    (subst (λ (x : Fact). Assimilates x c.in_ok-wide.wide.kept c.keep-2.new.self.kept) held c.in_ok-news.ensures.assimilates))
+
+pub returns-clause-told : goal.returns-clause-told
+returns-clause-told g c =
+    let same : c.in_ok-wide.wide ≡ c.args.self.now = c.in_ok-wide.ensures ∙ c.self.view_is in
+    ap (λ (x : Cell). x.told) c.hold_wide.ensures ∙ c.in_ok-news.ensures.told ∙ ap (λ (x : Cell). x.told) same
+
+pub returns-clause-kind : goal.returns-clause-kind
+returns-clause-kind g c =
+    let same : c.in_ok-wide.wide ≡ c.args.self.now = c.in_ok-wide.ensures ∙ c.self.view_is in
+    ap (λ (x : Cell). x.kind) c.hold_wide.ensures ∙ c.in_ok-news.ensures.kind ∙ ap (λ (x : Cell). x.kind) same
