@@ -1,5 +1,5 @@
 -- What is true of compounds as their lines are read.
-use Rattle.std.proofs.Common.{◌≡◌, ℕ, suc, ◌+◌, ◌<◌, ◌≤◌, List, [], ◌∷◌, ◌++◌, Option, Some, None, length, take, get_or, set, refl, sym, ap, ◌∙◌, arith, append_assoc}
+use Rattle.std.proofs.Common.{◌≡◌, Bool, ℕ, suc, ◌+◌, ◌<◌, ◌≤◌, List, [], ◌∷◌, ◌++◌, Option, Some, None, length, take, get_or, set, refl, sym, ap, ◌∙◌, arith, append_assoc}
 use Rattle.std.specs.Prelude.{All, slice_get, is_some, IsSome, ◌≢◌, ◌⊎◌}
 use Rattle.std.specs.Str.{bytes_eq}
 use Rattle.std.proofs.Common.{subst, inl, inr, true, false, ◌↔◌, length-append, length-take, slice_index_or}
@@ -177,6 +177,11 @@ pub faultless_local : (d : Declared) (opened : OpenCompound) (name word : List �
 faultless_local d opened name word kind fresh named fits =
     (λ there. false≢true (sym fresh ∙ there), (λ none. none kind named, (λ wrong. wrong, (fits, tt))))
 
+-- whether the name is there, by what a call found
+pub name_found : (names : List (List ℕ)) (word name : List ℕ) (found : Option ℕ) (b : Bool) → found ≡ place_of_name names word → word ≡ name → is_some found ≡ b →
+    is_some (place_of_name names name) ≡ b
+name_found names word name found b is same there = sym (ap (λ (w : List ℕ). is_some (place_of_name names w)) same) ∙ sym (ap is_some is) ∙ there
+
 pub local_duplicate : (d : Declared) (opened : OpenCompound) (name word : List ℕ) → is_some (place_of_name opened.names name) ≡ true →
     IsToldOf (Inside d opened) (Local name word) DuplicateName
 local_duplicate d opened name word there = inr (Duplicate, inl (refl, there), refl)
@@ -265,6 +270,12 @@ pub length-parameters : (words : List (List ℕ)) → length (parameter_names wo
 length-parameters [] = refl
 length-parameters (name ∷ []) = refl
 length-parameters (name ∷ kind ∷ words) = ap suc (length-parameters words)
+
+-- with these names and no lines, it has begun
+pub begun_where : {A : Type 0} (opened : OpenCompoundType A) (name : List ℕ) (names : List (List ℕ)) →
+    string_bytes opened.name ≡ name → opened.names ≡ names → steps_of opened.compound.steps.items ≡ [] →
+    open_of opened ≡ begun name names opened.compound.parameters.items
+begun_where opened name names named all none = rw (named, all, none) refl
 
 pub begun_open : {A : Type 0} (d : Declared) (name : List ℕ) (parameters : List (List ℕ)) (opened : OpenCompoundType A) → IsBegun d name parameters opened →
     callable_named d name ≡ None → (prelude_compounds + most_compounds ≤ length d.compounds → ⊥) → length (parameter_names parameters) ≤ most_parameters → IsOpen d opened

@@ -176,6 +176,23 @@ pub well_with_user_or_not : {U E : Type 0} (d : Declared) (name : List ℕ) (use
 well_with_user_or_not d name users (Ok u) well room ok err = rw ok (well_with_user d name well room)
 well_with_user_or_not d name users (Err e) well room ok err = rw err well
 
+-- what holds before two additions and after both holds whether they were made or not
+pub added_or_not : {U E S T : Type 0} (P : S → T → Type 0) {old new more : S} {old' new' more' : T} (r : Result U E) →
+    OnOk r (new ≡ more) → OnOk r (new' ≡ more') → OnErr r (new ≡ old) → OnErr r (new' ≡ old') → P old old' → P more more' → P new new'
+added_or_not P (Ok u) ok ok' err err' before after = rw (ok, ok') after
+added_or_not P (Err e) ok ok' err err' before after = rw (err, err') before
+
+-- what is made of both has become what is made of their additions, or stays
+pub added_to : {U E S T V : Type 0} (made : S → T → V) (new more : S) (new' more' : T) (all : V) (r : Result U E) →
+    OnOk r (new ≡ more) → OnOk r (new' ≡ more') → made more more' ≡ all → OnOk r (made new new' ≡ all)
+added_to made new more new' more' all (Ok u) ok ok' is = rw (ok, ok') is
+added_to made new more new' more' all (Err e) ok ok' is = tt
+
+pub not_added_to : {U E S T V : Type 0} (made : S → T → V) (new old : S) (new' old' : T) (r : Result U E) →
+    OnErr r (new ≡ old) → OnErr r (new' ≡ old') → OnErr r (made new new' ≡ made old old')
+not_added_to made new old new' old' (Ok u) err err' = tt
+not_added_to made new old new' old' (Err e) err err' = rw (err, err') refl
+
 -- and with one more compound, which was open
 pub well_with_compound : (d : Declared) (name : List ℕ) (compound : Compound) → IsWellDeclared d → length d.compounds < prelude_compounds + most_compounds →
     length compound.parameters ≤ most_parameters → AreSteps d.procedures d.compounds compound.parameters compound.steps →

@@ -18,5 +18,6 @@ pub mod ParameterLemmas
 pub mod Places
 pub mod PreludeLaw
 pub mod PreludeLemmas
+pub mod SetFaults
 pub mod SetLemmas
 pub mod VersionLemmas

@@ -1,9 +1,10 @@
 -- The parameters of a compound: alternating names and kinds.
-use Rattle.std.proofs.Common.{◌≡◌, ◌↔◌, ℕ, refl, sym, ap, ◌∙◌, true, false, List, [], ◌∷◌, ◌++◌, Option, None, Some, Bool, ◌&&◌, append_assoc}
+use Rattle.std.proofs.Common.{◌≡◌, ◌↔◌, ℕ, refl, sym, ap, ◌∙◌, true, false, List, [], ◌∷◌, ◌++◌, Option, None, Some, Bool, ◌&&◌, append_assoc, subst, Result, Ok, Err}
 use Rattle.std.proofs.lemmas.Bool.{false≢true}
 use Rattle.pw_info.specs.Name.{is_name}
+use Rattle.pw_info.specs.Words.{is_nil}
 use Rattle.pw_decl.specs.inside.Forms.{are_parameters}
-use Rattle.std.specs.Prelude.{IfSome, IsSome, is_some}
+use Rattle.std.specs.Prelude.{IfSome, IfErr, IsSome, OnOk, is_some}
 use Rattle.pw_info.specs.declared.kind.Kind.{Kind}
 use Rattle.pw_decl.specs.Declaration.{Declared, NamesKind, NameKinds}
 
@@ -35,9 +36,8 @@ chosen_more d word words all kind kinds more named is chosen rest others =
     rw (is, append_assoc kinds (kind ∷ []) rest) (chosen (kind ∷ rest) (named, others))
 
 -- the names so far and the remaining ones are all, also with one more
-pub names_more : (all names more rest : List (List ℕ)) (word name : List ℕ) → all ≡ names ++ word ∷ rest → more ≡ names ++ name ∷ [] → name ≡ word →
-    all ≡ more ++ rest
-names_more all names more rest word name is added same = rw (added, append_assoc names (name ∷ []) rest, same) is
+pub names_more : (all names more rest : List (List ℕ)) (name : List ℕ) → all ≡ names ++ name ∷ rest → more ≡ names ++ name ∷ [] → all ≡ more ++ rest
+names_more all names more rest name is added = rw (added, append_assoc names (name ∷ []) rest) is
 
 -- two lists that are the same stay so with one more
 pub both_more : (olds twins news others : List Kind) (kind : Kind) → olds ≡ twins → news ≡ olds ++ kind ∷ [] → others ≡ twins ++ kind ∷ [] → news ≡ others
@@ -66,3 +66,16 @@ none_where (Some x) p absent is = absurd (cc)
 pub none_there : {X : Type 0} (o : Option X) → (IsSome o → ⊥) → o ≡ None
 none_there None none = refl
 none_there (Some x) none = absurd (none refl)
+
+-- words that are none, by what a test found
+pub nil_where : (words : List (List ℕ)) → is_nil words ≡ true → words ≡ []
+nil_where [] there = refl
+nil_where (word ∷ words) there = absurd (false≢true there)
+
+-- ---- what a clause says about a result that is known
+
+pub at_ok : {U E P : Type 0} (r s : Result U E) (u : U) → s ≡ r → s ≡ Ok u → OnOk r P → P
+at_ok {U} {E} {P} r s u same is ok = subst (λ (r : Result U E). OnOk r P) (sym same ∙ is) ok
+
+pub at_err : {U E : Type 0} (P : E → Type 0) (r s : Result U E) (e : E) → s ≡ r → s ≡ Err e → IfErr r P → P e
+at_err {U} {E} P r s e same is err = subst (λ (r : Result U E). IfErr r P) (sym same ∙ is) err

@@ -1,5 +1,5 @@
 //! The lines that begin, fill and end a compound.
-ghost use Rattle.std.specs.Prelude.{◌≡◌, ◌≢◌, ◌↔◌, ◌≤◌, ◌+◌, ◌<◌, List, [], None};
+ghost use Rattle.std.specs.Prelude.{◌≡◌, ◌≢◌, ◌↔◌, ◌≤◌, ◌+◌, ◌<◌, ◌++◌, ◌∷◌, ℕ, List, [], None};
 ghost use Rattle.std.specs.Prelude.{true, length, min, is_some, IsTrue, IfOk, IfErr, IfNone};
 ghost use Rattle.std.specs.Prelude.{IfSome, OnOk, OnErr};
 ghost use Rattle.std.specs.List.{list_all, list_any, filter_map, IsDistinct};
@@ -9,17 +9,18 @@ ghost use Rattle.pw_procs.specs.Registry.{cells_of};
 ghost use Rattle.pw_procs.specs.Registering.{place_of_name};
 ghost use Rattle.pw_procs.specs.inside.Shapes.{most_arguments};
 ghost use Rattle.pw_decl.specs.Compound.{sum_of_sizes, no_size, size_of_local, IsTooLarge};
-ghost use Rattle.pw_decl.specs.Declaration.{Begin, Local, Call};
-ghost use Rattle.pw_decl.specs.Declaration.{NameKinds, with_call, with_compound, with_local};
+ghost use Rattle.pw_decl.specs.Declaration.{Begin, Local, Call, begun, callable_named};
+ghost use Rattle.pw_decl.specs.Declaration.{NameKinds, NamesKind, with_call, with_compound, with_local};
 ghost use Rattle.pw_decl.specs.Declaration.{parameter_kinds, parameter_names};
-ghost use Rattle.pw_decl.specs.Limits.{most_inner_cells, most_parameters};
+ghost use Rattle.pw_decl.specs.Limits.{most_compounds, most_inner_cells, most_parameters};
+ghost use Rattle.pw_decl.specs.Prelude.{prelude_compounds};
 ghost use Rattle.pw_decl.specs.inside.Fields.{declared};
 ghost use Rattle.pw_decl.specs.inside.Fields.{outside, inside};
 ghost use Rattle.pw_decl.specs.inside.Held.{size_of};
 ghost use Rattle.pw_decl.specs.inside.Opened.{IsBegun, IsGrown, IsOpen, open_of};
 ghost use Rattle.pw_decl.specs.inside.Forms.{are_parameters};
 ghost use Rattle.pw_decl.specs.WellDeclared.{IsSmall};
-ghost use Rattle.pw_decl.specs.inside.SentenceFaults.{DeclaresSentence, IsToldOf};
+ghost use Rattle.pw_decl.specs.inside.SentenceFaults.{DeclaresSentence, IsFaultless, IsToldOf};
 
 use crate::compound::{Compound, OpenCompound, Size};
 use crate::decl_fault::DeclFaultKind;
@@ -99,6 +100,73 @@ fn count_parameters(mut parameters: Words<'_>) -> usize
     count
 }
 
+// Begins a compound of this name, without parameters.
+fn begun_without<A: Allocator + Copy>(alloc: A, name: &str) -> Result<OpenCompound<A>, AllocError>
+    ensures begun { IfOk result (λ opened. open_of opened ≡ begun name.now [] []) }
+    ensures kinds { IfOk result (λ opened. opened.kinds.items ≡ []) }
+    ensures size { IfOk result (λ opened. size_of opened.compound.size ≡ no_size) }
+{
+    Ok(OpenCompound {
+        name: String::from_str(alloc, name)?,
+        names: NameTable::new(alloc),
+        kinds: Vec::new(alloc),
+        compound: Compound {
+            parameters: Vec::new(alloc),
+            steps: Vec::new(alloc),
+            size: Size {
+                instances: 0,
+                inner_cells: 0,
+            },
+        },
+    })
+}
+
+// Adds a parameter.
+fn add_parameter<A: Allocator + Copy>(
+    opened: &mut OpenCompound<A>,
+    name: &str,
+    kind: Kind,
+) -> Result<(), AllocError>
+    requires fresh { place_of_name opened.old.names name.now ≡ None }
+    ensures name { opened.new.name ≡ opened.old.name }
+    ensures names { OnOk result (opened.new.names ≡ opened.old.names ++ name.now ∷ []) }
+    ensures kinds { OnOk result (opened.new.kinds.items ≡ opened.old.kinds.items ++ kind ∷ []) }
+    ensures parameters { OnOk result (opened.new.compound.parameters.items
+        ≡ opened.old.compound.parameters.items ++ kind ∷ []) }
+    ensures steps { opened.new.compound.steps ≡ opened.old.compound.steps }
+    ensures size { opened.new.compound.size ≡ opened.old.compound.size }
+{
+    opened.names.add(name)?;
+    opened.kinds.push(kind)?;
+    opened.compound.parameters.push(kind)?;
+    Ok(())
+}
+
+// Takes the name and the kind of the next parameter, if there is one. The kinds of all are declared.
+fn next_parameter<'a, A: Allocator + Copy>(
+    declaration: &Declaration<'_, A>,
+    parameters: &mut Words<'a>,
+) -> Option<(&'a str, Kind)>
+    requires named { are_parameters parameters.old ≡ true }
+    requires known { (kinds : List KindOfCell)
+        × NameKinds (declared declaration.now) (parameter_kinds parameters.old) kinds }
+    ensures named { are_parameters parameters.new ≡ true }
+    ensures known { (kinds : List KindOfCell)
+        × NameKinds (declared declaration.now) (parameter_kinds parameters.new) kinds }
+    ensures some { IfSome result (λ next. (word : List ℕ) × (parameters.old
+        ≡ next.0.now ∷ word ∷ parameters.new) × NamesKind (declared declaration.now) word next.1) }
+    ensures none { IfNone result (parameters.old ≡ []) }
+{
+    let name = parameters.next()?;
+    let (Some(name), Some(kind)) = (read_name(name), parameters.next()) else {
+        unreachable!("the words are names and kinds in turn");
+    };
+    let Some(kind) = declaration.kind(kind) else {
+        unreachable!("the kinds are there");
+    };
+    Some((name, kind))
+}
+
 // Begins a compound. The names of its parameters differ, and their kinds are declared.
 fn begun_with<A: Allocator + Copy>(
     alloc: A,
@@ -113,31 +181,44 @@ fn begun_with<A: Allocator + Copy>(
     ensures begun { IfOk result (λ opened.
         IsBegun (declared declaration.now) name.now parameters.entry opened) }
 {
-    let mut opened = OpenCompound {
-        name: String::from_str(alloc, name)?,
-        names: NameTable::new(alloc),
-        kinds: Vec::new(alloc),
-        compound: Compound {
-            parameters: Vec::new(alloc),
-            steps: Vec::new(alloc),
-            size: Size {
-                instances: 0,
-                inner_cells: 0,
-            },
-        },
-    };
-    while let Some(word) = parameters.next() {
-        let (Some(name), Some(kind)) = (read_name(word), parameters.next()) else {
-            unreachable!("the words are names and kinds in turn");
-        };
-        let Some(kind) = declaration.kind(kind) else {
-            unreachable!("the kinds are there");
-        };
-        opened.names.add(name)?;
-        opened.kinds.push(kind)?;
-        opened.compound.parameters.push(kind)?;
+    let mut opened = begun_without(alloc, name)?;
+    while let Some((name, kind)) = next_parameter(declaration, &mut parameters) {
+        add_parameter(&mut opened, name, kind)?;
     }
     Ok(opened)
+}
+
+// The first fault of a line that begins a compound of this name with these parameters.
+fn begin_fault<A: Allocator + Copy>(
+    declaration: &Declaration<'_, A>,
+    name: &str,
+    parameters: Words<'_>,
+) -> Option<DeclFaultKind>
+    ensures some { IfSome result (IsToldOf (outside declaration.now)
+        (Begin name.now parameters.entry)) }
+    ensures none { IfNone result (IsFaultless (outside declaration.now)
+        (Begin name.now parameters.entry)) }
+    ensures fresh { IfNone result (callable_named (declared declaration.now) name.now ≡ None) }
+    ensures distinct { IfNone result (IsDistinct bytes_eq (parameter_names parameters.entry)) }
+    ensures known { IfNone result ((kinds : List KindOfCell)
+        × NameKinds (declared declaration.now) (parameter_kinds parameters.entry) kinds) }
+    ensures room { IfNone result (length (declared declaration.now).compounds
+        < prelude_compounds + most_compounds) }
+    ensures few { IfNone result (length (parameter_names parameters.entry) ≤ most_parameters) }
+{
+    if declaration.callable(name.as_bytes()).is_some() || !parameters_differ(parameters.again()) {
+        return Some(DeclFaultKind::DuplicateName);
+    }
+    if !have_kinds(declaration, parameters.again()) {
+        return Some(DeclFaultKind::UnknownName);
+    }
+    if parameters.is_empty() {
+        return Some(DeclFaultKind::WrongArguments);
+    }
+    if declaration.is_full() || count_parameters(parameters.again()) > MOST_PARAMETERS {
+        return Some(DeclFaultKind::Limit);
+    }
+    None
 }
 
 /// Begins a compound of this name with these parameters, given as alternating names and kinds.
@@ -154,17 +235,8 @@ pub(crate) fn begin_compound<A: Allocator + Copy>(
     ensures err { IfErr result (IsToldOf (outside declaration.now)
         (Begin name.now parameters.entry)) }
 {
-    if declaration.callable(name.as_bytes()).is_some() || !parameters_differ(parameters.again()) {
-        return Err(DeclFaultKind::DuplicateName);
-    }
-    if !have_kinds(declaration, parameters.again()) {
-        return Err(DeclFaultKind::UnknownName);
-    }
-    if parameters.is_empty() {
-        return Err(DeclFaultKind::WrongArguments);
-    }
-    if declaration.is_full() || count_parameters(parameters.again()) > MOST_PARAMETERS {
-        return Err(DeclFaultKind::Limit);
+    if let Some(why) = begin_fault(declaration, name, parameters.again()) {
+        return Err(why);
     }
     match begun_with(alloc, declaration, name, parameters) {
         Ok(opened) => Ok(opened),

@@ -139,16 +139,17 @@ fn declare_outside<A: Allocator + Copy>(
     ensures well { IfOk result (λ place. IsWellPlaced (declared declaration.new) place) }
     ensures err { IfErr result (IsToldOf (outside declaration.old) (outer_in sentence.entry)) }
 {
-    match sentence {
-        OuterSentence::User { name } => declare_user(declaration, name)?,
-        OuterSentence::Premise { name } => declare_premise(declaration, name)?,
-        OuterSentence::PremiseOf { name, user } => declare_premise_of(declaration, name, user)?,
-        OuterSentence::Set { name, members } => declare_set(alloc, declaration, name, members)?,
-        OuterSentence::Cell { name, kind } => declare_cell(declaration, name, kind)?,
+    let done = match sentence {
+        OuterSentence::User { name } => declare_user(declaration, name),
+        OuterSentence::Premise { name } => declare_premise(declaration, name),
+        OuterSentence::PremiseOf { name, user } => declare_premise_of(declaration, name, user),
+        OuterSentence::Set { name, members } => declare_set(alloc, declaration, name, members),
+        OuterSentence::Cell { name, kind } => declare_cell(declaration, name, kind),
         OuterSentence::Compound { name, parameters } => {
             return Ok(Place::Inside(begin_compound(alloc, declaration, name, parameters)?));
         }
-    }
+    };
+    done?;
     Ok(Place::Outside)
 }
 
@@ -167,19 +168,20 @@ fn declare_inside<A: Allocator + Copy>(
     ensures err { IfErr result (IsToldOf (inside declaration.old opened)
         (inner_in sentence.entry)) }
 {
-    match sentence {
-        InnerSentence::Local { name, kind } => declare_local(declaration, &mut opened, name, kind)?,
+    let done = match sentence {
+        InnerSentence::Local { name, kind } => declare_local(declaration, &mut opened, name, kind),
         InnerSentence::Call {
             callable,
             arguments,
-        } => { declare_call(declaration, &mut opened, callable, arguments)? }
+        } => declare_call(declaration, &mut opened, callable, arguments),
         InnerSentence::End => {
             return match end_compound(alloc, declaration, opened) {
                 Ok(()) => Ok(Place::Outside),
                 Err(_) => Err(DeclFaultKind::Memory),
             };
         }
-    }
+    };
+    done?;
     Ok(Place::Inside(opened))
 }
 

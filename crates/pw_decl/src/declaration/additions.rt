@@ -52,6 +52,90 @@ fn add_compound_name<A: Allocator + Copy>(
     Ok(())
 }
 
+// Adds a compound and its flattened form, for both of which there is room.
+fn push_compound<A: Allocator + Copy>(
+    compounds: &mut Vec<Compound<A>, A>,
+    compound: Compound<A>,
+    all_flattened: &mut Vec<Flattened<A>, A>,
+    flattened: Flattened<A>,
+)
+    requires room { vec_len compounds.old < vec_capacity compounds.old }
+    requires room_flattened { vec_len all_flattened.old < vec_capacity all_flattened.old }
+    ensures compounds { compounds.new.items ≡ compounds.old.items ++ compound ∷ [] }
+    ensures flattened { all_flattened.new.items ≡ all_flattened.old.items ++ flattened ∷ [] }
+{
+    compounds.push(compound).unwrap();
+    all_flattened.push(flattened).unwrap();
+}
+
+// What a compound that ends leaves: its name, and what it holds. Drops the rest.
+fn ended<A: Allocator + Copy>(opened: OpenCompound<A>) -> (String<A>, Compound<A>)
+    ensures name { result.0 ≡ opened.name }
+    ensures compound { result.1 ≡ opened.compound }
+{
+    (opened.name, opened.compound)
+}
+
+// Adds the name of a compound, the compound and its flattened form. If it fails, nothing is added.
+fn add_ended<A: Allocator + Copy>(
+    names: &mut NameTable<A>,
+    name: &str,
+    compounds: &mut Vec<Compound<A>, A>,
+    compound: Compound<A>,
+    all_flattened: &mut Vec<Flattened<A>, A>,
+    flattened: Flattened<A>,
+) -> Result<(), AllocError>
+    requires { place_of_name names.old name.now ≡ None }
+    ensures name { OnOk result (names.new ≡ names.old ++ name.now ∷ []) }
+    ensures compound { OnOk result (compounds.new.items ≡ compounds.old.items ++ compound ∷ []) }
+    ensures flattened { OnOk result (all_flattened.new.items
+        ≡ all_flattened.old.items ++ flattened ∷ []) }
+    ensures no_name { OnErr result (names.new ≡ names.old) }
+    ensures no_compound { OnErr result (compounds.new.items ≡ compounds.old.items) }
+    ensures no_flattened { OnErr result (all_flattened.new.items ≡ all_flattened.old.items) }
+{
+    add_compound_name(names, name, compounds, all_flattened)?;
+    push_compound(compounds, compound, all_flattened, flattened);
+    Ok(())
+}
+
+// Adds a name, and what belongs to it. If it fails, nothing is added.
+fn add_named<T: Drop, A: Allocator + Copy>(
+    names: &mut NameTable<A>,
+    name: &str,
+    items: &mut Vec<T, A>,
+    item: T,
+) -> Result<(), AllocError>
+    requires { place_of_name names.old name.now ≡ None }
+    ensures name { OnOk result (names.new ≡ names.old ++ name.now ∷ []) }
+    ensures item { OnOk result (items.new.items ≡ items.old.items ++ item ∷ []) }
+    ensures no_name { OnErr result (names.new ≡ names.old) }
+    ensures no_item { OnErr result (items.new.items ≡ items.old.items) }
+{
+    items.reserve(1)?;
+    names.add(name)?;
+    items.push(item).unwrap();
+    Ok(())
+}
+
+// Adds the name of a set kind, and makes room for the names of its members. If it fails, no name is
+// added.
+fn add_set_name<A: Allocator + Copy>(
+    names: &mut NameTable<A>,
+    name: &str,
+    sets: &mut Vec<NameTable<A>, A>,
+) -> Result<(), AllocError>
+    requires { place_of_name names.old name.now ≡ None }
+    ensures ok { OnOk result (names.new ≡ names.old ++ name.now ∷ []) }
+    ensures err { OnErr result (names.new ≡ names.old) }
+    ensures sets { sets.new.items ≡ sets.old.items }
+    ensures room { OnOk result (vec_len sets.new < vec_capacity sets.new) }
+{
+    sets.reserve(1)?;
+    names.add(name)?;
+    Ok(())
+}
+
 impl<A: Allocator + Copy> Declaration<'_, A> {
     ghost use Rattle.pw_decl.specs.inside.Fields.{declared};
 
@@ -140,9 +224,7 @@ impl<A: Allocator + Copy> Declaration<'_, A> {
             (declared self.old) name.now owner) }
         ensures err { OnErr result ((declared self.new) ≡ (declared self.old)) }
     {
-        self.owners.reserve(1)?;
-        self.premises.add(name)?;
-        self.owners.push(owner).unwrap();
+        add_named(&mut self.premises, name, &mut self.owners, owner)?;
         Ok(())
     }
 
@@ -155,9 +237,7 @@ impl<A: Allocator + Copy> Declaration<'_, A> {
             (declared self.old) name.now kind) }
         ensures err { OnErr result ((declared self.new) ≡ (declared self.old)) }
     {
-        self.kinds.reserve(1)?;
-        self.cells.add(name)?;
-        self.kinds.push(kind).unwrap();
+        add_named(&mut self.cells, name, &mut self.kinds, kind)?;
         Ok(())
     }
 
@@ -172,8 +252,7 @@ impl<A: Allocator + Copy> Declaration<'_, A> {
             (declared self.old) name.now members) }
         ensures err { OnErr result ((declared self.new) ≡ (declared self.old)) }
     {
-        self.sets.reserve(1)?;
-        self.set_names.add(name)?;
+        add_set_name(&mut self.set_names, name, &mut self.sets)?;
         self.sets.push(members).unwrap();
         Ok(())
     }
@@ -192,15 +271,14 @@ impl<A: Allocator + Copy> Declaration<'_, A> {
             (open_of opened).name (open_of opened).compound) }
         ensures err { OnErr result ((declared self.new) ≡ (declared self.old)) }
     {
-        let name = opened.name.as_str();
-        add_compound_name(
+        let (name, compound) = ended(opened);
+        add_ended(
             &mut self.compound_names,
-            name,
+            name.as_str(),
             &mut self.compounds,
+            compound,
             &mut self.flattened,
-        )?;
-        self.compounds.push(opened.compound).unwrap();
-        self.flattened.push(flattened).unwrap();
-        Ok(())
+            flattened,
+        )
     }
 }

@@ -4,13 +4,13 @@ use Rattle.pw_info.specs.declared.kind.Kind.{Kind}
 use Rattle.pw_decl.specs.Compound.{no_size}
 use Rattle.pw_decl.specs.Declaration.{NameKinds, parameter_kinds, parameter_names}
 use Rattle.pw_decl.specs.inside.Fields.{declared}
-use Rattle.pw_decl.specs.inside.Held.{size_of}
+use Rattle.pw_decl.specs.inside.Held.{size_of, steps_of}
 use Rattle.pw_decl.specs.inside.Forms.{are_parameters}
 use Rattle.pw_decl.proofs.compound_line.begun_with.Given as goal
 
 -- those that were added and the remaining ones are all, in order
-abbrev pub invariant-loop-word : goal.invariant-loop-word
-invariant-loop-word g l = record {
+abbrev pub invariant-loop-name : goal.invariant-loop-name
+invariant-loop-name g l = record {
   named : are_parameters l.parameters ≡ true;
   names : parameter_names l.fn.parameters ≡ l.opened.names ++ parameter_names l.parameters;
   known : (kinds : List Kind) × NameKinds (declared l.declaration) (parameter_kinds l.parameters) kinds;
@@ -18,9 +18,9 @@ invariant-loop-word g l = record {
       → NameKinds (declared l.declaration) (parameter_kinds l.fn.parameters) (l.opened.compound.parameters.items ++ rest);
   kinds : l.opened.kinds.items ≡ l.opened.compound.parameters.items;
   name : string_bytes l.opened.name ≡ l.name;
-  steps : l.opened.compound.steps.items ≡ [];
+  steps : steps_of l.opened.compound.steps.items ≡ [];
   size : size_of l.opened.compound.size ≡ no_size;
 }
 
-abbrev pub decreases-loop-word : goal.decreases-loop-word
-decreases-loop-word g l = length l.parameters
+abbrev pub decreases-loop-name : goal.decreases-loop-name
+decreases-loop-name g l = length l.parameters

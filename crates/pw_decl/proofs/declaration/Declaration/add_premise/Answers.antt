@@ -1,8 +1,11 @@
-use Rattle.std.proofs.Common.{◌≡◌, ◌++◌, ◌∷◌, [], rules}
-use Rattle.pw_decl.proofs.DeclaredLemmas.{well_with_premise}
+use Rattle.pw_decl.specs.WellDeclared.{IsWellDeclared}
+use Rattle.pw_decl.specs.inside.Fields.{declared}
+use Rattle.pw_decl.proofs.DeclaredLemmas.{added_or_not, well_with_premise}
 use Rattle.pw_decl.proofs.declaration.Declaration.add_premise.Goals as goal
 
-pub invariant_of-self-2-clause-well : goal.invariant_of-self-2-clause-well
-invariant_of-self-2-clause-well g c =
-    let pushed : c.push.new.self.items ≡ c.args.self.now.owners.items ++ c.args.owner ∷ [] = search rules in
-    rw (c.in_ok-add.ensures.ok, pushed) (well_with_premise _ c.args.name.now c.args.owner c.args.self.now.well c.requires.room c.requires.user)
+pub invariant_of-self-clause-well : goal.invariant_of-self-clause-well
+invariant_of-self-clause-well g c =
+    let d = declared c.args.self.now in
+    let added = c.add_named.ensures in
+    added_or_not (λ names owners. IsWellDeclared (record d { premises = names; owners = owners })) c.add_named.result added.name added.item added.no_name added.no_item
+    c.args.self.now.well (well_with_premise d c.args.name.now c.args.owner c.args.self.now.well c.requires.room c.requires.user)
