@@ -12,7 +12,7 @@ use Rattle.pw_cells.specs.Arrivals.{IsAccounted, mark_of}
 use Rattle.pw_cells.specs.Cells.{Cell, Store, kept_in, kinds_of}
 use Rattle.pw_network.specs.Network.{Network, IsWellNetwork}
 use Rattle.pw_settle.specs.Calls.{visible_at}
-use Rattle.pw_settle.specs.Growth.{CanContinue, HasValues, IsFitting, IsInterrupted, IsUpToDate, KeepsMore}
+use Rattle.pw_settle.specs.Growth.{CanContinue, HasValues, IsInterrupted, IsUpToDate, KeepsMore}
 use Rattle.pw_settle.specs.Settled.{Settled, info_at}
 use Rattle.pw_settle.specs.Values.{kinds_in, numbered}
 use Rattle.pw_settle.specs.inside.Due.{AreDue, IsDue, is_new}

@@ -11,10 +11,10 @@ ghost use Rattle.pw_settle.specs.inside.Aside.{AreGrownTo, CanStart};
 ghost use Rattle.pw_settle.specs.inside.Progress.{is_set};
 
 use crate::agenda::Agenda;
+use crate::calling_aside::settle_aside_from;
 use crate::known::{Known, take_in_kept};
 use crate::settled::Settled;
 use crate::settling::queue_readers;
-use crate::settling_aside::work_aside;
 use pw_cells::CellStore;
 use pw_network::Network;
 use pw_premises::PremiseSet;
@@ -179,7 +179,7 @@ pub(crate) fn grow_aside<A: Allocator + Copy>(
     ensures unchanged { store.new ≡ store.old }
 {
     let (visible, mut agenda) = seen_anew(alloc, network, before.worldview(), worldview)?;
-    let mut known = grown_values(
+    let known = grown_values(
         alloc,
         before,
         network,
@@ -188,12 +188,5 @@ pub(crate) fn grow_aside<A: Allocator + Copy>(
         &visible,
         &mut agenda,
     )?;
-    let calls = work_aside(network, store, worldview, &mut known, &visible, agenda)?;
-    Ok(Settled {
-        known,
-        worldview: *worldview,
-        instances: network.instances().len(),
-        calls,
-        mark: 0,
-    })
+    settle_aside_from(network, store, worldview, known, &visible, agenda)
 }

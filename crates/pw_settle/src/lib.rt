@@ -2,6 +2,7 @@
 #![tactic(auto)]
 
 mod agenda;
+mod calling_aside;
 mod growing_aside;
 mod known;
 pub mod laws;

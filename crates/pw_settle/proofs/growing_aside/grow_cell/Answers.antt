@@ -1,9 +1,13 @@
-use Rattle.std.proofs.Common.{◌≡◌, ◌+◌, ◌++◌, List, drop, length, take, sym, ap, ◌∙◌, subst}
+use Rattle.std.proofs.Common.{◌≡◌, ◌+◌, ◌++◌, List, drop, length, take, sym, ap, ◌∙◌, subst, arith}
+use Rattle.std.proofs.lemmas.List.{length-map}
 use Rattle.pw_info.specs.declared.info.Info.{Info}
+use Rattle.pw_cells.specs.Cells.{Cell}
 use Rattle.pw_network.specs.Wiring.{wiring}
+use Rattle.pw_settle.specs.Calls.{is_instance_visible}
 use Rattle.pw_settle.specs.inside.Aside.{AreGrownTo}
-use Rattle.pw_settle.specs.inside.Known.{TakesInKept}
+use Rattle.pw_settle.specs.inside.Known.{IsAtHandFor, TakesInKept}
 use Rattle.pw_settle.proofs.AsideGrowth.{as_long, grown_news, grown_none, grown_unshown}
+use Rattle.pw_settle.proofs.KeptFacts.{kind_there}
 use Rattle.pw_settle.proofs.SourceLists.{came_back}
 use Rattle.pw_settle.proofs.growing_aside.grow_cell.Goals as goal
 
@@ -48,3 +52,26 @@ returns-clause-grown g c =
     (grown_news network c.args.network.now.well c.args.store.now c.requires.kinds c.requires.sound c.args.earlier.now c.args.worldview.now c.args.cell c.requires.cell
     known c.args.known.now.supports c.args.agenda.now c.requires.grown c.in_ok-is_news.is_news now c.take_in_kept.new.supports taken
     c.if-not-is_news.false c.args.visible.now c.queue_readers.new.agenda c.requires.visible c.queue_readers.ensures.readers)
+
+pub take_in_kept-requires : goal.take_in_kept-requires
+take_in_kept-requires g c =
+    subst (λ (l : List Info). IsAtHandFor c.args.store.now c.args.cell l c.args.known.now.supports) (sym c.deref_mut.ensures.value)
+    (record {
+      exists = c.requires.cell;
+      there = omega (
+        arith,
+        c.requires.cell,
+        c.requires.grown.many,
+        ap length c.requires.kinds,
+        length-map c.args.store.now.cells (λ (x : Cell). x.kind),
+      );
+      as_many = c.requires.grown.as_many;
+      kind = (c.requires.grown.each c.args.cell).kind ∙ sym (kind_there (wiring c.args.network.now) c.args.store.now c.requires.kinds c.args.cell);
+    })
+
+pub queue_readers-requires-clause-flags : goal.queue_readers-requires-clause-flags
+queue_readers-requires-clause-flags g c = c.requires.grown.flags
+
+pub queue_readers-requires-clause-all : goal.queue_readers-requires-clause-all
+queue_readers-requires-clause-all g c =
+    ap length c.requires.visible ∙ length-map (wiring c.args.network.now).attached (is_instance_visible c.args.worldview.now)

@@ -1,12 +1,12 @@
 use Rattle.std.proofs.Common.{◌≡◌, ◌+◌, ◌<◌, ◌≤◌, ◌++◌, ◌∷◌, [], List, All, get_or, length, map, take, sym, subst, ap, ◌∙◌, arith}
 use Rattle.std.specs.FinSet.{is_subset}
-use Rattle.std.proofs.lemmas.List.{length-map, map_push, take_more}
+use Rattle.std.proofs.lemmas.List.{length-map, map_push, take_all, take_more}
 use Rattle.pw_premises.specs.Premises.{Premises}
 use Rattle.pw_network.specs.inside.Held.{attachment}
 use Rattle.pw_network.specs.Network.{Attached, HaveSupportsByLine}
 use Rattle.pw_network.specs.Wiring.{wiring}
 use Rattle.pw_settle.specs.Calls.{is_instance_visible, visible_at}
-use Rattle.pw_settle.proofs.AsideGrowth.{AreNewTo, new_before, new_hidden, new_none, new_queued}
+use Rattle.pw_settle.proofs.AsideGrowth.{AreNewTo, all_new, new_before, new_hidden, new_none, new_queued}
 use Rattle.pw_settle.proofs.KeptProgress.{visible_no}
 use Rattle.pw_settle.proofs.NewInstances.{item_is}
 use Rattle.pw_settle.proofs.SeenLines.{IsFlagged, flag_of_item, flag_of_line, lines_of_items, none_flagged}
@@ -86,3 +86,21 @@ loop-number-preserved g c =
       flag = known.1;
       was_flag = known.2;
     }
+
+pub returns-clause-visible : goal.returns-clause-visible
+returns-clause-visible g c =
+    let long = length-map c.instances-instances.result.now attachment in
+    let many = ap length c.instances-instances.ensures.instances in
+    c.loop-number.invariant.items
+    ∙ ap (map (is_instance_visible c.args.worldview.now))
+    (take_all c.loop-number.number (wiring c.args.network.now).attached (omega (arith, c.loop-number-test.false, long, many)))
+
+pub returns-clause-flags : goal.returns-clause-flags
+returns-clause-flags g c = c.loop-number.invariant.new.flags
+
+pub returns-clause-new : goal.returns-clause-new
+returns-clause-new g c =
+    let long = length-map c.instances-instances.result.now attachment in
+    let many = ap length c.instances-instances.ensures.instances in
+    all_new (wiring c.args.network.now) c.args.earlier.now c.args.worldview.now c.loop-number.number c.loop-number.agenda c.loop-number.invariant.new
+    (omega (arith, c.loop-number-test.false, long, many))

@@ -1,11 +1,14 @@
 use Rattle.std.proofs.Common.{◌≡◌, ◌<◌, ℕ, List, length, get_or, map, sym, ap, subst, ◌∙◌, arith}
-use Rattle.std.specs.Prelude.{All}
+use Rattle.std.specs.Prelude.{All, IfNone, None, Option, Some}
 use Rattle.std.proofs.lemmas.List.{length-map}
 use Rattle.pw_info.specs.declared.info.Info.{Info}
-use Rattle.pw_info.specs.Information.{kind_of}
+use Rattle.pw_info.specs.Information.{kind_of, Implies}
 use Rattle.pw_settle.specs.Settled.{info_at}
+use Rattle.pw_procs.specs.Procedure.{Procedure}
 use Rattle.pw_procs.specs.Registry.{procedures_in}
 use Rattle.pw_network.specs.inside.Held.{attachment}
+use Rattle.pw_network.specs.Network.{Attached}
+use Rattle.pw_settle.specs.inside.Known.{Gives, GivesNone}
 use Rattle.pw_settle.proofs.NewsLemmas.{news_given}
 use Rattle.pw_settle.proofs.PlacedInstances.{one_given, two_given}
 use Rattle.pw_settle.proofs.propagating.news_on.Goals as goal
@@ -53,3 +56,23 @@ returns-in-len2-clause-news g c =
     news_given (procedures_in c.args.registry.now) c.args.known.now (attachment c.args.instance.now) c.procedure_value-info-in-len2.result
     c.procedure_value-info-in-len2.ensures.says c.procedure_value-info-in-len2.ensures.kind c.unless_known-in-len2.result
     c.unless_known-in-len2.ensures.some c.unless_known-in-len2.ensures.news
+
+-- what it gave is no news where it was known
+none_given : (procedures : List Procedure) (known : List Info) (a : Attached) (info : Info) → Gives procedures known a info →
+    (found : Option Info) → IfNone found (Implies (info_at known a.instance.output) info) → IfNone found (GivesNone procedures known a)
+none_given procedures known a info gives (Some news) said = said
+none_given procedures known a info gives None said = record {
+  info = info;
+  gives = gives;
+  said = said;
+}
+
+pub returns-in-len1-clause-none : goal.returns-in-len1-clause-none
+returns-in-len1-clause-none g c =
+    none_given (procedures_in c.args.registry.now) c.args.known.now (attachment c.args.instance.now) c.procedure_value-info.result
+    c.procedure_value-info.ensures.says c.unless_known.result c.unless_known.ensures.none
+
+pub returns-in-len2-clause-none : goal.returns-in-len2-clause-none
+returns-in-len2-clause-none g c =
+    none_given (procedures_in c.args.registry.now) c.args.known.now (attachment c.args.instance.now) c.procedure_value-info-in-len2.result
+    c.procedure_value-info-in-len2.ensures.says c.unless_known-in-len2.result c.unless_known-in-len2.ensures.none

@@ -1,10 +1,11 @@
-use Rattle.std.proofs.Common.{◌≡◌, ◌+◌, ◌≤◌, ℕ, Bool, List, length, map, take, sym, ap, ◌∙◌, subst, arith}
+use Rattle.std.proofs.Common.{◌≡◌, ◌+◌, ◌≤◌, ℕ, Bool, List, length, map, take, refl, sym, ap, ◌∙◌, subst, arith}
 use Rattle.std.proofs.lemmas.List.{length-map}
 use Rattle.pw_info.specs.declared.info.Info.{Info}
 use Rattle.pw_premises.specs.Premises.{Premises}
 use Rattle.pw_premises.specs.PremiseSubsets.{is_subset_refl}
-use Rattle.pw_cells.specs.Cells.{Store}
+use Rattle.pw_cells.specs.Cells.{Store, kinds_of}
 use Rattle.pw_cells.proofs.Stores.{OnErr_always}
+use Rattle.pw_network.specs.Network.{cells_in}
 use Rattle.pw_network.specs.Wiring.{wiring}
 use Rattle.pw_network.specs.inside.Held.{attachment}
 use Rattle.pw_settle.specs.Calls.{gains, is_instance_visible}
@@ -16,9 +17,11 @@ use Rattle.pw_settle.specs.inside.Known.{AreKept, AreUpstream, SaysTold, WereKep
 use Rattle.pw_settle.specs.inside.Progress.{AreMet, CallsNoMore, tally}
 use Rattle.pw_settle.specs.inside.Since.{IsAtHand, IsBehind, LieUpstreamAfter, QueuesChanged}
 use Rattle.pw_settle.proofs.FittingValues.{satisfied_but_due}
+use Rattle.pw_settle.proofs.Growing.{keeps_more_same}
 use Rattle.pw_settle.proofs.InPlace.{due_since, read_at_hand, read_upstream, told_at_hand}
 use Rattle.pw_settle.proofs.RefusedSettlings.{as_many_cells, known_since, refused_calls, refused_news, values_found}
 use Rattle.pw_settle.proofs.SettledStores.{calls_by_gains, kept_settled}
+use Rattle.pw_settle.proofs.StoreCells.{cells_kept}
 use Rattle.pw_settle.proofs.resettling_since.resettle_since.Given as given
 use Rattle.pw_settle.proofs.resettling_since.resettle_since.Goals as goal
 use Rattle.pw_settle.proofs.resettling_since.resettle_since.Goals.{After-work-arg-3-1, In_ok-read_new_cells}
@@ -231,3 +234,125 @@ returns-clause-due g c within =
           (subst (λ (s : Store). CallsNoMore network c.values.inside.worldview s queued c.work.new.store calls) (store_then g e)
           c.in_ok-values-inside.ensures.most))),
     )
+
+-- ---- what the steps ask
+
+pub read_new_cells-requires-clause-cells : goal.read_new_cells-requires-clause-cells
+read_new_cells-requires-clause-cells g c =
+    omega (
+      arith,
+      subst (λ (s : Settled). length s.infos ≤ cells_in (wiring c.args.network.now)) (sym c.values.view_is) c.requires.fits.cells,
+      cells_kept (wiring c.args.network.now) c.args.store.now c.args.network.now.well c.requires.kinds,
+    )
+
+pub read_new_cells-requires-clause-as_many : goal.read_new_cells-requires-clause-as_many
+read_new_cells-requires-clause-as_many g c =
+    subst (λ (s : Settled). length s.supports ≡ length s.infos) (sym c.values.view_is) c.requires.continues.as_many
+
+pub queue_new_cells-requires-clause-cells : goal.queue_new_cells-requires-clause-cells
+queue_new_cells-requires-clause-cells g c =
+    ap length c.deref.ensures.value ∙ c.in_ok-read_new_cells.ensures.read.many
+    ∙ cells_kept (wiring c.args.network.now) c.args.store.now c.args.network.now.well c.requires.kinds
+
+pub queue_new_instances-requires-clause-flags : goal.queue_new_instances-requires-clause-flags
+queue_new_instances-requires-clause-flags g c =
+    c.in_ok-fit.ensures.many ∙ sym (length-map c.instances.result.now attachment) ∙ ap length c.instances.ensures.instances
+
+pub queue_new_instances-requires-clause-idle : goal.queue_new_instances-requires-clause-idle
+queue_new_instances-requires-clause-idle g c = c.in_ok-fit.ensures.idle
+
+pub queue_new_cells-requires-clause-flags : goal.queue_new_cells-requires-clause-flags
+queue_new_cells-requires-clause-flags g c = c.queue_new_instances.ensures.flags
+
+pub take_in_news-requires-clause-kinds : goal.take_in_news-requires-clause-kinds
+take_in_news-requires-clause-kinds g c = ap kinds_of c.read_new_cells.ensures.unchanged ∙ c.requires.kinds
+
+pub take_in_news-requires-clause-flags : goal.take_in_news-requires-clause-flags
+take_in_news-requires-clause-flags g c = c.queue_new_cells.ensures.flags ∙ c.queue_new_instances.ensures.flags
+
+pub work-requires-clause-kinds : goal.work-requires-clause-kinds
+work-requires-clause-kinds g c = ap kinds_of (store_then g c) ∙ c.requires.kinds
+
+pub work-requires-clause-kept : goal.work-requires-clause-kept
+work-requires-clause-kept g c =
+    subst (λ (s : Store). AreKept s c.values.inside.worldview c.take_in_news.new.known.infos.items c.take_in_news.new.known.supports)
+    (sym {A = Store} c.take_in_news.ensures.unchanged) c.in_ok-take_in_news.ensures.taken.kept
+
+pub work-requires-clause-flags : goal.work-requires-clause-flags
+work-requires-clause-flags g c =
+    c.in_ok-take_in_news.ensures.taken.queues.flags ∙ c.queue_new_cells.ensures.flags ∙ c.queue_new_instances.ensures.flags
+
+pub work-requires-clause-seen : goal.work-requires-clause-seen
+work-requires-clause-seen g c n flag = (((due_then g c).are n).0 flag).0
+
+-- ---- the store keeps no less
+
+pub returns-in_err-fit-clause-grows : goal.returns-in_err-fit-clause-grows
+returns-in_err-fit-clause-grows g c = keeps_more_same (wiring c.args.network.now) c.args.store.now
+
+pub returns-in_err-read_new_cells-clause-grows : goal.returns-in_err-read_new_cells-clause-grows
+returns-in_err-read_new_cells-clause-grows g c =
+    subst (KeepsMore (wiring c.args.network.now) c.args.store.now) (sym {A = Store} c.read_new_cells.ensures.unchanged)
+    (keeps_more_same (wiring c.args.network.now) c.args.store.now)
+
+pub returns-in_err-take_in_news-clause-grows : goal.returns-in_err-take_in_news-clause-grows
+returns-in_err-take_in_news-clause-grows g c =
+    subst (KeepsMore (wiring c.args.network.now) c.args.store.now)
+    (sym {A = Store} (c.take_in_news.ensures.unchanged ∙ c.read_new_cells.ensures.unchanged))
+    (keeps_more_same (wiring c.args.network.now) c.args.store.now)
+
+pub returns-in_err-values-inside-clause-grows : goal.returns-in_err-values-inside-clause-grows
+returns-in_err-values-inside-clause-grows g c =
+    grows_then g (goal.at.returns-in_err-values-inside-clause-grows g c).After-work-arg-3-1 c.work.new.store c.work.ensures.grows
+
+pub returns-clause-grows : goal.returns-clause-grows
+returns-clause-grows g c =
+    subst (KeepsMore (wiring c.args.network.now) c.args.store.now) (sym {A = Store} c.mark-values-inside.ensures.unchanged)
+    (grows_then g (goal.at.returns-clause-grows g c).After-work-arg-3-1 c.work.new.store c.work.ensures.grows)
+
+pub returns-in_err-read_new_cells-clause-upstream : goal.returns-in_err-read_new_cells-clause-upstream
+returns-in_err-read_new_cells-clause-upstream g c given rests lie =
+    subst (RestsUpstream (wiring c.args.network.now) given) (sym {A = Store} c.read_new_cells.ensures.unchanged) rests
+
+pub returns-in_err-take_in_news-clause-upstream : goal.returns-in_err-take_in_news-clause-upstream
+returns-in_err-take_in_news-clause-upstream g c given rests lie =
+    subst (RestsUpstream (wiring c.args.network.now) given)
+    (sym {A = Store} (c.take_in_news.ensures.unchanged ∙ c.read_new_cells.ensures.unchanged)) rests
+
+-- ---- nothing changed
+
+pub returns-in_err-fit-clause-refused : goal.returns-in_err-fit-clause-refused
+returns-in_err-fit-clause-refused g c =
+    OnErr_always c.from_residual.result (record {
+      worldview = refl;
+      cells = omega arith;
+      fits = c.requires.fits;
+      continues = c.requires.continues;
+      unchanged = λ up_to_date. refl;
+    })
+
+pub returns-in_err-read_new_cells-clause-refused : goal.returns-in_err-read_new_cells-clause-refused
+returns-in_err-read_new_cells-clause-refused g c =
+    let now : List Info → List Premises → Settled =
+    λ infos supports. record {
+      infos = infos;
+      supports = supports;
+      worldview = c.values.inside.worldview;
+      instances = c.values.inside.instances;
+      calls = c.values.inside.calls;
+      mark = c.values.inside.mark;
+    } in
+    let same : now c.read_new_cells.new.known.infos.items c.read_new_cells.new.known.supports ≡ c.args.values.now =
+    ap (λ (l : List Info). now l c.read_new_cells.new.known.supports) c.in_err-read_new_cells.ensures.infos
+    ∙ ap (now c.values.inside.known.infos.items) c.in_err-read_new_cells.ensures.supports ∙ c.values.view_is in
+    OnErr_always c.from_residual-in_err-read_new_cells.result
+    (subst (λ (s : Store). IsInterrupted (wiring c.args.network.now) c.args.store.now s c.args.values.now
+    (now c.read_new_cells.new.known.infos.items c.read_new_cells.new.known.supports)) (sym {A = Store} c.read_new_cells.ensures.unchanged)
+    (subst (IsInterrupted (wiring c.args.network.now) c.args.store.now c.args.store.now c.args.values.now) (sym same)
+    (record {
+      worldview = refl;
+      cells = omega arith;
+      fits = c.requires.fits;
+      continues = c.requires.continues;
+      unchanged = λ up_to_date. refl;
+    })))

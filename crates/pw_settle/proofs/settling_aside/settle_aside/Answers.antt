@@ -1,14 +1,58 @@
-use Rattle.std.proofs.Common.{subst}
-use Rattle.pw_cells.specs.Cells.{Store}
+use Rattle.std.proofs.Common.{map, sym, ap, ◌∙◌, subst}
+use Rattle.std.specs.Prelude.{IfOk}
+use Rattle.pw_cells.specs.Cells.{Store, kinds_of}
 use Rattle.pw_network.specs.Wiring.{wiring}
+use Rattle.pw_settle.specs.Calls.{is_instance_visible}
+use Rattle.pw_settle.specs.Settled.{IsSettled}
 use Rattle.pw_settle.specs.inside.Aside.{AreFound}
-use Rattle.pw_settle.proofs.AsideEnds.{found_settled}
+use Rattle.pw_settle.proofs.SeenLines.{lines_of_items, supports_of_items}
 use Rattle.pw_settle.proofs.settling_aside.settle_aside.Goals as goal
+
+pub seen-requires-clause-lines : goal.seen-requires-clause-lines
+seen-requires-clause-lines g c = lines_of_items (wiring c.args.network.now) c.args.network.now.well c.instances.result.now c.instances.ensures.instances
+
+pub seen-requires-clause-supports : goal.seen-requires-clause-supports
+seen-requires-clause-supports g c = supports_of_items (wiring c.args.network.now) c.args.network.now.well c.instances.result.now c.instances.ensures.instances
+
+pub unmet_instances-requires-clause-kinds : goal.unmet_instances-requires-clause-kinds
+unmet_instances-requires-clause-kinds g c = ap kinds_of c.start_values.ensures.unchanged ∙ c.requires.kinds
+
+pub unmet_instances-requires-clause-before : goal.unmet_instances-requires-clause-before
+unmet_instances-requires-clause-before g c =
+    subst (λ (s : Store). IsSettled (wiring c.args.network.now) s c.args.before.now.worldview c.args.before.now)
+    (sym {A = Store} c.start_values.ensures.unchanged) c.requires.before
+
+pub unmet_instances-requires-clause-visible : goal.unmet_instances-requires-clause-visible
+unmet_instances-requires-clause-visible g c =
+    c.deref.ensures.value ∙ c.in_ok-visible.ensures ∙ ap (map (is_instance_visible c.args.worldview.now)) c.instances.ensures.instances
+
+pub unmet_instances-requires-clause-found : goal.unmet_instances-requires-clause-found
+unmet_instances-requires-clause-found g c =
+    subst (λ (s : Store). AreFound (wiring c.args.network.now) s c.args.worldview.now c.in_ok-known.known.infos.items c.in_ok-known.known.supports)
+    (sym {A = Store} c.start_values.ensures.unchanged) c.in_ok-known.ensures.found
+
+pub settle_aside_from-requires-clause-kinds : goal.settle_aside_from-requires-clause-kinds
+settle_aside_from-requires-clause-kinds g c = ap kinds_of c.start_values.ensures.unchanged ∙ c.requires.kinds
+
+pub settle_aside_from-requires-clause-found : goal.settle_aside_from-requires-clause-found
+settle_aside_from-requires-clause-found g c =
+    subst (λ (s : Store). AreFound (wiring c.args.network.now) s c.args.worldview.now c.in_ok-known.known.infos.items c.in_ok-known.known.supports)
+    (sym {A = Store} c.start_values.ensures.unchanged) c.in_ok-known.ensures.found
+
+pub settle_aside_from-requires-clause-visible : goal.settle_aside_from-requires-clause-visible
+settle_aside_from-requires-clause-visible g c =
+    c.deref-2.ensures.value ∙ c.in_ok-visible.ensures ∙ ap (map (is_instance_visible c.args.worldview.now)) c.instances.ensures.instances
+
+pub settle_aside_from-requires-clause-flags : goal.settle_aside_from-requires-clause-flags
+settle_aside_from-requires-clause-flags g c = c.in_ok-agenda.ensures.flags
+
+pub settle_aside_from-requires-clause-seen : goal.settle_aside_from-requires-clause-seen
+settle_aside_from-requires-clause-seen g c = c.in_ok-agenda.ensures.seen
+
+pub settle_aside_from-requires-clause-satisfied : goal.settle_aside_from-requires-clause-satisfied
+settle_aside_from-requires-clause-satisfied g c = c.in_ok-agenda.ensures.satisfied
 
 pub returns-clause-settled : goal.returns-clause-settled
 returns-clause-settled g c =
-    found_settled (wiring c.args.network.now) c.args.network.now.well c.args.store.now c.requires.kinds c.args.worldview.now c.work_aside.new.known.infos.items
-    c.work_aside.new.known.supports
-    (subst (λ (s : Store). AreFound (wiring c.args.network.now) s c.args.worldview.now c.work_aside.new.known.infos.items c.work_aside.new.known.supports)
-    c.start_values.ensures.unchanged c.in_ok-calls.ensures.found)
-    c.in_ok-calls.ensures.satisfied _ c.in_ok-calls.calls 0
+    subst (λ (s : Store). IfOk c.settle_aside_from.result (IsSettled (wiring c.args.network.now) s c.args.worldview.now))
+    c.start_values.ensures.unchanged c.settle_aside_from.ensures

@@ -1,13 +1,17 @@
-use Rattle.std.proofs.Common.{◌≡◌, ◌<◌, Bool, List, true, length, map, sym, ap, ◌∙◌, subst}
+use Rattle.std.proofs.Common.{◌≡◌, ◌<◌, Bool, List, true, length, map, sym, ap, ◌∙◌, subst, inl, inr}
 use Rattle.pw_settle.specs.inside.Due.{HasChanged, QueuesReaders}
 use Rattle.std.specs.FinSet.{is_subset}
+use Rattle.std.proofs.lemmas.List.{length-map}
 use Rattle.std.proofs.lemmas.Result.{IfOk-weaker}
 use Rattle.pw_info.specs.Information.{kind_of}
 use Rattle.pw_premises.specs.Premises.{Premises}
 use Rattle.pw_network.specs.Wiring.{wiring}
 use Rattle.pw_settle.specs.Calls.{is_instance_visible}
 use Rattle.pw_settle.proofs.AsideEnds.{kinds_looked_at, satisfied_by, satisfied_in_part}
+use Rattle.pw_settle.specs.inside.Progress.{is_set}
 use Rattle.pw_settle.proofs.AsideStarts.{found_kinds, settled_kinds}
+use Rattle.pw_settle.proofs.SeenLines.{lines_of_items, supports_of_items}
+use Rattle.pw_settle.proofs.SettledValues.{kinds_many}
 use Rattle.pw_settle.proofs.settling_aside.unmet_instances.Goals as goal
 
 pub fallen_instances-requires-clause-before : goal.fallen_instances-requires-clause-before
@@ -56,3 +60,51 @@ returns-clause-satisfied g c =
     (subst (λ (seen : List Bool). QueuesReaders (wiring c.args.network.now) seen
     (λ cell. (cell < length c.as_slice-now.result.now) × HasChanged c.infos-earlier.result.now c.as_slice-now.result.now cell)
     c.in_ok-agenda.agenda c.queue_changed.new.agenda) (sym c.requires.visible) c.queue_changed.ensures)
+
+pub fallen_instances-requires-clause-visible : goal.fallen_instances-requires-clause-visible
+fallen_instances-requires-clause-visible g c = ap length c.requires.visible ∙ length-map (wiring c.args.network.now).attached (is_instance_visible c.args.worldview.now)
+
+pub fallen_instances-requires-clause-was_visible : goal.fallen_instances-requires-clause-was_visible
+fallen_instances-requires-clause-was_visible g c = ap length c.requires.visible ∙ length-map (wiring c.args.network.now).attached (is_instance_visible c.args.worldview.now)
+
+pub fallen_instances-requires-2-clause-visible : goal.fallen_instances-requires-2-clause-visible
+fallen_instances-requires-2-clause-visible g c = ap length c.requires.visible ∙ length-map (wiring c.args.network.now).attached (is_instance_visible c.args.worldview.now)
+
+pub seen-requires-clause-lines : goal.seen-requires-clause-lines
+seen-requires-clause-lines g c = lines_of_items (wiring c.args.network.now) c.args.network.now.well c.instances.result.now c.instances.ensures.instances
+
+pub seen-requires-clause-supports : goal.seen-requires-clause-supports
+seen-requires-clause-supports g c = supports_of_items (wiring c.args.network.now) c.args.network.now.well c.instances.result.now c.instances.ensures.instances
+
+pub fallen_instances-requires-2-clause-was_visible : goal.fallen_instances-requires-2-clause-was_visible
+fallen_instances-requires-2-clause-was_visible g c =
+    ap length (c.deref.ensures.value ∙ c.in_ok-was_visible.ensures ∙ ap (map (is_instance_visible c.worldview-2.result.now)) c.instances.ensures.instances)
+    ∙ length-map (wiring c.args.network.now).attached (is_instance_visible c.worldview-2.result.now)
+
+pub queue_changed-requires-clause-flags : goal.queue_changed-requires-clause-flags
+queue_changed-requires-clause-flags g c =
+    c.in_ok-agenda.ensures.flags ∙ ap length c.requires.visible ∙ length-map (wiring c.args.network.now).attached (is_instance_visible c.args.worldview.now)
+
+pub queue_changed-requires-clause-cells : goal.queue_changed-requires-clause-cells
+queue_changed-requires-clause-cells g c =
+    ap length c.as_slice-now.ensures.value ∙ c.requires.found.many ∙ kinds_many (wiring c.args.network.now) c.args.network.now.well
+
+pub returns-then-is_subset-clause-flags : goal.returns-then-is_subset-clause-flags
+returns-then-is_subset-clause-flags g c =
+    IfOk-weaker c.fallen_instances.result _ _ (λ queued met. met.flags ∙ ap length c.requires.visible ∙ length-map (wiring c.args.network.now).attached (is_instance_visible c.args.worldview.now))
+    c.fallen_instances.ensures
+
+pub returns-then-is_subset-clause-seen : goal.returns-then-is_subset-clause-seen
+returns-then-is_subset-clause-seen g c =
+    IfOk-weaker c.fallen_instances.result _ _ (λ queued met n flag. sym (ap (λ (l : List Bool). is_set l n) c.requires.visible) ∙ met.seen n flag)
+    c.fallen_instances.ensures
+
+pub returns-clause-flags : goal.returns-clause-flags
+returns-clause-flags g c =
+    c.queue_changed.ensures.flags ∙ c.in_ok-agenda.ensures.flags ∙ ap length c.requires.visible ∙ length-map (wiring c.args.network.now).attached (is_instance_visible c.args.worldview.now)
+
+pub returns-clause-seen : goal.returns-clause-seen
+returns-clause-seen g c n flag = elim (c.queue_changed.ensures.others n flag) [
+  | inl was ↦ sym (ap (λ (l : List Bool). is_set l n) c.requires.visible) ∙ c.in_ok-agenda.ensures.seen n was
+  | inr read ↦ read.0
+]

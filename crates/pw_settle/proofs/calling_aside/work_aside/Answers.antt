@@ -9,8 +9,8 @@ use Rattle.pw_settle.specs.inside.Progress.{tally}
 use Rattle.pw_settle.proofs.AsideEnds.{weight_bound}
 use Rattle.pw_settle.proofs.SettledStores.{calls_fit}
 use Rattle.pw_settle.proofs.TakenFlags.{taken_less, taken_others}
-use Rattle.pw_settle.proofs.settling_aside.work_aside.Given as given
-use Rattle.pw_settle.proofs.settling_aside.work_aside.Goals as goal
+use Rattle.pw_settle.proofs.calling_aside.work_aside.Given as given
+use Rattle.pw_settle.proofs.calling_aside.work_aside.Goals as goal
 
 pub call_aside-requires-clause-room : goal.call_aside-requires-clause-room
 call_aside-requires-clause-room g c =

@@ -1,11 +1,11 @@
-use Rattle.std.proofs.Common.{◌≡◌, ◌+◌, ◌<◌, ◌≤◌, Bool, List, ◌++◌, length, map, take, drop, refl, sym, ap, subst, ◌∙◌, arith}
+use Rattle.std.proofs.Common.{◌≡◌, ◌+◌, ◌<◌, ◌≤◌, Bool, List, ◌++◌, length, map, take, drop, refl, sym, ap, subst, ◌∙◌, inl, inr, arith}
 use Rattle.std.specs.List.{count_by}
-use Rattle.std.proofs.lemmas.List.{length-set}
+use Rattle.std.proofs.lemmas.List.{length-map, length-set}
 use Rattle.pw_info.specs.declared.info.Info.{Info}
 use Rattle.pw_info.specs.Information.{kind_of}
 use Rattle.pw_network.specs.Wiring.{wiring}
 use Rattle.pw_network.specs.Readers.{readers_of}
-use Rattle.pw_settle.specs.Calls.{reader_count}
+use Rattle.pw_settle.specs.Calls.{is_instance_visible, reader_count}
 use Rattle.pw_settle.specs.Settled.{info_at}
 use Rattle.pw_settle.specs.Values.{IsSatisfied, attached_no}
 use Rattle.pw_settle.specs.inside.Aside.{AreFound, weight_of}
@@ -19,9 +19,9 @@ use Rattle.pw_facts.specs.declared.fact.Fact.{Fact}
 use Rattle.pw_network.specs.inside.Held.{attachment}
 use Rattle.pw_network.specs.Network.{Attached}
 use Rattle.pw_settle.proofs.SourceLists.{came_back}
-use Rattle.pw_settle.proofs.settling_aside.call_aside.Given as given
-use Rattle.pw_settle.proofs.settling_aside.call_aside.Goals as goal
-use Rattle.pw_settle.proofs.settling_aside.call_aside.Goals.{After-deref_mut, After-queue_readers}
+use Rattle.pw_settle.proofs.calling_aside.call_aside.Given as given
+use Rattle.pw_settle.proofs.calling_aside.call_aside.Goals as goal
+use Rattle.pw_settle.proofs.calling_aside.call_aside.Goals.{After-deref_mut, After-queue_readers}
 
 pub news_of-requires-clause-kinds : goal.news_of-requires-clause-kinds
 news_of-requires-clause-kinds g c =
@@ -132,3 +132,31 @@ returns-in_default-clause-satisfied g c =
     c.requires.others
     (λ d. subst (λ (l : List Info). IsSatisfied (wiring c.args.network.now) (info_at l) (attached_no (wiring c.args.network.now) c.args.number d))
     c.deref.ensures.value (c.in_default.ensures.none d))
+
+pub news_of-requires-clause-there : goal.news_of-requires-clause-there
+news_of-requires-clause-there g c = visible_below (wiring c.args.network.now) c.args.worldview.now c.args.number c.requires.number
+
+pub queue_readers-requires-clause-flags : goal.queue_readers-requires-clause-flags
+queue_readers-requires-clause-flags g c = c.requires.flags
+
+pub queue_readers-requires-clause-all : goal.queue_readers-requires-clause-all
+queue_readers-requires-clause-all g c =
+    ap length c.requires.visible ∙ length-map (wiring c.args.network.now).attached (is_instance_visible c.args.worldview.now)
+
+pub returns-in_ok-take_in_news-clause-flags : goal.returns-in_ok-take_in_news-clause-flags
+returns-in_ok-take_in_news-clause-flags g c = c.queue_readers.ensures.readers.flags
+
+pub returns-in_ok-take_in_news-clause-seen : goal.returns-in_ok-take_in_news-clause-seen
+returns-in_ok-take_in_news-clause-seen g c n flag = elim (c.queue_readers.ensures.readers.others n flag) [
+  | inl was ↦ c.requires.seen n was
+  | inr read ↦ sym (ap (λ (l : List Bool). is_set l n) c.requires.visible) ∙ read.0
+]
+
+pub returns-in_default-clause-found : goal.returns-in_default-clause-found
+returns-in_default-clause-found g c = c.requires.found
+
+pub returns-in_default-clause-seen : goal.returns-in_default-clause-seen
+returns-in_default-clause-seen g c = c.requires.seen
+
+pub returns-in_default-clause-most : goal.returns-in_default-clause-most
+returns-in_default-clause-most g c = omega arith

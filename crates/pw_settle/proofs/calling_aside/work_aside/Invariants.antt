@@ -4,7 +4,7 @@ use Rattle.pw_settle.specs.Calls.{visible_at}
 use Rattle.pw_settle.specs.Settled.{info_at}
 use Rattle.pw_settle.specs.inside.Aside.{AreFound, weight_of}
 use Rattle.pw_settle.specs.inside.Progress.{AreSatisfied, is_set, tally}
-use Rattle.pw_settle.proofs.settling_aside.work_aside.Given as goal
+use Rattle.pw_settle.proofs.calling_aside.work_aside.Given as goal
 
 abbrev pub invariant-loop-number : goal.invariant-loop-number
 invariant-loop-number g l = record {

@@ -1,0 +1,140 @@
+//! Calling instances beside the store, until nothing more follows.
+ghost use Rattle.std.specs.Prelude.{◌≡◌, ◌+◌, ◌<◌, ◌≤◌, true, IfOk, OnOk, length};
+ghost use Rattle.pw_cells.specs.Cells.{kinds_of};
+ghost use Rattle.pw_network.specs.Wiring.{wiring};
+ghost use Rattle.pw_settle.specs.Calls.{AreVisible, most_calls, visible_at};
+ghost use Rattle.pw_settle.specs.Settled.{IsSettled, info_at};
+ghost use Rattle.pw_settle.specs.Values.{kinds_in};
+ghost use Rattle.pw_settle.specs.inside.Aside.{AreAllSatisfied, AreFound, weight_of};
+ghost use Rattle.pw_settle.specs.inside.Progress.{AreOthersSatisfied, AreQueuedVisible};
+ghost use Rattle.pw_settle.specs.inside.Progress.{AreSatisfied, tally};
+
+use crate::agenda::Agenda;
+use crate::known::{Known, take_in_news};
+use crate::propagating::news_of;
+use crate::settled::Settled;
+use crate::settling::queue_readers;
+use pw_cells::CellStore;
+use pw_network::Network;
+use pw_premises::PremiseSet;
+use std::alloc::{AllocError, Allocator};
+
+// Calls the procedure of an instance, which is visible and not queued. If the value is news, it is
+// taken in, and the visible readers of the output are queued. Fails only when out of memory.
+fn call_aside<A: Allocator + Copy>(
+    network: &Network<'_, '_, A>,
+    store: &CellStore<A>,
+    worldview: &PremiseSet,
+    known: &mut Known<A>,
+    visible: &[bool],
+    agenda: &mut Agenda<A>,
+    number: usize,
+    calls: &mut u128,
+) -> Result<(), AllocError>
+    requires kinds { kinds_of store.now ≡ kinds_in (wiring network.now) }
+    requires found { AreFound (wiring network.now) store.now worldview.now known.old.infos.items
+        known.old.supports }
+    requires visible { AreVisible (wiring network.now) worldview.now visible.now }
+    requires flags { length agenda.old ≡ length (wiring network.now).attached }
+    requires seen { AreQueuedVisible (wiring network.now) worldview.now agenda.old }
+    requires number { visible_at (wiring network.now) worldview.now number ≡ true }
+    requires room { calls.old < most_calls }
+    requires others { AreOthersSatisfied (wiring network.now) worldview.now
+        (info_at known.old.infos.items) agenda.old number }
+    ensures counted { calls.new ≡ calls.old + 1 }
+    ensures found { OnOk result (AreFound (wiring network.now) store.now worldview.now
+        known.new.infos.items known.new.supports) }
+    ensures flags { length agenda.new ≡ length agenda.old }
+    ensures seen { AreQueuedVisible (wiring network.now) worldview.now agenda.new }
+    ensures satisfied { OnOk result (AreSatisfied (wiring network.now) worldview.now
+        (info_at known.new.infos.items) agenda.new) }
+    ensures most { OnOk result (tally agenda.new
+        + weight_of (wiring network.now) worldview.now known.new.infos.items
+        ≤ tally agenda.old
+        + weight_of (wiring network.now) worldview.now known.old.infos.items) }
+{
+    if let Some(news) = news_of(network, &known.infos, number, calls) {
+        let instance = &network.instances()[number];
+        take_in_news(
+            &mut known.infos,
+            &mut known.supports,
+            news.cell,
+            instance,
+            &news.info,
+        )?;
+        queue_readers(network, visible, agenda, news.cell);
+    }
+    Ok(())
+}
+
+// Calls queued instances until none is left, and answers the number of calls. Fails only when out
+// of memory.
+fn work_aside<A: Allocator + Copy>(
+    network: &Network<'_, '_, A>,
+    store: &CellStore<A>,
+    worldview: &PremiseSet,
+    known: &mut Known<A>,
+    visible: &[bool],
+    mut agenda: Agenda<A>,
+) -> Result<u128, AllocError>
+    requires kinds { kinds_of store.now ≡ kinds_in (wiring network.now) }
+    requires found { AreFound (wiring network.now) store.now worldview.now known.old.infos.items
+        known.old.supports }
+    requires visible { AreVisible (wiring network.now) worldview.now visible.now }
+    requires flags { length agenda ≡ length (wiring network.now).attached }
+    requires seen { AreQueuedVisible (wiring network.now) worldview.now agenda }
+    requires satisfied { AreSatisfied (wiring network.now) worldview.now
+        (info_at known.old.infos.items) agenda }
+    ensures found { OnOk result (AreFound (wiring network.now) store.now worldview.now
+        known.new.infos.items known.new.supports) }
+    ensures satisfied { OnOk result (AreAllSatisfied (wiring network.now) worldview.now
+        (info_at known.new.infos.items)) }
+{
+    // These lengths bound the count.
+    let _cells = store.cells();
+    let _instances = visible.len();
+    let mut calls = 0;
+    while let Some(number) = agenda.take() {
+        call_aside(
+            network,
+            store,
+            worldview,
+            known,
+            visible,
+            &mut agenda,
+            number,
+            &mut calls,
+        )?;
+    }
+    Ok(calls)
+}
+
+// The values, after calling queued instances until none is left. It starts from what was found about
+// the cells, which satisfies each visible instance that is not queued. Fails only when out of memory.
+pub(crate) fn settle_aside_from<A: Allocator + Copy>(
+    network: &Network<'_, '_, A>,
+    store: &CellStore<A>,
+    worldview: &PremiseSet,
+    mut known: Known<A>,
+    visible: &[bool],
+    agenda: Agenda<A>,
+) -> Result<Settled<A>, AllocError>
+    requires kinds { kinds_of store.now ≡ kinds_in (wiring network.now) }
+    requires found { AreFound (wiring network.now) store.now worldview.now known.infos.items
+        known.supports }
+    requires visible { AreVisible (wiring network.now) worldview.now visible.now }
+    requires flags { length agenda ≡ length (wiring network.now).attached }
+    requires seen { AreQueuedVisible (wiring network.now) worldview.now agenda }
+    requires satisfied { AreSatisfied (wiring network.now) worldview.now (info_at known.infos.items)
+        agenda }
+    ensures { IfOk result (IsSettled (wiring network.now) store.now worldview.now) }
+{
+    let calls = work_aside(network, store, worldview, &mut known, visible, agenda)?;
+    Ok(Settled {
+        known,
+        worldview: *worldview,
+        instances: network.instances().len(),
+        calls,
+        mark: 0,
+    })
+}
