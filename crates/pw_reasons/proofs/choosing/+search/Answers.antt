@@ -1,5 +1,5 @@
-use Rattle.std.proofs.Common.{rules, ◌≡◌, ℕ, ◌+◌, ◌-◌, ◌<◌, ◌≤◌, false, List, [], ◌∷◌, ◌++◌, length, take, drop, sym, ap, ◌∙◌, subst, arith, length-append}
-use Rattle.std.specs.Prelude.{slice_index_or}
+use Rattle.std.proofs.Common.{rules, ◌≡◌, ℕ, ◌+◌, ◌-◌, ◌<◌, ◌≤◌, false, List, [], ◌∷◌, ◌++◌, Option, length, take, drop, refl, sym, ap, ◌∙◌, subst, arith, length-append}
+use Rattle.std.specs.Prelude.{IfSome, slice_index_or}
 use Rattle.std.proofs.lemmas.Bool.Decides.{nat_tests}
 use Rattle.std.proofs.lemmas.List.{drop_all}
 use Rattle.std.proofs.lemmas.List.Elements.{All-append}
@@ -39,12 +39,10 @@ pub returns-in_err-note_alike-clause-leaves : goal.returns-in_err-note_alike-cla
 returns-in_err-note_alike-clause-leaves g t c =
     let network : Network = wiring c.args.network.now in
     let old : Store = c.args.store.now in
-    let w : Premises = c.args.worldview.now in
     let groups : List (List ℕ) = groups_of c.args.groups.now in
     let picked : List ℕ = picked_in c.args.picks.now in
     let seen : List ℕ = c.premises-place.result.now in
     let group : List ℕ = c.group-group.result.now in
-    let rest : List (List ℕ) = drop (length picked + 1) groups in
     let i : ℕ = c.loop-index.index in
     let same = waiting_is groups picked seen group c.premises-place.ensures.premises c.group-group.ensures in
     let wait : List Premises = pending c.loop-index.alike (drop (length seen + 1) groups) (take i (slice_index_or groups (length seen) [])) in
@@ -101,7 +99,6 @@ search-requires g t c = λ lives out.
     let picked : List ℕ = picked_in c.args.picks.now in
     let seen : List ℕ = c.premises-place.result.now in
     let group : List ℕ = c.group-group.result.now in
-    let rest : List (List ℕ) = drop (length picked + 1) groups in
     let i : ℕ = c.loop-index.index in
     let inside : i < length group = omega (arith, c.loop-index-test.true) in
     let here : length picked < length groups = grind (arith, nat_tests, c.requires.few, c.if-place-len.false, c.len.ensures.len, ap length c.premises-place.ensures.premises) in
@@ -120,9 +117,9 @@ search-requires g t c = λ lives out.
       (
         search rules,
         (
-          search (rules, c.requires.kinds, grows),
+          grows.kinds ∙ c.requires.kinds,
           (
-            search (rules, c.requires.sound, grows),
+            grows.sound c.requires.sound,
             (
               nogoods_now network old store grows c.loop-index.nogoods c.loop-index.invariant.leaves.are,
               (
@@ -150,14 +147,11 @@ search-requires g t c = λ lives out.
 
 pub returns-in_err-found-clause-known : goal.returns-in_err-found-clause-known
 returns-in_err-found-clause-known g t c = λ all.
-    let network : Network = wiring c.args.network.now in
-    let old : Store = c.args.store.now in
     let w : Premises = c.args.worldview.now in
     let groups : List (List ℕ) = groups_of c.args.groups.now in
     let picked : List ℕ = picked_in c.args.picks.now in
     let seen : List ℕ = c.premises-place.result.now in
     let group : List ℕ = c.group-group.result.now in
-    let rest : List (List ℕ) = drop (length picked + 1) groups in
     let i : ℕ = c.loop-index.index in
     let inside : i < length group = omega (arith, c.loop-index-test.true) in
     let here : length picked < length groups = grind (arith, nat_tests, c.requires.few, c.if-place-len.false, c.len.ensures.len, ap length c.premises-place.ensures.premises) in
@@ -183,12 +177,10 @@ pub returns-in_err-note_alike-2-clause-leaves : goal.returns-in_err-note_alike-2
 returns-in_err-note_alike-2-clause-leaves g t c =
     let network : Network = wiring c.args.network.now in
     let old : Store = c.args.store.now in
-    let w : Premises = c.args.worldview.now in
     let groups : List (List ℕ) = groups_of c.args.groups.now in
     let picked : List ℕ = picked_in c.args.picks.now in
     let seen : List ℕ = c.premises-place.result.now in
     let group : List ℕ = c.group-group.result.now in
-    let rest : List (List ℕ) = drop (length picked + 1) groups in
     let i : ℕ = c.loop-index.index in
     let same = waiting_is groups picked seen group c.premises-place.ensures.premises c.group-group.ensures in
     let wait : List Premises = pending c.loop-index.alike (drop (length seen + 1) groups) (take i (slice_index_or groups (length seen) [])) in
@@ -210,14 +202,11 @@ returns-then-ends-clause-found g t c =
     let picked : List ℕ = picked_in c.args.picks.now in
     let seen : List ℕ = c.premises-place.result.now in
     let group : List ℕ = c.group-group.result.now in
-    let rest : List (List ℕ) = drop (length picked + 1) groups in
     let i : ℕ = c.loop-index.index in
     let inside : i < length group = omega (arith, c.loop-index-test.true) in
     let here : length picked < length groups = grind (arith, nat_tests, c.requires.few, c.if-place-len.false, c.len.ensures.len, ap length c.premises-place.ensures.premises) in
     let left = group_left groups picked seen group c.premises-place.ensures.premises here c.group-group.ensures in
     let same = waiting_is groups picked seen group c.premises-place.ensures.premises c.group-group.ensures in
-    let wait : List Premises = pending c.loop-index.alike (drop (length seen + 1) groups) (take i (slice_index_or groups (length seen) [])) in
-    let waits : AreNogoods network old wait = subst (AreNogoods network old) (sym (same c.loop-index.alike i)) c.loop-index.invariant.passed.are in
     let more : Premises = c.insert.new.self in
     let with : List ℕ = picked_in c.with.result in
     let store : Store = c.keep_values.new.store in
@@ -230,14 +219,11 @@ returns-then-ends-clause-found g t c =
 
 pub returns-then-ends-clause-known : goal.returns-then-ends-clause-known
 returns-then-ends-clause-known g t c = λ all.
-    let network : Network = wiring c.args.network.now in
-    let old : Store = c.args.store.now in
     let w : Premises = c.args.worldview.now in
     let groups : List (List ℕ) = groups_of c.args.groups.now in
     let picked : List ℕ = picked_in c.args.picks.now in
     let seen : List ℕ = c.premises-place.result.now in
     let group : List ℕ = c.group-group.result.now in
-    let rest : List (List ℕ) = drop (length picked + 1) groups in
     let i : ℕ = c.loop-index.index in
     let inside : i < length group = omega (arith, c.loop-index-test.true) in
     let here : length picked < length groups = grind (arith, nat_tests, c.requires.few, c.if-place-len.false, c.len.ensures.len, ap length c.premises-place.ensures.premises) in
@@ -252,12 +238,10 @@ pub returns-then-ends-clause-leaves : goal.returns-then-ends-clause-leaves
 returns-then-ends-clause-leaves g t c =
     let network : Network = wiring c.args.network.now in
     let old : Store = c.args.store.now in
-    let w : Premises = c.args.worldview.now in
     let groups : List (List ℕ) = groups_of c.args.groups.now in
     let picked : List ℕ = picked_in c.args.picks.now in
     let seen : List ℕ = c.premises-place.result.now in
     let group : List ℕ = c.group-group.result.now in
-    let rest : List (List ℕ) = drop (length picked + 1) groups in
     let i : ℕ = c.loop-index.index in
     let same = waiting_is groups picked seen group c.premises-place.ensures.premises c.group-group.ensures in
     let wait : List Premises = pending c.loop-index.alike (drop (length seen + 1) groups) (take i (slice_index_or groups (length seen) [])) in
@@ -272,14 +256,11 @@ returns-then-ends-clause-leaves g t c =
 
 pub returns-in_err-take_in-clause-known : goal.returns-in_err-take_in-clause-known
 returns-in_err-take_in-clause-known g t c = λ all.
-    let network : Network = wiring c.args.network.now in
-    let old : Store = c.args.store.now in
     let w : Premises = c.args.worldview.now in
     let groups : List (List ℕ) = groups_of c.args.groups.now in
     let picked : List ℕ = picked_in c.args.picks.now in
     let seen : List ℕ = c.premises-place.result.now in
     let group : List ℕ = c.group-group.result.now in
-    let rest : List (List ℕ) = drop (length picked + 1) groups in
     let i : ℕ = c.loop-index.index in
     let inside : i < length group = omega (arith, c.loop-index-test.true) in
     let here : length picked < length groups = grind (arith, nat_tests, c.requires.few, c.if-place-len.false, c.len.ensures.len, ap length c.premises-place.ensures.premises) in
@@ -300,7 +281,6 @@ returns-in_err-take_in-clause-leaves g t c =
     let picked : List ℕ = picked_in c.args.picks.now in
     let seen : List ℕ = c.premises-place.result.now in
     let group : List ℕ = c.group-group.result.now in
-    let rest : List (List ℕ) = drop (length picked + 1) groups in
     let i : ℕ = c.loop-index.index in
     let inside : i < length group = omega (arith, c.loop-index-test.true) in
     let here : length picked < length groups = grind (arith, nat_tests, c.requires.few, c.if-place-len.false, c.len.ensures.len, ap length c.premises-place.ensures.premises) in
@@ -332,7 +312,6 @@ loop-index-preserved g t c =
     let picked : List ℕ = picked_in c.args.picks.now in
     let seen : List ℕ = c.premises-place.result.now in
     let group : List ℕ = c.group-group.result.now in
-    let rest : List (List ℕ) = drop (length picked + 1) groups in
     let i : ℕ = c.loop-index.index in
     let inside : i < length group = omega (arith, c.loop-index-test.true) in
     let here : length picked < length groups = grind (arith, nat_tests, c.requires.few, c.if-place-len.false, c.len.ensures.len, ap length c.premises-place.ensures.premises) in
@@ -417,3 +396,41 @@ returns-clause-found g t c =
     let all = all_passed network old w rest group i past c.loop-index.nogoods
     (subst (λ o. IsPassed network old w rest (take i group) o c.loop-index.nogoods) c.in-None.is c.loop-index.invariant.passed) in
     (all.0, subst (λ gs. AreCovered c.loop-index.nogoods (worldviews_beside w gs)) (sym left) all.1)
+
+pub returns-in_err-note_alike-clause-known : goal.returns-in_err-note_alike-clause-known
+returns-in_err-note_alike-clause-known g t c = λ all.
+    absurd (not_refused c.note_alike.result _ c.in_err-note_alike.field-0.0 (c.note_alike.ensures.same (c.loop-index.invariant.known all).0).0 c.in_err-note_alike.was)
+
+pub returns-in_err-keep_values-clause-known : goal.returns-in_err-keep_values-clause-known
+returns-in_err-keep_values-clause-known g t c = λ all.
+    absurd (not_refused c.keep_values.result _ c.in_err-keep_values.field-0.0 (c.keep_values.ensures.same (c.loop-index.invariant.known all).0) c.in_err-keep_values.was)
+
+pub returns-in_err-keep_values-clause-leaves : goal.returns-in_err-keep_values-clause-leaves
+returns-in_err-keep_values-clause-leaves g t c =
+    subst (λ (s : Store). LeavesSound (wiring c.args.network.now) c.args.store.now c.args.nogoods.now s c.loop-index.nogoods c.loop-index.tried.last)
+    (sym {A = Store} c.keep_values.ensures.unchanged) c.loop-index.invariant.leaves
+
+pub returns-in_err-note_alike-2-clause-known : goal.returns-in_err-note_alike-2-clause-known
+returns-in_err-note_alike-2-clause-known g t c = λ all.
+    let w : Premises = c.args.worldview.now in
+    let groups : List (List ℕ) = groups_of c.args.groups.now in
+    let picked : List ℕ = picked_in c.args.picks.now in
+    let seen : List ℕ = c.premises-place.result.now in
+    let group : List ℕ = c.group-group.result.now in
+    let i : ℕ = c.loop-index.index in
+    let inside : i < length group = omega (arith, c.loop-index-test.true) in
+    let here : length picked < length groups = grind (arith, nat_tests, c.requires.few, c.if-place-len.false, c.len.ensures.len, ap length c.premises-place.ensures.premises) in
+    let left = group_left groups picked seen group c.premises-place.ensures.premises here c.group-group.ensures in
+    let more : Premises = c.insert.new.self in
+    let with : List ℕ = picked_in c.with.result in
+    let nothing = c.search.ensures.known (covered_then w more groups picked with group i left inside c.insert.ensures.inserted c.with.ensures c.args.nogoods.now
+    c.loop-index.nogoods c.loop-index.invariant.leaves.covers_more all) in
+    absurd (goes_on c.search.result c.in_ok-found.found c.search.new.tried.nogood w nothing.0 c.in_ok-found.was (sym c.ends.ensures ∙ c.if-ends.true))
+
+pub returns-in-Some-clause-known : goal.returns-in-Some-clause-known
+returns-in-Some-clause-known g t c = λ all. absurd (subst (λ (o : Option Premises). IfSome o (λ set. ⊥)) (sym (c.loop-index.invariant.known all).0 ∙ c.in-Some.is) tt)
+
+pub returns-clause-known : goal.returns-clause-known
+returns-clause-known g t c = λ all.
+    let before = c.loop-index.invariant.known all in
+    (refl, before.1, before.2)

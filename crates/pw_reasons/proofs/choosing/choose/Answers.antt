@@ -1,14 +1,16 @@
-use Rattle.std.proofs.Common.{length, ◌≡◌, ℕ, true, List, All, drop, refl, sym, ap, ◌∙◌, subst}
+use Rattle.std.proofs.Common.{length, ◌≡◌, ℕ, true, List, All, drop, refl, sym, ap, ◌∙◌, subst, arith}
 use Rattle.pw_cells.specs.Cells.{Store}
 use Rattle.pw_network.specs.Network.{Network}
 use Rattle.pw_network.specs.Wiring.{wiring}
 use Rattle.pw_premises.specs.Premises.{Premises}
 use Rattle.pw_premises.specs.PremiseSubsets.{is_subset_refl}
 use Rattle.pw_reasons.specs.Combinations.{groups_of, picked_in, worldviews_of}
-use Rattle.pw_reasons.specs.Nogood.{covers}
+use Rattle.pw_reasons.specs.Nogood.{AreNogoods, covers}
 use Rattle.pw_reasons.specs.inside.Products.{worldviews_beside}
+use Rattle.pw_reasons.specs.inside.Reasoning.{AreSettledLast}
 use Rattle.pw_reasons.specs.inside.Searching.{AreCovered, IsFoundBeside, ends_search}
 use Rattle.pw_reasons.proofs.ChoiceLemmas.{covered_nogoods}
+use Rattle.pw_reasons.proofs.FamilyLemmas.{or_right}
 use Rattle.pw_reasons.proofs.SearchLemmas.{all_covered, all_noted_covered, chosen_first, goes_on, left_covered, not_refused, worldviews_are}
 use Rattle.pw_reasons.proofs.SearchSteps.{not_both, refuted_apart, refuted_covered, refuted_nogoods}
 use Rattle.pw_reasons.specs.declared.choosing.Found.TheVariants.{Refuted}
@@ -34,8 +36,6 @@ search-requires-clause-part g c = is_subset_refl c.believed_beside-others.result
 
 pub returns-in_err-found-clause-known : goal.returns-in_err-found-clause-known
 returns-in_err-found-clause-known g c all =
-    let network : Network = wiring c.args.network.now in
-    let store : Store = c.args.store.now in
     let beliefs : Premises = c.args.worldview.now in
     let others : Premises = c.believed_beside-others.result in
     let groups : List (List ℕ) = groups_of c.args.groups.now in
@@ -58,8 +58,6 @@ returns-in-Chosen-clause-some g c =
 
 pub returns-in-Chosen-clause-known : goal.returns-in-Chosen-clause-known
 returns-in-Chosen-clause-known g c all =
-    let network : Network = wiring c.args.network.now in
-    let store : Store = c.args.store.now in
     let beliefs : Premises = c.args.worldview.now in
     let others : Premises = c.believed_beside-others.result in
     let groups : List (List ℕ) = groups_of c.args.groups.now in
@@ -71,8 +69,6 @@ returns-in-Chosen-clause-known g c all =
 
 pub returns-in_err-note_with_each-in-Refuted-clause-known : goal.returns-in_err-note_with_each-in-Refuted-clause-known
 returns-in_err-note_with_each-in-Refuted-clause-known g c all =
-    let network : Network = wiring c.args.network.now in
-    let store : Store = c.args.store.now in
     let beliefs : Premises = c.args.worldview.now in
     let others : Premises = c.believed_beside-others.result in
     let groups : List (List ℕ) = groups_of c.args.groups.now in
@@ -115,8 +111,6 @@ returns-in-Refuted-clause-covered g c =
 
 pub returns-in-Refuted-clause-known : goal.returns-in-Refuted-clause-known
 returns-in-Refuted-clause-known g c all =
-    let network : Network = wiring c.args.network.now in
-    let store : Store = c.args.store.now in
     let beliefs : Premises = c.args.worldview.now in
     let others : Premises = c.believed_beside-others.result in
     let groups : List (List ℕ) = groups_of c.args.groups.now in
@@ -129,7 +123,6 @@ pub returns-in-Refuted-clause-nogoods : goal.returns-in-Refuted-clause-nogoods
 returns-in-Refuted-clause-nogoods g c =
     let network : Network = wiring c.args.network.now in
     let store : Store = c.args.store.now in
-    let beliefs : Premises = c.args.worldview.now in
     let others : Premises = c.believed_beside-others.result in
     let groups : List (List ℕ) = groups_of c.args.groups.now in
     let none : List ℕ = picked_in c.none.result in
@@ -165,8 +158,6 @@ returns-clause-covered g c =
 
 pub returns-clause-known : goal.returns-clause-known
 returns-clause-known g c all =
-    let network : Network = wiring c.args.network.now in
-    let store : Store = c.args.store.now in
     let beliefs : Premises = c.args.worldview.now in
     let others : Premises = c.believed_beside-others.result in
     let groups : List (List ℕ) = groups_of c.args.groups.now in
@@ -174,3 +165,111 @@ returns-clause-known g c all =
     let nothing = c.search.ensures.known (subst (λ (l : List Premises). AreCovered l (worldviews_beside others (drop (length none) groups)))
     (sym {A = List Premises} c.expect.ensures) (left_covered beliefs others groups none c.believed_beside-others.ensures c.none.ensures c.args.nogoods.now all)) in
     (refl, nothing.1, nothing.2 ∙ c.expect.ensures)
+
+pub search-requires-clause-kinds : goal.search-requires-clause-kinds
+search-requires-clause-kinds g c = c.requires.kinds
+
+pub search-requires-clause-sound : goal.search-requires-clause-sound
+search-requires-clause-sound g c = c.requires.sound
+
+pub search-requires-clause-premises : goal.search-requires-clause-premises
+search-requires-clause-premises g c = c.requires.premises
+
+pub search-requires-clause-nogoods : goal.search-requires-clause-nogoods
+search-requires-clause-nogoods g c =
+    subst (AreNogoods (wiring c.args.network.now) c.args.store.now) (sym {A = List Premises} c.expect.ensures) c.requires.nogoods
+
+pub search-requires-clause-above : goal.search-requires-clause-above
+search-requires-clause-above g c = tt
+
+pub search-requires-clause-uncovered : goal.search-requires-clause-uncovered
+search-requires-clause-uncovered g c =
+    ap (λ (l : List Premises). covers l c.believed_beside-others.result) c.expect.ensures ∙ sym c.covers.ensures ∙ c.if-covers.false
+
+pub search-requires-clause-few : goal.search-requires-clause-few
+search-requires-clause-few g c = omega (arith, ap length c.none.ensures)
+
+pub search-requires-clause-last : goal.search-requires-clause-last
+search-requires-clause-last g c = subst (AreSettledLast (wiring c.args.network.now) c.args.store.now) (sym c.nothing-tried.ensures) tt
+
+pub returns-then-covers-clause-nogoods : goal.returns-then-covers-clause-nogoods
+returns-then-covers-clause-nogoods g c = c.requires.nogoods
+
+pub returns-then-covers-clause-covers : goal.returns-then-covers-clause-covers
+returns-then-covers-clause-covers g c = λ w covered. covered
+
+pub returns-then-covers-clause-upstream : goal.returns-then-covers-clause-upstream
+returns-then-covers-clause-upstream g c = λ given rests. rests
+
+pub returns-in_err-found-clause-nogoods : goal.returns-in_err-found-clause-nogoods
+returns-in_err-found-clause-nogoods g c = c.search.ensures.leaves.are
+
+pub returns-in_err-found-clause-covers : goal.returns-in_err-found-clause-covers
+returns-in_err-found-clause-covers g c = λ w covered.
+    c.search.ensures.leaves.covers_more w (subst (λ (l : List Premises). covers l w ≡ true) (sym {A = List Premises} c.expect.ensures) covered)
+
+pub returns-in_err-found-clause-grows : goal.returns-in_err-found-clause-grows
+returns-in_err-found-clause-grows g c = c.search.ensures.leaves.grows
+
+pub returns-in_err-found-clause-upstream : goal.returns-in_err-found-clause-upstream
+returns-in_err-found-clause-upstream g c = c.search.ensures.leaves.upstream
+
+pub returns-in-Chosen-clause-nogoods : goal.returns-in-Chosen-clause-nogoods
+returns-in-Chosen-clause-nogoods g c = c.search.ensures.leaves.are
+
+pub returns-in-Chosen-clause-covers : goal.returns-in-Chosen-clause-covers
+returns-in-Chosen-clause-covers g c = λ w covered.
+    c.search.ensures.leaves.covers_more w (subst (λ (l : List Premises). covers l w ≡ true) (sym {A = List Premises} c.expect.ensures) covered)
+
+pub returns-in-Chosen-clause-grows : goal.returns-in-Chosen-clause-grows
+returns-in-Chosen-clause-grows g c = c.search.ensures.leaves.grows
+
+pub returns-in-Chosen-clause-upstream : goal.returns-in-Chosen-clause-upstream
+returns-in-Chosen-clause-upstream g c = c.search.ensures.leaves.upstream
+
+pub returns-in_err-note_with_each-in-Refuted-clause-nogoods : goal.returns-in_err-note_with_each-in-Refuted-clause-nogoods
+returns-in_err-note_with_each-in-Refuted-clause-nogoods g c =
+    let network : Network = wiring c.args.network.now in
+    let store : Store = c.args.store.now in
+    let others : Premises = c.believed_beside-others.result in
+    let groups : List (List ℕ) = groups_of c.args.groups.now in
+    let none : List ℕ = picked_in c.none.result in
+    let found = subst (IsFoundBeside network store c.search.new.nogoods c.search.new.tried.nogood c.search.new.tried.place others groups none) c.in-Refuted.is
+    c.in_ok-found.ensures.found in
+    refuted_nogoods network store c.search.new.nogoods c.note_with_each.new.self (worldviews_beside c.search.new.tried.nogood (drop c.search.new.tried.place groups))
+    c.search.ensures.leaves.are found.1.nogoods c.note_with_each.ensures.within
+
+pub returns-in_err-note_with_each-in-Refuted-clause-covers : goal.returns-in_err-note_with_each-in-Refuted-clause-covers
+returns-in_err-note_with_each-in-Refuted-clause-covers g c = λ w covered.
+    subst (λ (l : List Premises). covers l w ≡ true) (sym {A = List Premises} c.in_err-note_with_each-in-Refuted.ensures.err)
+    (c.search.ensures.leaves.covers_more w (subst (λ (l : List Premises). covers l w ≡ true) (sym {A = List Premises} c.expect.ensures) covered))
+
+pub returns-in_err-note_with_each-in-Refuted-clause-grows : goal.returns-in_err-note_with_each-in-Refuted-clause-grows
+returns-in_err-note_with_each-in-Refuted-clause-grows g c = c.search.ensures.leaves.grows
+
+pub returns-in_err-note_with_each-in-Refuted-clause-upstream : goal.returns-in_err-note_with_each-in-Refuted-clause-upstream
+returns-in_err-note_with_each-in-Refuted-clause-upstream g c = c.search.ensures.leaves.upstream
+
+pub returns-in-Refuted-clause-covers : goal.returns-in-Refuted-clause-covers
+returns-in-Refuted-clause-covers g c = λ w covered.
+    c.in_ok-note_with_each-in-Refuted.ensures.covered w ∙ or_right _ _ (c.search.ensures.leaves.covers_more w
+    (subst (λ (l : List Premises). covers l w ≡ true) (sym {A = List Premises} c.expect.ensures) covered))
+
+pub returns-in-Refuted-clause-grows : goal.returns-in-Refuted-clause-grows
+returns-in-Refuted-clause-grows g c = c.search.ensures.leaves.grows
+
+pub returns-in-Refuted-clause-upstream : goal.returns-in-Refuted-clause-upstream
+returns-in-Refuted-clause-upstream g c = c.search.ensures.leaves.upstream
+
+pub returns-clause-nogoods : goal.returns-clause-nogoods
+returns-clause-nogoods g c = c.search.ensures.leaves.are
+
+pub returns-clause-covers : goal.returns-clause-covers
+returns-clause-covers g c = λ w covered.
+    c.search.ensures.leaves.covers_more w (subst (λ (l : List Premises). covers l w ≡ true) (sym {A = List Premises} c.expect.ensures) covered)
+
+pub returns-clause-grows : goal.returns-clause-grows
+returns-clause-grows g c = c.search.ensures.leaves.grows
+
+pub returns-clause-upstream : goal.returns-clause-upstream
+returns-clause-upstream g c = c.search.ensures.leaves.upstream
