@@ -1,11 +1,11 @@
 -- The cells that the words of an attach name, and the callables that take them.
-use Rattle.std.proofs.Common.{◌≡◌, ℕ, suc, ◌-◌, ◌<◌, ◌≤◌, true, List, [], ◌∷◌, ◌++◌, Option, Some, None, length, drop, replicate, refl, sym, ap, ◌∙◌, inl, inr, arith, length-append, length-take}
+use Rattle.std.proofs.Common.{◌≡◌, ℕ, suc, ◌+◌, ◌-◌, ◌<◌, ◌≤◌, true, List, [], ◌∷◌, ◌++◌, Option, Some, None, length, set, take, drop, replicate, refl, sym, ap, ◌∙◌, inl, inr, arith, append_assoc, length-append, length-take}
 use Rattle.std.proofs.Props.{props}
 use mathlib.Core.HLevel.{is_prop→PathP}
 use Rattle.std.specs.Prelude.{is_some}
 use Rattle.std.specs.List.{list_all, filter_map}
 use Rattle.std.proofs.lemmas.Bool.{and_parts, false≢true}
-use Rattle.std.proofs.lemmas.List.{length-map, take-append-drop, length-take-le}
+use Rattle.std.proofs.lemmas.List.{length-map, take_more_set, take-append-drop, length-take-le}
 use Rattle.std.proofs.lemmas.Option.{slice_get_within, slice_get-get_or, get_or_from_slice_get}
 use Rattle.pw_info.specs.declared.kind.Kind.{Kind}
 use Rattle.pw_info.specs.declared.kind.Kind.TheVariants as kinds
@@ -56,6 +56,24 @@ same_arguments a b cells in_a in_b = λ k. record {
 
     count : a.count ≡ b.count
     count = count_of a cells in_a ∙ sym (count_of b cells in_b)
+
+-- ---- words read one after another
+
+-- of the words that are left after one, all name cells
+pub cells_rest : (d : Declared) (words rest : List (List ℕ)) (word : List ℕ) → words ≡ word ∷ rest → list_all (is_cell d) words ≡ true → list_all (is_cell d) rest ≡ true
+cells_rest d words rest word cut known = (and_parts (is_cell d word) (list_all (is_cell d) rest) (ap (list_all (is_cell d)) (sym cut) ∙ known)).1
+
+more_cells : (d : Declared) (word : List ℕ) (words : List (List ℕ)) (n : ℕ) → place_of_name d.cells word ≡ Some n → cells_named d (word ∷ words) ≡ n ∷ cells_named d words
+more_cells d word words n at = rw at refl
+
+-- the cells so far, and those of the remaining words, with one more word
+pub cells_step : (d : Declared) (all held : List ℕ) (words rest : List (List ℕ)) (word : List ℕ) (count n : ℕ) → all ≡ take count held ++ cells_named d words →
+    words ≡ word ∷ rest → Some n ≡ place_of_name d.cells word → count < length held → all ≡ take (count + 1) (set held count n) ++ cells_named d rest
+cells_step d all held words rest word count n so_far cut at room =
+    so_far ∙ ap (λ (l : List (List ℕ)). take count held ++ cells_named d l) cut
+    ∙ ap (λ (l : List ℕ). take count held ++ l) (more_cells d word rest n (sym at))
+    ∙ sym (append_assoc (take count held) (n ∷ []) (cells_named d rest))
+    ∙ ap (λ (l : List ℕ). l ++ cells_named d rest) (sym (take_more_set held count n room))
 
 -- ---- how many cells a callable takes
 

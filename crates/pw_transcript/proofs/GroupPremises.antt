@@ -1,18 +1,18 @@
 -- The premises that the names of groups name.
-use Rattle.std.proofs.Common.{◌≡◌, ◌≢◌, ℕ, suc, ◌+◌, ◌≤◌, true, false, nat_eq, List, [], ◌∷◌, ◌++◌, length, map, All, Option, None, Some, refl, sym, ap, ◌∙◌, inl, inr, subst, arith, append_assoc, length-append}
+use Rattle.std.proofs.Common.{◌≡◌, ◌≢◌, ℕ, suc, ◌+◌, ◌<◌, ◌≤◌, true, false, nat_eq, List, [], ◌∷◌, ◌++◌, length, map, set, take, All, Option, None, Some, refl, sym, ap, ◌∙◌, inl, inr, subst, arith, append_assoc, length-append}
 use Rattle.std.specs.Prelude.{is_some}
 use Rattle.std.specs.List.{AllByRecursion, AllPairs, IsDistinct, list_all, position_from}
 use Rattle.std.specs.Str.{bytes_eq}
 use Rattle.std.proofs.lemmas.Bool.{and_from, and_parts, cases_Bool, false≢true, ne_eqb}
 use Rattle.std.proofs.lemmas.Bool.Decides.{Decides-eqb}
-use Rattle.std.proofs.lemmas.List.{get_or_append_left, length-map}
+use Rattle.std.proofs.lemmas.List.{get_or_append_left, length-map, take_more_set}
 use Rattle.std.proofs.lemmas.List.Concat.{flat_map-append}
 use Rattle.std.proofs.lemmas.List.Elements.{All-from_recursion, filter_map-append, recursion_from_All}
 use Rattle.std.proofs.lemmas.Map.Made.{AllPairs-from_IsDistinct, IsDistinct-from_AllPairs}
 use Rattle.std.proofs.lemmas.Slice.Eq.{bytes_eq-Decides}
 use Rattle.pw_procs.specs.Registering.{place_of_name}
 use Rattle.pw_decl.specs.Declaration.{Declared}
-use Rattle.pw_reasons.specs.Groups.{AreGroups, IsGroup, all_of}
+use Rattle.pw_reasons.specs.Groups.{AreGroups, IsGroup, all_of, most_in_a_group}
 use Rattle.pw_sessions.specs.declared.reply.Refusal.TheVariants as refusal
 use Rattle.pw_transcript.specs.Reading.{all_known, is_known, premise_groups, premises_named}
 use Rattle.pw_transcript.specs.Sentence.{Choose}
@@ -96,7 +96,8 @@ module _ (d : Declared) where
 
   -- ---- groups of names
 
-  known_parts : (xs ys : List (List ℕ)) → list_all (is_known d) (xs ++ ys) ≡ true → (list_all (is_known d) xs ≡ true) × (list_all (is_known d) ys ≡ true)
+  -- if the names of two lists are known, those of each are
+  pub known_parts : (xs ys : List (List ℕ)) → list_all (is_known d) (xs ++ ys) ≡ true → (list_all (is_known d) xs ≡ true) × (list_all (is_known d) ys ≡ true)
   known_parts [] ys known = (refl, known)
   known_parts (x ∷ xs) ys known =
       let both = and_parts (is_known d x) (list_all (is_known d) (xs ++ ys)) known in
@@ -164,6 +165,40 @@ pub none_from_first : (d : Declared) (all held : List (List ℕ)) (words rest : 
 none_from_first d all held words rest word is cut none are =
     none (first_are_groups held (premise_groups d (map names_in rest)) (premises_named d (names_in word))
     (subst AreGroups (is ∙ ap (λ (l : List (List ℕ)). held ++ premise_groups d (map names_in l)) cut) are))
+
+-- ---- names read one after another
+
+-- of the names that are left after one, all are known
+pub known_rest : (d : Declared) (names rest : List (List ℕ)) (name : List ℕ) → names ≡ name ∷ rest → list_all (is_known d) names ≡ true → list_all (is_known d) rest ≡ true
+known_rest d names rest name cut known = (and_parts (is_known d name) (list_all (is_known d) rest) (ap (list_all (is_known d)) (sym cut) ∙ known)).1
+
+-- the numbers of the names so far, and those of the remaining names, with one more name
+pub named_step : (d : Declared) (all held : List ℕ) (names rest : List (List ℕ)) (name : List ℕ) (count n : ℕ) → all ≡ take count held ++ premises_named d names →
+    names ≡ name ∷ rest → Some n ≡ place_of_name d.premises name → count < length held → all ≡ take (count + 1) (set held count n) ++ premises_named d rest
+named_step d all held names rest name count n so_far cut at room =
+    so_far ∙ ap (λ (l : List (List ℕ)). take count held ++ premises_named d l) cut
+    ∙ ap (λ (l : List ℕ). take count held ++ l) (more_named d name rest n (sym at))
+    ∙ sym (append_assoc (take count held) (n ∷ []) (premises_named d rest))
+    ∙ ap (λ (l : List ℕ). l ++ premises_named d rest) (sym (take_more_set held count n room))
+
+last_group : (held : List (List ℕ)) (group : List ℕ) → AllByRecursion IsGroup (held ++ group ∷ []) → IsGroup group
+last_group [] group are = are.0
+last_group (other ∷ held) group are = last_group held group are.1
+
+-- the groups so far, and those of the remaining words, with one more word
+pub groups_step : (d : Declared) (all held more : List (List ℕ)) (words rest : List (List ℕ)) (word : List ℕ) → all ≡ held ++ premise_groups d (map names_in words) →
+    words ≡ word ∷ rest → more ≡ held ++ premises_named d (names_in word) ∷ [] → all ≡ more ++ premise_groups d (map names_in rest)
+groups_step d all held more words rest word so_far cut is =
+    so_far ∙ ap (λ (l : List (List ℕ)). held ++ premise_groups d (map names_in l)) cut
+    ∙ sym (append_assoc held (premises_named d (names_in word) ∷ []) (premise_groups d (map names_in rest)))
+    ∙ ap (λ (l : List (List ℕ)). l ++ premise_groups d (map names_in rest)) (sym is)
+
+-- more names than a group has are none
+pub too_many_named : (d : Declared) (held names : List (List ℕ)) → list_all (is_known d) names ≡ true → most_in_a_group < length names →
+    AreGroups (held ++ premises_named d names ∷ []) → ⊥
+too_many_named d held names known many are =
+    let last = last_group held (premises_named d names) (recursion_from_All IsGroup (held ++ premises_named d names ∷ []) are.each) in
+    omega (arith, last.few, length-named d names known, many)
 
 -- ---- what is answered to a choose
 

@@ -207,6 +207,14 @@ fn refuse_command<A: Allocator + Copy>(
     }
 }
 
+// Whether the name is this word.
+#[inline(always)]
+fn is_word(name: &[u8], word: &[u8]) -> bool
+    ensures { result ≡ bytes_eq name.now word.now }
+{
+    name == word
+}
+
 /// What the words after the user say, if the word that names the command is neither `tell` nor
 /// `ask`, which most lines have.
 pub(crate) fn read_other<A: Allocator + Copy>(
@@ -220,19 +228,19 @@ pub(crate) fn read_other<A: Allocator + Copy>(
     ensures { IsReadAs (declared declaration.now)
         (option_map (sentence_by user.now) (said_form name.now rest.entry)) result }
 {
-    if name == b"attach".as_slice() {
+    if is_word(name, b"attach") {
         read_attach(declaration, user, rest)
-    } else if name == b"believe".as_slice() {
+    } else if is_word(name, b"believe") {
         read_believe(declaration, user, rest)
     } else if is_doubt(name) {
         read_doubt(declaration, user, rest)
-    } else if name == b"beliefs".as_slice() {
+    } else if is_word(name, b"beliefs") {
         read_beliefs(declaration, user, rest)
-    } else if name == b"why".as_slice() {
+    } else if is_word(name, b"why") {
         read_why(declaration, user, rest)
-    } else if name == b"conflicts".as_slice() {
+    } else if is_word(name, b"conflicts") {
         read_conflicts(declaration, user, rest)
-    } else if name == b"choose".as_slice() {
+    } else if is_word(name, b"choose") {
         read_choose(declaration, user, rest)
     } else {
         refuse_command(declaration, user)

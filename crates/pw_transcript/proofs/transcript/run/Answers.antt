@@ -1,4 +1,4 @@
-use Rattle.std.proofs.Common.{[], rules, arith, sym, subst}
+use Rattle.std.proofs.Common.{[], arith, sym, subst}
 use Rattle.pw_decl.specs.inside.Fields.{declared}
 use Rattle.pw_transcript.proofs.RunParts.{if_ok_both}
 use Rattle.pw_transcript.proofs.RunEnds.{gathered_to_all, gathered_to_ended, gathered_failed, gathered_in_part, gathered_up_to_limit, gathered_works, nothing_in_part}
@@ -27,18 +27,22 @@ answer_all-requires-clause-running g c =
 
 pub returns-clause-ok : goal.returns-clause-ok
 returns-clause-ok g c =
-    if_ok_both c.answer_all.result _ _ c.answer_all.ensures.ok c.answer_all.ensures.passed_on (λ counts all rest. search (rules, gathered_to_all))
+    if_ok_both c.answer_all.result _ _ c.answer_all.ensures.ok c.answer_all.ensures.passed_on
+    (λ counts all rest. gathered_to_all g.O.Output.passes (declared c.args.d.now) _ c.args.output.now _ c.new-gathered.result c.answer_all.new.output
+    g.I.Input.takes c.args.input.now c.answer_all.new.input counts c.new-gathered.ensures.same_reference c.new-gathered.ensures.unchanged
+    c.new-gathered.ensures.held rest all c.output-1.given.1)
 
 pub returns-clause-read : goal.returns-clause-read
 returns-clause-read g c = λ e.
-    let read = c.answer_all.ensures.read e in
-    let rest = c.answer_all.ensures.read_passed_on e in
-    search (rules, gathered_to_ended)
+    gathered_to_ended g.O.Output.passes (declared c.args.d.now) _ c.args.output.now _ c.new-gathered.result c.answer_all.new.output g.I.Input.takes
+    c.args.input.now c.answer_all.new.input c.new-gathered.ensures.same_reference c.new-gathered.ensures.unchanged c.new-gathered.ensures.held
+    (c.answer_all.ensures.read_passed_on e) (c.answer_all.ensures.read e) c.output-1.given.1
 
 pub returns-clause-write : goal.returns-clause-write
 returns-clause-write g c = λ e.
-    let write = c.answer_all.ensures.write e in
-    search (rules, gathered_in_part)
+    gathered_in_part g.O.Output.passes (declared c.args.d.now) _ c.args.output.now _ c.new-gathered.result c.answer_all.new.output g.I.Input.takes
+    c.args.input.now c.answer_all.new.input g.I.Input.has_ended c.new-gathered.ensures.same_reference c.new-gathered.ensures.unchanged c.new-gathered.ensures.held
+    (c.answer_all.ensures.write e) c.output-1.given.1
 
 pub returns-clause-write_failed : goal.returns-clause-write_failed
 returns-clause-write_failed g c = λ e.
@@ -49,9 +53,9 @@ returns-clause-write_failed g c = λ e.
 
 pub returns-clause-limit : goal.returns-clause-limit
 returns-clause-limit g c = λ e.
-    let limit = c.answer_all.ensures.limit e in
-    let rest = c.answer_all.ensures.limit_passed_on e in
-    search (rules, gathered_up_to_limit)
+    gathered_up_to_limit g.O.Output.passes (declared c.args.d.now) _ c.args.output.now _ c.new-gathered.result c.answer_all.new.output g.I.Input.takes
+    c.args.input.now c.answer_all.new.input c.new-gathered.ensures.same_reference c.new-gathered.ensures.unchanged c.new-gathered.ensures.held
+    (c.answer_all.ensures.limit_passed_on e) (c.answer_all.ensures.limit e) c.output-1.given.1
 
 pub returns-then-failed-clause-write : goal.returns-then-failed-clause-write
 returns-then-failed-clause-write g c = λ e.
@@ -63,3 +67,15 @@ returns-clause-works g c =
     if_ok_both c.answer_all.result _ _ c.answer_all.ensures.ok c.answer_all.ensures.works
     (λ counts all works. gathered_works g.O.Output.passes (declared c.args.d.now) _ c.args.output.now _ c.new-gathered.result c.answer_all.new.output
     g.I.Input.takes c.args.input.now c.answer_all.new.input g.O.Output.has_failed counts c.new-gathered.ensures.same_reference all works c.output-1.given.1)
+
+pub returns-clause-ended : goal.returns-clause-ended
+returns-clause-ended g c = c.answer_all.ensures.ended
+
+pub returns-clause-nothing_left : goal.returns-clause-nothing_left
+returns-clause-nothing_left g c = c.answer_all.ensures.nothing_left
+
+pub returns-clause-read_failed : goal.returns-clause-read_failed
+returns-clause-read_failed g c = c.answer_all.ensures.read_failed
+
+pub returns-clause-memory : goal.returns-clause-memory
+returns-clause-memory g c = λ e. absurd (c.answer_all.ensures.no_memory e)

@@ -1,0 +1,10 @@
+use Rattle.pw_decl.specs.inside.Fields.{declared}
+use Rattle.pw_transcript.specs.Sentence.{Ask}
+use Rattle.pw_transcript.specs.inside.Forms.{cell_form}
+use Rattle.pw_transcript.proofs.SpokenLemmas.{spoken_known}
+use Rattle.pw_transcript.proofs.spoken.read_ask.Goals as goal
+
+pub returns-in-Some-user : goal.returns-in-Some-user
+returns-in-Some-user g c =
+    spoken_known (declared c.args.declaration.now) c.args.user.now (cell_form Ask c.args.rest) (Ask c.in-Some.cell.now) c.in-Some-user.user c.resolve_ask.result
+    (c.in-Some.ensures Ask) c.in-Some-user.ensures.number c.resolve_ask.ensures.ok c.resolve_ask.ensures.none c.resolve_ask.ensures.err
