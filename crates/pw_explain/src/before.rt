@@ -212,13 +212,11 @@ impl<'a> Before<'a> {
 
     /// The kind of the parameter of this name, if the open compound has it.
     pub(crate) fn parameter_kind(&self, name: &[u8]) -> Option<&'a [u8]> {
-        let mut words = Words::new(self.opening()?);
-        words.next()?;
-        words.next()?;
+        let mut words = words_after_name(self.opening()?);
         while let Some(parameter) = words.next() {
-            let kind = words.next()?;
+            let kind = words.next();
             if parameter == name {
-                return Some(kind);
+                return kind;
             }
         }
         None
@@ -229,9 +227,7 @@ impl<'a> Before<'a> {
         let Some(line) = self.opening() else {
             return;
         };
-        let mut words = Words::new(line);
-        words.next();
-        words.next();
+        let mut words = words_after_name(line);
         while let Some(parameter) = words.next() {
             words.next();
             nearest.offer(parameter);
@@ -241,13 +237,14 @@ impl<'a> Before<'a> {
 
     /// The kind of the cell of this name: of the open compound, or outside compounds.
     pub(crate) fn cell_kind(&self, name: &[u8]) -> Option<&'a [u8]> {
-        if self.opened.is_none() {
-            return third_word(self.declaring(Sort::Cell, name)?.line);
-        }
         if let Some(kind) = self.parameter_kind(name) {
             return Some(kind);
         }
-        third_word(self.declaring(Sort::Local, name)?.line)
+        let sort = match self.opened {
+            Some(_) => Sort::Local,
+            None => Sort::Cell,
+        };
+        third_word(self.declaring(sort, name)?.line)
     }
 
     /// Whether a kind has this name.
@@ -292,14 +289,19 @@ pub(crate) fn is_built_in_kind(word: &[u8]) -> bool {
 /// The second word of a line.
 pub(crate) fn second_word(line: &[u8]) -> Option<&[u8]> {
     let mut words = Words::new(line);
-    words.next()?;
+    words.next();
     words.next()
+}
+
+/// The words of a line after the name that it declares.
+pub(crate) fn words_after_name(line: &[u8]) -> Words<'_> {
+    let mut words = Words::new(line);
+    words.next();
+    words.next();
+    words
 }
 
 /// The third word of a line.
 pub(crate) fn third_word(line: &[u8]) -> Option<&[u8]> {
-    let mut words = Words::new(line);
-    words.next()?;
-    words.next()?;
-    words.next()
+    words_after_name(line).next()
 }

@@ -29,18 +29,35 @@ pub(crate) fn next_cell<'a>(words: &mut Words<'a>) -> Option<&'a [u8]>
     }
 }
 
+// Whether no further cell is missing, where the next word would have this number.
+fn end_fits_shape<'a>(
+    callable: &'a [u8],
+    shape: &mut Shape<'a>,
+    same: Option<&'a [u8]>,
+    number: usize,
+) -> Fits<'a> {
+    let Some(kind) = shape.next() else {
+        return Ok(());
+    };
+    let expected = match expected_kind(kind, shape.is_of_row(), same) {
+        Some(kind) => Expected::CellOfKind(kind),
+        None => Expected::CellsOf(callable),
+    };
+    Err(Explanation::word(number, expected))
+}
+
 // Whether the callable of the shape takes the cells of these words, the first of which has this
 // number in its line.
 fn fits_shape<'a>(
     before: &Before<'a>,
     callable: &'a [u8],
-    mut shape: Shape<'a>,
-    mut words: Words<'a>,
+    shape: &mut Shape<'a>,
+    words: &mut Words<'a>,
     first: usize,
 ) -> Fits<'a> {
     let mut number = first;
     let mut same = None;
-    while let Some(word) = next_cell(&mut words) {
+    while let Some(word) = next_cell(words) {
         let Some(kind) = shape.next() else {
             return Err(Explanation::word(number, Expected::NoCell(callable)));
         };
@@ -54,13 +71,7 @@ fn fits_shape<'a>(
         }
         number = number.saturating_add(1);
     }
-    match shape.next() {
-        Some(kind) => match expected_kind(kind, shape.is_of_row(), same) {
-            Some(kind) => Err(Explanation::word(number, Expected::CellOfKind(kind))),
-            None => Err(Explanation::word(number, Expected::CellsOf(callable))),
-        },
-        None => Ok(()),
-    }
+    end_fits_shape(callable, shape, same, number)
 }
 
 /// The first of the words that the callable does not take as its cells, where the first of them has
@@ -68,13 +79,13 @@ fn fits_shape<'a>(
 pub(crate) fn explain_cells<'a>(
     before: &Before<'a>,
     callable: &'a [u8],
-    words: Words<'a>,
+    mut words: Words<'a>,
     first: usize,
 ) -> Explanation<'a> {
-    let Some(shape) = before.shape(callable) else {
+    let Some(mut shape) = before.shape(callable) else {
         return Explanation::line(Expected::CellsOf(callable));
     };
-    match fits_shape(before, callable, shape, words, first) {
+    match fits_shape(before, callable, &mut shape, &mut words, first) {
         Err(explanation) => explanation,
         Ok(()) => Explanation::word(first, Expected::CellsOf(callable)),
     }

@@ -2,26 +2,8 @@
 
 use crate::expected::Expected;
 use crate::explanation::Explanation;
-use crate::form::{Fits, end_fits};
-use crate::near::Nearest;
+use crate::form::{Fits, end_fits, is_one_of, last_word_fits, some_fit, wrong_word};
 use pw_info::{Words, allows_all};
-
-// Takes the next word, which has this number.
-fn word_fits<'a>(words: &mut Words<'a>, number: usize, expected: Expected<'a>) -> Fits<'a> {
-    match words.next() {
-        Some(_) => Ok(()),
-        None => Err(Explanation::word(number, expected)),
-    }
-}
-
-// One word or more, of which the first has this number.
-fn some_fit<'a>(words: &Words<'a>, number: usize, expected: Expected<'a>) -> Fits<'a> {
-    if words.is_empty() {
-        Err(Explanation::word(number, expected))
-    } else {
-        Ok(())
-    }
-}
 
 // Nothing, or `under` and premises, from the word of this number on.
 fn under_fits<'a>(words: &mut Words<'a>, number: usize) -> Fits<'a> {
@@ -29,9 +11,7 @@ fn under_fits<'a>(words: &mut Words<'a>, number: usize) -> Fits<'a> {
         return Ok(());
     };
     if word != b"under".as_slice() {
-        let mut nearest = Nearest::to(word);
-        nearest.offer(b"under");
-        return Err(Explanation::word_near(number, Expected::Under, nearest.name()));
+        return Err(wrong_word(word, number, Expected::Under, &[b"under"]));
     }
     some_fit(words, number.saturating_add(1), Expected::Premise)
 }
@@ -81,24 +61,39 @@ fn groups_fit<'a>(words: &mut Words<'a>) -> Fits<'a> {
     Ok(())
 }
 
+// The words after `tell`.
+fn tell_fits<'a>(words: &mut Words<'a>) -> Fits<'a> {
+    if words.next().is_none() {
+        return Err(Explanation::word(2, Expected::Cell));
+    }
+    match words.next() {
+        Some(_) => under_fits(words, 4),
+        None => Err(Explanation::word(3, Expected::AnyInformation)),
+    }
+}
+
+// The words after `attach`.
+fn attach_fits<'a>(words: &mut Words<'a>) -> Fits<'a> {
+    match words.next() {
+        Some(_) => cells_fit(words),
+        None => Err(Explanation::word(2, Expected::Callable)),
+    }
+}
+
 // The words after a command.
 fn command_fits<'a>(command: &[u8], words: &mut Words<'a>) -> Fits<'a> {
     if command == b"tell".as_slice() {
-        word_fits(words, 2, Expected::Cell)?;
-        word_fits(words, 3, Expected::AnyInformation)?;
-        under_fits(words, 4)
+        tell_fits(words)
     } else if command == b"attach".as_slice() {
-        word_fits(words, 2, Expected::Callable)?;
-        cells_fit(words)
-    } else if command == b"believe".as_slice() || command == b"doubt".as_slice() {
-        some_fit(words, 2, Expected::Premise)
-    } else if command == b"beliefs".as_slice() || command == b"conflicts".as_slice() {
-        end_fits(words, 2)
-    } else if command == b"ask".as_slice() || command == b"why".as_slice() {
-        word_fits(words, 2, Expected::Cell)?;
-        end_fits(words, 3)
+        attach_fits(words)
     } else if command == b"choose".as_slice() {
         groups_fit(words)
+    } else if is_one_of(command, &[b"believe", b"doubt"]) {
+        some_fit(words, 2, Expected::Premise)
+    } else if is_one_of(command, &[b"ask", b"why"]) {
+        last_word_fits(words, 2, Expected::Cell)
+    } else if is_one_of(command, &[b"beliefs", b"conflicts"]) {
+        end_fits(words, 2)
     } else {
         Ok(())
     }

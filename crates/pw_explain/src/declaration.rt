@@ -1,6 +1,6 @@
 //! The faults of a declaration.
 
-use crate::before::{Before, is_built_in_kind, second_word, third_word};
+use crate::before::{Before, is_built_in_kind, second_word, third_word, words_after_name};
 use crate::call::explain_cells;
 use crate::cut::{Cut, begins_with};
 use crate::expected::{Expected, sort_word};
@@ -25,20 +25,7 @@ fn sort_of(line: &[u8], stand: Stand) -> Option<Sort> {
     if stand == Stand::Inside {
         return begins_with(b"local", line).then_some(Sort::Local);
     }
-    let verb = Words::new(line).next()?;
-    if verb == b"user".as_slice() {
-        Some(Sort::User)
-    } else if verb == b"premise".as_slice() {
-        Some(Sort::Premise)
-    } else if verb == b"set".as_slice() {
-        Some(Sort::Set)
-    } else if verb == b"cell".as_slice() {
-        Some(Sort::Cell)
-    } else if verb == b"compound".as_slice() {
-        Some(Sort::Compound)
-    } else {
-        None
-    }
+    Sort::of_verb(Words::new(line).next()?)
 }
 
 // What has the new name already: what every declaration has, or a line before.
@@ -83,14 +70,6 @@ fn second_standing(words: Words<'_>, step: usize) -> Option<usize> {
         at = at.saturating_add(1);
     }
     None
-}
-
-// The words of a line after the name that it declares.
-fn words_after_name(line: &[u8]) -> Words<'_> {
-    let mut words = Words::new(line);
-    words.next();
-    words.next();
-    words
 }
 
 // A member or a parameter that is named twice.
@@ -181,23 +160,22 @@ fn explain_call<'a>(before: &Before<'a>, line: &'a [u8]) -> Explanation<'a> {
     Explanation::line(Expected::CompoundCell)
 }
 
+// The user to whom a premise belongs, whom no line names.
+fn explain_user<'a>(before: &Before<'a>, line: &'a [u8]) -> Explanation<'a> {
+    let mut words = words_after_name(line);
+    words.next();
+    match words.next() {
+        Some(user) => unknown_user(before, user, 3),
+        None => Explanation::line(Expected::User),
+    }
+}
+
 // A name that nothing has.
 fn explain_unknown<'a>(before: &Before<'a>, line: &'a [u8]) -> Explanation<'a> {
-    let third = match third_word(line) {
-        Some(third) => third,
-        None => b"",
-    };
     match sort_of(line, before.stand) {
-        Some(Sort::Premise) => {
-            let mut words = words_after_name(line);
-            words.next();
-            match words.next() {
-                Some(user) => unknown_user(before, user, 3),
-                None => Explanation::line(Expected::User),
-            }
-        }
+        Some(Sort::Premise) => explain_user(before, line),
         Some(Sort::Compound) => explain_kinds(before, line),
-        Some(_) => unknown_kind(before, third, 2),
+        Some(_) => unknown_kind(before, third_word(line).unwrap_or(b""), 2),
         None => explain_call(before, line),
     }
 }

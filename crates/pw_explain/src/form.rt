@@ -3,17 +3,22 @@
 use crate::expected::Expected;
 use crate::explanation::Explanation;
 use crate::near::Nearest;
-use crate::sort::Stand;
+use crate::sort::{Sort, Stand};
 use pw_info::{Words, allows_all, is_name};
 
 /// Nothing, or the first word that does not fit.
 pub(crate) type Fits<'a> = Result<(), Explanation<'a>>;
 
-// The nearest of the words to this one.
-fn nearest_of<'a>(word: &'a [u8], words: &[&'a [u8]]) -> Option<&'a [u8]> {
+/// The word of this number does not fit, where one of these words may stand.
+pub(crate) fn wrong_word<'a>(
+    word: &'a [u8],
+    number: usize,
+    expected: Expected<'a>,
+    words: &[&'a [u8]],
+) -> Explanation<'a> {
     let mut nearest = Nearest::to(word);
     nearest.offer_all(words);
-    nearest.name()
+    Explanation::word_near(number, expected, nearest.name())
 }
 
 /// Whether no word follows, where the next has this number.
@@ -38,16 +43,36 @@ fn name_fits<'a>(word: &[u8], number: usize) -> Fits<'a> {
     Err(Explanation::word(number, expected))
 }
 
+/// Whether the word is one of these.
+pub(crate) fn is_one_of(word: &[u8], words: &[&[u8]]) -> bool {
+    words.contains(&word)
+}
+
 // Whether the word is one of those that are no names.
 fn is_reserved(word: &[u8]) -> bool {
-    word == b"under".as_slice()
-        || word == b"none".as_slice()
-        || word == b"nothing".as_slice()
-        || word == b"contradiction".as_slice()
-        || word == b"line".as_slice()
-        || word == b"of".as_slice()
-        || word == b"local".as_slice()
-        || word == b"end".as_slice()
+    is_one_of(word, &[b"under", b"none", b"nothing", b"contradiction"])
+        || is_one_of(word, &[b"line", b"of", b"local", b"end"])
+}
+
+/// One word or more, of which the first has this number.
+pub(crate) fn some_fit<'a>(words: &Words<'a>, number: usize, expected: Expected<'a>) -> Fits<'a> {
+    if words.is_empty() {
+        Err(Explanation::word(number, expected))
+    } else {
+        Ok(())
+    }
+}
+
+/// Takes the next word, which has this number and after which none follows.
+pub(crate) fn last_word_fits<'a>(
+    words: &mut Words<'a>,
+    number: usize,
+    expected: Expected<'a>,
+) -> Fits<'a> {
+    match words.next() {
+        Some(_) => end_fits(words, number.saturating_add(1)),
+        None => Err(Explanation::word(number, expected)),
+    }
 }
 
 // Takes the new name, the second word.
@@ -58,20 +83,13 @@ fn new_name_fits<'a>(words: &mut Words<'a>) -> Fits<'a> {
     name_fits(word, 1)
 }
 
-// A header: the first words of a declaration.
-fn header_fits<'a>(line: &'a [u8]) -> Fits<'a> {
-    let mut words = Words::new(line);
-    let Some(verb) = words.next() else {
-        return Ok(());
-    };
+// A header: the first words of a declaration, after the first of them.
+fn header_fits<'a>(verb: &'a [u8], words: &mut Words<'a>) -> Fits<'a> {
     if verb != b"workbench".as_slice() {
-        let near = nearest_of(verb, &[b"workbench"]);
-        return Err(Explanation::word_near(0, Expected::Header, near));
+        return Err(wrong_word(verb, 0, Expected::Header, &[b"workbench"]));
     }
     match words.next() {
-        Some(version) if version == b"1".as_slice() || version == b"2".as_slice() => {
-            end_fits(&words, 2)
-        }
+        Some(version) if is_one_of(version, &[b"1", b"2"]) => end_fits(words, 2),
         _ => Err(Explanation::word(1, Expected::Header)),
     }
 }
@@ -82,13 +100,9 @@ fn owner_fits<'a>(words: &mut Words<'a>) -> Fits<'a> {
         return Ok(());
     };
     if between != b"of".as_slice() {
-        let near = nearest_of(between, &[b"of"]);
-        return Err(Explanation::word_near(2, Expected::Of, near));
+        return Err(wrong_word(between, 2, Expected::Of, &[b"of"]));
     }
-    if words.next().is_none() {
-        return Err(Explanation::word(3, Expected::User));
-    }
-    end_fits(words, 4)
+    last_word_fits(words, 3, Expected::User)
 }
 
 // The members of a set.
@@ -99,14 +113,6 @@ fn members_fit<'a>(words: &mut Words<'a>) -> Fits<'a> {
         number = number.saturating_add(1);
     }
     Ok(())
-}
-
-// The kind of a cell.
-fn kind_fits<'a>(words: &mut Words<'a>) -> Fits<'a> {
-    match words.next() {
-        Some(_) => end_fits(words, 3),
-        None => Err(Explanation::word(2, Expected::Kind)),
-    }
 }
 
 // The parameters of a compound and their kinds.
@@ -123,48 +129,42 @@ fn parameters_fit<'a>(words: &mut Words<'a>) -> Fits<'a> {
     Ok(())
 }
 
-// A line outside compounds.
-fn outer_fits<'a>(line: &'a [u8]) -> Fits<'a> {
-    let mut words = Words::new(line);
-    let Some(verb) = words.next() else {
-        return Ok(());
-    };
-    if verb == b"user".as_slice() {
-        new_name_fits(&mut words)?;
-        end_fits(&words, 2)
-    } else if verb == b"premise".as_slice() {
-        new_name_fits(&mut words)?;
-        owner_fits(&mut words)
-    } else if verb == b"set".as_slice() {
-        new_name_fits(&mut words)?;
-        members_fit(&mut words)
-    } else if verb == b"cell".as_slice() {
-        new_name_fits(&mut words)?;
-        kind_fits(&mut words)
-    } else if verb == b"compound".as_slice() {
-        new_name_fits(&mut words)?;
-        parameters_fit(&mut words)
-    } else {
-        let near = nearest_of(verb, &[b"user", b"premise", b"set", b"cell", b"compound"]);
-        Err(Explanation::word_near(0, Expected::FirstWord, near))
+// What follows a new name of this sort.
+fn named_fits<'a>(sort: Sort, words: &mut Words<'a>) -> Fits<'a> {
+    match sort {
+        Sort::User => end_fits(words, 2),
+        Sort::Premise => owner_fits(words),
+        Sort::Set => members_fit(words),
+        Sort::Compound => parameters_fit(words),
+        Sort::Cell | Sort::Local => last_word_fits(words, 2, Expected::Kind),
     }
 }
 
-// A line inside a compound.
-fn inner_fits<'a>(line: &'a [u8]) -> Fits<'a> {
-    let mut words = Words::new(line);
-    let Some(verb) = words.next() else {
-        return Ok(());
-    };
+// A new name of this sort, and what follows it.
+fn declared_fits<'a>(sort: Sort, words: &mut Words<'a>) -> Fits<'a> {
+    new_name_fits(words)?;
+    named_fits(sort, words)
+}
+
+// A line outside compounds, after its first word.
+fn outer_fits<'a>(verb: &'a [u8], words: &mut Words<'a>) -> Fits<'a> {
+    match Sort::of_verb(verb) {
+        Some(sort) => declared_fits(sort, words),
+        None => {
+            let verbs: [&[u8]; 5] = [b"user", b"premise", b"set", b"cell", b"compound"];
+            Err(wrong_word(verb, 0, Expected::FirstWord, &verbs))
+        }
+    }
+}
+
+// A line inside a compound, after its first word.
+fn inner_fits<'a>(verb: &[u8], words: &mut Words<'a>) -> Fits<'a> {
     if verb == b"local".as_slice() {
-        new_name_fits(&mut words)?;
-        kind_fits(&mut words)
+        declared_fits(Sort::Local, words)
     } else if verb == b"end".as_slice() {
-        end_fits(&words, 1)
-    } else if words.is_empty() {
-        Err(Explanation::word(1, Expected::CompoundCell))
+        end_fits(words, 1)
     } else {
-        Ok(())
+        some_fit(words, 1, Expected::CompoundCell)
     }
 }
 
@@ -173,9 +173,13 @@ pub(crate) fn line_fits<'a>(line: &'a [u8], stand: Stand) -> Fits<'a> {
     if !allows_all(line) {
         return Err(Explanation::byte());
     }
+    let mut words = Words::new(line);
+    let Some(verb) = words.next() else {
+        return Ok(());
+    };
     match stand {
-        Stand::BeforeHeader => header_fits(line),
-        Stand::Outside => outer_fits(line),
-        Stand::Inside => inner_fits(line),
+        Stand::BeforeHeader => header_fits(verb, &mut words),
+        Stand::Outside => outer_fits(verb, &mut words),
+        Stand::Inside => inner_fits(verb, &mut words),
     }
 }

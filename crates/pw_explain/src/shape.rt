@@ -1,5 +1,6 @@
 //! The kinds of the cells that a callable takes, by their names.
 
+use crate::form::is_one_of;
 use pw_info::Words;
 
 /// The names and kinds of the remaining cells.
@@ -36,7 +37,7 @@ impl<'a> Shape<'a> {
     pub(crate) fn next(&mut self) -> Option<&'a [u8]> {
         self.words.next()?;
         let kind = self.words.next()?;
-        if self.is_row && (kind == b"way".as_slice() || kind == b"ways".as_slice()) {
+        if self.is_row && is_one_of(kind, &[b"way", b"ways"]) {
             self.words = Words::new(b"");
             return None;
         }

@@ -20,6 +20,15 @@ pub enum Sort {
     Local,
 }
 
+// The sorts of names that lines outside compounds declare.
+const OUTER: [Sort; 5] = [
+    Sort::User,
+    Sort::Premise,
+    Sort::Set,
+    Sort::Cell,
+    Sort::Compound,
+];
+
 impl Sort {
     /// The first word of the lines that declare such a name.
     pub(crate) fn verb(self) -> &'static [u8] {
@@ -33,6 +42,16 @@ impl Sort {
         }
     }
 
+    /// The sort of the names that lines outside compounds with this first word declare.
+    pub(crate) fn of_verb(verb: &[u8]) -> Option<Sort> {
+        for sort in &OUTER {
+            if verb == sort.verb() {
+                return Some(*sort);
+            }
+        }
+        None
+    }
+
     /// Where the lines stand that declare such a name.
     pub(crate) fn stand(self) -> Stand {
         match self {
@@ -44,10 +63,11 @@ impl Sort {
     /// The name of this sort that the line declares, if it does.
     pub(crate) fn name_in(self, line: &[u8]) -> Option<&[u8]> {
         let mut words = Words::new(line);
-        if words.next()? != self.verb() {
-            return None;
+        if words.next() == Some(self.verb()) {
+            words.next()
+        } else {
+            None
         }
-        words.next()
     }
 }
 
