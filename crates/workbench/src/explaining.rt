@@ -46,6 +46,28 @@ fn add_line<A: Allocator + Copy>(
     write_explanation(alloc, block, &explanation)
 }
 
+// Fills the block of the first fault of what is left of the text, and answers whether the lines after
+// it are to be read.
+fn fill_block<A: Allocator + Copy>(
+    alloc: A,
+    block: &mut Vec<u8, A>,
+    table: &[u8],
+    unread: &Unread<A>,
+    fault: DeclFault,
+) -> Result<bool, AllocError> {
+    let numbered = DeclFault {
+        line: unread.number(fault.line),
+        why: fault.why,
+    };
+    add_title(alloc, block, numbered)?;
+    let Some(cut) = cut_at(unread.text(), fault.line) else {
+        write_explanation(alloc, block, &explain_text_fault(numbered))?;
+        return Ok(false);
+    };
+    add_line(alloc, block, table, unread, &cut, fault.why)?;
+    Ok(!cut.is_header())
+}
+
 // Adds the block of the first fault of what is left of the text, and answers whether the lines after
 // it are to be read.
 fn add_block<A: Allocator + Copy>(
@@ -59,31 +81,38 @@ fn add_block<A: Allocator + Copy>(
     if !blocks.is_empty() {
         block.push(b'\n')?;
     }
-    let numbered = DeclFault {
-        line: unread.number(fault.line),
-        why: fault.why,
-    };
-    add_title(alloc, &mut block, numbered)?;
-    let goes_on = match cut_at(unread.text(), fault.line) {
-        Some(cut) => {
-            add_line(alloc, &mut block, table, unread, &cut, fault.why)?;
-            !cut.is_header()
-        }
-        None => {
-            write_explanation(alloc, &mut block, &explain_text_fault(numbered))?;
-            false
-        }
-    };
+    let goes_on = fill_block(alloc, &mut block, table, unread, fault)?;
     blocks.extend_from_slice(&block)?;
     Ok(goes_on)
 }
 
 // The fault of the text, if it has one.
-fn fault_of<A: Allocator + Copy>(alloc: A, text: &[u8], registry: &Registry) -> Option<DeclFault> {
-    match read_declaration(alloc, text, registry) {
-        Ok(_) => None,
-        Err(fault) => Some(fault),
+fn fault_of<A: Allocator + Copy>(alloc: A, text: &[u8], registry: &Registry) -> Option<DeclFault>
+    ensures none { IfNone result (IsDeclaration (procedures_in registry.now) text.now) }
+    ensures some { IfSome result (λ fault.
+        IsToldOfText (procedures_in registry.now) text.now (Fault.Declaration fault)) }
+{
+    read_declaration(alloc, text, registry).err()
+}
+
+// Adds the block of the first fault of what is left of the text, drops its lines, and answers the
+// next fault, if there is one to be read.
+fn pass_fault<A: Allocator + Copy>(
+    alloc: A,
+    blocks: &mut Vec<u8, A>,
+    table: &[u8],
+    registry: &Registry,
+    unread: &mut Unread<A>,
+    fault: DeclFault,
+) -> Result<Option<DeclFault>, AllocError> {
+    if fault.why == DeclFaultKind::Memory {
+        return Err(AllocError);
     }
+    if !add_block(alloc, blocks, table, unread, fault)? {
+        return Ok(None);
+    }
+    unread.drop_line(fault.line)?;
+    Ok(fault_of(alloc, unread.text(), registry))
 }
 
 // Adds the blocks of the faulty lines of a text, the first of which has this fault. When out of
@@ -100,16 +129,9 @@ fn add_blocks<A: Allocator + Copy>(
     let mut fault = first;
     // A text has no more lines than bytes, and one fault may be past its last line.
     for _ in 0..=text.len() {
-        if fault.why == DeclFaultKind::Memory {
-            return Err(AllocError);
-        }
-        if !add_block(alloc, blocks, table, &unread, fault)? {
-            return Ok(());
-        }
-        unread.drop_line(fault.line)?;
-        match fault_of(alloc, unread.text(), registry) {
+        match pass_fault(alloc, blocks, table, registry, &mut unread, fault)? {
             Some(next) => fault = next,
-            None => return Ok(()),
+            None => break,
         }
     }
     Ok(())
@@ -127,10 +149,7 @@ pub fn explain_text<A: Allocator + Copy>(
     ensures some { IfSome result (λ told.
         IsToldOfText (procedures_in registry.now) text.now told.1) }
 {
-    let fault = match read_declaration(alloc, text, registry) {
-        Ok(_) => return None,
-        Err(fault) => fault,
-    };
+    let fault = fault_of(alloc, text, registry)?;
     let mut blocks = Vec::new(alloc);
     let added = add_blocks(alloc, &mut blocks, table, registry, text, fault);
     let blocks = Blocks {
