@@ -1,5 +1,5 @@
 //! Tests of the store of facts.
-ghost use Rattle.std.specs.Prelude.{◌≡◌, ◌<◌, [], ◌∷◌};
+ghost use Rattle.std.specs.Prelude.{◌≡◌, ◌<◌, [], ◌∷◌, IfOk};
 ghost use Rattle.pw_info.specs.Information.{kind_of};
 ghost use Rattle.pw_cells.specs.Cells.{kinds_of};
 
@@ -8,12 +8,22 @@ use pw_facts::Fact;
 use pw_info::{Info, Kind};
 use pw_premises::PremiseSet;
 use pw_testing::facts::fact;
-use std::alloc::AllocError;
+use std::alloc::{AllocError, Global};
+use std::process::Abort;
 use std::test::Fail;
 
 mod contents;
 mod marks;
 mod refused;
+
+// A store of an interval cell and an exact cell.
+fn two_cells(alloc: Global) -> Result<CellStore, AllocError>
+    ensures { IfOk result (λ store. kinds_of store ≡ Kind.Interval ∷ Kind.Exact ∷ []) }
+{
+    let mut store = CellStore::new(alloc);
+    store.add_cells(&[Kind::Interval, Kind::Exact])?;
+    Ok(store)
+}
 
 // Tells a fact of the interval cell. The store also has an exact cell.
 fn tell(store: &mut CellStore, fact: Fact) -> Result<(), AllocError>
@@ -58,11 +68,11 @@ fn recall(store: &mut CellStore, asker: u8, cell: u32, worldview: &PremiseSet) -
     store.recall(asker, cell, worldview)
 }
 
-// Keeps a fact of the store's one cell, an interval cell.
+// Keeps a fact of the interval cell.
 fn keep(store: &mut CellStore, fact: Fact) -> Result<bool, AllocError>
-    requires cells { kinds_of store.old ≡ Kind.Interval ∷ [] }
+    requires cells { kinds_of store.old ≡ Kind.Interval ∷ Kind.Exact ∷ [] }
     requires kind { kind_of fact.info ≡ Kind.Interval }
-    ensures { kinds_of store.new ≡ Kind.Interval ∷ [] }
+    ensures { kinds_of store.new ≡ Kind.Interval ∷ Kind.Exact ∷ [] }
 {
     store.keep(0, fact)
 }
@@ -79,44 +89,108 @@ fn tell_under_each(store: &mut CellStore, premises: u16) -> Result<(), AllocErro
     Ok(())
 }
 
+// Checks the ends of what was told of the interval cell.
+fn assert_told<R: Abort>(rt: &R, store: &CellStore, worldview: &PremiseSet, ends: (i64, i64))
+    requires { kinds_of store.now ≡ Kind.Interval ∷ Kind.Exact ∷ [] }
+{
+    let wanted = fact(ends.0, ends.1, *worldview);
+    assert!(rt; told(store, 0, worldview) == wanted.info);
+}
+
+// Checks what is kept of one of the two cells.
+fn assert_kept<R: Abort>(
+    rt: &R,
+    store: &mut CellStore,
+    cell: u32,
+    worldview: &PremiseSet,
+    wanted: Fact,
+)
+    requires cells { kinds_of store.old ≡ Kind.Interval ∷ Kind.Exact ∷ [] }
+    requires there { cell < 2 }
+    ensures { kinds_of store.new ≡ Kind.Interval ∷ Kind.Exact ∷ [] }
+{
+    assert!(rt; kept(store, cell, worldview) == wanted);
+}
+
+// Checks the ends of what a user of this number recalls of the interval cell.
+fn assert_recalled<R: Abort>(
+    rt: &R,
+    store: &mut CellStore,
+    asker: u8,
+    worldview: &PremiseSet,
+    ends: (i64, i64),
+)
+    requires { kinds_of store.old ≡ Kind.Interval ∷ Kind.Exact ∷ [] }
+    ensures { kinds_of store.new ≡ Kind.Interval ∷ Kind.Exact ∷ [] }
+{
+    let wanted = fact(ends.0, ends.1, *worldview);
+    assert!(rt; recall(store, asker, 0, worldview) == wanted.info);
+}
+
+// Checks whether the interval cell may show more in a worldview than in the one before.
+fn assert_shows_more<R: Abort>(
+    rt: &R,
+    store: &CellStore,
+    before: &PremiseSet,
+    worldview: &PremiseSet,
+    more: bool,
+)
+    requires { kinds_of store.now ≡ Kind.Interval ∷ Kind.Exact ∷ [] }
+{
+    assert!(rt; may_show_more(store, 0, before, worldview) == more);
+}
+
+// Keeps a fact of the interval cell. Checks whether the fact is news.
+fn assert_news<R: Abort>(
+    rt: &R,
+    store: &mut CellStore,
+    fact: Fact,
+    news: bool,
+) -> Result<(), AllocError>
+    requires cells { kinds_of store.old ≡ Kind.Interval ∷ Kind.Exact ∷ [] }
+    requires kind { kind_of fact.info ≡ Kind.Interval }
+    ensures { kinds_of store.new ≡ Kind.Interval ∷ Kind.Exact ∷ [] }
+{
+    assert!(rt; keep(store, fact)? == news);
+    Ok(())
+}
+
 #[test]
 fn cells_are_added_where_there_is_room(rt: HostRuntime) -> Result<(), Fail> {
     let mut store = CellStore::new(rt.alloc());
     store.reserve(2)?;
     let first = store.add_cells(&[Kind::Interval, Kind::Exact])?;
-    assert_eq!(rt; first, 0);
-    assert_eq!(rt; store.cells(), 2);
-    assert_eq!(rt; store.kind(1), Kind::Exact);
+    assert!(rt; (first, store.cells(), store.kind(1)) == (0, 2, Kind::Exact));
     let next = store.add_cells(&[Kind::Interval])?;
-    assert_eq!(rt; next, 2);
+    assert!(rt; next == 2);
     Ok(())
 }
 
 #[test]
 fn subsumed_facts_are_no_news(rt: HostRuntime) -> Result<(), Fail> {
     let (zero, one, both) = (PremiseSet::one(0), PremiseSet::one(1), PremiseSet::first(2));
-    let mut store = CellStore::new(rt.alloc());
-    store.add_cells(&[Kind::Interval])?;
-    assert!(rt; keep(&mut store, fact(5, 9, zero))?);
-    assert!(rt; !keep(&mut store, fact(5, 9, both))?);
-    assert!(rt; keep(&mut store, fact(6, 9, one))?);
-    assert!(rt; store.kept(0, &both) == fact(6, 9, one));
-    assert!(rt; store.kept(0, &zero) == fact(5, 9, zero));
-    let none = store.kept(0, &PremiseSet::empty());
-    assert!(rt; none.info.is_nothing() && none.support.is_empty());
+    let mut store = two_cells(rt.alloc())?;
+    assert_news(&rt, &mut store, fact(5, 9, zero), true)?;
+    assert_news(&rt, &mut store, fact(5, 9, both), false)?;
+    assert_news(&rt, &mut store, fact(6, 9, one), true)?;
+    assert_kept(&rt, &mut store, 0, &both, fact(6, 9, one));
+    assert_kept(&rt, &mut store, 0, &zero, fact(5, 9, zero));
+    let none = Fact {
+        info: Info::nothing(Kind::Interval),
+        support: PremiseSet::empty(),
+    };
+    assert_kept(&rt, &mut store, 0, &PremiseSet::empty(), none);
     Ok(())
 }
 
 #[test]
 fn facts_of_one_support_are_told_together(rt: HostRuntime) -> Result<(), Fail> {
     let (zero, both) = (PremiseSet::one(0), PremiseSet::first(2));
-    let mut store = CellStore::new(rt.alloc());
-    store.add_cells(&[Kind::Interval, Kind::Exact])?;
+    let mut store = two_cells(rt.alloc())?;
     tell(&mut store, fact(5, 9, zero))?;
     tell(&mut store, fact(7, 12, zero))?;
-    let met = fact(7, 9, zero);
-    assert!(rt; told(&store, 0, &both) == met.info);
-    assert!(rt; kept(&mut store, 0, &both) == met);
+    assert_told(&rt, &store, &both, (7, 9));
+    assert_kept(&rt, &mut store, 0, &both, fact(7, 9, zero));
     assert!(rt; told(&store, 0, &PremiseSet::one(1)).is_nothing());
     assert!(rt;
         told(&store, 1, &both).is_nothing() && kept(&mut store, 1, &both).info.is_nothing()
@@ -127,32 +201,42 @@ fn facts_of_one_support_are_told_together(rt: HostRuntime) -> Result<(), Fail> {
 #[test]
 fn facts_of_many_supports_are_told_together(rt: HostRuntime) -> Result<(), Fail> {
     let (three, all) = (PremiseSet::one(3), PremiseSet::first(512));
-    let mut store = CellStore::new(rt.alloc());
-    store.add_cells(&[Kind::Interval, Kind::Exact])?;
+    let mut store = two_cells(rt.alloc())?;
     tell_under_each(&mut store, 20)?;
     tell_under_each(&mut store, 20)?;
     tell(&mut store, fact(50, 60, three))?;
-    assert!(rt; told(&store, 0, &three) == fact(50, 60, three).info);
-    assert!(rt; told(&store, 0, &PremiseSet::first(3)) == fact(2, 100, three).info);
-    assert!(rt; kept(&mut store, 0, &three) == fact(50, 60, three));
-    assert!(rt; kept(&mut store, 0, &all) == fact(50, 60, three));
-    assert!(rt; kept(&mut store, 0, &PremiseSet::first(3)) == fact(2, 100, PremiseSet::one(2)));
+    assert_told(&rt, &store, &three, (50, 60));
+    assert_told(&rt, &store, &PremiseSet::first(3), (2, 100));
+    assert_kept(&rt, &mut store, 0, &three, fact(50, 60, three));
+    assert_kept(&rt, &mut store, 0, &all, fact(50, 60, three));
+    assert_kept(
+        &rt,
+        &mut store,
+        0,
+        &PremiseSet::first(3),
+        fact(2, 100, PremiseSet::one(2)),
+    );
     Ok(())
 }
 
 #[test]
 fn facts_of_wide_supports_are_told_with_the_others(rt: HostRuntime) -> Result<(), Fail> {
     let (five, far) = (PremiseSet::one(5), PremiseSet::one(100));
-    let mut store = CellStore::new(rt.alloc());
-    store.add_cells(&[Kind::Interval, Kind::Exact])?;
+    let mut store = two_cells(rt.alloc())?;
     tell_under_each(&mut store, 20)?;
     tell(&mut store, fact(30, 90, far))?;
     tell(&mut store, fact(40, 80, five))?;
-    assert!(rt; told(&store, 0, &PremiseSet::first(5)) == fact(4, 100, far).info);
-    assert!(rt; told(&store, 0, &five) == fact(40, 80, five).info);
-    assert!(rt; kept(&mut store, 0, &five) == fact(40, 80, five));
-    assert!(rt; kept(&mut store, 0, &far) == fact(30, 90, far));
-    assert!(rt; kept(&mut store, 0, &PremiseSet::first(512)) == fact(40, 80, five));
+    assert_told(&rt, &store, &PremiseSet::first(5), (4, 100));
+    assert_told(&rt, &store, &five, (40, 80));
+    assert_kept(&rt, &mut store, 0, &five, fact(40, 80, five));
+    assert_kept(&rt, &mut store, 0, &far, fact(30, 90, far));
+    assert_kept(
+        &rt,
+        &mut store,
+        0,
+        &PremiseSet::first(512),
+        fact(40, 80, five),
+    );
     Ok(())
 }
 
@@ -160,20 +244,19 @@ fn facts_of_wide_supports_are_told_with_the_others(rt: HostRuntime) -> Result<()
 fn more_may_be_kept_where_a_fact_comes_in(rt: HostRuntime) -> Result<(), Fail> {
     let (none, zero, one) = (PremiseSet::empty(), PremiseSet::one(0), PremiseSet::one(1));
     let (both, all) = (PremiseSet::first(2), PremiseSet::first(512));
-    let mut store = CellStore::new(rt.alloc());
-    store.add_cells(&[Kind::Interval, Kind::Exact])?;
+    let mut store = two_cells(rt.alloc())?;
     tell(&mut store, fact(5, 9, zero))?;
     // The fact was told since; then it is among the kept ones.
-    assert!(rt; may_show_more(&store, 0, &none, &zero));
-    assert!(rt; !may_show_more(&store, 0, &zero, &all));
-    assert!(rt; kept(&mut store, 0, &both) == fact(5, 9, zero));
-    assert!(rt; may_show_more(&store, 0, &one, &both));
-    assert!(rt; !may_show_more(&store, 0, &zero, &all));
-    assert!(rt; !may_show_more(&store, 0, &zero, &one));
+    assert_shows_more(&rt, &store, &none, &zero, true);
+    assert_shows_more(&rt, &store, &zero, &all, false);
+    assert_kept(&rt, &mut store, 0, &both, fact(5, 9, zero));
+    assert_shows_more(&rt, &store, &one, &both, true);
+    assert_shows_more(&rt, &store, &zero, &all, false);
+    assert_shows_more(&rt, &store, &zero, &one, false);
     // One fact is visible already, and the other one comes in.
     tell(&mut store, fact(6, 7, both))?;
-    assert!(rt; may_show_more(&store, 0, &zero, &both));
-    assert!(rt; !may_show_more(&store, 0, &none, &one));
+    assert_shows_more(&rt, &store, &zero, &both, true);
+    assert_shows_more(&rt, &store, &none, &one, false);
     assert!(rt; !may_show_more(&store, 1, &none, &all));
     Ok(())
 }
@@ -181,34 +264,33 @@ fn more_may_be_kept_where_a_fact_comes_in(rt: HostRuntime) -> Result<(), Fail> {
 #[test]
 fn more_may_be_kept_where_a_wide_fact_comes_in(rt: HostRuntime) -> Result<(), Fail> {
     let (zero, far) = (PremiseSet::one(0), PremiseSet::one(100));
-    let below = PremiseSet::first(100);
-    let mut store = CellStore::new(rt.alloc());
-    store.add_cells(&[Kind::Interval, Kind::Exact])?;
+    let (below, all) = (PremiseSet::first(100), PremiseSet::first(512));
+    let with_far = PremiseSet::first(101);
+    let mut store = two_cells(rt.alloc())?;
     tell(&mut store, fact(5, 9, zero))?;
     tell(&mut store, fact(6, 20, far))?;
-    assert!(rt; may_show_more(&store, 0, &below, &PremiseSet::first(101)));
-    assert!(rt; !may_show_more(&store, 0, &zero, &below));
-    assert!(rt; kept(&mut store, 0, &far) == fact(6, 20, far));
-    assert!(rt; may_show_more(&store, 0, &below, &PremiseSet::first(101)));
-    assert!(rt; may_show_more(&store, 0, &far, &PremiseSet::first(512)));
-    assert!(rt; !may_show_more(&store, 0, &zero, &below));
+    assert_shows_more(&rt, &store, &below, &with_far, true);
+    assert_shows_more(&rt, &store, &zero, &below, false);
+    assert_kept(&rt, &mut store, 0, &far, fact(6, 20, far));
+    assert_shows_more(&rt, &store, &below, &with_far, true);
+    assert_shows_more(&rt, &store, &far, &all, true);
+    assert_shows_more(&rt, &store, &zero, &below, false);
     Ok(())
 }
 
 #[test]
 fn what_is_told_since_is_recalled(rt: HostRuntime) -> Result<(), Fail> {
     let (zero, one, both) = (PremiseSet::one(0), PremiseSet::one(1), PremiseSet::first(2));
-    let mut store = CellStore::new(rt.alloc());
-    store.add_cells(&[Kind::Interval, Kind::Exact])?;
+    let mut store = two_cells(rt.alloc())?;
     assert!(rt; recall(&mut store, 0, 0, &both).is_nothing());
     tell(&mut store, fact(5, 9, zero))?;
-    assert!(rt; recall(&mut store, 0, 0, &both) == fact(5, 9, zero).info);
+    assert_recalled(&rt, &mut store, 0, &both, (5, 9));
     tell(&mut store, fact(7, 12, one))?;
-    assert!(rt; recall(&mut store, 0, 0, &both) == fact(7, 9, both).info);
-    assert!(rt; recall(&mut store, 0, 0, &zero) == fact(5, 9, zero).info);
+    assert_recalled(&rt, &mut store, 0, &both, (7, 9));
+    assert_recalled(&rt, &mut store, 0, &zero, (5, 9));
     tell(&mut store, fact(8, 20, one))?;
-    assert!(rt; recall(&mut store, 0, 0, &zero) == fact(5, 9, zero).info);
-    assert!(rt; recall(&mut store, 16, 0, &both) == fact(8, 9, both).info);
+    assert_recalled(&rt, &mut store, 0, &zero, (5, 9));
+    assert_recalled(&rt, &mut store, 16, &both, (8, 9));
     assert!(rt; recall(&mut store, 255, 1, &both).is_nothing());
     Ok(())
 }
@@ -217,17 +299,16 @@ fn what_is_told_since_is_recalled(rt: HostRuntime) -> Result<(), Fail> {
 fn what_is_told_since_is_recalled_among_many_facts(rt: HostRuntime) -> Result<(), Fail> {
     let (first, half) = (PremiseSet::one(0), PremiseSet::first(10));
     let all = PremiseSet::first(512);
-    let mut store = CellStore::new(rt.alloc());
-    store.add_cells(&[Kind::Interval, Kind::Exact])?;
+    let mut store = two_cells(rt.alloc())?;
     tell_under_each(&mut store, 20)?;
-    assert!(rt; recall(&mut store, 0, 0, &half) == fact(9, 100, half).info);
-    assert!(rt; recall(&mut store, 1, 0, &all) == fact(19, 100, all).info);
-    assert!(rt; recall(&mut store, 16, 0, &first) == fact(0, 100, first).info);
+    assert_recalled(&rt, &mut store, 0, &half, (9, 100));
+    assert_recalled(&rt, &mut store, 1, &all, (19, 100));
+    assert_recalled(&rt, &mut store, 16, &first, (0, 100));
     tell(&mut store, fact(3, 60, first))?;
     tell(&mut store, fact(50, 90, PremiseSet::one(15)))?;
-    assert!(rt; recall(&mut store, 0, 0, &half) == fact(9, 60, half).info);
-    assert!(rt; recall(&mut store, 1, 0, &all) == fact(50, 60, all).info);
-    assert!(rt; recall(&mut store, 16, 0, &first) == fact(3, 60, first).info);
-    assert!(rt; recall(&mut store, 0, 0, &all) == fact(50, 60, all).info);
+    assert_recalled(&rt, &mut store, 0, &half, (9, 60));
+    assert_recalled(&rt, &mut store, 1, &all, (50, 60));
+    assert_recalled(&rt, &mut store, 16, &first, (3, 60));
+    assert_recalled(&rt, &mut store, 0, &all, (50, 60));
     Ok(())
 }

@@ -1,15 +1,15 @@
 //! What a store of facts remembers since a mark.
 ghost use Rattle.std.specs.Prelude.{◌≡◌, [], ◌∷◌};
-ghost use Rattle.pw_info.specs.Information.{kind_of};
 ghost use Rattle.pw_cells.specs.Cells.{kinds_of};
 
-use super::tell;
+use super::{assert_news, keep, tell, two_cells};
 use pw_cells::{Arrival, CellStore};
 use pw_facts::Fact;
 use pw_info::Kind;
 use pw_premises::PremiseSet;
 use pw_testing::facts::fact;
 use std::alloc::AllocError;
+use std::process::Abort;
 use std::test::Fail;
 
 // This many facts are remembered.
@@ -21,15 +21,6 @@ fn mark(store: &mut CellStore) -> u64
     ensures { kinds_of store.new ≡ Kind.Interval ∷ Kind.Exact ∷ [] }
 {
     store.mark()
-}
-
-// Keeps a fact of the interval cell.
-fn keep(store: &mut CellStore, fact: Fact) -> Result<bool, AllocError>
-    requires cells { kinds_of store.old ≡ Kind.Interval ∷ Kind.Exact ∷ [] }
-    requires kind { kind_of fact.info ≡ Kind.Interval }
-    ensures { kinds_of store.new ≡ Kind.Interval ∷ Kind.Exact ∷ [] }
-{
-    store.keep(0, fact)
 }
 
 // Tells the same fact of the interval cell so many times.
@@ -56,78 +47,89 @@ fn came(store: &CellStore, mark: u64) -> Option<usize> {
     Some(arrivals.len())
 }
 
+// Checks how many facts came since a mark.
+fn assert_came<R: Abort>(rt: &R, store: &CellStore, mark: u64, wanted: Option<usize>) {
+    assert_eq!(rt; came(store, mark), wanted);
+}
+
+// Checks the first and the last fact that came since a mark.
+fn assert_in_order<R: Abort>(
+    rt: &R,
+    store: &CellStore,
+    mark: u64,
+    first: &Fact,
+    last: &Fact,
+) -> Result<(), Fail> {
+    let arrivals = store.since(mark).ok_or("forgotten")?;
+    let (Some(told), Some(kept)) = (arrivals.first(), arrivals.last()) else {
+        return Err("nothing came".into());
+    };
+    assert!(rt; is_of(told, first));
+    assert!(rt; is_of(kept, last));
+    Ok(())
+}
+
 #[test]
 fn what_was_told_and_kept_came_since(rt: HostRuntime) -> Result<(), Fail> {
     let (zero, one) = (PremiseSet::one(0), PremiseSet::one(1));
-    let mut store = CellStore::new(rt.alloc());
-    store.add_cells(&[Kind::Interval, Kind::Exact])?;
+    let mut store = two_cells(rt.alloc())?;
     let first = mark(&mut store);
-    assert_eq!(rt; came(&store, first), Some(0));
+    assert_came(&rt, &store, first, Some(0));
     tell(&mut store, fact(5, 9, zero))?;
     let second = mark(&mut store);
-    assert!(rt; keep(&mut store, fact(6, 8, one))?);
+    assert_news(&rt, &mut store, fact(6, 8, one), true)?;
     // What is known already does not come again.
-    assert!(rt; !keep(&mut store, fact(6, 9, one))?);
-    assert_eq!(rt; came(&store, first), Some(2));
-    assert_eq!(rt; came(&store, second), Some(1));
+    assert_news(&rt, &mut store, fact(6, 9, one), false)?;
+    assert_came(&rt, &store, first, Some(2));
+    assert_came(&rt, &store, second, Some(1));
     let third = mark(&mut store);
-    assert_eq!(rt; came(&store, third), Some(0));
+    assert_came(&rt, &store, third, Some(0));
     Ok(())
 }
 
 #[test]
 fn what_came_is_told_in_its_order(rt: HostRuntime) -> Result<(), Fail> {
     let (zero, one) = (PremiseSet::one(0), PremiseSet::one(1));
-    let mut store = CellStore::new(rt.alloc());
-    store.add_cells(&[Kind::Interval, Kind::Exact])?;
+    let mut store = two_cells(rt.alloc())?;
     let first = mark(&mut store);
     tell(&mut store, fact(5, 9, zero))?;
     keep(&mut store, fact(6, 8, one))?;
-    let arrivals = store.since(first).ok_or("forgotten")?;
-    let (Some(told), Some(kept)) = (arrivals.first(), arrivals.last()) else {
-        return Err("nothing came".into());
-    };
-    assert!(rt; is_of(told, &fact(5, 9, zero)));
-    assert!(rt; is_of(kept, &fact(6, 8, one)));
-    Ok(())
+    assert_in_order(&rt, &store, first, &fact(5, 9, zero), &fact(6, 8, one))
 }
 
 #[test]
 fn a_wide_fact_makes_the_store_forget(rt: HostRuntime) -> Result<(), Fail> {
-    let mut store = CellStore::new(rt.alloc());
-    store.add_cells(&[Kind::Interval, Kind::Exact])?;
+    let mut store = two_cells(rt.alloc())?;
     let first = mark(&mut store);
     tell(&mut store, fact(5, 9, PremiseSet::one(64)))?;
-    assert_eq!(rt; came(&store, first), None);
+    assert_came(&rt, &store, first, None);
     let second = mark(&mut store);
     tell(&mut store, fact(6, 9, PremiseSet::one(63)))?;
-    assert_eq!(rt; came(&store, second), Some(1));
+    assert_came(&rt, &store, second, Some(1));
     Ok(())
 }
 
 #[test]
 fn one_fact_too_many_makes_the_store_forget(rt: HostRuntime) -> Result<(), Fail> {
-    let mut store = CellStore::new(rt.alloc());
-    store.add_cells(&[Kind::Interval, Kind::Exact])?;
+    let mut store = two_cells(rt.alloc())?;
     let first = mark(&mut store);
     tell_often(&mut store, REMEMBERED)?;
-    assert_eq!(rt; came(&store, first), Some(4096));
+    assert_came(&rt, &store, first, Some(4096));
     tell_often(&mut store, 1)?;
-    assert_eq!(rt; came(&store, first), None);
+    assert_came(&rt, &store, first, None);
     let second = mark(&mut store);
-    assert_eq!(rt; came(&store, second), Some(0));
+    assert_came(&rt, &store, second, Some(0));
     tell_often(&mut store, 2)?;
-    assert_eq!(rt; came(&store, second), Some(2));
+    assert_came(&rt, &store, second, Some(2));
     Ok(())
 }
 
 #[test]
 fn without_a_mark_nothing_is_remembered(rt: HostRuntime) -> Result<(), Fail> {
-    let mut store = CellStore::new(rt.alloc());
-    store.add_cells(&[Kind::Interval, Kind::Exact])?;
+    let mut store = two_cells(rt.alloc())?;
     tell_often(&mut store, 3)?;
-    assert_eq!(rt; came(&store, 0), None);
+    assert_came(&rt, &store, 0, None);
     let first = mark(&mut store);
-    assert_eq!(rt; came(&store, first), Some(0));
+    assert_came(&rt, &store, first, Some(0));
     Ok(())
 }

@@ -10,7 +10,8 @@ use pw_info::{Info, Kind};
 use pw_premises::PremiseSet;
 use pw_testing::Refusing;
 use pw_testing::facts::fact;
-use std::alloc::Allocator;
+use std::alloc::{Allocator, Global};
+use std::process::Abort;
 use std::test::Fail;
 
 // What the store shows of its first cell to one who believes the first two premises.
@@ -80,37 +81,55 @@ fn keep<A: Allocator + Copy>(store: &mut CellStore<A>, fact: &Fact) -> Result<u3
     Ok(1)
 }
 
-// Tells and keeps facts of the interval cell of a new store, each call a second time if memory is
-// refused. One of them rests on a premise past 63, so the cell needs room for wide supports. Answers
-// how often a call was refused, and what the store shows in the end.
-fn shown_at_last<A: Allocator + Copy>(memory: A) -> Result<(u32, Info, Fact), Fail> {
+// Tells and keeps facts of the interval cell, each call a second time if memory is refused. One of
+// them rests on a premise past 63, so the cell needs room for wide supports. Answers how often a call
+// was refused.
+fn tell_and_keep<A: Allocator + Copy>(store: &mut CellStore<A>) -> Result<u32, Fail>
+    requires { kinds_of store.old ≡ Kind.Interval ∷ Kind.Exact ∷ [] }
+    ensures { kinds_of store.new ≡ Kind.Interval ∷ Kind.Exact ∷ [] }
+{
     let (zero, one) = (PremiseSet::one(0), PremiseSet::one(1));
+    let told = tell(store, &fact(0, 9, zero))?;
+    let kept = keep(store, &fact(3, 12, one))?;
+    let wide = tell(store, &fact(2, 11, PremiseSet::one(200)))?;
+    let again = tell(store, &fact(4, 10, one))?;
+    Ok(
+        told.saturating_add(kept)
+            .saturating_add(wide)
+            .saturating_add(again),
+    )
+}
+
+// Fills a new store. Answers how often a call was refused, and what the store shows in the end.
+fn shown_at_last<A: Allocator + Copy>(memory: A) -> Result<(u32, Info, Fact), Fail> {
     let mut store = CellStore::new(memory);
     let added = add(&mut store)?;
-    let told = tell(&mut store, &fact(0, 9, zero))?;
-    let kept = keep(&mut store, &fact(3, 12, one))?;
-    let wide = tell(&mut store, &fact(2, 11, PremiseSet::one(200)))?;
-    let again = tell(&mut store, &fact(4, 10, one))?;
-    let refused = added
-        .saturating_add(told)
-        .saturating_add(kept)
-        .saturating_add(wide)
-        .saturating_add(again);
+    let refused = tell_and_keep(&mut store)?;
     let (info, known) = shown(&mut store);
-    Ok((refused, info, known))
+    Ok((added.saturating_add(refused), info, known))
+}
+
+// Checks what a store shows in the end over an allocator that refuses the growth of this number, and
+// that there was no such growth if no call was refused. Answers how often a call was refused.
+fn assert_shown_at_last<R: Abort>(
+    rt: &R,
+    refusing: &Refusing<Global>,
+    at: u64,
+) -> Result<u32, Fail> {
+    let zero = PremiseSet::one(0);
+    let (refused, info, known) = shown_at_last(refusing)?;
+    assert!(rt; info == fact(4, 9, zero).info, "at {at}");
+    assert!(rt; known == fact(4, 9, PremiseSet::first(2)), "at {at}");
+    assert!(rt; refused > 0 || refusing.calls() < at, "at {at}");
+    Ok(refused)
 }
 
 #[test]
 fn a_refused_call_changes_nothing(rt: HostRuntime) -> Result<(), Fail> {
-    let (zero, one) = (PremiseSet::one(0), PremiseSet::one(1));
     let mut met = 0u32;
     for at in 1..40u64 {
         let refusing = Refusing::nth(rt.alloc(), at);
-        let (refused, info, known) = shown_at_last(&refusing)?;
-        assert!(rt; info == fact(4, 9, zero).info, "at {at}");
-        assert!(rt; known == fact(4, 9, zero.join(one)), "at {at}");
-        if refused == 0 {
-            assert!(rt; refusing.calls() < at, "at {at}");
+        if assert_shown_at_last(&rt, &refusing, at)? == 0 {
             break;
         }
         met = met.saturating_add(1);
