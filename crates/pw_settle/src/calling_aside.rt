@@ -68,7 +68,8 @@ fn call_aside<A: Allocator + Copy>(
 }
 
 // Calls queued instances until none is left, and answers the number of calls. Fails only when out
-// of memory.
+// of memory. Never inlined: a loop of its own keeps what it works on in registers.
+#[inline(never)]
 fn work_aside<A: Allocator + Copy>(
     network: &Network<'_, '_, A>,
     store: &CellStore<A>,
