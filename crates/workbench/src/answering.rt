@@ -14,7 +14,7 @@ use pw_info::{Writing, put_all};
 use pw_procs::Registry;
 use pw_standard::{OverRegistry, over_standard, procedure_table};
 use pw_transcript::{Reading, RunFault, run};
-use std::alloc::Global;
+use std::alloc::{Allocator, Global};
 use std::io::Read;
 use std::rt::Files;
 use std::{fs, io};
@@ -124,6 +124,24 @@ fn explain_declaration<'a, R: Print + AllocGlobal>(
 
 // Explains the refused lines of the transcript of this name, over the declaration of the text. If
 // there are any, it fails.
+fn explain_over<'a, R: Files + Print + AllocGlobal, A: Allocator + Copy>(
+    rt: &R,
+    alloc: A,
+    text: &[u8],
+    declaration: &Declaration<'_, A>,
+    transcript: &'a str,
+) -> Result<(), Fault<'a>> {
+    let Ok(file) = fs::open(rt, transcript) else {
+        return Err(Fault::CannotRead(transcript));
+    };
+    let table = procedure_table().as_bytes();
+    if write_refused_lines(rt, alloc, table, text, declaration, file)? {
+        return Err(Fault::RefusedLines);
+    }
+    Ok(())
+}
+
+// Reads the declaration of the text, and explains the refused lines of the transcript of this name.
 fn explain_transcript<'a, R: Files + Print + AllocGlobal>(
     rt: &R,
     registry: &Registry,
@@ -134,16 +152,7 @@ fn explain_transcript<'a, R: Files + Print + AllocGlobal>(
     // second caller would keep it from being inlined there, at a tenth of the cost of a line.
     let alloc = rt.alloc();
     let declaration = read_declaration(&alloc, text, registry)?;
-    let table = procedure_table().as_bytes();
-    let any = match fs::open(rt, transcript) {
-        Ok(file) => write_refused_lines(rt, &alloc, table, text, &declaration, file)?,
-        Err(_) => return Err(Fault::CannotRead(transcript)),
-    };
-    if any {
-        Err(Fault::RefusedLines)
-    } else {
-        Ok(())
-    }
+    explain_over(rt, &alloc, text, &declaration, transcript)
 }
 
 // Explains the faulty lines of the declaration, or if it has none the refused lines of the

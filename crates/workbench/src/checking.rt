@@ -31,12 +31,11 @@ pub fn check_line<A: Allocator + Copy>(
     ensures ok { OnOk result (IsDeclaration (procedures_in registry.now) text.now) }
     ensures err { IfErr result (IsToldOfText (procedures_in registry.now) text.now) }
 {
-    let declaration = match read_declaration(alloc, text, registry) {
-        Ok(declaration) => declaration,
-        Err(fault) => return Err(Fault::Declaration(fault)),
-    };
-    match count_line(alloc, &declaration) {
-        Ok(line) => Ok(line),
-        Err(_) => Err(Fault::Memory),
+    match read_declaration(alloc, text, registry) {
+        Ok(declaration) => match count_line(alloc, &declaration) {
+            Ok(line) => Ok(line),
+            Err(_) => Err(Fault::Memory),
+        },
+        Err(fault) => Err(Fault::Declaration(fault)),
     }
 }

@@ -86,8 +86,12 @@ fn add_block<A: Allocator + Copy>(
     Ok(goes_on)
 }
 
-// The fault of the text, if it has one.
-fn fault_of<A: Allocator + Copy>(alloc: A, text: &[u8], registry: &Registry) -> Option<DeclFault>
+/// The fault of the text, if it has one.
+pub(crate) fn fault_of<A: Allocator + Copy>(
+    alloc: A,
+    text: &[u8],
+    registry: &Registry,
+) -> Option<DeclFault>
     ensures none { IfNone result (IsDeclaration (procedures_in registry.now) text.now) }
     ensures some { IfSome result (λ fault.
         IsToldOfText (procedures_in registry.now) text.now (Fault.Declaration fault)) }

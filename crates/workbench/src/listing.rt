@@ -3,12 +3,12 @@ ghost use Rattle.std.specs.Prelude.{◌≡◌, ◌++◌, ◌∷◌, List, ℕ, O
 ghost use Rattle.std.specs.List.{flat_map};
 ghost use Rattle.pw_info.specs.Words.{words_of};
 ghost use Rattle.pw_procs.specs.Registry.{procedures_in};
-ghost use Rattle.workbench.specs.Ending.{IsDeclaration, IsToldOfText};
+ghost use Rattle.workbench.specs.Ending.{IsToldOfText};
 ghost use Rattle.workbench.specs.Listing as spec;
 ghost use Rattle.workbench.specs.Listing.{IsListed, outer_lines, text_of_listing, text_of_words};
 
+use crate::explaining::fault_of;
 use crate::fault::Fault;
-use pw_decl::read_declaration;
 use pw_info::{TextLines, Words, idles};
 use pw_procs::Registry;
 use std::alloc::{AllocError, Allocator};
@@ -106,22 +106,6 @@ fn list_text<A: Allocator>(alloc: A, text: &[u8]) -> Result<Vec<u8, A>, Fault<'s
     }
 }
 
-// Reads the declaration of the text, for its fault.
-fn check_text<A: Allocator + Copy>(
-    alloc: A,
-    text: &[u8],
-    registry: &Registry,
-) -> Result<(), Fault<'static>>
-    ensures ok { OnOk result (IsDeclaration (procedures_in registry.now) text.now) }
-    ensures err { IfErr result (IsToldOfText (procedures_in registry.now) text.now) }
-{
-    let _declaration = match read_declaration(alloc, text, registry) {
-        Ok(declaration) => declaration,
-        Err(fault) => return Err(Fault::Declaration(fault)),
-    };
-    Ok(())
-}
-
 /// What a declaration of this text declares: each line of the text that declares a user, a premise,
 /// a set kind, a cell or a compound, with a space between each two words; or the fault.
 pub fn listing<A: Allocator + Copy>(
@@ -133,8 +117,8 @@ pub fn listing<A: Allocator + Copy>(
     ensures text { IfOk result (λ listing. listing.items ≡ text_of_listing text.now) }
     ensures err { IfErr result (IsToldOfText (procedures_in registry.now) text.now) }
 {
-    match check_text(alloc, text, registry) {
-        Ok(()) => list_text(alloc, text),
-        Err(fault) => Err(fault),
+    match fault_of(alloc, text, registry) {
+        None => list_text(alloc, text),
+        Some(fault) => Err(Fault::Declaration(fault)),
     }
 }
