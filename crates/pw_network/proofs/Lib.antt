@@ -6,5 +6,6 @@ pub mod LineLemmas
 pub mod LinkLemmas
 pub mod NameLemmas
 pub mod ReaderLemmas
+pub mod SupportLemmas
 pub mod WalkLemmas
 pub mod WellNetworks

@@ -1,6 +1,7 @@
 -- What a network is, its limits, and what an attachment adds to it.
 use Rattle.std.specs.Prelude.{◌≡◌, ℕ, ◌+◌, ◌*◌, ◌<◌, ◌≤◌, List, [], ◌∷◌, ◌++◌, All, Option, Some, None}
-use Rattle.std.specs.Prelude.{length, map, slice_index_or}
+use Rattle.std.specs.Prelude.{length, map, slice_index_or, true}
+use Rattle.std.specs.FinSet.{is_subset}
 use Rattle.pw_decl.specs.Limits.{most_cells, most_inner_cells}
 use Rattle.std.specs.List.Sorted.{IsNonDecreasingBy}
 use Rattle.pw_info.specs.declared.kind.Kind.{Kind}
@@ -132,6 +133,13 @@ pub record IsWellNetwork (network : Network) : Type 0 where
   pub reached : LinesReached network
   pub attached : All (IsAttachedBy network.last_line) network.attached
   pub supports : HaveSupportsByLine network.attached
+
+-- ---- what a worldview shows
+
+-- all instances are visible in the worldview: each rests only on premises of it
+abbrev pub AreAllVisible : Network → Premises → Type 0
+AreAllVisible network worldview =
+    All (λ attached. is_subset attached.support worldview ≡ true) network.attached
 
 -- ---- conditions of an attachment
 

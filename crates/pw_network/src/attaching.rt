@@ -1,6 +1,7 @@
 //! Making the instances of an attachment, and growing the lists of a network where there is room.
 ghost use Rattle.std.specs.Prelude.{◌≡◌, ◌+◌, ◌*◌, ◌<◌, ◌≤◌, ◌++◌, ◌∷◌, [], All, length, map};
 ghost use Rattle.std.specs.Prelude.{ℕ, IfOk, vec_len, vec_capacity};
+ghost use Rattle.std.specs.FinSet.{union};
 ghost use Rattle.pw_procs.specs.Registry.{cells_of};
 ghost use Rattle.pw_decl.specs.Expansion.{at_place};
 ghost use Rattle.pw_network.specs.inside.Held.{attachment, inner_of};
@@ -16,6 +17,7 @@ use crate::instance_lists::InstanceLists;
 use crate::network::InnerCell;
 use pw_decl::{FlatCall, place_cells};
 use pw_info::Kind;
+use pw_premises::PremiseSet;
 use std::alloc::{AllocError, Allocator, Global};
 use std::rc::Rc;
 
@@ -139,4 +141,20 @@ pub(crate) fn append_inner<A: Allocator>(inner: &mut Vec<InnerCell, A>, kinds: &
             kind: *kind,
         });
     }
+}
+
+// These premises, and the support of an attachment with these calls. An attachment without calls
+// makes no instance, and adds nothing.
+pub(crate) fn with_support(
+    premises: PremiseSet,
+    support: PremiseSet,
+    calls: &[FlatCall],
+) -> PremiseSet
+    ensures none { length calls.now ≡ 0 → result ≡ premises }
+    ensures some { 0 < length calls.now → result ≡ union premises support }
+{
+    if calls.is_empty() {
+        return premises;
+    }
+    premises.join(support)
 }

@@ -1,6 +1,6 @@
 //! What is attached to the cells of a declaration: instances of procedures, between its cells and
 //! inner ones.
-ghost use Rattle.std.specs.Prelude.{◌≡◌, ◌<◌, ◌≤◌, length, map, IfOk, IfErr, OnOk, OnErr};
+ghost use Rattle.std.specs.Prelude.{◌≡◌, ◌<◌, ◌≤◌, ◌↔◌, length, map, IfOk, IfErr, OnOk, OnErr};
 ghost use Rattle.pw_procs.specs.Registry.{cells_of};
 ghost use Rattle.pw_decl.specs.declared.step.Callable.TheVariants as callables;
 ghost use Rattle.pw_decl.specs.Expansion.{inner_kinds_of};
@@ -9,15 +9,16 @@ ghost use Rattle.pw_decl.specs.inside.Held.{AreCallsOf};
 ghost use Rattle.pw_decl.specs.Limits.{most_inner_cells};
 ghost use Rattle.pw_decl.specs.Declaration.{IsCallable};
 ghost use Rattle.pw_network.specs.declared.network.NetworkFault.TheVariants as faults;
-ghost use Rattle.pw_network.specs.inside.Held.{attachment};
+ghost use Rattle.pw_network.specs.inside.Held.{attachment, ArePremisesOf};
 ghost use Rattle.pw_network.specs.Network.{most_cells_in, last_attachment_line};
 ghost use Rattle.pw_network.specs.Network.{bare, cells_in, kind_in, origin_in, with_attached};
 ghost use Rattle.pw_network.specs.Network.{AreDeclared, InstancesFit, InstancesStay, LinesInOrder};
+ghost use Rattle.pw_network.specs.Network.{AreAllVisible};
 ghost use Rattle.pw_network.specs.Network.{MayAttach, TakesCells};
 ghost use Rattle.pw_network.specs.Readers.{readers_of};
 ghost use Rattle.pw_network.specs.Writers.{writers_of};
 ghost use Rattle.std.proofs.Props.{props};
-ghost use Rattle.std.specs.Prelude.{vec_len};
+ghost use Rattle.std.specs.Prelude.{vec_len, IsTrue};
 ghost use Rattle.pw_decl.specs.inside.Held.{named_prop};
 ghost use Rattle.pw_network.specs.inside.Held.{support_code, wiring_from};
 ghost use Rattle.pw_network.specs.Network.{IsWellNetwork};
@@ -25,7 +26,9 @@ ghost use Rattle.pw_network.specs.Readers.{AreReaders};
 ghost use Rattle.pw_network.specs.Writers.{AreWriters};
 ghost use Rattle.pw_network.specs.inside.Lists.{listed_by};
 
-use crate::attaching::{append_inner, append_instance, append_instances, instances_of};
+use crate::attaching::{
+    append_inner, append_instance, append_instances, instances_of, with_support,
+};
 use crate::attachment::Attachment;
 use crate::instance::{Instance, MOST_INPUTS};
 use crate::instance_lists::{InstanceLists, reserve_numbered};
@@ -68,6 +71,8 @@ pub struct Network<'d, 'r, A: Allocator = Global> {
     writers: InstanceLists<A>,
     // The line of the last attachment, 0 before the first.
     last_line: u32,
+    // The premises that instances rest on.
+    premises: PremiseSet,
     ghost well: { IsWellNetwork (wiring_from (declared declaration.now) inner.items instances.items
         last_line) } by { Prim.hlevel (props, named_prop, support_code) },
     ghost cells: { vec_len readers.ends
@@ -75,6 +80,7 @@ pub struct Network<'d, 'r, A: Allocator = Global> {
     ghost declared_cells: { vec_len writers.ends ≡ length (declared declaration.now).cells },
     ghost read: { AreReaders (map listed_by readers.links.items) (map attachment instances.items) } by { Prim.hlevel props },
     ghost written: { AreWriters (vec_len writers.ends) (map listed_by writers.links.items) (map attachment instances.items) } by { Prim.hlevel props },
+    ghost visible: { ArePremisesOf (map attachment instances.items) premises },
 }
 
 impl<'d, 'r, A: Allocator + Copy> Network<'d, 'r, A> {
@@ -95,6 +101,7 @@ impl<'d, 'r, A: Allocator + Copy> Network<'d, 'r, A> {
             readers: InstanceLists::new(alloc, declaration.cells() as usize)?,
             writers: InstanceLists::new(alloc, declaration.cells() as usize)?,
             last_line: 0,
+            premises: PremiseSet::empty(),
         })
     }
 
@@ -173,6 +180,15 @@ impl<'d, 'r, A: Allocator + Copy> Network<'d, 'r, A> {
         self.writers.numbers(cell)
     }
 
+    /// Whether all instances are visible in the worldview: they rest only on premises of it. Takes
+    /// one test, however many instances there are.
+    #[inline(always)]
+    pub fn are_all_visible(&self, worldview: &PremiseSet) -> bool
+        ensures { IsTrue result ↔ AreAllVisible (wiring self.now) worldview.now }
+    {
+        self.premises.is_subset(worldview)
+    }
+
     /// Attaches a callable, which must exist, to declared cells under these premises, at a line
     /// after the last: adds its instances, and its inner cells, which get the next numbers. Fails
     /// if the callable does not take these cells, and otherwise only when out of memory. After a
@@ -242,6 +258,7 @@ impl<'d, 'r, A: Allocator + Copy> Network<'d, 'r, A> {
             &mut self.writers,
             instance,
         );
+        self.premises = self.premises.join(support);
         self.last_line = line;
         Ok(())
     }
@@ -287,6 +304,7 @@ impl<'d, 'r, A: Allocator + Copy> Network<'d, 'r, A> {
             attached,
         );
         append_inner(&mut self.inner, kinds, line);
+        self.premises = with_support(self.premises, support, calls);
         self.last_line = line;
         Ok(())
     }

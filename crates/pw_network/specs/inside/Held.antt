@@ -1,7 +1,7 @@
 -- Instances, inner cells and a network, by the fields that the code stores.
-use Rattle.std.specs.Prelude.{ℕ, List, map}
+use Rattle.std.specs.Prelude.{◌≡◌, ◌↔◌, ℕ, List, All, IsTrue, map, true}
 use Rattle.std.specs.Coded.{Coded, coded_ℕ}
-use Rattle.std.specs.FinSet.{code}
+use Rattle.std.specs.FinSet.{code, is_subset}
 use Rattle.pw_decl.specs.Declaration.{Declared}
 use Rattle.pw_network.specs.declared.network.InnerCell.{InnerCell as InnerType}
 use Rattle.pw_network.specs.declared.instance.Instance.{Instance as InstanceType}
@@ -46,3 +46,9 @@ support_code = code coded_ℕ
 abbrev pub attached_on : ℕ → Premises → List ℕ → ℕ → List FlatCall → List Attached
 attached_on line support cells first calls = map (attached_at line support)
     (instances_on cells first calls)
+
+-- a worldview has these premises exactly if each instance rests only on premises of it
+abbrev pub ArePremisesOf : List Attached → Premises → Type 0
+ArePremisesOf attached premises =
+    (worldview : Premises) → IsTrue (is_subset premises worldview)
+    ↔ All (λ a. is_subset a.support worldview ≡ true) attached

@@ -1,10 +1,14 @@
-use Rattle.std.proofs.Common.{length, ap, subst, sym, arith}
+use Rattle.std.proofs.Common.{length, ap, subst, sym, ◌∙◌, arith}
+use Rattle.std.specs.Prelude.{All}
 use Rattle.pw_procs.specs.Registry.{cells_of}
 use Rattle.pw_decl.specs.declared.step.Callable.TheVariants as callables
 use Rattle.pw_decl.specs.inside.Fields.{declared}
+use Rattle.pw_decl.specs.inside.Held.{instances_on}
 use Rattle.pw_network.specs.Wiring.{wiring}
 use Rattle.pw_network.specs.Network.{IsWellNetwork, cells_in}
 use Rattle.pw_network.proofs.AttachedCalls.{calls_here, compound_attached}
+use Rattle.pw_network.proofs.LineLemmas.{IsOf, attached_of}
+use Rattle.pw_network.proofs.SupportLemmas.{premises_after}
 use Rattle.pw_network.proofs.WellNetworks.{cells_after, well_with_attached}
 use Rattle.pw_network.proofs.network.Network.attach_compound.Goals as goal
 
@@ -39,6 +43,8 @@ invariant_of-self-2 g c =
     let long = ap length c.requires.kinds in
     let more = cells_after network c.args.line (callables.Compound c.args.compound) cells c.args.support c.args.self.now.well in
     let here = ap cells_in after in
+    let own = subst (All (IsOf c.args.line c.args.support)) (sym (rw (c.in_ok-shared.ensures.line, c.in_ok-shared.ensures.support) at c.in_ok-attached.ensures.items))
+    (attached_of c.args.line c.args.support (instances_on c.cells.result.now c.cells-first.result c.args.calls.now)) in
     record {
       well = subst IsWellNetwork (sym after)
           (well_with_attached network c.args.line (callables.Compound c.args.compound) cells c.args.support c.args.self.now.well c.requires.may
@@ -47,4 +53,8 @@ invariant_of-self-2 g c =
       declared_cells = omega (arith, c.append_instances.ensures.writer_cells, c.reserve-3.ensures.cells, c.args.self.now.declared_cells);
       read = c.append_instances.ensures.readers;
       written = c.append_instances.ensures.writers;
+      visible = premises_after c.args.self.now.premises c.args.support c.with_support-self.result c.args.line c.args.self.now.instances.items
+          c.reserve_numbered.new.list.items c.in_ok-attached.attached.items c.append_instances.new.instances.items
+          c.reserve_numbered.ensures.items c.append_instances.ensures.items own c.args.self.now.visible
+          (length c.args.calls.now) (sym c.in_ok-attached.attached.ok.0 ∙ c.in_ok-attached.ensures.len) c.with_support-self.ensures.none c.with_support-self.ensures.some;
     }
