@@ -103,6 +103,21 @@ impl Info {
         }
     }
 
+    /// The same information, put together from its parts.
+    ///
+    /// A plain copy takes pieces that cross the words of an interval. Who reads such a word at once
+    /// then waits for the whole copy.
+    #[inline(always)]
+    pub fn copied(&self) -> Info
+        ensures { result ≡ self.now }
+    {
+        match *self {
+            Info::Interval(part) => Info::Interval(part),
+            Info::Members { number, part } => Info::Members { number, part },
+            Info::Exact(part) => Info::Exact(part),
+        }
+    }
+
     /// The information of a kind that leaves every value possible.
     pub fn nothing(kind: Kind) -> Info
         ensures kind { kind_of result ≡ kind }

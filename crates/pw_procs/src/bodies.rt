@@ -116,7 +116,7 @@ pub fn switch(inputs: &[Info]) -> Info
     ensures { result ≡ switched (input inputs.now 0) (input inputs.now 1) }
 {
     let p = truths_at(inputs, 0);
-    let x = inputs[1];
+    let x = inputs[1].copied();
     if p.is_empty() {
         return Info::contradiction(x.kind());
     }
@@ -131,7 +131,7 @@ pub fn copy(inputs: &[Info]) -> Info
     requires { FitSlots (inputs_of_meaning Meaning.Copy) inputs.now }
     ensures { result ≡ input inputs.now 0 }
 {
-    inputs[0]
+    inputs[0].copied()
 }
 
 /// Of an exact number: the interval of only that number.

@@ -63,7 +63,7 @@ fn answer_on_many(
     let mut inputs = [Info::nothing(Kind::Interval); MOST_INPUTS];
     let cells = instance.inputs.as_slice();
     for place in 0..cells.len() {
-        inputs[place] = known[cells[place] as usize];
+        inputs[place] = known[cells[place] as usize].copied();
     }
     procedure_value(registry, instance, known, &inputs[..cells.len()], calls)
 }
@@ -85,7 +85,8 @@ fn unless_known(known: &[Info], cell: u32, info: Info) -> Option<Info>
 
 // The value of the instance's procedure on what is known about its inputs, if it is news about its
 // output. Most procedures have one input or two. Each case tests its value by itself: a value that
-// waits in one place for all cases would be copied there, and slowly.
+// waits in one place for all cases would be copied there, and slowly. Two inputs are copied part by
+// part, since the procedure reads them at once.
 #[inline(always)]
 fn news_on(
     registry: &Registry,
@@ -110,7 +111,10 @@ fn news_on(
             unless_known(known, instance.output, info)
         }
         [one, another] => {
-            let given = [known[*one as usize], known[*another as usize]];
+            let given = [
+                known[*one as usize].copied(),
+                known[*another as usize].copied(),
+            ];
             let info = procedure_value(registry, instance, known, &given, calls);
             unless_known(known, instance.output, info)
         }

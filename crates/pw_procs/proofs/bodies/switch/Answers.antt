@@ -19,19 +19,19 @@ second inputs x fits e =
 
 pub returns-then-is_empty : goal.returns-then-is_empty
 returns-then-is_empty c =
-    let x : c.index-inputs-1.result ≡ input c.args.inputs.now 1 = second c.args.inputs.now _ c.requires c.index-inputs-1.is in
+    let x : c.copied-x.result ≡ input c.args.inputs.now 1 = c.copied-x.ensures ∙ second c.args.inputs.now _ c.requires c.index-inputs-1.is in
     c.contradiction.ensures.exact ∙ ap contradiction (c.kind.ensures ∙ ap kind_of x)
     ∙ empty_switches c.truths_at-p.result _ (input c.args.inputs.now 1) c.truths_at-p.ensures.value (search rules)
 
 pub returns-then-contains : goal.returns-then-contains
 returns-then-contains c =
-    let x : c.index-inputs-1.result ≡ input c.args.inputs.now 1 = second c.args.inputs.now _ c.requires c.index-inputs-1.is in
+    let x : c.copied-x.result ≡ input c.args.inputs.now 1 = c.copied-x.ensures ∙ second c.args.inputs.now _ c.requires c.index-inputs-1.is in
     c.nothing.ensures.exact ∙ ap nothing (c.kind-then-contains.ensures ∙ ap kind_of x)
     ∙ false_switches c.truths_at-p.result _ (input c.args.inputs.now 1) c.truths_at-p.ensures.value (sym c.contains.ensures ∙ c.if-contains.true)
 
 pub returns : goal.returns
 returns c =
-    let x : c.index-inputs-1.result ≡ input c.args.inputs.now 1 = second c.args.inputs.now _ c.requires c.index-inputs-1.is in
+    let x : c.copied-x.result ≡ input c.args.inputs.now 1 = c.copied-x.ensures ∙ second c.args.inputs.now _ c.requires c.index-inputs-1.is in
     x ∙ true_switches c.truths_at-p.result _ (input c.args.inputs.now 1) c.truths_at-p.ensures.value
     (λ none. search rules)
     (sym c.contains.ensures ∙ c.if-contains.false)

@@ -17,10 +17,10 @@ loop-place-preserved g c =
     let there : All (λ cell. cell < length (map kind_of known)) cells =
     subst (All (λ cell. cell < length (map kind_of known))) (sym c.as_slice-cells.ensures) c.requires.placed.0.0 in
     record {
-      done = filled_more known c.loop-place.inputs cells c.loop-place.place c.index-known-cells.result c.loop-place-test.true
+      done = rw c.copied.ensures (filled_more known c.loop-place.inputs cells c.loop-place.place c.index-known-cells.result c.loop-place-test.true
           (omega (arith, few, ap length c.as_slice-cells.ensures, c.loop-place.invariant.room))
-          (omega (arith, there c.loop-place.place 0 c.loop-place-test.true, length-map known kind_of)) c.index-known-cells.is c.loop-place.invariant.done;
-      room = length-set c.loop-place.inputs c.loop-place.place c.index-known-cells.result ∙ c.loop-place.invariant.room;
+          (omega (arith, there c.loop-place.place 0 c.loop-place-test.true, length-map known kind_of)) c.index-known-cells.is c.loop-place.invariant.done);
+      room = length-set c.loop-place.inputs c.loop-place.place c.copied.result ∙ c.loop-place.invariant.room;
     }
 
 pub bounds-known-cells : goal.bounds-known-cells

@@ -1,4 +1,4 @@
-use Rattle.std.proofs.Common.{◌≡◌, ◌<◌, ℕ, List, length, get_or, map, sym, ap, subst, ◌∙◌, arith}
+use Rattle.std.proofs.Common.{◌≡◌, ◌<◌, ℕ, List, [], ◌∷◌, length, get_or, map, sym, ap, subst, ◌∙◌, arith}
 use Rattle.std.specs.Prelude.{All, IfNone, None, Option, Some}
 use Rattle.std.proofs.lemmas.List.{length-map}
 use Rattle.pw_info.specs.declared.info.Info.{Info}
@@ -42,7 +42,9 @@ procedure_value-info-requires-in-len2-clause-given g c =
     let cells = c.as_slice.result.now in
     let first = is_there c.args.known.now _ cells 0 c.as_slice.ensures c.requires.placed.0.0 (omega (arith, c.in-len2.len_at_least)) in
     let second = is_there c.args.known.now _ cells 1 c.as_slice.ensures c.requires.placed.0.0 (omega (arith, c.in-len2.len_at_least)) in
-    two_given c.args.known.now cells c.index-known-one-in-len2.result c.index-known-another.result (omega (arith, c.in-len2.len_at_least))
+    let same : c.copied.result ∷ c.copied-in-len2.result ∷ [] ≡ c.index-known-one-in-len2.result ∷ c.index-known-another.result ∷ [] =
+    λ i. c.copied.ensures i ∷ c.copied-in-len2.ensures i ∷ [] in
+    same ∙ two_given c.args.known.now cells c.index-known-one-in-len2.result c.index-known-another.result (omega (arith, c.in-len2.len_at_least))
     (omega (arith, c.in-len2.len_below)) first second c.index-known-one-in-len2.is c.index-known-another.is
     ∙ ap (map (info_at c.args.known.now)) c.as_slice.ensures
 
