@@ -1,6 +1,6 @@
 //! Settling: the values of all cells of a network in a worldview.
 ghost use Rattle.std.specs.Prelude.{◌≡◌, ◌+◌, ◌<◌, ◌≤◌, true, false, All, length, map};
-ghost use Rattle.std.specs.Prelude.{IfOk, OnOk, OnErr};
+ghost use Rattle.std.specs.Prelude.{IfOk, OnOk, OnErr, replicate};
 ghost use Rattle.std.specs.List.{count_by};
 ghost use Rattle.pw_info.specs.Information.{kind_of};
 ghost use Rattle.pw_cells.specs.Cells.{IsUnsaid, kept_in, kind_in_store, kinds_of};
@@ -101,11 +101,30 @@ pub(crate) fn queue_readers<A: Allocator + Copy>(
     }
 }
 
+// Queues all readers of a cell.
+#[inline(always)]
+fn queue_all_readers<A: Allocator + Copy>(
+    network: &Network<'_, '_, A>,
+    agenda: &mut Agenda<A>,
+    cell: u32,
+)
+    requires flags { length agenda.old ≡ length (wiring network.now).attached }
+    ensures readers { QueuesReaders (wiring network.now) (replicate (length agenda.old) true)
+        (λ c. c ≡ cell) agenda.old agenda.new }
+    ensures most { tally agenda.new ≤ tally agenda.old + length (readers_of (wiring network.now)
+        cell) }
+    ensures least { tally agenda.old ≤ tally agenda.new }
+{
+    for number in network.readers(cell) {
+        agenda.add(number);
+    }
+}
+
 // Queues the readers of a cell that are visible in the worldview. Each is tested by itself: in a
 // large network few of the instances ever read news. One that waits already is not looked up: many do,
 // and the flags of an agenda are close together.
 #[inline(always)]
-pub(crate) fn queue_visible_readers<A: Allocator + Copy>(
+fn queue_seen_readers<A: Allocator + Copy>(
     network: &Network<'_, '_, A>,
     worldview: &PremiseSet,
     agenda: &mut Agenda<A>,
@@ -123,6 +142,29 @@ pub(crate) fn queue_visible_readers<A: Allocator + Copy>(
             agenda.add(number);
         }
     }
+}
+
+// Queues the readers of a cell that are visible in the worldview. Mostly all instances are: then
+// none is tested by itself.
+#[inline(always)]
+pub(crate) fn queue_visible_readers<A: Allocator + Copy>(
+    network: &Network<'_, '_, A>,
+    worldview: &PremiseSet,
+    agenda: &mut Agenda<A>,
+    cell: u32,
+)
+    requires flags { length agenda.old ≡ length (wiring network.now).attached }
+    ensures readers { QueuesReaders (wiring network.now) (map (is_instance_visible worldview.now)
+        (wiring network.now).attached) (λ c. c ≡ cell) agenda.old agenda.new }
+    ensures most { tally agenda.new ≤ tally agenda.old + reader_count (wiring network.now)
+        worldview.now cell }
+    ensures least { tally agenda.old ≤ tally agenda.new }
+{
+    if network.are_all_visible(worldview) {
+        queue_all_readers(network, agenda, cell);
+        return;
+    }
+    queue_seen_readers(network, worldview, agenda, cell);
 }
 
 // Keeps news of an instance in the store, and merges them into what is known about its output. Fails

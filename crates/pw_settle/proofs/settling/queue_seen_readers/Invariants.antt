@@ -3,7 +3,7 @@ use Rattle.pw_network.specs.Wiring.{wiring}
 use Rattle.pw_network.specs.Readers.{readers_of}
 use Rattle.pw_settle.specs.Calls.{is_instance_visible}
 use Rattle.pw_settle.proofs.QueuedReaders.{AreQueuedBut}
-use Rattle.pw_settle.proofs.settling.queue_visible_readers.Given as goal
+use Rattle.pw_settle.proofs.settling.queue_seen_readers.Given as goal
 
 abbrev pub invariant-loop-number : goal.invariant-loop-number
 invariant-loop-number g l = record {
