@@ -1,9 +1,9 @@
 -- The bound on the older facts: what it saves in a search and in a merge, and how it is kept.
-use Rattle.std.proofs.Common.{◌≡◌, ◌⊎◌, ℕ, true, zero, suc, ◌+◌, ◌-◌, ◌<◌, ◌≤◌, Bool, cond, List, [], ◌∷◌, ◌++◌, length, get_or, take, drop, reverse, inl, inr, sym, ◌∙◌, ap, subst, arith, append_assoc, length-append}
+use Rattle.std.proofs.Common.{◌≡◌, ◌⊎◌, ℕ, true, zero, suc, ◌+◌, ◌-◌, ◌<◌, ◌≤◌, Bool, cond, List, [], ◌∷◌, ◌++◌, length, get_or, take, drop, reverse, inl, inr, sym, ◌∙◌, ap, subst, add-one, arith, append_assoc, length-append, length-drop}
 use Rattle.std.specs.Prelude.{All, Contains, filter}
 use Rattle.std.specs.FinSet.{is_subset}
 use Rattle.std.proofs.lemmas.Bool.{cases_Bool, cases_lt}
-use Rattle.std.proofs.lemmas.List.{append-nil, reverse-append, take_all, take_more, take-append-drop, take-append-le}
+use Rattle.std.proofs.lemmas.List.{append-nil, length-take-le, reverse-append, take_all, take_more, take-append-drop, take-append-le}
 use Rattle.std.proofs.lemmas.List.Elements.{All-nil, All-cons, All-head, All-tail, All-push, All-weaker, All-contains, All-take, All-drop, Contains-append_cases, Contains-append_left, Contains-append_right, filter-append}
 use Rattle.pw_kinds.proofs.Order.{true_both}
 use Rattle.pw_info.specs.declared.kind.Kind.{Kind}
@@ -17,7 +17,7 @@ use Rattle.pw_facts.specs.Facts.{MergesTo, nothing_known, shows, visible_facts}
 use Rattle.pw_facts.proofs.Merges.{merge_rests, merge_shows}
 use Rattle.pw_facts.proofs.Shown.{kind-shows, says_shown, shows-supported}
 use Rattle.pw_cells.specs.declared.bound.Bound.{Bound}
-use Rattle.pw_cells.specs.inside.OneCell.{Bounds}
+use Rattle.pw_cells.specs.inside.OneCell.{Bounds, LeavesOutOne}
 use Rattle.pw_cells.specs.Cells.{IsSubsumedBy}
 use Rattle.pw_cells.specs.inside.OneCell.{AreOfKind, StandsFor}
 use Rattle.pw_cells.proofs.Together.{all_reversed, kind-shown_by, meet_first}
@@ -102,7 +102,7 @@ merges_stand k w before (f ∷ fs) a m kinds stands merges =
     ])
 
 -- the later facts are merged first, then the older ones: so all are
-merges_whole : (k : Kind) (w : Premises) (n : ℕ) (fs : List Fact) (a m : Fact) → MergesTo (nothing_known k) (visible_facts w (reverse (drop n fs))) a
+pub merges_whole : (k : Kind) (w : Premises) (n : ℕ) (fs : List Fact) (a m : Fact) → MergesTo (nothing_known k) (visible_facts w (reverse (drop n fs))) a
     → MergesTo a (visible_facts w (reverse (take n fs))) m → MergesTo (nothing_known k) (visible_facts w (reverse fs)) m
 merges_whole k w n fs a m first rest =
     subst (λ (l : List Fact). MergesTo (nothing_known k) l m)
@@ -116,11 +116,6 @@ pub all_merged_stand : (k : Kind) (w : Premises) (fs : List Fact) (m : Fact) →
 all_merged_stand k w fs m kinds merges =
     stands_reversed k w fs m kinds (merges_stand k w [] (reverse fs) (nothing_known k) m (all_reversed (λ f. kind_of f.info ≡ k) fs kinds) (merge_none k w)
     merges)
-
-pub merged_stands : (k : Kind) (w : Premises) (n : ℕ) (fs : List Fact) (a m : Fact) → AreOfKind k fs
-    → MergesTo (nothing_known k) (visible_facts w (reverse (drop n fs))) a → MergesTo a (visible_facts w (reverse (take n fs))) m → StandsFor k w fs m
-merged_stands k w n fs a m kinds first rest =
-    all_merged_stand k w fs m kinds (merges_whole k w n fs a m first rest)
 
 -- the later facts are merged, and what they come to says as much as each of the older ones
 pub merged_later : (k : Kind) (w : Premises) (fs : List Fact) (b : Bound) (a : Fact) → AreOfKind k fs → Bounds k fs b
@@ -224,4 +219,76 @@ bounds_raised k xs b b' x kinds bounds below read count info =
           (subst (All (λ f. Implies b'.info f.info)) (sym longer)
           (subst (λ (i : Info). All (λ f. Implies i f.info) (take b.count xs ++ x ∷ [])) (sym info)
           (All-push (λ f. Implies (meet b.info x.info) f.info) (take b.count xs) x older (meet_second b.info x.info alike))));
+    }
+
+-- ---- one is taken out of its place
+
+-- what holds of each of the first n elements holds of each of the first but one
+front_taken : {X : Type 0} (P : X → Type 0) (xs : List X) (n p : ℕ) → p < length xs → All P (take n xs) → All P (take (n - 1) (take p xs ++ drop (suc p) xs))
+front_taken P [] n p below all = absurd (omega (arith, below))
+front_taken P (x ∷ xs) zero p below all =
+    let none : zero - 1 ≡ 0 = omega arith in
+    subst (λ m. All P (take m (take p (x ∷ xs) ++ drop (suc p) (x ∷ xs)))) (sym none) (All-nil P)
+front_taken P (x ∷ xs) (suc n) zero below all =
+    let one : suc n - 1 ≡ n = omega arith in
+    subst (λ m. All P (take m xs)) (sym one) (All-tail P x (take n xs) all)
+front_taken P (x ∷ xs) (suc zero) (suc p) below all =
+    let none : suc zero - 1 ≡ 0 = omega arith in
+    subst (λ m. All P (take m (take (suc p) (x ∷ xs) ++ drop (suc (suc p)) (x ∷ xs)))) (sym none) (All-nil P)
+front_taken P (x ∷ xs) (suc (suc n)) (suc p) below all =
+    let rest : All P (take (suc n - 1) (take p xs ++ drop (suc p) xs)) = front_taken P xs (suc n) p (omega (arith, below)) (All-tail P x (take (suc n) xs) all) in
+    let one : suc (suc n) - 1 ≡ suc (suc n - 1) = omega arith in
+    subst (λ m. All P (take m (x ∷ (take p xs ++ drop (suc p) xs)))) (sym one)
+    (All-cons P x (take (suc n - 1) (take p xs ++ drop (suc p) xs)) (All-head P x (take (suc n) xs) all) rest)
+
+-- one less is left
+-- one less is left
+pub length_taken : (xs : List Fact) (p : ℕ) → p < length xs → length (take p xs ++ drop (p + 1) xs) ≡ length xs - 1
+length_taken xs p below =
+    let front : length (take p xs) ≡ p = length-take-le p xs (omega (arith, below)) in
+    omega (arith, length-append (take p xs) (drop (p + 1) xs), length-drop (p + 1) xs, front, below)
+
+pub bounds_taken : (k : Kind) (xs ys : List Fact) (p : ℕ) (b b' : Bound) → p < length xs → ys ≡ take p xs ++ drop (p + 1) xs → b'.count ≡ b.count - 1
+    → b'.info ≡ b.info → Bounds k xs b → Bounds k ys b'
+bounds_taken k xs ys p b b' below is count info bounds =
+    let says : All (λ f. Implies b.info f.info) (take (b.count - 1) ys) =
+    subst (λ (l : List Fact). All (λ f. Implies b.info f.info) (take (b.count - 1) l)) (sym is)
+    (subst (λ q. All (λ f. Implies b.info f.info) (take (b.count - 1) (take p xs ++ drop q xs))) (sym (add-one p))
+    (front_taken (λ f. Implies b.info f.info) xs b.count p below bounds.says)) in
+    let long : length ys ≡ length xs - 1 = ap length is ∙ length_taken xs p below in
+    record {
+      of_kind = ap kind_of info ∙ bounds.of_kind;
+      within = omega (arith, count, long, bounds.within);
+      says =
+          subst (λ n. All (λ f. Implies b'.info f.info) (take n ys)) (sym count)
+          (subst (λ (i : Info). All (λ f. Implies i f.info) (take (b.count - 1) ys)) (sym info) says);
+    }
+
+-- at most one is left out
+pub bounds_after_one : (k : Kind) (f : Fact) (xs ys : List Fact) (b b' : Bound) → b'.count ≡ b.count - (length xs - length ys) → b'.info ≡ b.info
+    → LeavesOutOne f xs ys → Bounds k xs b → Bounds k ys b'
+bounds_after_one k f xs ys b b' count info (inl same) bounds =
+    let none : length ys ≡ length xs = ap length same in
+    let as_many : b'.count ≡ b.count = omega (arith, count, none) in
+    subst (λ (l : List Fact). Bounds k l b') (sym {A = List Fact} same) (record {
+      of_kind = ap kind_of info ∙ bounds.of_kind;
+      within = omega (arith, as_many, bounds.within);
+      says =
+          subst (λ n. All (λ f. Implies b'.info f.info) (take n xs)) (sym as_many)
+          (subst (λ (i : Info). All (λ f. Implies i f.info) (take b.count xs)) (sym info) bounds.says);
+    })
+bounds_after_one k f xs ys b b' count info (inr (p, below, subsumed, left)) bounds =
+    let long : length ys ≡ length xs - 1 = ap length left ∙ length_taken xs p below in
+    let one : length xs - length ys ≡ 1 = omega (arith, long, below) in
+    bounds_taken k xs ys p b b' below left (count ∙ ap (λ n. b.count - n) one) info bounds
+
+-- ---- none of them is an older one
+
+pub bounds_none : (k : Kind) (xs : List Fact) (b : Bound) → Bounds k [] b → Bounds k xs b
+bounds_none k xs b bounds =
+    let none : b.count ≡ 0 = omega (arith, bounds.within) in
+    record {
+      of_kind = bounds.of_kind;
+      within = omega (arith, none);
+      says = subst (λ n. All (λ f. Implies b.info f.info) (take n xs)) (sym none) (All-nil (λ f. Implies b.info f.info));
     }

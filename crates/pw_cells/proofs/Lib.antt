@@ -7,6 +7,8 @@ pub mod Stores
 pub mod Wholes
 pub mod ToldFacts
 pub mod Late
+pub mod Current
+pub mod CurrentMerges
 pub mod Tells
 pub mod RightAnswers
 mod One

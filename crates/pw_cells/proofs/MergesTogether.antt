@@ -100,7 +100,7 @@ merges_push : (first : Fact) (fs : List Fact) (f a m : Fact) → MergesTo first 
 merges_push first [] f a m is_first merge = (m, subst (λ (x : Fact). IsMerge x f m) is_first merge, refl)
 merges_push first (x ∷ fs) f a m merges merge = (merges.0, merges.1, merges_push merges.0 fs f a m merges.2 merge)
 
-visible-push : (w : Premises) (fs : List Fact) (f : Fact) (visible : Bool) → is_subset f.support w ≡ visible
+pub visible-push : (w : Premises) (fs : List Fact) (f : Fact) (visible : Bool) → is_subset f.support w ≡ visible
     → visible_facts w (fs ++ f ∷ []) ≡ visible_facts w fs ++ cond visible (f ∷ []) []
 visible-push w fs f visible e = filter-append (λ x. is_subset x.support w) fs (f ∷ []) ∙ ap (λ b. visible_facts w fs ++ cond b (f ∷ []) []) e
 

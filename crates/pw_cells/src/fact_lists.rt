@@ -1,6 +1,6 @@
 //! The facts of one cell, in one form, with supports of one width.
 
-ghost use Rattle.std.specs.Prelude.{◌≡◌, ◌+◌, ◌<◌, ◌≤◌, ◌↔◌, ◌++◌, ◌∷◌, [], true, false};
+ghost use Rattle.std.specs.Prelude.{◌≡◌, ◌+◌, ◌<◌, ◌≤◌, ◌++◌, ◌∷◌, [], true, false};
 ghost use Rattle.std.specs.Prelude.{if◌then◌else◌};
 ghost use Rattle.std.specs.Prelude.{length, vec_len, vec_capacity, IsTrue, IfOk, OnOk, OnErr};
 ghost use Rattle.pw_info.specs.Information.{kind_of, Implies};
@@ -8,15 +8,15 @@ ghost use Rattle.pw_facts.specs.Facts.{IsLeastAbove, IsMostBelow};
 ghost use Rattle.pw_cells.specs.inside.OneCell.{Bounds};
 ghost use Rattle.pw_cells.specs.Cells.{fact_on, told_of, kept_of, IsSubsumedBy, IsUnsaid};
 ghost use Rattle.pw_cells.specs.Changes.{GainsFact, Assimilates, TellsNews};
-ghost use Rattle.pw_cells.specs.Cells.{assimilated, all_assimilated};
-ghost use Rattle.pw_cells.specs.inside.OneCell.{AreApart, AreOfKind, IsCellWhole, StandsFor};
+ghost use Rattle.pw_cells.specs.Cells.{all_assimilated};
+ghost use Rattle.pw_cells.specs.inside.OneCell.{AreOfKind, IsCellWhole, StandsFor, current};
 ghost use Rattle.pw_cells.specs.inside.OneCell.{cell_keeping};
 
+use crate::assimilating::{LEAST_LIMIT, assimilate, assimilate_late, is_subsumed};
 use crate::bound::Bound;
 use crate::content::Content;
 use crate::held::Held;
 use crate::merged_facts::merged;
-use crate::subsumed_facts::drop_subsumed;
 use crate::support::Support;
 use crate::told_facts::ToldFacts;
 use crate::visible_facts::any_comes_in;
@@ -37,10 +37,13 @@ const FEW: usize = 8;
 pub(crate) struct FactLists<C: Content, S: Support, A: Allocator> {
     kind: Kind,
     told: ToldFacts<S, A>,
-    // The kept facts, except for the late ones. It has room for these.
+    // The kept facts, except for the late ones, and perhaps some that a later one outdoes: those are
+    // kept no longer, and stay until the list is long. It has room for the late ones.
     kept: Vec<Held<C, S>, A>,
-    // A bound on what the older kept facts say.
+    // A bound on what the older ones of the list say.
     bound: Bound,
+    // When the list is as long as this, those that a later one outdoes are dropped.
+    limit: usize,
     // The facts told since, which are not assimilated yet.
     late: Vec<Held<C, S>, A>,
 }
@@ -50,7 +53,7 @@ impl<C: Content, S: Support, A: Allocator> Model for FactLists<C, S, A> {
     ghost use Rattle.pw_info.specs.contracts.kind.Kind as kinds;
     ghost use Rattle.pw_facts.specs.contracts.fact.Fact as facts;
     ghost use Rattle.pw_cells.specs.Cells.{all_assimilated};
-    ghost use Rattle.pw_cells.specs.inside.OneCell.{Bounds};
+    ghost use Rattle.pw_cells.specs.inside.OneCell.{AreOfKind, Bounds, current};
     ghost use Rattle.pw_cells.specs.Cells.{Cell};
     ghost use Rattle.pw_cells.specs.inside.OneCell.{cell_code};
     ghost use Rattle.pw_cells.specs.inside.OneCell.{IsCellWhole};
@@ -62,12 +65,12 @@ impl<C: Content, S: Support, A: Allocator> Model for FactLists<C, S, A> {
     ghost view = { λ a. record {
       kind = a.kind;
       told = a.told;
-      kept = all_assimilated a.kept.items a.late.items;
+      kept = all_assimilated (current a.kept.items) a.late.items;
     } };
 
-    ghost invariant = { λ a. IsCellWhole a.kind a.told a.kept.items a.late.items
+    ghost invariant = { λ a. IsCellWhole a.kind a.told (current a.kept.items) a.late.items
         × (vec_len a.kept + vec_len a.late ≤ vec_capacity a.kept) × Bounds a.kind a.kept.items a.bound
-        × (C.fits a.kind ≡ true) };
+        × (C.fits a.kind ≡ true) × AreOfKind a.kind a.kept.items };
 }
 
 impl<C: Content, S: Support, A: Allocator + Copy> FactLists<C, S, A> {
@@ -87,6 +90,7 @@ impl<C: Content, S: Support, A: Allocator + Copy> FactLists<C, S, A> {
             told: ToldFacts::new(alloc),
             kept: copied(alloc, kept)?,
             bound: Bound::none(kind),
+            limit: LEAST_LIMIT,
             late: Vec::new(alloc),
         })
     }
@@ -136,10 +140,22 @@ impl<C: Content, S: Support, A: Allocator + Copy> FactLists<C, S, A> {
         ensures kind { self.new.kind ≡ self.old.kind }
         ensures err { OnErr result (self.new ≡ self.old) }
     {
-        assimilate_late(self.kind, &mut self.kept, &mut self.bound, &mut self.late);
+        assimilate_late(
+            self.kind,
+            &mut self.kept,
+            &mut self.bound,
+            &mut self.limit,
+            &mut self.late,
+        );
         let known = is_subsumed(self.kept.as_slice(), &self.bound, fact);
         reserve_unless(&mut self.kept, known)?;
-        assimilate(&mut self.kept, &mut self.bound, known, fact);
+        assimilate(
+            &mut self.kept,
+            &mut self.bound,
+            &mut self.limit,
+            known,
+            fact,
+        );
         Ok(!known)
     }
 
@@ -155,9 +171,21 @@ impl<C: Content, S: Support, A: Allocator + Copy> FactLists<C, S, A> {
         ensures kind { self.new.kind ≡ self.old.kind }
         ensures err { OnErr result (self.new ≡ self.old) }
     {
-        assimilate_late(self.kind, &mut self.kept, &mut self.bound, &mut self.late);
+        assimilate_late(
+            self.kind,
+            &mut self.kept,
+            &mut self.bound,
+            &mut self.limit,
+            &mut self.late,
+        );
         reserve_unless(&mut self.kept, false)?;
-        assimilate(&mut self.kept, &mut self.bound, false, fact);
+        assimilate(
+            &mut self.kept,
+            &mut self.bound,
+            &mut self.limit,
+            false,
+            fact,
+        );
         Ok(())
     }
 
@@ -187,7 +215,13 @@ impl<C: Content, S: Support, A: Allocator + Copy> FactLists<C, S, A> {
         ensures larger { IsLeastAbove result.support (kept_of self.old) result.info }
         ensures smaller { IsMostBelow worldview.now (kept_of self.old) result.info }
     {
-        assimilate_late(self.kind, &mut self.kept, &mut self.bound, &mut self.late);
+        assimilate_late(
+            self.kind,
+            &mut self.kept,
+            &mut self.bound,
+            &mut self.limit,
+            &mut self.late,
+        );
         merged(self.kind, self.kept.as_slice(), &self.bound, worldview)
     }
 
@@ -219,6 +253,7 @@ impl<C: Content, S: Support, A: Allocator + Copy> FactLists<C, S, A> {
                 self.kept.len() + self.late.len(),
             )?,
             bound: self.bound,
+            limit: self.limit,
             late: all_widened(alloc, self.late.as_slice(), self.late.len())?,
         })
     }
@@ -267,38 +302,6 @@ fn is_lately_subsumed<C: Content, S: Support>(facts: &[Held<C, S>], fact: &Held<
         }
     }
     false
-}
-
-// Whether one of the facts subsumes this one.
-fn is_subsumed_by<C: Content, S: Support>(facts: &[Held<C, S>], fact: &Held<C, S>) -> bool
-    requires { AreOfKind (kind_of fact.now.info) facts.now }
-    ensures { IsTrue result ↔ IsSubsumedBy facts.now fact.now }
-{
-    for held in facts {
-        if held.subsumes(fact) {
-            return true;
-        }
-    }
-    false
-}
-
-// Whether a kept fact subsumes this one. The older facts are gone over only if one of them may say
-// as much.
-#[inline(always)]
-fn is_subsumed<C: Content, S: Support>(
-    kept: &[Held<C, S>],
-    bound: &Bound,
-    fact: &Held<C, S>,
-) -> bool
-    requires kinds { AreOfKind (kind_of fact.now.info) kept.now }
-    requires bounds { Bounds (kind_of fact.now.info) kept.now bound.now }
-    ensures { IsTrue result ↔ IsSubsumedBy kept.now fact.now }
-{
-    let (older, newer) = kept.split_at(bound.count);
-    if is_subsumed_by(newer, fact) {
-        return true;
-    }
-    bound.info.implies(&fact.info()) && is_subsumed_by(older, fact)
 }
 
 // Makes room for one more fact, unless the fact is known. A list begins with room for two: a fact
@@ -357,82 +360,6 @@ fn add_late<C: Content, S: Support, A: Allocator>(
         return;
     }
     append(late, fact);
-}
-
-// Assimilates the late facts; then none is late. The kept facts have room for them. Mostly none is
-// late: so the test is inlined, and the rest is not.
-#[inline(always)]
-fn assimilate_late<C: Content, S: Support, A: Allocator>(
-    kind: Kind,
-    kept: &mut Vec<Held<C, S>, A>,
-    bound: &mut Bound,
-    late: &mut Vec<Held<C, S>, A>,
-)
-    requires kinds { AreOfKind kind kept.old.items }
-    requires late_kinds { AreOfKind kind late.old.items }
-    requires apart { AreApart kept.old.items }
-    requires bounds { Bounds kind kept.old.items bound.old }
-    requires room { vec_len kept.old + vec_len late.old ≤ vec_capacity kept.old }
-    ensures kept { kept.new.items ≡ all_assimilated kept.old.items late.old.items }
-    ensures bounds { Bounds kind kept.new.items bound.new }
-    ensures late { late.new.items ≡ [] }
-    ensures none { vec_len late.new ≡ 0 }
-{
-    if late.len() > 0 {
-        assimilate_all(kind, kept, bound, late);
-    }
-}
-
-// The same, where some fact may be late.
-#[inline(never)]
-fn assimilate_all<C: Content, S: Support, A: Allocator>(
-    kind: Kind,
-    kept: &mut Vec<Held<C, S>, A>,
-    bound: &mut Bound,
-    late: &mut Vec<Held<C, S>, A>,
-)
-    requires kinds { AreOfKind kind kept.old.items }
-    requires late_kinds { AreOfKind kind late.old.items }
-    requires apart { AreApart kept.old.items }
-    requires bounds { Bounds kind kept.old.items bound.old }
-    requires room { vec_len kept.old + vec_len late.old ≤ vec_capacity kept.old }
-    ensures kept { kept.new.items ≡ all_assimilated kept.old.items late.old.items }
-    ensures bounds { Bounds kind kept.new.items bound.new }
-    ensures late { late.new.items ≡ [] }
-    ensures none { vec_len late.new ≡ 0 }
-{
-    for fact in late.as_slice() {
-        let known = is_subsumed(kept.as_slice(), bound, fact);
-        assimilate(kept, bound, known, fact);
-    }
-    late.clear();
-}
-
-// Keeps a fact, where there is room, and drops the facts that it subsumes. If the fact is known, a
-// kept fact subsumes it, and nothing is done.
-#[inline(always)]
-fn assimilate<C: Content, S: Support, A: Allocator>(
-    kept: &mut Vec<Held<C, S>, A>,
-    bound: &mut Bound,
-    known: bool,
-    fact: &Held<C, S>,
-)
-    requires kinds { AreOfKind (kind_of fact.now.info) kept.old.items }
-    requires bounds { Bounds (kind_of fact.now.info) kept.old.items bound.old }
-    requires known { IsTrue known ↔ IsSubsumedBy kept.old.items fact.now }
-    requires room { known ≡ false → vec_len kept.old < vec_capacity kept.old }
-    ensures assimilated { kept.new.items ≡ assimilated kept.old.items fact.now }
-    ensures bounds { Bounds (kind_of fact.now.info) kept.new.items bound.new }
-    ensures len { vec_len kept.new ≤ vec_len kept.old + 1 }
-    ensures capacity { vec_capacity kept.old ≤ vec_capacity kept.new }
-{
-    if !known {
-        let before = kept.len();
-        drop_subsumed(kept, fact);
-        bound.lower(before - kept.len());
-        append(kept, fact);
-        bound.raise(kept.as_slice());
-    }
 }
 
 // Appends a fact where there is room.

@@ -3,6 +3,7 @@
 
 mod arrival;
 mod arrivals;
+mod assimilating;
 mod bound;
 mod cell_facts;
 mod cell_store;

@@ -3,7 +3,7 @@
 ghost use Rattle.std.specs.Prelude.{◌≡◌, reverse, true};
 ghost use Rattle.pw_info.specs.Information.{kind_of};
 ghost use Rattle.pw_facts.specs.Facts.{IsMerge, MergesTo, visible_facts};
-ghost use Rattle.pw_cells.specs.inside.OneCell.{AreOfKind, Bounds, StandsFor};
+ghost use Rattle.pw_cells.specs.inside.OneCell.{AreOfKind, Bounds, StandsFor, current};
 
 use crate::bound::Bound;
 use crate::content::Content;
@@ -12,7 +12,8 @@ use crate::support::Support;
 use pw_info::Kind;
 use pw_premises::PremiseSet;
 
-// A fact that stands for those that rest only on premises of the worldview: it says their merge.
+// A fact that stands for the current ones that rest only on premises of the worldview: it says their
+// merge. (The facts that a later one outdoes are gone over too, and change nothing.)
 #[inline(always)]
 pub(crate) fn merged<C: Content, S: Support>(
     kind: Kind,
@@ -23,7 +24,7 @@ pub(crate) fn merged<C: Content, S: Support>(
     requires kinds { AreOfKind kind facts.now }
     requires bounds { Bounds kind facts.now bound.now }
     requires fits { C.fits kind ≡ true }
-    ensures { StandsFor kind worldview.now facts.now result }
+    ensures { StandsFor kind worldview.now (current facts.now) result }
 {
     let (older, newer) = facts.split_at(bound.count);
     let mut merge = Held::nothing(kind);

@@ -92,7 +92,7 @@ run_goes_on p bytes at n room whole =
 abbrev pub IsInRun : (ℕ → Bool) → List ℕ → ℕ → Type 0
 IsInRun p bytes end = (end ≤ length bytes) × (prefix_len p bytes ≡ end + prefix_len p (drop end bytes))
 
--- The first of the bytes behind so many.
+-- the bytes from a place on begin with the byte at that place
 first_behind : (bytes : List ℕ) (end : ℕ) → end < length bytes → drop end bytes ≡ get_or bytes end 0 ∷ drop (end + 1) bytes
 first_behind bytes end within =
     let next : suc end ≡ end + 1 = omega arith in

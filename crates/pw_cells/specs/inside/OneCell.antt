@@ -1,6 +1,8 @@
 -- The facts of one cell in the code: how they are listed, what bounds the older ones, which answers
 -- are remembered.
-use Rattle.std.specs.Prelude.{◌≡◌, ◌≤◌, List, [], All, length, take, refl, ◌⊎◌, ℕ, true, if◌then◌else◌}
+use Rattle.std.specs.Prelude.{◌≡◌, ◌≤◌, List, [], ◌∷◌, ◌++◌, ◌+◌, All, length, take, drop, refl, ◌⊎◌, ℕ, true, if◌then◌else◌}
+use Rattle.std.specs.Prelude.{Bool, not, slice_index_or}
+use Rattle.std.specs.List.{list_any}
 use Rattle.std.specs.Prelude.{Contains, map, position, Option, ◌<◌, ◌&&◌}
 use Rattle.std.specs.Prelude.{nat_eq}
 use Rattle.pw_info.specs.declared.kind.Kind.{Kind}
@@ -11,7 +13,7 @@ use Rattle.pw_cells.specs.declared.bound.Bound.{Bound}
 use Rattle.std.specs.Coded.{Coded, code_by, coded×, coded_ℕ, coded_list}
 use Rattle.pw_cells.specs.declared.arrival.Arrival.{Arrival}
 use Rattle.pw_cells.specs.Cells.{Arrivals}
-use Rattle.pw_cells.specs.Cells.{Cell, Store, shown_by, ArePremisesOf, all_assimilated, told_at}
+use Rattle.pw_cells.specs.Cells.{Cell, Store, shown_by, ArePremisesOf, all_assimilated, does_subsume, told_at}
 use Rattle.std.specs.FinSet.{is_subset}
 use Rattle.pw_premises.specs.Premises.{Premises}
 use Rattle.pw_premises.specs.PremiseSubsets.{has_same_numbers}
@@ -56,6 +58,22 @@ AreOfKind kind facts = All (λ f. kind_of f.info ≡ kind) facts
 -- none of the facts subsumes another
 abbrev pub AreApart : List Fact → Type 0
 AreApart facts = (f g : Fact) → Contains facts f → Contains facts g → Subsumes f g → f ≡ g
+
+-- whether the first of two facts of one kind subsumes the second, which does not subsume the first
+abbrev pub outdoes : Fact → Fact → Bool
+outdoes a b = does_subsume a b && not (does_subsume b a)
+
+-- the facts of a list that no later one outdoes
+abbrev pub current : List Fact → List Fact
+current [] = []
+current (fact ∷ later) = if list_any (λ f. outdoes f fact) later then current later
+    else fact ∷ current later
+
+-- at most one of the facts is left out, one that this fact subsumes
+abbrev pub LeavesOutOne : Fact → List Fact → List Fact → Type 0
+LeavesOutOne fact old new = (new ≡ old) ⊎ ((place : ℕ) × (place < length old)
+    × (does_subsume fact (slice_index_or old place fact) ≡ true)
+    × (new ≡ take place old ++ drop (place + 1) old))
 
 -- the place of the support among these, if it is there
 abbrev pub place_of_support : Premises → List Premises → Option ℕ

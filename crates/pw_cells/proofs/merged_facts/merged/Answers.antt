@@ -1,7 +1,7 @@
 use Rattle.std.proofs.Common.{drop, reverse, take, subst}
 use Rattle.pw_info.specs.Information.{Implies}
 use Rattle.pw_facts.specs.Facts.{MergesTo, nothing_known, visible_facts}
-use Rattle.pw_cells.proofs.Bounds.{merged_later, merged_stands}
+use Rattle.pw_cells.proofs.CurrentMerges.{merged_current, merged_later_current}
 use Rattle.pw_cells.proofs.merged_facts.merged.Given as given
 use Rattle.pw_cells.proofs.merged_facts.merged.Goals as goal
 use Rattle.pw_cells.proofs.merged_facts.merged.Goals.{After-merge_all_in}
@@ -18,9 +18,9 @@ older g c = rw c.split_at.ensures.front at c.merge_all_in-2.ensures.merges
 
 pub returns-then-implies : goal.returns-then-implies
 returns-then-implies g c =
-    merged_later _ _ _ _ _ c.requires.kinds c.requires.bounds (newer g (goal.at.returns-then-implies g c).After-merge_all_in)
+    merged_later_current _ _ _ _ _ c.requires.kinds c.requires.bounds (newer g (goal.at.returns-then-implies g c).After-merge_all_in)
     (subst (λ i. Implies i c.args.bound.now.info) c.info.ensures (c.implies.ensures.0 c.if-implies.true))
 
 pub returns : goal.returns
 returns g c =
-    merged_stands _ _ _ _ _ _ c.requires.kinds (newer g (goal.at.returns g c).After-merge_all_in) (older g c)
+    merged_current _ _ _ _ _ _ c.requires.kinds (newer g (goal.at.returns g c).After-merge_all_in) (older g c)

@@ -18,7 +18,7 @@ boxed_same g c = elim c.match-self.branch [
       (λ j. (w.many-is j).value) ∙ w.in_ok-many-in-Few.ensures ∙ ap cell_of (sym w.in-Few.is) ∙ c.self.view_is
 ]
 
--- they are so before they are told the fact too
+-- the box holds the cell as it was, before the fact is told
 boxed_before : (g : Over) (c : goal.After-deref_mut-2 g) → c.match-self.many.value ≡ c.args.self.now
 boxed_before g c = elim c.match-self.branch [
   | in-One+in_ok-listed-in-One+in_ok-many-in-One w ↦

@@ -6,7 +6,8 @@ use Rattle.pw_cells.specs.inside.OneCell.{Bounds}
 use Rattle.pw_info.specs.declared.info.Info.{Info}
 use Rattle.pw_cells.specs.Cells.{Cell, IsSubsumedBy, IsUnsaid, kept_of, shown_by}
 use Rattle.pw_cells.proofs.Together.{unsaid_unsubsumed}
-use Rattle.pw_cells.specs.inside.OneCell.{AreOfKind}
+use Rattle.pw_cells.specs.inside.OneCell.{AreOfKind, current}
+use Rattle.pw_cells.proofs.Current.{kinds_current, subsumed_by_current}
 use Rattle.pw_cells.proofs.Tells.{KeepsMore, keeps_more, whole_caught_up, whole_kept}
 use Rattle.pw_cells.proofs.fact_lists.FactLists.keep_news.Given as given
 use Rattle.pw_cells.proofs.fact_lists.FactLists.keep_news.Goals as goal
@@ -19,7 +20,7 @@ caught_up : (g : given.Over) (c : After-assimilate_late g) → AreOfKind (kind_o
 caught_up g c =
     let is : kind_of c.args.fact.now.info ≡ c.self.inside.kind = c.requires.kind ∙ sym (ap (λ (cell : Cell). cell.kind) c.self.view_is) in
     subst (λ (k : _). AreOfKind k c.assimilate_late.new.kept.items × Bounds k c.assimilate_late.new.kept.items c.assimilate_late.new.bound) (sym is)
-    (subst (AreOfKind c.self.inside.kind) (sym {A = List Fact} c.assimilate_late.ensures.kept) (whole_caught_up _ _ _ _ c.self.invariant.0).kept_kinds, c.assimilate_late.ensures.bounds)
+    (c.assimilate_late.ensures.kinds, c.assimilate_late.ensures.bounds)
 
 pub invariant_of-self : goal.invariant_of-self
 invariant_of-self g c = (
@@ -27,6 +28,7 @@ invariant_of-self g c = (
   omega (arith, c.assimilate_late.ensures.none, c.reserve_unless.new.facts.ok),
   subst (λ (l : List Fact). Bounds c.self.inside.kind l c.assimilate_late.new.bound) (sym {A = List Fact} c.reserve_unless.ensures.items) c.assimilate_late.ensures.bounds,
   c.self.invariant.3,
+  subst (AreOfKind c.self.inside.kind) (sym {A = List Fact} c.reserve_unless.ensures.items) c.assimilate_late.ensures.kinds,
 )
 
 pub assimilate-requires-clause-kinds : goal.assimilate-requires-clause-kinds
@@ -47,26 +49,30 @@ invariant_of-self-2 g c = (
   omega (arith, c.assimilate_late.ensures.none, c.assimilate.new.kept.ok),
   subst (λ (k : _). Bounds k c.assimilate.new.kept.items c.assimilate.new.bound) (of_kind g c) c.assimilate.ensures.bounds,
   c.self.invariant.3,
+  subst (λ (k : _). AreOfKind k c.assimilate.new.kept.items) (of_kind g c) c.assimilate.ensures.kinds,
 )
 
 -- what is kept afterwards
-kept_is : (g : given.Over) (c : goal.After-assimilate g) → all_assimilated c.assimilate.new.kept.items c.assimilate_late.new.late.items
-    ≡ assimilated (all_assimilated c.self.inside.kept.items c.self.inside.late.items) c.args.fact.now
+kept_is : (g : given.Over) (c : goal.After-assimilate g) → all_assimilated (current c.assimilate.new.kept.items) c.assimilate_late.new.late.items
+    ≡ assimilated (all_assimilated (current c.self.inside.kept.items) c.self.inside.late.items) c.args.fact.now
 kept_is g c =
     (λ i. all_assimilated (c.assimilate.ensures.assimilated i) (c.assimilate_late.ensures.late i))
-    ∙ ap (λ (l : List Fact). assimilated l c.args.fact.now) (c.reserve_unless.ensures.items ∙ c.assimilate_late.ensures.kept)
+    ∙ ap (λ (l : List Fact). assimilated l c.args.fact.now) (ap current c.reserve_unless.ensures.items ∙ c.assimilate_late.ensures.kept)
 
 kept_then : (g : given.Over) (c : goal.After-assimilate g) →
-    KeepsMore c.args.fact.now c.args.self.now c.self.inside.kind (all_assimilated c.assimilate.new.kept.items c.assimilate_late.new.late.items)
+    KeepsMore c.args.fact.now c.args.self.now c.self.inside.kind (all_assimilated (current c.assimilate.new.kept.items) c.assimilate_late.new.late.items)
 kept_then g c = keeps_more _ _ _ _ _ _ _ c.self.view_is (of_kind g c) c.self.invariant.0 (kept_is g c)
 
 -- no kept fact subsumes it
 is_new : (g : given.Over) (c : After-assimilate_late g) → IsSubsumedBy c.assimilate_late.new.kept.items c.args.fact.now → ⊥
-is_new g c =
-    unsaid_unsubsumed (kind_of c.args.fact.now.info) c.assimilate_late.new.kept.items c.args.fact.now (caught_up g c).0 refl
+is_new g c = λ held.
+    let k = kind_of c.args.fact.now.info in
+    let kept = c.assimilate_late.new.kept.items in
+    unsaid_unsubsumed k (current kept) c.args.fact.now (kinds_current k kept (caught_up g c).0) refl
     (subst (λ (i : Info). IsUnsaid i c.args.fact.now.info) (sym {A = Info} shown) c.requires.news)
+    (subsumed_by_current k kept c.args.fact.now (caught_up g c).0 held)
   where
-    shown : shown_by (kind_of c.args.fact.now.info) c.args.fact.now.support c.assimilate_late.new.kept.items ≡ kept_of c.args.self.now c.args.fact.now.support
+    shown : shown_by (kind_of c.args.fact.now.info) c.args.fact.now.support (current c.assimilate_late.new.kept.items) ≡ kept_of c.args.self.now c.args.fact.now.support
     shown i = shown_by (c.requires.kind i) c.args.fact.now.support ((c.assimilate_late.ensures.kept ∙ ap (λ (cell : Cell). cell.kept) c.self.view_is) i)
 
 pub assimilate-requires-clause-known : goal.assimilate-requires-clause-known

@@ -6,7 +6,7 @@ use Rattle.pw_facts.specs.declared.fact.Fact.{Fact}
 use Rattle.pw_cells.specs.Cells.{all_assimilated}
 use Rattle.pw_cells.specs.inside.OneCell.{Bounds}
 use Rattle.pw_cells.specs.Cells.{Cell, IsSubsumedBy}
-use Rattle.pw_cells.specs.inside.OneCell.{AreOfKind}
+use Rattle.pw_cells.specs.inside.OneCell.{AreOfKind, current}
 use Rattle.pw_cells.proofs.Tells.{KeepsMore, keeps_more, whole_told, late_more}
 use Rattle.pw_cells.proofs.fact_lists.FactLists.tell.Given as given
 use Rattle.pw_cells.proofs.fact_lists.FactLists.tell.Goals as goal
@@ -37,11 +37,12 @@ invariant_of-self-2 g c =
       ],
       subst (λ (l : List Fact). Bounds self.kind l self.bound) (sym {A = List Fact} c.reserve_late.ensures.kept) c.self.invariant.2,
       c.self.invariant.3,
+      subst (AreOfKind self.kind) (sym {A = List Fact} c.reserve_late.ensures.kept) c.self.invariant.4,
     )
 
 -- what is kept afterwards
 kept_then : (g : given.Over) (c : goal.After-add_late g) →
-    KeepsMore c.args.fact.now c.args.self.now c.self.inside.kind (all_assimilated c.reserve_late.new.kept.items c.add_late.new.late.items)
+    KeepsMore c.args.fact.now c.args.self.now c.self.inside.kind (all_assimilated (current c.reserve_late.new.kept.items) c.add_late.new.late.items)
 kept_then g c =
     keeps_more _ _ _ _ _ _ _ c.self.view_is (of_kind g c) c.self.invariant.0
     (rw (c.reserve_late.ensures.kept, c.add_late.ensures.items, c.reserve_late.ensures.late)

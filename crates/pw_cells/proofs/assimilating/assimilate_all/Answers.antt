@@ -7,9 +7,9 @@ use Rattle.pw_info.specs.declared.kind.Kind.{Kind}
 use Rattle.pw_cells.specs.inside.OneCell.{Bounds}
 use Rattle.pw_cells.specs.Cells.{IsSubsumedBy}
 use Rattle.pw_cells.specs.Cells.{assimilated, all_assimilated}
-use Rattle.pw_cells.specs.inside.OneCell.{AreApart, AreOfKind}
-use Rattle.pw_cells.proofs.Late.{assimilation, late_push}
-use Rattle.pw_cells.proofs.fact_lists.assimilate_all.Goals as goal
+use Rattle.pw_cells.specs.inside.OneCell.{AreOfKind, current}
+use Rattle.pw_cells.proofs.Late.{late_push}
+use Rattle.pw_cells.proofs.assimilating.assimilate_all.Goals as goal
 
 -- a late fact is of the kind
 late_kind : (k : Kind) (late held : List Fact) (i : ℕ) (f : Fact) → AreOfKind k late → held ≡ late → i < length held → f ≡ get_or held i f
@@ -21,7 +21,6 @@ pub loop-fact-init : goal.loop-fact-init
 loop-fact-init g c = record {
   kept = refl;
   kinds = c.requires.kinds;
-  apart = c.requires.apart;
   bounds = c.requires.bounds;
   room = omega (arith, c.requires.room, c.as_slice-fact-items.ensures.len, ap length c.as_slice-fact-items.ensures.value);
 }
@@ -66,20 +65,17 @@ assimilate-requires-clause-room g c = λ _. omega (arith, c.loop-fact.invariant.
 pub loop-fact-preserved : goal.loop-fact-preserved
 loop-fact-preserved g c =
     let late = c.args.late.now.items in
-    let start = c.args.kept.now.items in
+    let start = current c.args.kept.now.items in
     let i = c.loop-fact.fact-index in
     let fact = c.fact-item.result in
-    let kept = c.loop-fact.kept.items in
     let within : i < length late = omega (arith, c.loop-fact-test.true, ap length c.as_slice-fact-items.ensures.value) in
     let read : fact ≡ get_or late i fact = c.fact-item.is ∙ ap (λ l. get_or l i fact) c.as_slice-fact-items.ensures.value in
     let longer : take (i + 1) late ≡ take i late ++ fact ∷ [] = take_more late i fact within ∙ ap (λ f. take i late ++ f ∷ []) (sym read) in
     let is : kind_of fact.info ≡ c.args.kind = ap (λ f. kind_of f.info) read ∙ c.requires.late_kinds i fact within in
-    let one = assimilation c.args.kind fact kept is c.loop-fact.invariant.kinds c.loop-fact.invariant.apart in
     record {
       kept = c.assimilate.ensures.assimilated ∙ ap (λ l. assimilated l fact) c.loop-fact.invariant.kept
           ∙ sym (ap (all_assimilated start) longer ∙ late_push start (take i late) fact);
-      kinds = subst (AreOfKind c.args.kind) (sym {A = List Fact} c.assimilate.ensures.assimilated) one.kinds;
-      apart = subst AreApart (sym {A = List Fact} c.assimilate.ensures.assimilated) one.apart;
+      kinds = subst (λ (k : Kind). AreOfKind k c.assimilate.new.kept.items) is c.assimilate.ensures.kinds;
       bounds = subst (λ (k : Kind). Bounds k c.assimilate.new.kept.items c.assimilate.new.bound) is c.assimilate.ensures.bounds;
       room = omega (arith, c.loop-fact.invariant.room, c.assimilate.ensures.len, c.assimilate.ensures.capacity);
     }
@@ -89,7 +85,7 @@ returns-clause-kept g c =
     let late = c.args.late.now.items in
     let all : take c.loop-fact.fact-index late ≡ late =
     take_all c.loop-fact.fact-index late (omega (arith, c.loop-fact-test.false, ap length c.as_slice-fact-items.ensures.value)) in
-    c.loop-fact.invariant.kept ∙ ap (all_assimilated c.args.kept.now.items) all
+    c.loop-fact.invariant.kept ∙ ap (all_assimilated (current c.args.kept.now.items)) all
 
 pub returns-clause-bounds : goal.returns-clause-bounds
 returns-clause-bounds g c = c.loop-fact.invariant.bounds

@@ -4,7 +4,7 @@ use Rattle.pw_info.specs.Information.{kind_of, Implies}
 use Rattle.pw_facts.specs.declared.fact.Fact.{Fact}
 use Rattle.pw_cells.specs.Cells.{IsSubsumedBy}
 use Rattle.pw_cells.proofs.Bounds.{subsumed_first, subsumed_last, subsumed_apart, none_older}
-use Rattle.pw_cells.proofs.fact_lists.is_subsumed.Goals as goal
+use Rattle.pw_cells.proofs.assimilating.is_subsumed.Goals as goal
 
 pub returns-then-is_subsumed_by : goal.returns-then-is_subsumed_by
 returns-then-is_subsumed_by g c = (

@@ -3,7 +3,7 @@ use Rattle.std.specs.Prelude.{All}
 use Rattle.std.proofs.lemmas.List.{take_all}
 use Rattle.std.proofs.lemmas.List.Elements.{All-contains}
 use Rattle.pw_facts.specs.Facts.{Subsumes}
-use Rattle.pw_cells.proofs.fact_lists.is_subsumed_by.Goals as goal
+use Rattle.pw_cells.proofs.assimilating.is_subsumed_by.Goals as goal
 
 pub returns-then-subsumes : goal.returns-then-subsumes
 returns-then-subsumes g c = (
