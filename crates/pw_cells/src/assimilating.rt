@@ -15,7 +15,7 @@ use crate::support::Support;
 use pw_info::Kind;
 use std::alloc::Allocator;
 
-// Among so many facts, all that a new one subsumes are dropped.
+// In a list of at most this many facts, a new one drops all that it subsumes.
 const FEW: usize = 8;
 
 // A list shorter than this is left as it is.
