@@ -132,7 +132,8 @@ pub(crate) fn assimilate<C: Content, S: Support, A: Allocator>(
     }
 }
 
-// Drops the facts that a later one outdoes, if the list is long. The limit is then twice its length.
+// Drops the facts that a later one outdoes, if the list is long. The limit is then four times its
+// length.
 #[inline(always)]
 fn shorten<C: Content, S: Support, A: Allocator>(
     kept: &mut Vec<Held<C, S>, A>,
@@ -151,12 +152,12 @@ fn shorten<C: Content, S: Support, A: Allocator>(
         let kind = bound.info.kind();
         drop_outdone(kept, kind);
         *bound = Bound::none(kind);
-        *limit = kept.len().saturating_mul(2).max(LEAST_LIMIT);
+        *limit = kept.len().saturating_mul(4).max(LEAST_LIMIT);
     }
 }
 
 // Makes way for a fact that no kept one subsumes. Of few facts, those that it subsumes are dropped.
-// Of many, at most the last one on the same premises is: the others are kept no longer, but stay.
+// Of many, at most one of the last on the same premises is: the others are kept no longer, but stay.
 #[inline(always)]
 fn make_way<C: Content, S: Support, A: Allocator>(
     kept: &mut Vec<Held<C, S>, A>,

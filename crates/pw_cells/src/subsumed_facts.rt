@@ -14,6 +14,9 @@ use crate::support::Support;
 use pw_info::Kind;
 use std::alloc::Allocator;
 
+// A fact looks among this many of the last ones for one on the same premises.
+const NEAREST: usize = 2;
+
 // Drops the facts that this one subsumes. Mostly it subsumes the last one alone, or none: that is
 // inlined, and the rest is not.
 #[inline(always)]
@@ -78,7 +81,7 @@ fn drop_from<C: Content, S: Support, A: Allocator>(
     }
 }
 
-// Drops the last fact on the same premises, if this one subsumes it.
+// Drops one of the last facts, on the same premises, if this one subsumes it.
 #[inline(always)]
 pub(crate) fn drop_last_alike<C: Content, S: Support, A: Allocator>(
     kept: &mut Vec<Held<C, S>, A>,
@@ -95,12 +98,12 @@ pub(crate) fn drop_last_alike<C: Content, S: Support, A: Allocator>(
     }
 }
 
-// The place of the last fact on the same premises. If there is none, the number of facts. Never
-// inlined, like `first_subsumed`.
+// The place of the last fact on the same premises, if it is one of the nearest. If none of them is on
+// the same premises, the number of facts. Never inlined, like `first_subsumed`.
 #[inline(never)]
 fn last_alike<C: Content, S: Support>(facts: &[Held<C, S>], fact: &Held<C, S>) -> usize {
     let len = facts.len();
-    for back in 1..=len {
+    for back in 1..=len.min(NEAREST) {
         if facts[len - back].support() == fact.support() {
             return len - back;
         }
