@@ -98,9 +98,10 @@ pub(crate) fn queue_changed<A: Allocator + Copy>(
         (wiring network.now).attached) (λ cell. (cell < length now.now) × HasChanged before.now
         now.now cell) agenda.old agenda.new }
 {
+    let sees_all = network.are_all_visible(worldview);
     for cell in 0..network.cells() {
         if has_changed(before, now, cell as usize) {
-            queue_visible_readers(network, worldview, agenda, cell);
+            queue_visible_readers(network, worldview, sees_all, agenda, cell);
         }
     }
 }

@@ -4,7 +4,7 @@ ghost use Rattle.std.specs.Prelude.{◌≡◌, ◌⊎◌, ◌<◌, ◌≤◌, �
 ghost use Rattle.std.specs.Prelude.{not, nat_lt, length, map, take};
 ghost use Rattle.pw_info.specs.Information.{kind_of};
 ghost use Rattle.pw_cells.specs.Cells.{kinds_of};
-ghost use Rattle.pw_network.specs.Network.{Network as Networks, cells_in};
+ghost use Rattle.pw_network.specs.Network.{AreAllVisible, Network as Networks, cells_in};
 ghost use Rattle.pw_network.specs.Wiring.{wiring};
 ghost use Rattle.pw_settle.specs.Calls.{is_instance_visible, visible_at};
 ghost use Rattle.pw_settle.specs.Growth.{CanContinue, HasValues, IsFitting, IsInterrupted};
@@ -121,9 +121,10 @@ fn queue_new_cells<A: Allocator + Copy>(
         agenda.new }
 {
     let cells = network.cells();
+    let sees_all = network.are_all_visible(worldview);
     for cell in first as u32..cells {
         if !now[cell as usize].is_nothing() {
-            queue_visible_readers(network, worldview, agenda, cell);
+            queue_visible_readers(network, worldview, sees_all, agenda, cell);
         }
     }
 }
@@ -134,10 +135,12 @@ fn queue_new_cells<A: Allocator + Copy>(
 fn take_in_arrival<A: Allocator + Copy>(
     network: &Network<'_, '_, A>,
     worldview: &PremiseSet,
+    sees_all: bool,
     arrival: &Arrival,
     known: &mut Known<A>,
     agenda: &mut Agenda<A>,
 )
+    requires all { IsTrue sees_all → AreAllVisible (wiring network.now) worldview.now }
     requires there { arrival.now.cell < length known.old.infos.items }
     requires as_many { length known.old.supports ≡ length known.old.infos.items }
     requires kind { kind_of arrival.now.fact.info
@@ -164,7 +167,7 @@ fn take_in_arrival<A: Allocator + Copy>(
         arrival.info(),
         arrival.support(),
     );
-    queue_visible_readers(network, worldview, agenda, cell);
+    queue_visible_readers(network, worldview, sees_all, agenda, cell);
 }
 
 // The same for all that came since a mark, the last first: it mostly says the most.
@@ -188,9 +191,10 @@ fn take_in_arrivals<A: Allocator + Copy>(
     let Some(arrivals) = store.since(mark) else {
         return;
     };
+    let sees_all = network.are_all_visible(worldview);
     for back in 0..arrivals.len() {
         let arrival = &arrivals[arrivals.len() - 1 - back];
-        take_in_arrival(network, worldview, arrival, known, agenda);
+        take_in_arrival(network, worldview, sees_all, arrival, known, agenda);
     }
 }
 
@@ -201,10 +205,12 @@ fn read_again<A: Allocator + Copy>(
     network: &Network<'_, '_, A>,
     store: &mut CellStore<A>,
     worldview: &PremiseSet,
+    sees_all: bool,
     known: &mut Known<A>,
     agenda: &mut Agenda<A>,
     cell: u32,
 ) -> Result<(), AllocError>
+    requires all { IsTrue sees_all → AreAllVisible (wiring network.now) worldview.now }
     requires hand { IsAtHandFor store.old cell known.old.infos.items known.old.supports }
     requires flags { length agenda.old ≡ length (wiring network.now).attached }
     ensures unchanged { store.new ≡ store.old }
@@ -222,7 +228,7 @@ fn read_again<A: Allocator + Copy>(
         &mut known.supports,
     )?;
     if is_news {
-        queue_visible_readers(network, worldview, agenda, cell);
+        queue_visible_readers(network, worldview, sees_all, agenda, cell);
     }
     Ok(())
 }
@@ -248,8 +254,9 @@ fn read_all_again<A: Allocator + Copy>(
     ensures refused { OnErr result (LeavesNews store.old worldview.now mark known.old.infos.items
         known.new.infos.items known.new.supports) }
 {
+    let sees_all = network.are_all_visible(worldview);
     for cell in 0..store.cells() {
-        read_again(network, store, worldview, known, agenda, cell)?;
+        read_again(network, store, worldview, sees_all, known, agenda, cell)?;
     }
     Ok(())
 }

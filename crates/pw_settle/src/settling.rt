@@ -1,12 +1,12 @@
 //! Settling: the values of all cells of a network in a worldview.
 ghost use Rattle.std.specs.Prelude.{◌≡◌, ◌+◌, ◌<◌, ◌≤◌, true, false, All, length, map};
-ghost use Rattle.std.specs.Prelude.{IfOk, OnOk, OnErr, replicate};
+ghost use Rattle.std.specs.Prelude.{IfOk, IsTrue, OnOk, OnErr, replicate};
 ghost use Rattle.std.specs.List.{count_by};
 ghost use Rattle.pw_info.specs.Information.{kind_of};
 ghost use Rattle.pw_cells.specs.Cells.{IsUnsaid, kept_in, kind_in_store, kinds_of};
 ghost use Rattle.pw_network.specs.Wiring.{wiring};
 ghost use Rattle.pw_network.specs.inside.Held.{attachment};
-ghost use Rattle.pw_network.specs.Network.{HaveSupportsByLine};
+ghost use Rattle.pw_network.specs.Network.{AreAllVisible, HaveSupportsByLine};
 ghost use Rattle.pw_network.specs.Readers.{readers_of};
 ghost use Rattle.pw_settle.specs.inside.Progress.{IsIdle, is_set, tally};
 ghost use Rattle.pw_settle.specs.Calls.{gains, is_instance_visible, most_calls, reader_count};
@@ -144,23 +144,25 @@ fn queue_seen_readers<A: Allocator + Copy>(
     }
 }
 
-// Queues the readers of a cell that are visible in the worldview. Mostly all instances are: then
-// none is tested by itself.
+// Queues the readers of a cell that are visible in the worldview. If all instances are, as is mostly
+// so, none is tested by itself.
 #[inline(always)]
 pub(crate) fn queue_visible_readers<A: Allocator + Copy>(
     network: &Network<'_, '_, A>,
     worldview: &PremiseSet,
+    sees_all: bool,
     agenda: &mut Agenda<A>,
     cell: u32,
 )
     requires flags { length agenda.old ≡ length (wiring network.now).attached }
+    requires all { IsTrue sees_all → AreAllVisible (wiring network.now) worldview.now }
     ensures readers { QueuesReaders (wiring network.now) (map (is_instance_visible worldview.now)
         (wiring network.now).attached) (λ c. c ≡ cell) agenda.old agenda.new }
     ensures most { tally agenda.new ≤ tally agenda.old + reader_count (wiring network.now)
         worldview.now cell }
     ensures least { tally agenda.old ≤ tally agenda.new }
 {
-    if network.are_all_visible(worldview) {
+    if sees_all {
         queue_all_readers(network, agenda, cell);
         return;
     }
@@ -236,12 +238,14 @@ fn call<A: Allocator + Copy>(
     network: &Network<'_, '_, A>,
     store: &mut CellStore<A>,
     worldview: &PremiseSet,
+    sees_all: bool,
     known: &mut Known<A>,
     agenda: &mut Agenda<A>,
     number: usize,
     calls: &mut u128,
 ) -> Result<(), AllocError>
     requires kinds { kinds_of store.old ≡ kinds_in (wiring network.now) }
+    requires all { IsTrue sees_all → AreAllVisible (wiring network.now) worldview.now }
     requires kept { AreKept store.old worldview.now known.old.infos.items known.old.supports }
     requires flags { length agenda.old ≡ length (wiring network.now).attached }
     requires seen { AreQueuedVisible (wiring network.now) worldview.now agenda.old }
@@ -275,7 +279,7 @@ fn call<A: Allocator + Copy>(
             instance,
             &news.info,
         )?;
-        queue_visible_readers(network, worldview, agenda, news.cell);
+        queue_visible_readers(network, worldview, sees_all, agenda, news.cell);
     }
     Ok(())
 }
@@ -312,9 +316,12 @@ pub(crate) fn work<A: Allocator + Copy>(
     // These lengths bound the count.
     let _cells = store.cells();
     let _instances = network.instances().len();
+    let sees_all = network.are_all_visible(worldview);
     let mut calls = 0;
     while let Some(number) = agenda.take() {
-        call(network, store, worldview, known, agenda, number, &mut calls)?;
+        call(
+            network, store, worldview, sees_all, known, agenda, number, &mut calls,
+        )?;
     }
     Ok(calls)
 }
