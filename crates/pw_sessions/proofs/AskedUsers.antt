@@ -1,7 +1,6 @@
 -- How a question ended that settled for its user.
-use Rattle.std.proofs.Common.{◌≡◌, ℕ, true, List, cond, length, get_or, Some, sym, ap, ◌∙◌, subst, inr, refl, arith}
+use Rattle.std.proofs.Common.{◌≡◌, ℕ, true, List, length, get_or, Some, sym, ap, ◌∙◌, subst, inr, refl, arith}
 use Rattle.pw_premises.specs.Premises.{Premises}
-use Rattle.pw_premises.specs.PremiseSubsets.{same_numbers_equal}
 use Rattle.pw_cells.specs.Cells.{Store}
 use Rattle.pw_network.specs.Network.{Network}
 use Rattle.pw_settle.specs.Growth.{KeepsMore, StaysUpstream}
@@ -17,45 +16,42 @@ use Rattle.pw_sessions.proofs.AfterSettling.{due_for_still}
 use Rattle.pw_sessions.proofs.FreshUsers.{fresh_keeping}
 use Rattle.pw_sessions.proofs.LastValues.{beliefs_kept, fits_after, only_notes}
 
-module _ (old : Workbench) (user : ℕ) (found : Workbench) where
+module _ (old : Workbench) (user place : ℕ) (found : Workbench) where
   -- ---- the values that were settled
 
-  -- the first snapshot has them
-  latest_values : (d at : Snapshot) (has : HasSettled old user found) → at ≡ get_or found.snapshots 0 d → at.values ≡ has.values
-  latest_values d at has is = ap (λ (s : Snapshot). s.values) (is ∙ ap (λ (l : List Snapshot). get_or l 0 d) has.latest)
+  -- the snapshot at this place has them
+  place_values : (d at : Snapshot) (has : HasSettled old user place found) → at ≡ get_or found.snapshots place d → at.values ≡ has.values
+  place_values d at has is = ap (λ (s : Snapshot). s.values) (is ∙ has.has d)
 
   -- so it has what settles under what the user believes
-  pub latest_settled : (d at : Snapshot) → HasSettled old user found → at ≡ get_or found.snapshots 0 d → IsSettledFor old user at.values
-  latest_settled d at has is = subst (IsSettledFor old user) (sym (latest_values d at has is)) has.settled
+  pub place_settled : (d at : Snapshot) → HasSettled old user place found → at ≡ get_or found.snapshots place d → IsSettledFor old user at.values
+  place_settled d at has is = subst (IsSettledFor old user) (sym (place_values d at has is)) has.settled
 
   -- and it still settles, though more is kept
-  pub latest_settled_still : (d at : Snapshot) → HasSettled old user found → OnlyKeepsMore old user found → at ≡ get_or found.snapshots 0 d →
+  pub place_settled_still : (d at : Snapshot) → HasSettled old user place found → OnlyKeepsMore old user found → at ≡ get_or found.snapshots place d →
       IsSettled found.network found.store at.values.worldview at.values
-  latest_settled_still d at has keeps is =
+  place_settled_still d at has keeps is =
       subst (λ (n : Network). IsSettled n found.store at.values.worldview at.values) (sym keeps.network)
-      (settled_still old.network old.store found.store (beliefs_in old user) at.values keeps.grows (latest_settled d at has is))
+      (settled_still old.network old.store found.store (beliefs_in old user) at.values keeps.grows (place_settled d at has is))
 
   -- ---- the user
 
   -- is fresh, once it settled
-  fresh_settled : CanAnswer old user → HasSettled old user found → OnlyKeepsMore old user found → IsFresh found user
+  fresh_settled : CanAnswer old user → HasSettled old user place found → OnlyKeepsMore old user found → IsFresh found user
   fresh_settled can has keeps = record {
     exists = omega (arith, can.exists, ap length keeps.beliefs);
-    snapshot = first;
-    has =
-        ap (λ (l : List Snapshot). snapshot_in l (beliefs_in found user)) has.latest
-        ∙ ap (λ b. cond b (Some first) (snapshot_in has.earlier (beliefs_in found user)))
-        ((same_numbers_equal has.values.worldview (beliefs_in found user)).1 (has.settled.worldview_is ∙ sym (beliefs_kept old user found keeps)));
+    snapshot = now;
+    has = subst (λ (w : Premises). snapshot_in found.snapshots w ≡ Some now) (sym (beliefs_kept old user found keeps)) has.found;
     current = has.current;
   } where
-    first : Snapshot
-    first = record { values = has.values; is_current = true }
+    now : Snapshot
+    now = record { values = has.values; is_current = true }
 
   -- ---- the question
 
   module _ (Settling : Type 0) (settling : Settling) (after : IsAfterSettling old user found) where
     -- it settled; this holds of each answer
-    pub asked_settled : (answer : Reply) → CanAnswer old user → HasSettled old user found → IsAsked old user Settling found answer
+    pub asked_settled : (answer : Reply) → CanAnswer old user → HasSettled old user place found → IsAsked old user Settling found answer
     asked_settled answer can has = record {
       becomes = λ so. inr (fresh_settled can has after.grows);
       stays = λ is. fresh_settled can has after.grows;
@@ -65,7 +61,7 @@ module _ (old : Workbench) (user : ℕ) (found : Workbench) where
     }
 
     -- it settled, and then more was kept and noted
-    pub asked_noted : (store : Store) (nogoods : List Premises) (answer : Reply) → CanAnswer old user → HasSettled old user found →
+    pub asked_noted : (store : Store) (nogoods : List Premises) (answer : Reply) → CanAnswer old user → HasSettled old user place found →
         KeepsMore found.network found.store store → StaysUpstream found.network found.store store → AreNogoods found.network found.store nogoods →
         IsAsked old user Settling (record found { store = store; nogoods = nogoods }) answer
     asked_noted store nogoods answer can has grows upstream are = record {

@@ -1,5 +1,5 @@
 -- Fresh users stay fresh, line after line, except after lines that may end it.
-use Rattle.std.proofs.Common.{◌≡◌, ℕ, ◌<◌, true, false, zero, suc, List, All, cond, replicate, length, map, get_or, Some, refl, sym, ap, ◌∙◌, subst, inl, inr, arith}
+use Rattle.std.proofs.Common.{◌≡◌, ℕ, ◌<◌, true, false, zero, suc, List, All, replicate, length, map, get_or, Some, refl, sym, ap, ◌∙◌, subst, inl, inr, arith}
 use Rattle.std.specs.Prelude.{◌≢◌, ◌⊎◌}
 use Rattle.std.specs.FinSet.{empty, is_subset}
 use Rattle.std.proofs.lemmas.Bool.{both_ways, cases_Bool}
@@ -32,7 +32,7 @@ use Rattle.pw_sessions.specs.Workbench.{IsLeftBy, Workbench, beliefs_in}
 use Rattle.pw_sessions.proofs.CurrentValues.{current_attached, current_keeping, current_told, hidden_after, said_at}
 use Rattle.pw_sessions.proofs.FewCalls.{no_flags, none_due}
 use Rattle.pw_sessions.proofs.LastValues.{keeps_more_alike}
-use Rattle.pw_sessions.proofs.SnapshotLists.{becomes_in, its_fit, its_worldview, made_in, starts_there}
+use Rattle.pw_sessions.proofs.SnapshotLists.{becomes_in, first_there, its_fit, its_worldview, made_in, starts_there}
 
 -- ---- users that stay fresh
 
@@ -240,10 +240,7 @@ fresh_remembered old user values new remembered there worldview current =
     subst (λ (bench : Workbench). IsFresh bench user) (sym {A = Workbench} remembered.rest) (record {
       exists = there;
       snapshot = first;
-      has =
-          ap (λ (l : List Snapshot). snapshot_in l (beliefs_in old user)) remembered.latest.latest
-          ∙ ap (λ b. cond b (Some first) (snapshot_in remembered.latest.earlier (beliefs_in old user)))
-          ((same_numbers_equal values.worldview (beliefs_in old user)).1 worldview);
+      has = first_there new.snapshots remembered.latest.earlier (beliefs_in old user) first remembered.latest.latest worldview;
       current = current;
     })
   where

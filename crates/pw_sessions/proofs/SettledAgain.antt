@@ -3,11 +3,11 @@ use Rattle.std.proofs.Common.{◌≡◌, ◌≢◌, ℕ, ◌<◌, ◌≤◌, Boo
 use Rattle.std.specs.Prelude.{OnErr, OnOk, position, remove}
 use Rattle.std.specs.Result.{is_ok}
 use Rattle.std.proofs.lemmas.Bool.{both_ways, cases_Bool}
-use Rattle.std.proofs.lemmas.List.{get_or_default, length-set}
+use Rattle.std.proofs.lemmas.List.{length-set}
 use Rattle.std.proofs.lemmas.List.Folds.{find_past}
 use Rattle.std.proofs.lemmas.Option.{none-some, same_Some}
 use Rattle.pw_premises.specs.Premises.{Premises}
-use Rattle.pw_premises.specs.PremiseSubsets.{has_same_numbers, is_subset_refl, same_numbers_equal}
+use Rattle.pw_premises.specs.PremiseSubsets.{is_subset_refl, same_numbers_equal}
 use Rattle.pw_cells.specs.Cells.{Store, kinds_of}
 use Rattle.pw_network.specs.Network.{Network, IsWellNetwork}
 use Rattle.pw_settle.specs.Calls.{gains}
@@ -19,7 +19,7 @@ use Rattle.pw_settle.specs.Sound.{IsSound}
 use Rattle.pw_settle.specs.Values.{kinds_in}
 use Rattle.pw_settle.proofs.KeptFacts.{by_cell}
 use Rattle.pw_reasons.proofs.NogoodLemmas.{nogoods_same}
-use Rattle.pw_sessions.specs.Freshness.{AreCalls, IsFresh}
+use Rattle.pw_sessions.specs.Freshness.{AreCalls, CallsDue, CallsFew}
 use Rattle.pw_sessions.specs.inside.Steps.{CallsDueAgain, CanAnswer, HasSettled, IsAfterSettling, IsRemembered, OnlyKeepsMore, OnlySpares, RestOnUpstreamOf, StaysUpstreamOf, place_in}
 use Rattle.pw_sessions.specs.Snapshot.{IsCurrent, IsSnapshotOf, Snapshot, is_of, snapshot_in, start_for}
 use Rattle.pw_sessions.specs.Workbench.{Workbench, beliefs_in}
@@ -27,7 +27,7 @@ use Rattle.pw_sessions.proofs.CurrentValues.{current_keeping, current_settled}
 use Rattle.pw_sessions.proofs.FewCalls.{due_none, no_gains}
 use Rattle.pw_sessions.proofs.FreshUsers.{calls_few, calls_none, fresh_remembered}
 use Rattle.pw_sessions.proofs.LastValues.{only_remembers, only_settles, snapshots_keeping}
-use Rattle.pw_sessions.proofs.SnapshotLists.{found_becomes, its_worldview, latest_after, own_there, position_within, starts_there}
+use Rattle.pw_sessions.proofs.SnapshotLists.{first_there, its_worldview, latest_after, own_there, position_within, set_there, starts_there}
 use Rattle.pw_sessions.proofs.UpstreamSnapshots.{Rests}
 
 -- ---- the snapshot
@@ -105,15 +105,48 @@ module _ (old : Workbench) (user place : ℕ) (d before after : Snapshot) (store
   lies : RestOnUpstreamOf old.network old.store old.snapshots after.values
   lies given rests = lie given rests.kept (of_all (Rests old.network given) rests.snapshots)
 
-  -- a settling that was done: the snapshot is the first one
+  -- the user's snapshot is of the same worldview as before
+  still_own : after.values.worldview ≡ w
+  still_own = worldview ∙ own
+
+  -- ---- what was counted
+
+  starts : start_for old.snapshots w ≡ Some before
+  starts = starts_there old.snapshots w before has
+
+  module _ (calls : ℕ) (counted : calls ≡ after.values.calls) where
+    -- the calls are those that were due
+    due_again : CallsDueAgain old.network old.store store before.values after.values →
+        CallsDue old.network old.store store w (start_for old.snapshots w) calls
+    due_again due = record {
+      anew = λ no. absurd (none-some before (sym no ∙ starts));
+      further = λ snapshot begins.
+          let (flags, are, count) = due in (
+            flags,
+            subst (λ (s : Snapshot). AreDue old.network old.store w s.values flags) (same_Some before snapshot (sym starts ∙ begins))
+                (subst (λ (u : Premises). AreDue old.network old.store u before.values flags) own are),
+            subst (AreCalls (tally flags) (gains old.network old.store store w)) (sym counted)
+                (subst (λ (u : Premises). AreCalls (tally flags) (gains old.network old.store store u) after.values.calls) own count),
+          );
+    }
+
+    -- they are few
+    few_again : (IsCurrent old.network old.store before.values → after.values.calls ≡ 0) → CallsFew old user calls
+    few_again none =
+        calls_few old user calls can.exists
+        (λ snapshot begins was. counted
+        ∙ none (subst (λ (s : Snapshot). IsCurrent old.network old.store s.values) (same_Some snapshot before (sym begins ∙ has)) was))
+
+  -- ---- the snapshot has grown, and is the first one
+
   module _ (list others : List Snapshot) (calls : ℕ) (listed : list ≡ after ∷ others)
       (spares : OnlySpares old.beliefs (remove old.snapshots place) others) (counted : calls ≡ after.values.calls)
       (known : after.is_current ≡ true) (current : IsCurrent old.network store after.values) where
     abbrev found : Workbench
     found = record old { store = store; calls = calls }
 
-    abbrev new : Workbench
-    new = record old { store = store; snapshots = list; calls = calls }
+    abbrev brought : Workbench
+    brought = record old { store = store; snapshots = list; calls = calls }
 
     abbrev now : Snapshot
     now = record { values = after.values; is_current = true }
@@ -124,69 +157,59 @@ module _ (old : Workbench) (user place : ℕ) (d before after : Snapshot) (store
     first : list ≡ now ∷ others
     first = listed ∙ ap (λ (s : Snapshot). s ∷ others) is_now
 
-    remembered : IsRemembered found after.values new
+    remembered : IsRemembered found after.values brought
     remembered = record {
       latest = latest_after old.beliefs old.snapshots (remove old.snapshots place) others list after.values
-          (inr (place, ap (λ (u : Premises). position (is_of u) old.snapshots) (worldview ∙ own) ∙ at, refl))
+          (inr (place, ap (λ (u : Premises). position (is_of u) old.snapshots) still_own ∙ at, refl))
           spares first;
       rest = refl;
     }
 
-    starts : start_for old.snapshots w ≡ Some before
-    starts = starts_there old.snapshots w before has
-
-    pub settled_again : IsSettled old.network old.store before.values.worldview after.values →
-        CallsDueAgain old.network old.store store before.values after.values → HasSettled old user new
-    settled_again is due = record {
+    pub settled_first : IsSettled old.network old.store before.values.worldview after.values →
+        CallsDueAgain old.network old.store store before.values after.values → HasSettled old user 0 brought
+    settled_first is due = record {
       values = after.values;
-      earlier = others;
-      latest = first;
+      there = omega (arith, ap length first);
+      has = λ d. ap (λ (l : List Snapshot). get_or l 0 d) first;
+      found = first_there list others w now first still_own;
       settled = subst (λ (u : Premises). IsSettled old.network old.store u after.values) own is;
       current = current;
-      due = record {
-        anew = λ no. absurd (none-some before (sym no ∙ starts));
-        further = λ snapshot begins.
-            let (flags, are, count) = due in (
-              flags,
-              subst (λ (s : Snapshot). AreDue old.network old.store w s.values flags) (same_Some before snapshot (sym starts ∙ begins))
-                  (subst (λ (u : Premises). AreDue old.network old.store u before.values flags) own are),
-              subst (AreCalls (tally flags) (gains old.network old.store store w)) (sym counted)
-                  (subst (λ (u : Premises). AreCalls (tally flags) (gains old.network old.store store u) after.values.calls) own count),
-            );
-      };
+      due = due_again calls counted due;
     }
 
-    pub after_settled_again : (IsCurrent old.network old.store before.values → after.values.calls ≡ 0) → IsAfterSettling old user new
-    after_settled_again none = record {
-      grows = only_remembers old user found after.values new (only_settles old user store calls grows stays) lies remembered
-          (worldview ∙ own) (subst (IsSnapshotOf old.network store) is_now fits);
-      few = calls_few old user calls can.exists
-          (λ snapshot begins was. counted
-          ∙ none (subst (λ (s : Snapshot). IsCurrent old.network old.store s.values) (same_Some snapshot before (sym begins ∙ has)) was));
-      stays = λ fresh. fresh_remembered found user after.values new remembered can.exists (worldview ∙ own) current;
+    pub after_first : (IsCurrent old.network old.store before.values → after.values.calls ≡ 0) → IsAfterSettling old user brought
+    after_first none = record {
+      grows = only_remembers old user found after.values brought (only_settles old user store calls grows stays) lies remembered
+          still_own (subst (IsSnapshotOf old.network store) is_now fits);
+      few = few_again calls counted none;
+      stays = λ fresh. fresh_remembered found user after.values brought remembered can.exists still_own current;
       same = refl;
     }
 
-  -- one that was refused: the snapshot stays at its place
-  module _ (unchanged : IsCurrent old.network old.store before.values → after.values ≡ before.values) (uncounted : old.calls ≡ 0) where
-    abbrev list : List Snapshot
-    list = set old.snapshots place after
+  -- ---- the snapshot stays at its place
 
+  abbrev kept : List Snapshot
+  kept = set old.snapshots place after
+
+  found_in_place : snapshot_in kept w ≡ Some after
+  found_in_place = set_there old.snapshots w place after at still_own
+
+  -- what held of all, and holds of the snapshot, holds of all
+  all_with : (P : Snapshot → Type 0) → P after → All P old.snapshots → All P kept
+  all_with P this all k e below =
+      by_cell (λ k. k < length kept → P (get_or kept k e)) place (λ in_list. subst P (sym (get_or-set_same old.snapshots place after e there)) this)
+      (λ k other in_list. subst P (sym (get_or-set_other old.snapshots place k after e other))
+      (all k e (omega (arith, in_list, length-set old.snapshots place after)))) k below
+
+  apart : (other : ℕ) → beliefs_in old other ≢ w → (s : Snapshot) → s.values.worldview ≡ w → is_of (beliefs_in old other) s ≡ false
+  apart other differs s of = elim (cases_Bool (is_of (beliefs_in old other) s)) [
+    | inl same ↦ absurd (differs (sym ((same_numbers_equal s.values.worldview (beliefs_in old other)).0 same) ∙ of))
+    | inr not ↦ not
+  ]
+
+  module _ (calls : ℕ) where
     abbrev left : Workbench
-    left = record old { store = store; snapshots = list }
-
-    -- what held of all, and holds of the snapshot, holds of all
-    all_with : (P : Snapshot → Type 0) → P after → All P old.snapshots → All P list
-    all_with P this all k e below =
-        by_cell (λ k. k < length list → P (get_or list k e)) place (λ in_list. subst P (sym (get_or-set_same old.snapshots place after e there)) this)
-        (λ k other in_list. subst P (sym (get_or-set_other old.snapshots place k after e other))
-        (all k e (omega (arith, in_list, length-set old.snapshots place after)))) k below
-
-    apart : (other : ℕ) → beliefs_in old other ≢ w → (s : Snapshot) → s.values.worldview ≡ w → is_of (beliefs_in old other) s ≡ false
-    apart other differs s of = elim (cases_Bool (is_of (beliefs_in old other) s)) [
-      | inl same ↦ absurd (differs (sym ((same_numbers_equal s.values.worldview (beliefs_in old other)).0 same) ∙ of))
-      | inr not ↦ not
-    ]
+    left = record old { store = store; snapshots = kept; calls = calls }
 
     keeps : OnlyKeepsMore old user left
     keeps = record {
@@ -194,7 +217,7 @@ module _ (old : Workbench) (user place : ℕ) (d before after : Snapshot) (store
       beliefs = refl;
       others = λ other exists differs.
           find_past (is_of (beliefs_in old other)) old.snapshots place after d
-          (ap (is_of (beliefs_in old other)) (sym read) ∙ apart other differs before own) (apart other differs after (worldview ∙ own));
+          (ap (is_of (beliefs_in old other)) (sym read) ∙ apart other differs before own) (apart other differs after still_own);
       snapshots = λ fit.
           all_with (IsSnapshotOf old.network store) fits
           (snapshots_keeping old.network old.store store old.snapshots fit.kinds fit.sound grows fit.snapshots);
@@ -206,35 +229,51 @@ module _ (old : Workbench) (user place : ℕ) (d before after : Snapshot) (store
       };
     }
 
-    -- each is of the same worldview as before, and current if it was
-    abbrev Still : Snapshot → Snapshot → Type 0
-    Still was is = (is.values.worldview ≡ was.values.worldview)
-        × (IsCurrent old.network old.store was.values → IsCurrent old.network store is.values)
-
-    kept : (s : Snapshot) → Still s s
-    kept s = (refl, λ is. current_keeping old.network old.store store s.values can.fits.kinds can.fits.sound grows is)
-
-    this_still : Still before after
-    this_still = (worldview, λ is. subst (IsCurrent old.network store) (sym (unchanged is)) ((kept before).1 is))
-
-    each_still : (k : ℕ) (e : Snapshot) → k < length old.snapshots → Still (get_or old.snapshots k e) (get_or list k e)
-    each_still k e below =
-        by_cell (λ k. k < length old.snapshots → Still (get_or old.snapshots k e) (get_or list k e)) place
-        (λ in_list. subst (Still (get_or old.snapshots place e)) (sym (get_or-set_same old.snapshots place after e there))
-        (subst (λ (s : Snapshot). Still s after) (read ∙ get_or_default old.snapshots place d e there) this_still))
-        (λ k other in_list. subst (Still (get_or old.snapshots k e)) (sym (get_or-set_other old.snapshots place k after e other))
-        (kept (get_or old.snapshots k e))) k below
-
-    fresh_still : IsFresh old user → IsFresh left user
-    fresh_still fresh =
-        let (now, begins, still) = found_becomes (is_of w) Still (λ was is came. ap (λ (u : Premises). has_same_numbers u w) came.0) old.snapshots list
-        (length-set old.snapshots place after) each_still fresh.snapshot fresh.has in
-        record { exists = can.exists; snapshot = now; has = begins; current = still.1 fresh.current }
-
-    pub after_refused_again : IsAfterSettling old user left
-    after_refused_again = record {
+    -- it is current if it was
+    after_kept : (IsCurrent old.network old.store before.values → IsCurrent old.network store after.values) → CallsFew old user calls →
+        IsAfterSettling old user left
+    after_kept still few = record {
       grows = keeps;
-      few = calls_none old user old.calls uncounted;
-      stays = fresh_still;
+      few = few;
+      stays = λ fresh. record {
+        exists = can.exists;
+        snapshot = after;
+        has = found_in_place;
+        current = still
+            (subst (λ (s : Snapshot). IsCurrent old.network old.store s.values) (same_Some fresh.snapshot before (sym fresh.has ∙ has)) fresh.current);
+      };
       same = refl;
     }
+
+  -- the settling was done, and this is how code reads the list
+  module _ (list : List Snapshot) (calls : ℕ) (listed : list ≡ kept) (counted : calls ≡ after.values.calls)
+      (current : IsCurrent old.network store after.values) where
+    abbrev new : List Snapshot → Workbench
+    new l = record old { store = store; snapshots = l; calls = calls }
+
+    pub settled_in_place : after.is_current ≡ true → IsSettled old.network old.store before.values.worldview after.values →
+        CallsDueAgain old.network old.store store before.values after.values → HasSettled old user place (new list)
+    settled_in_place known is due = subst (λ (l : List Snapshot). HasSettled old user place (new l)) (sym listed) (record {
+      values = after.values;
+      there = omega (arith, there, length-set old.snapshots place after);
+      has = λ e. get_or-set_same old.snapshots place after e there ∙ is_now;
+      found = found_in_place ∙ ap (λ (s : Snapshot). Some s) is_now;
+      settled = subst (λ (u : Premises). IsSettled old.network old.store u after.values) own is;
+      current = current;
+      due = due_again calls counted due;
+    }) where
+      is_now : after ≡ record { values = after.values; is_current = true }
+      is_now = ap {B = Snapshot} (λ b. record { values = after.values; is_current = b }) known
+
+    pub after_in_place : (IsCurrent old.network old.store before.values → after.values.calls ≡ 0) → IsAfterSettling old user (new list)
+    after_in_place none =
+        subst (λ (l : List Snapshot). IsAfterSettling old user (new l)) (sym listed) (after_kept calls (λ was. current) (few_again calls counted none))
+
+  -- it was refused
+  pub after_refused_again : (IsCurrent old.network old.store before.values → after.values ≡ before.values) → old.calls ≡ 0 →
+      IsAfterSettling old user (left old.calls)
+  after_refused_again unchanged uncounted =
+      after_kept old.calls
+      (λ is. subst (IsCurrent old.network store) (sym (unchanged is))
+      (current_keeping old.network old.store store before.values can.fits.kinds can.fits.sound grows is))
+      (calls_none old user old.calls uncounted)

@@ -1,5 +1,5 @@
 -- A settling in a worldview of which there is no snapshot: the workbench after it.
-use Rattle.std.proofs.Common.{◌≡◌, ℕ, List, None, refl, sym, ◌∙◌, subst}
+use Rattle.std.proofs.Common.{◌≡◌, ℕ, true, List, length, get_or, None, refl, sym, ap, ◌∙◌, subst, arith}
 use Rattle.std.proofs.lemmas.Option.{none-some}
 use Rattle.pw_premises.specs.Premises.{Premises}
 use Rattle.pw_cells.specs.Cells.{Store}
@@ -12,7 +12,7 @@ use Rattle.pw_sessions.specs.Snapshot.{IsCurrent, Snapshot, is_of, start_for}
 use Rattle.pw_sessions.specs.Workbench.{Workbench, beliefs_in}
 use Rattle.pw_sessions.proofs.FreshUsers.{calls_few, calls_none, fresh_keeping, fresh_remembered}
 use Rattle.pw_sessions.proofs.LastValues.{fitting_snapshot, only_remembers, only_settles}
-use Rattle.pw_sessions.proofs.SnapshotLists.{found_none}
+use Rattle.pw_sessions.proofs.SnapshotLists.{first_there, found_none}
 
 module _ (old : Workbench) (user : ℕ) (store : Store) (can : CanAnswer old user) (grows : KeepsMore old.network old.store store)
     (upstream : StaysUpstreamOf old.network old.store old.snapshots store) where
@@ -40,11 +40,14 @@ module _ (old : Workbench) (user : ℕ) (store : Store) (can : CanAnswer old use
     remembered = record { latest = latest; rest = refl }
 
     pub settled_anew : CallsDue old.network old.store store (beliefs_in old user) (start_for old.snapshots (beliefs_in old user)) calls →
-        HasSettled old user new
+        HasSettled old user 0 new
     settled_anew due = record {
       values = values;
-      earlier = latest.earlier;
-      latest = latest.latest;
+      there = omega (arith, ap length latest.latest);
+      has = λ d. ap (λ (l : List Snapshot). get_or l 0 d) latest.latest;
+      found =
+          first_there snapshots latest.earlier (beliefs_in old user) (record { values = values; is_current = true }) latest.latest
+          settled.worldview_is;
       settled = settled;
       current = current;
       due = due;

@@ -1,5 +1,5 @@
 -- Snapshots of a list: which one is of a worldview, and what is left of a list without one.
-use Rattle.std.proofs.Common.{◌≡◌, ◌≢◌, ℕ, ◌+◌, ◌<◌, Bool, true, false, suc, zero, List, [], ◌∷◌, All, Contains, cond, length, map, get_or, Option, Some, None, refl, sym, ap, ◌∙◌, subst, inl, inr, arith}
+use Rattle.std.proofs.Common.{◌≡◌, ◌≢◌, ℕ, ◌+◌, ◌<◌, Bool, true, false, suc, zero, List, [], ◌∷◌, All, Contains, cond, length, map, get_or, set, Option, Some, None, refl, sym, ap, ◌∙◌, subst, inl, inr, arith}
 use Rattle.std.specs.Prelude.{◌⊎◌, find, nat_lt, position, remove}
 use Rattle.std.specs.List.{position_or_len, slice_get}
 use Rattle.std.specs.Option.{option_or}
@@ -7,7 +7,7 @@ use Rattle.std.specs.FinSet.{is_subset}
 use Rattle.std.proofs.lemmas.Bool.{both_ways, cases_Bool, ltb-false, ltb-true}
 use Rattle.std.proofs.lemmas.List.Edits.{get_or-remove_above, get_or-remove_below, length-remove}
 use Rattle.std.proofs.lemmas.List.Elements.{All-contains, All-contains_itself}
-use Rattle.std.proofs.lemmas.List.Folds.{find_at, list_any_at}
+use Rattle.std.proofs.lemmas.List.Folds.{find-set, find_at, list_any_at}
 use Rattle.std.proofs.lemmas.Option.{none-some, same_Some, slice_get-get_or, slice_get_past}
 use Rattle.pw_premises.specs.Premises.{Premises}
 use Rattle.pw_premises.specs.PremiseSubsets.{has_same_numbers, is_subset_refl, same_numbers_equal}
@@ -68,6 +68,15 @@ module _ {X : Type 0} (p : X → Bool) where
     | inr not ↦ find_at p xs ∙ slice_get_past xs (position_or_len p xs) (ltb-false (position_or_len p xs) (length xs) not)
   ]
 
+  -- where it is replaced by one that passes too, it is that one
+  pub found_set : (xs : List X) (i : ℕ) (y : X) → position p xs ≡ Some i → p y ≡ true → find p (set xs i y) ≡ Some y
+  found_set xs i y is passes = elim (cases_Bool (nat_lt (position_or_len p xs) (length xs))) [
+    | inl below ↦
+        let here : position_or_len p xs ≡ i = same_Some (position_or_len p xs) i (sym (place_is xs true below) ∙ is) in
+        find-set p xs i y (sym here) (position_within xs i is) passes
+    | inr not ↦ absurd (none-some i (sym (place_is xs false not) ∙ is))
+  ]
+
   -- without one that does not pass, it is the same
   pub found_without : (xs : List X) (i : ℕ) → i < length xs → ((d : X) → p (get_or xs i d) ≡ false) → find p (remove xs i) ≡ find p xs
   found_without [] i below fails = absurd (omega (arith, below))
@@ -106,6 +115,19 @@ its_worldview snapshots w snapshot is =
 pub its_fit : (network : Network) (store : Store) (snapshots : List Snapshot) (w : Premises) (snapshot : Snapshot) →
     SnapshotsFit network store snapshots → snapshot_in snapshots w ≡ Some snapshot → IsSnapshotOf network store snapshot
 its_fit network store snapshots w snapshot fit is = found_has (is_of w) (IsSnapshotOf network store) snapshots snapshot fit is
+
+-- the first one of all, if it is of the worldview
+pub first_there : (snapshots earlier : List Snapshot) (w : Premises) (first : Snapshot) → snapshots ≡ first ∷ earlier → first.values.worldview ≡ w →
+    snapshot_in snapshots w ≡ Some first
+first_there snapshots earlier w first is own =
+    ap (λ (l : List Snapshot). snapshot_in l w) is
+    ∙ first_is (is_of w) first earlier true ((same_numbers_equal first.values.worldview w).1 own)
+
+-- the one at this place, if it took the place of the one of the worldview
+pub set_there : (snapshots : List Snapshot) (w : Premises) (place : ℕ) (snapshot : Snapshot) → position (is_of w) snapshots ≡ Some place →
+    snapshot.values.worldview ≡ w → snapshot_in (set snapshots place snapshot) w ≡ Some snapshot
+set_there snapshots w place snapshot at own =
+    found_set (is_of w) snapshots place snapshot at ((same_numbers_equal snapshot.values.worldview w).1 own)
 
 -- a settling goes on from it
 pub starts_there : (snapshots : List Snapshot) (w : Premises) (snapshot : Snapshot) → snapshot_in snapshots w ≡ Some snapshot →
@@ -166,10 +188,6 @@ among_without snapshots i below snapshot has =
 -- and what holds of each of the others holds of each of them
 pub all_among : (P : Snapshot → Type 0) (snapshots others : List Snapshot) → AreAmong snapshots others → All P others → All P snapshots
 all_among P snapshots others among all = each_member P snapshots (λ snapshot has. All-contains P others snapshot all (among snapshot has))
-
--- all stay
-pub spares_none : (beliefs : List Premises) (snapshots : List Snapshot) → OnlySpares beliefs snapshots snapshots
-spares_none beliefs snapshots = record { among = λ snapshot has. has; stay = λ w believed. refl }
 
 -- one of a worldview that nobody believes
 pub spares_next : (beliefs : List Premises) (old now next : List Snapshot) (place : ℕ) → OnlySpares beliefs old now → place < length now →

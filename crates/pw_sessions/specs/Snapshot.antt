@@ -85,7 +85,8 @@ pub record EachBecomes (From : Snapshot → Snapshot → Type 0) (old new : List
     pub each : (place : ℕ) (d : Snapshot) → place < length old →
         From (slice_index_or old place d) (slice_index_or new place d)
 
--- ---- which snapshot is used; they are listed in the order of their last use, the latest first
+-- ---- which snapshot is used; they are listed in the order in which they were made, or have grown,
+-- the latest first
 
 -- the snapshot has the values of exactly this worldview
 abbrev pub is_of : Premises → Snapshot → Bool
@@ -95,12 +96,12 @@ is_of w snapshot = has_same_numbers snapshot.values.worldview w
 abbrev pub is_within : Premises → Snapshot → Bool
 is_within w snapshot = is_subset snapshot.values.worldview w
 
--- the snapshot of this worldview, if there is one; of several, the latest
+-- the snapshot of this worldview, if there is one; of several, the first
 abbrev pub snapshot_in : List Snapshot → Premises → Option Snapshot
 snapshot_in snapshots w = find (is_of w) snapshots
 
 -- the snapshot from which a settling in this worldview goes on: the one of the same worldview, or
--- else the latest within it
+-- else the first within it
 abbrev pub start_for : List Snapshot → Premises → Option Snapshot
 start_for snapshots w = option_or (snapshot_in snapshots w) (find (is_within w) snapshots)
 

@@ -33,7 +33,7 @@ pub record Workbench : Type 0 where
   pub nogoods : List Premises
   -- the beliefs of each user, by number
   pub beliefs : List Premises
-  -- what questions settled, by worldview, for all users; the latest used first
+  -- what questions settled, by worldview, for all users; the latest made, or grown, first
   pub snapshots : List Snapshot
   -- the procedure calls made by the settling of the last command; none if it did not settle
   pub calls : ℕ

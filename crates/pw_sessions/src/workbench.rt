@@ -57,11 +57,13 @@ pub struct Workbench<'d, 'r, A: Allocator = Global> {
     nogoods: Nogoods<A>,
     // The beliefs of each user, by number.
     beliefs: Vec<PremiseSet, A>,
-    // What questions found, one snapshot a worldview, in the order of their last use, the latest
-    // first. They are shared by all users, and their values still fit.
+    // What questions found, one snapshot a worldview. They are shared by all users, and their values
+    // still fit.
     snapshots: Vec<Snapshot<A>, A>,
     // What settlings use one after another.
     workspace: Workspace<A>,
+    // The number of settlings so far.
+    settlings: u64,
     // The number of procedure calls made by the last command's own settling.
     calls: u128,
 }
@@ -92,6 +94,7 @@ impl<'d, 'r, A: Allocator + Copy> Workbench<'d, 'r, A> {
             beliefs,
             snapshots,
             workspace: Workspace::new(alloc),
+            settlings: 0,
             calls: 0,
         })
     }

@@ -2,7 +2,7 @@
 --
 -- Contracts speak of the state of a workbench before and after a call, and never of its fields, so
 -- that they do not depend on how a field holds what it holds: beliefs are a list here, one entry a
--- user, in the order of the users' numbers, and snapshots are one in the order of their last use. The
+-- user, in the order of the users' numbers. When a snapshot was used last is no part of the state. The
 -- network is seen as its wiring: what is declared, and what was attached at which line. The store and the noted sets are seen as they are,
 -- since their types have views of their own. What a workbench allocates for itself is no part of
 -- its state, and neither is the allocator. `calls` counts what the last command called for a

@@ -204,12 +204,15 @@ CallsDueAgain network old new before values =
     (due : List Bool) × AreDue network old before.worldview before due
     × AreCalls (tally due) (gains network old new before.worldview) values.calls
 
--- a settling of the user was done: the first snapshot has what settles under the user's beliefs, which
--- is current, and the calls are those of this settling
-pub record HasSettled (old : Workbench) (user : ℕ) (new : Workbench) : Type 0 where
+-- a settling of the user was done: the snapshot at this place, which is the one of the user's beliefs,
+-- has what settles under them, and is current; and the calls are those of this settling
+pub record HasSettled (old : Workbench) (user place : ℕ) (new : Workbench) : Type 0 where
   pub values : Settled
-  pub earlier : List Snapshot
-  pub latest : new.snapshots ≡ record { values = values; is_current = true } ∷ earlier
+  pub there : place < length new.snapshots
+  pub has : (d : Snapshot) → slice_index_or new.snapshots place d
+      ≡ record { values = values; is_current = true }
+  pub found : snapshot_in new.snapshots (beliefs_in old user)
+      ≡ Some (record { values = values; is_current = true })
   pub settled : IsSettledFor old user values
   pub current : IsCurrent new.network new.store values
   pub due : CallsDueFor old user new

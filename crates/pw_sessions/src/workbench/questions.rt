@@ -57,7 +57,7 @@ fn is_written_by<A: Allocator + Copy>(
     false
 }
 
-// Settles in a worldview of which there is no snapshot. It goes on from the latest snapshot within it,
+// Settles in a worldview of which there is no snapshot. It goes on from the first snapshot within it,
 // if there is one. Fails only when out of memory.
 fn settle_within<A: Allocator + Copy>(
     alloc: A,
@@ -96,13 +96,14 @@ impl<'d, 'r, A: Allocator + Copy> Workbench<'d, 'r, A> {
         place_of(&self.snapshots, &self.beliefs[usize::from(user)])
     }
 
-    // Settles again in the worldview of the snapshot at this place, which becomes the first one. Fails
-    // only when out of memory.
-    fn settle_again(&mut self, user: u8, place: usize) -> Result<(), AllocError>
+    // Settles again in the worldview of the snapshot at this place. The result is its place from then
+    // on: the same, unless it has grown. Fails only when out of memory.
+    fn settle_again(&mut self, user: u8, place: usize) -> Result<usize, AllocError>
         requires can { CanAnswer (state self.old) user }
         requires calls { (state self.old).calls ≡ 0 }
         requires place { place_in (state self.old) user ≡ Some place }
-        ensures settled { OnOk result (HasSettled (state self.old) user (state self.new)) }
+        ensures settled { IfOk result (λ at. HasSettled (state self.old) user at
+            (state self.new)) }
         ensures after { IsAfterSettling (state self.old) user (state self.new) }
         ensures refused { OnErr result ((state self.new).calls ≡ 0) }
     {
@@ -110,18 +111,23 @@ impl<'d, 'r, A: Allocator + Copy> Workbench<'d, 'r, A> {
         let cells = snapshot.values.cells();
         snapshot.settle_again(&mut self.workspace, &self.network, &mut self.store)?;
         self.calls = snapshot.values.calls();
-        let has_grown = cells < snapshot.values.cells();
-        bring_first(&mut self.snapshots, place, has_grown, &self.beliefs);
-        Ok(())
+        self.settlings = self.settlings.wrapping_add(1);
+        snapshot.last_use = self.settlings;
+        if snapshot.values.cells() == cells {
+            return Ok(place);
+        }
+        bring_first(&mut self.snapshots, place, &self.beliefs);
+        Ok(0)
     }
 
-    // Settles under the beliefs of the user, of which there is no snapshot. From now on there is: it is
-    // the first one. Fails only when out of memory.
-    fn settle_anew(&mut self, user: u8) -> Result<(), AllocError>
+    // Settles under the beliefs of the user, of which there is no snapshot. From now on there is: the
+    // result is its place. Fails only when out of memory.
+    fn settle_anew(&mut self, user: u8) -> Result<usize, AllocError>
         requires can { CanAnswer (state self.old) user }
         requires calls { (state self.old).calls ≡ 0 }
         requires none { place_in (state self.old) user ≡ None }
-        ensures settled { OnOk result (HasSettled (state self.old) user (state self.new)) }
+        ensures settled { IfOk result (λ at. HasSettled (state self.old) user at
+            (state self.new)) }
         ensures after { IsAfterSettling (state self.old) user (state self.new) }
         ensures refused { OnErr result ((state self.new).calls ≡ 0) }
     {
@@ -135,18 +141,21 @@ impl<'d, 'r, A: Allocator + Copy> Workbench<'d, 'r, A> {
             &beliefs,
         )?;
         let calls = settled.calls();
-        remember(&mut self.snapshots, settled, &self.beliefs)?;
+        self.settlings = self.settlings.wrapping_add(1);
+        remember(&mut self.snapshots, settled, self.settlings, &self.beliefs)?;
         self.calls = calls;
-        Ok(())
+        Ok(0)
     }
 
     // Settles under the beliefs of the user, who must exist. The place is that of their snapshot, if
-    // there is one. Then the first snapshot has the values. Fails only when out of memory.
-    fn settle_for(&mut self, user: u8, place: Option<usize>) -> Result<(), AllocError>
+    // there is one. The result is the place of the snapshot that has the values. Fails only when out
+    // of memory.
+    fn settle_for(&mut self, user: u8, place: Option<usize>) -> Result<usize, AllocError>
         requires can { CanAnswer (state self.old) user }
         requires calls { (state self.old).calls ≡ 0 }
         requires place { place_in (state self.old) user ≡ place }
-        ensures settled { OnOk result (HasSettled (state self.old) user (state self.new)) }
+        ensures settled { IfOk result (λ at. HasSettled (state self.old) user at
+            (state self.new)) }
         ensures after { IsAfterSettling (state self.old) user (state self.new) }
         ensures refused { OnErr result ((state self.new).calls ≡ 0) }
     {
@@ -196,11 +205,11 @@ impl<'d, 'r, A: Allocator + Copy> Workbench<'d, 'r, A> {
         ensures noted { KeepsNogoods (state self.old) (state self.new) (reply_by result) }
         ensures grows { OnlyKeepsMore (state self.old) user (state self.new) }
     {
-        let Ok(()) = self.settle_for(user, place) else {
+        let Ok(place) = self.settle_for(user, place) else {
             return Reply::Refused(Refusal::Memory);
         };
-        let latest = &self.snapshots[0];
-        Reply::Value(latest.values.info(cell))
+        let snapshot = &self.snapshots[place];
+        Reply::Value(snapshot.values.info(cell))
     }
 
     // What is known about the declared cell under the beliefs of the user, who must exist, and why.
@@ -217,21 +226,21 @@ impl<'d, 'r, A: Allocator + Copy> Workbench<'d, 'r, A> {
     {
         let alloc = *self.beliefs.allocator();
         let place = self.place_for(user);
-        let Ok(()) = self.settle_for(user, place) else {
+        let Ok(place) = self.settle_for(user, place) else {
             return Reply::Refused(Refusal::Memory);
         };
-        let latest = &self.snapshots[0];
+        let snapshot = &self.snapshots[place];
         let Ok(reason) = reason(
             alloc,
             &self.network,
             &mut self.store,
             &mut self.nogoods,
-            &latest.values,
+            &snapshot.values,
             cell,
         ) else {
             return Reply::Refused(Refusal::Memory);
         };
-        Reply::Because(latest.values.info(cell), reason)
+        Reply::Because(snapshot.values.info(cell), reason)
     }
 
     // The first combination of the groups under which nothing is contradictory, for the user, who
@@ -297,11 +306,11 @@ impl<'d, 'r, A: Allocator + Copy> Workbench<'d, 'r, A> {
     {
         let alloc = *self.beliefs.allocator();
         let place = self.place_for(user);
-        let Ok(()) = self.settle_for(user, place) else {
+        let Ok(place) = self.settle_for(user, place) else {
             return Reply::Refused(Refusal::Memory);
         };
-        let latest = &self.snapshots[0];
-        let Ok(conflicts) = list_conflicts(alloc, &self.network, &latest.values) else {
+        let snapshot = &self.snapshots[place];
+        let Ok(conflicts) = list_conflicts(alloc, &self.network, &snapshot.values) else {
             return Reply::Refused(Refusal::Memory);
         };
         Reply::Listed(conflicts)

@@ -24,6 +24,9 @@ use std::marker::Model;
 pub(crate) struct Snapshot<A: Allocator = Global> {
     pub(super) values: Settled<A>,
     pub(super) is_current: bool,
+    // The number of the settling that used it last: of two snapshots, the one with the smaller number
+    // is given up first.
+    pub(super) last_use: u64,
 }
 
 impl<A: Allocator> Model for Snapshot<A> {

@@ -1,4 +1,5 @@
-//! The snapshots of a workbench, in the order of their last use, the latest first.
+//! The snapshots of a workbench, in the order in which they were made, the latest first. One that has
+//! grown comes first too.
 ghost use Rattle.std.specs.Prelude.{◌≡◌, ◌<◌, ◌≤◌, ◌∷◌, length, map, position, remove, IfSome};
 ghost use Rattle.std.specs.Prelude.{None, OnErr, OnOk, vec_capacity, vec_len};
 ghost use Rattle.pw_info.specs.Information.{kind_of};
@@ -47,7 +48,7 @@ pub(super) fn place_of<A: Allocator>(
     snapshots.iter().position(|snapshot| are_same(snapshot.values.worldview(), worldview))
 }
 
-// The place of the latest snapshot whose worldview lies within this one, if there is one.
+// The place of the first snapshot whose worldview lies within this one, if there is one.
 pub(super) fn place_within<A: Allocator>(
     snapshots: &[Snapshot<A>],
     worldview: &PremiseSet,
@@ -99,14 +100,19 @@ fn is_among(beliefs: &[PremiseSet], worldview: &PremiseSet) -> bool
 fn place_to_spare<A: Allocator>(snapshots: &[Snapshot<A>], beliefs: &[PremiseSet]) -> Option<usize>
     ensures { IfSome result (CanBeSpared beliefs.now snapshots.now) }
 {
+    let mut spare: Option<usize> = None;
+    let mut oldest_use = u64::MAX;
+    // From the last one on: it is mostly the one that was used longest ago.
     for back in 0..snapshots.len() {
         let place = snapshots.len() - 1 - back;
         let snapshot = &snapshots[place];
-        if !is_among(beliefs, snapshot.values.worldview()) {
-            return Some(place);
+        let is_older = snapshot.last_use <= oldest_use;
+        if is_older && !is_among(beliefs, snapshot.values.worldview()) {
+            spare = Some(place);
+            oldest_use = snapshot.last_use;
         }
     }
-    None
+    spare
 }
 
 // Gives the snapshot at this place up.
@@ -145,30 +151,28 @@ fn make_room<A: Allocator>(snapshots: &mut Vec<Snapshot<A>, A>, beliefs: &[Premi
     }
 }
 
-// The snapshot at this place is the first one from now on. If it has grown, others are given up where
+// The snapshot at this place has grown: it is the first one from now on. Others are given up where
 // there is no room for its values.
 pub(super) fn bring_first<A: Allocator>(
     snapshots: &mut Vec<Snapshot<A>, A>,
     place: usize,
-    has_grown: bool,
     beliefs: &[PremiseSet],
 )
     requires { place < length snapshots.old.items }
     ensures { IsBroughtFirst beliefs.now place snapshots.old.items snapshots.new.items }
 {
     let snapshot = snapshots.remove(place);
-    if has_grown {
-        make_room(snapshots, beliefs);
-    }
+    make_room(snapshots, beliefs);
     put_first(snapshots, snapshot);
 }
 
-// These values, of whose worldview there is no snapshot, are the latest snapshot from now on, and
+// These values, of whose worldview there is no snapshot, are the first snapshot from now on, and
 // current. Others are given up if there is no room for them. Fails only when out of memory; then
 // nothing changes.
 pub(super) fn remember<A: Allocator>(
     snapshots: &mut Vec<Snapshot<A>, A>,
     values: Settled<A>,
+    last_use: u64,
     beliefs: &[PremiseSet],
 ) -> Result<(), AllocError>
     requires { position (is_of values.worldview) snapshots.old.items ≡ None }
@@ -181,6 +185,7 @@ pub(super) fn remember<A: Allocator>(
     let snapshot = Snapshot {
         values,
         is_current: true,
+        last_use,
     };
     put_first(snapshots, snapshot);
     Ok(())

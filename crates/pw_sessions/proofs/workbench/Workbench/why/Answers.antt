@@ -16,16 +16,16 @@ use Rattle.pw_sessions.specs.declared.reply.Refusal.TheVariants as refusal
 use Rattle.pw_sessions.specs.Freshness.{IsSettledFor}
 use Rattle.pw_sessions.specs.inside.Steps.{OnlyKeepsMore}
 use Rattle.pw_sessions.specs.Workbench.{Workbench, beliefs_in}
-use Rattle.pw_sessions.proofs.AskedUsers.{asked_noted, latest_settled, latest_settled_still}
+use Rattle.pw_sessions.proofs.AskedUsers.{asked_noted, place_settled, place_settled_still}
 use Rattle.pw_sessions.proofs.LastValues.{only_keeps_then, only_notes}
 use Rattle.pw_sessions.proofs.UnchangedReplies.{notes_reason}
 use Rattle.pw_sessions.proofs.workbench.Workbench.why.Goals as goal
 
 pub reason-requires-clause-settled : goal.reason-requires-clause-settled
 reason-requires-clause-settled g c =
-    latest_settled_still (state c.args.self.now) c.args.user (state c.settle_for.new.self) _
-    (record { values = c.latest.inside.values; is_current = c.latest.inside.is_current }) c.in-Ok.ensures.settled c.settle_for.ensures.after.grows
-    (c.latest.view_is ∙ c.index-latest.ensures)
+    place_settled_still (state c.args.self.now) c.args.user c.in-Ok.place (state c.settle_for.new.self) _
+    (record { values = c.snapshot.inside.values; is_current = c.snapshot.inside.is_current }) c.in-Ok.ensures.settled c.settle_for.ensures.after.grows
+    (c.snapshot.view_is ∙ c.index-snapshot.ensures)
 
 -- what was found, with what the search for a reason kept and noted
 after_reason : (old : Workbench) (user : ℕ) (found : Workbench) (store : Store) (nogoods : List Premises) → OnlyKeepsMore old user found →
@@ -43,7 +43,7 @@ returns-in_default-reason-clause-grows g c =
 
 pub returns-in_default-reason-clause-asked : goal.returns-in_default-reason-clause-asked
 returns-in_default-reason-clause-asked g c =
-    asked_noted (state c.args.self.now) c.args.user (state c.settle_for.new.self) Unit tt c.settle_for.ensures.after c.reason.new.store
+    asked_noted (state c.args.self.now) c.args.user c.in-Ok.place (state c.settle_for.new.self) Unit tt c.settle_for.ensures.after c.reason.new.store
     c.reason.new.nogoods (reply.Refused refusal.Memory) c.requires.can c.in-Ok.ensures.settled c.reason.ensures.grows c.reason.ensures.upstream
     c.reason.ensures.nogoods
 
@@ -55,21 +55,21 @@ returns-clause-answer g c =
     let beliefs : Premises = beliefs_in (state c.args.self.now) c.args.user in
     let there : c.args.cell < cells_in network = omega (arith, c.requires.cell) in
     let settles : Network → Store → Premises → Info = λ n store w. value_in n store w c.args.cell in
-    let settled : IsSettledFor (state c.args.self.now) c.args.user c.latest.inside.values =
-    latest_settled (state c.args.self.now) c.args.user (state c.settle_for.new.self) _
-    (record { values = c.latest.inside.values; is_current = c.latest.inside.is_current }) c.in-Ok.ensures.settled
-    (c.latest.view_is ∙ c.index-latest.ensures) in
+    let settled : IsSettledFor (state c.args.self.now) c.args.user c.snapshot.inside.values =
+    place_settled (state c.args.self.now) c.args.user c.in-Ok.place (state c.settle_for.new.self) _
+    (record { values = c.snapshot.inside.values; is_current = c.snapshot.inside.is_current }) c.in-Ok.ensures.settled
+    (c.snapshot.view_is ∙ c.index-snapshot.ensures) in
     let value : c.info.result ≡ settles network c.args.self.now.store beliefs = c.info.ensures ∙ settled.values c.args.cell there in
     let reason : c.in-Ok-reason.reason ≡ reason_of (settles network c.args.self.now.store) beliefs =
     c.in-Ok-reason.ensures.reason
-    ∙ ap (λ (n : Network). reason_of (settles n c.settle_for.new.self.store) c.latest.inside.values.worldview) c.settle_for.ensures.after.grows.network
+    ∙ ap (λ (n : Network). reason_of (settles n c.settle_for.new.self.store) c.snapshot.inside.values.worldview) c.settle_for.ensures.after.grows.network
     ∙ (λ i. reason_of (λ w. same_value network c.args.self.now.store c.settle_for.new.self.store c.settle_for.ensures.after.grows.grows.told w
     c.args.cell i) (settled.worldview_is i)) in
     inl (λ i. reply.Because (value i) (reason i))
 
 pub returns-clause-asked : goal.returns-clause-asked
 returns-clause-asked g c =
-    asked_noted (state c.args.self.now) c.args.user (state c.settle_for.new.self) Unit tt c.settle_for.ensures.after c.reason.new.store
+    asked_noted (state c.args.self.now) c.args.user c.in-Ok.place (state c.settle_for.new.self) Unit tt c.settle_for.ensures.after c.reason.new.store
     c.reason.new.nogoods (reply.Because c.info.result c.in-Ok-reason.reason) c.requires.can c.in-Ok.ensures.settled c.reason.ensures.grows
     c.reason.ensures.upstream c.reason.ensures.nogoods
 
@@ -86,11 +86,11 @@ returns-clause-noted g c =
     let there : c.args.cell < cells_in (wiring c.args.self.now.network) = omega (arith, c.requires.cell) in
     let here : c.args.cell < cells_in found.network =
     subst (λ (n : Network). c.args.cell < cells_in n) (sym c.settle_for.ensures.after.grows.network) there in
-    let settled : IsSettled found.network found.store c.latest.inside.values.worldview c.latest.inside.values =
-    latest_settled_still (state c.args.self.now) c.args.user found _
-    (record { values = c.latest.inside.values; is_current = c.latest.inside.is_current }) c.in-Ok.ensures.settled
-    c.settle_for.ensures.after.grows (c.latest.view_is ∙ c.index-latest.ensures) in
+    let settled : IsSettled found.network found.store c.snapshot.inside.values.worldview c.snapshot.inside.values =
+    place_settled_still (state c.args.self.now) c.args.user c.in-Ok.place found _
+    (record { values = c.snapshot.inside.values; is_current = c.snapshot.inside.is_current }) c.in-Ok.ensures.settled
+    c.settle_for.ensures.after.grows (c.snapshot.view_is ∙ c.index-snapshot.ensures) in
     notes_reason (state c.args.self.now).nogoods found.nogoods c.reason.new.nogoods c.info.result
-    (value_in found.network found.store c.latest.inside.values.worldview c.args.cell) c.in-Ok-reason.reason
+    (value_in found.network found.store c.snapshot.inside.values.worldview c.args.cell) c.in-Ok-reason.reason
     (ap (λ (b : Workbench). b.nogoods) c.settle_for.ensures.after.same) c.reason.ensures.covers
     (c.info.ensures ∙ settled.values c.args.cell here) c.in-Ok-reason.ensures.covered
