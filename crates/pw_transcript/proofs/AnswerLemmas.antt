@@ -37,9 +37,8 @@ use Rattle.pw_sessions.proofs.WorkbenchLemmas.{left_same}
 use Rattle.pw_transcript.specs.FromScratch.{ComesTo}
 use Rattle.pw_transcript.specs.Limits.{most_lines}
 use Rattle.pw_transcript.specs.Reading.{Reads}
-use Rattle.pw_transcript.specs.inside.Resolving.{reading_by}
 use Rattle.pw_info.specs.declared.output.Failed.{Failed}
-use Rattle.pw_info.specs.Passing.{PassesPart}
+use Rattle.pw_info.specs.Passing.{IsBrokenOff, IsPassed, PassesPart}
 use Rattle.pw_transcript.specs.ReplyText.{IsReplyNamed, text_of_reply, text_if_any}
 use Rattle.pw_transcript.specs.inside.Answering.{AnswersLine, held_line, IsLeft, IsReplied, ReadsHeld, RepliesToLine, PassesReply, FailsInReply}
 use Rattle.pw_transcript.proofs.ReplyLemmas.{IsDeclared-from_Reads}
@@ -204,53 +203,36 @@ pub held_blank : (d : Declared) (well : IsWellDeclared d) (old : Workbench) (hel
 held_blank d well old None reads before line left e = absurd (cc)
 held_blank d well old (Some held) reads before line left e = blank d well line before old left held reads e
 
-module _ (d : Declared) (well : IsWellDeclared d) (number : ℕ) (old : Workbench) (left : IsLeft d number old) (held : Option (List ℕ))
-    (read : Result Command Refusal) (reads : ReadsHeld d held (reading_by read)) where
-  -- the line says this command
-  says : (command : Command) → read ≡ Ok command → ReadsHeld d held (Says command)
-  says command is = subst (λ (r : Result Command Refusal). ReadsHeld d held (reading_by r)) is reads
+module _ (d : Declared) (well : IsWellDeclared d) (number : ℕ) (old : Workbench) (left : IsLeft d number old) where
+  -- the line says this command: it can be carried out
+  pub held_can : (held : Option (List ℕ)) (command : Command) → ReadsHeld d held (Says command) → number ≤ most_lines → CanBeCarriedOut old number command
+  held_can None command reads most = absurd (cc)
+  held_can (Some held) command reads most = can_be_carried_out d well held number old left command most reads
 
-  pub held_can : (command : Command) → read ≡ Ok command → number ≤ most_lines → CanBeCarriedOut old number command
-  held_can command is most = can_of held (says command is)
-    where
-      can_of : (held : Option (List ℕ)) → ReadsHeld d held (Says command) → CanBeCarriedOut old number command
-      can_of None reads = absurd (cc)
-      can_of (Some held) reads = can_be_carried_out d well held number old left command most reads
+  -- and what carrying it out answers is the reply
+  pub held_command : (held : Option (List ℕ)) (command : Command) → ReadsHeld d held (Says command) → (new : Workbench) (answer : Reply) →
+      CarriesOut old number command new answer → IsReplied d number held old new answer
+  held_command None command reads new answer done = absurd (cc)
+  held_command (Some held) command reads new answer done = record {
+    named = named_reply d well held number old left new command answer reads done;
+    left = carried_left d well held number old left new command answer reads done;
+    reply = λ before line left' next e. carried d well line before old left' number held new command answer next reads done e;
+  }
 
-  pub held_command : (command : Command) → read ≡ Ok command → (new bench : Workbench) (answer given : Reply) →
-      CarriesOut old number command new answer → bench ≡ new → given ≡ answer → IsReplied d number held old bench given
-  held_command command is new bench answer given done left-is reply-is =
-      subst (λ (w : Workbench). IsReplied d number held old w given) (sym left-is)
-      (subst (IsReplied d number held old new) (sym reply-is) (replied_of held (says command is)))
-    where
-      replied_of : (held : Option (List ℕ)) → ReadsHeld d held (Says command) → IsReplied d number held old new answer
-      replied_of None reads = absurd (cc)
-      replied_of (Some held) reads = record {
-        named = named_reply d well held number old left new command answer reads done;
-        left = carried_left d well held number old left new command answer reads done;
-        reply = λ before line left' next e. carried d well line before old left' number held new command answer next reads done e;
-      }
-
-  pub held_refused : (r : Refusal) → read ≡ Err r → (bench : Workbench) (answer : Reply) → bench ≡ old → answer ≡ reply.Refused r →
-      IsReplied d number held old bench answer
-  held_refused r is bench answer left-is reply-is =
-      subst (λ (w : Workbench). IsReplied d number held old w answer) (sym left-is)
-      (subst (IsReplied d number held old old) (sym reply-is)
-      (replied_of held (subst (λ (x : Result Command Refusal). ReadsHeld d held (reading_by x)) is reads)))
-    where
-      replied_of : (held : Option (List ℕ)) → ReadsHeld d held (Refused r) → IsReplied d number held old old (reply.Refused r)
-      replied_of None reads =
-          let too_long : r ≡ refusal.LineTooLong = cc in
-          record {
-            named = tt;
-            left = still_left d well number old left;
-            reply = λ before line left' next e. subst (λ (x : Refusal). RepliesToLine d before line old (Some (reply.Refused x))) (sym too_long) (refused_long d well line before old left' e);
-          }
-      replied_of (Some held) reads = record {
+  -- the line is refused so
+  pub held_refused : (held : Option (List ℕ)) (r : Refusal) → ReadsHeld d held (Refused r) → IsReplied d number held old old (reply.Refused r)
+  held_refused None r reads =
+      let too_long : r ≡ refusal.LineTooLong = cc in
+      record {
         named = tt;
         left = still_left d well number old left;
-        reply = λ before line left' next e. refused d well line before old left' held r reads e;
+        reply = λ before line left' next e. subst (λ (x : Refusal). RepliesToLine d before line old (Some (reply.Refused x))) (sym too_long) (refused_long d well line before old left' e);
       }
+  held_refused (Some held) r reads = record {
+    named = tt;
+    left = still_left d well number old left;
+    reply = λ before line left' next e. refused d well line before old left' held r reads e;
+  }
 
 -- ---- the reply is passed
 
@@ -283,6 +265,31 @@ module _ {O : Type 0} (passes : O → List ℕ → O → Type 0) (d : Declared) 
   }
 
 -- ---- a line is answered
+
+-- a line that is replied to is answered: its reply was passed, or the output failed while it was
+module _ {O : Type 0} {passes : O → List ℕ → O → Type 0} {d : Declared} {has_failed : O → Bool} {number : ℕ} {IsHeld : Option (List ℕ) → Type 0}
+    {old new : Workbench} {o o' : O} {answer : Reply} (left : IsLeft d (number + 1) new)
+    (replied : (held : Option (List ℕ)) → IsHeld held → IsReplied d number held old new answer) where
+  pub answered : IsPassed passes has_failed o o' (text_of_reply d number answer) → AnswersLine passes d has_failed number IsHeld old new o o' (Ok true)
+  answered written = record {
+    ok = λ held is before line left' next e.
+        passes_some passes d number before line new o o' answer ((replied held is).reply before line left' next e) written.passed;
+    err = λ held is. tt;
+    failed = tt;
+    works = written.works;
+    left = left;
+  }
+
+  pub broken_off : (fault : Failed) → IsBrokenOff passes has_failed o o' (text_of_reply d number answer) →
+      AnswersLine passes d has_failed number IsHeld old new o o' (Err fault)
+  broken_off fault written = record {
+    ok = λ held is. tt;
+    err = λ held is before line left' next e.
+        fails_some passes d number before line new o o' answer ((replied held is).reply before line left' next e) written.front;
+    failed = written.failed;
+    works = tt;
+    left = left;
+  }
 
 -- what is answered of lines that are held in one way is answered of those held in a narrower one
 pub answers_if : {O : Type 0} {passes : O → List ℕ → O → Type 0} {d : Declared} {has_failed : O → Bool} {number : ℕ} {old new : Workbench} {o o' : O} {result : Result Bool Failed}

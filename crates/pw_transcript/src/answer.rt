@@ -5,7 +5,8 @@ ghost use Rattle.std.specs.Prelude.{OnOk, OnErr, option_map};
 ghost use Rattle.std.specs.Option.{option_copied};
 ghost use Rattle.std.specs.Str.{bytes_eq};
 ghost use Rattle.pw_decl.specs.inside.Fields.{declared};
-ghost use Rattle.pw_sessions.specs.Reply.{Refused};
+ghost use Rattle.pw_sessions.specs.Reply.{Refused, Says};
+ghost use Rattle.pw_sessions.specs.Workbench.{Workbench as Workbenches};
 ghost use Rattle.pw_sessions.specs.inside.Fields.{state};
 ghost use Rattle.pw_transcript.specs.Limits.{most_lines};
 ghost use Rattle.pw_transcript.specs.Sentence.{Ask};
@@ -13,7 +14,6 @@ ghost use Rattle.pw_transcript.specs.inside.Answering.{AnswersLine, IsLeft, Read
 ghost use Rattle.pw_transcript.specs.inside.Answering.{FailsInHeldReply, PassesHeldReply};
 ghost use Rattle.pw_transcript.specs.inside.Forms.{cell_form, said_form, sentence_by, tell_form};
 ghost use Rattle.pw_transcript.specs.inside.Forms.{sentence_form};
-ghost use Rattle.pw_transcript.specs.inside.Resolving.{reading_by};
 
 use crate::command_text::line_words;
 use crate::reply_text::write_reply;
@@ -24,58 +24,59 @@ use pw_info::{Failed, Output, Words};
 use pw_sessions::{Command, Refusal, Reply, Workbench};
 use std::alloc::Allocator;
 
-// Answers a line of whose words this was read. Inlined, so that what answers one command alone makes
-// no room for the values that others need.
+// Answers a line that says this command. Inlined, so that what answers one command alone makes no
+// room for the values that others need.
 #[inline(always)]
-fn answer_read<A: Allocator + Copy, O: Output>(
+fn answer_command<A: Allocator + Copy, O: Output>(
     d: &Declaration<'_, A>,
     number: u32,
-    read: &Result<Command, Refusal>,
+    command: &Command,
     workbench: &mut Workbench<'_, '_, A>,
     output: &mut O,
 ) -> Result<bool, Failed>
     requires left { IsLeft (declared d.now) number (state workbench.old) }
     requires most { number ≤ most_lines }
     requires reads { (held : Option (List ℕ)) × ReadsHeld (declared d.now) held
-        (reading_by read.now) }
+        (Says command.now) }
     ensures { AnswersLine O.passes (declared d.now) O.has_failed number
-        (λ held. ReadsHeld (declared d.now) held (reading_by read.now))
+        (λ held. ReadsHeld (declared d.now) held (Says command.now))
         (state workbench.old) (state workbench.new) output.old output.new result }
 {
     // Cells have kinds whose members have names.
     d.limits();
-    let reply = match read {
-        Ok(command) => workbench.command(number, command),
-        Err(refusal) => Reply::Refused(*refusal),
-    };
+    let reply = workbench.command(number, command);
     match write_reply(number, &reply, d, output) {
         Ok(()) => Ok(true),
         Err(fault) => Err(fault),
     }
 }
 
-// Answers a refused line. Never inlined: few lines are refused.
+// Answers a refused line. The line leaves the workbench as it is, whatever the lines before left.
+// Never inlined: few lines are refused.
 #[inline(never)]
 fn answer_refused<A: Allocator + Copy, O: Output>(
     d: &Declaration<'_, A>,
     number: u32,
     refusal: Refusal,
-    workbench: &mut Workbench<'_, '_, A>,
     output: &mut O,
 ) -> Result<bool, Failed>
-    requires left { IsLeft (declared d.now) number (state workbench.old) }
-    requires most { number ≤ most_lines }
-    requires reads { (held : Option (List ℕ)) × ReadsHeld (declared d.now) held
-        (Refused refusal) }
-    ensures { AnswersLine O.passes (declared d.now) O.has_failed number
+    ensures { (workbench : Workbenches) → IsLeft (declared d.now) number workbench
+        → AnswersLine O.passes (declared d.now) O.has_failed number
         (λ held. ReadsHeld (declared d.now) held (Refused refusal))
-        (state workbench.old) (state workbench.new) output.old output.new result }
+        workbench workbench output.old output.new result }
 {
-    answer_read(d, number, &Err(refusal), workbench, output)
+    // Cells have kinds whose members have names.
+    d.limits();
+    let reply: Reply<A> = Reply::Refused(refusal);
+    match write_reply(number, &reply, d, output) {
+        Ok(()) => Ok(true),
+        Err(fault) => Err(fault),
+    }
 }
 
 // Answers a line that tells. Each of the commands that most lines have is answered by a function of
-// its own, which makes room for its values alone.
+// its own, which makes room for its values alone. A line that was read is answered at once: a
+// reading that waits in one place for commands and refusals would be copied there.
 #[inline(never)]
 fn answer_tell<A: Allocator + Copy, O: Output>(
     d: &Declaration<'_, A>,
@@ -93,8 +94,10 @@ fn answer_tell<A: Allocator + Copy, O: Output>(
         (ReadsAs (declared d.now) (option_map (sentence_by user.now) (tell_form rest.entry)))
         (state workbench.old) (state workbench.new) output.old output.new result }
 {
-    let read = read_tell(d, user, rest);
-    answer_read(d, number, &read, workbench, output)
+    match read_tell(d, user, rest) {
+        Ok(command) => answer_command(d, number, &command, workbench, output),
+        Err(refusal) => answer_refused(d, number, refusal, output),
+    }
 }
 
 // Answers a line that asks.
@@ -115,8 +118,10 @@ fn answer_ask<A: Allocator + Copy, O: Output>(
         (ReadsAs (declared d.now) (option_map (sentence_by user.now) (cell_form Ask rest.entry)))
         (state workbench.old) (state workbench.new) output.old output.new result }
 {
-    let read = read_ask(d, user, rest);
-    answer_read(d, number, &read, workbench, output)
+    match read_ask(d, user, rest) {
+        Ok(command) => answer_command(d, number, &command, workbench, output),
+        Err(refusal) => answer_refused(d, number, refusal, output),
+    }
 }
 
 // Answers a line of any other command, or of none.
@@ -141,8 +146,10 @@ fn answer_other<A: Allocator + Copy, O: Output>(
         (option_map (sentence_by user.now) (said_form name.now rest.entry)))
         (state workbench.old) (state workbench.new) output.old output.new result }
 {
-    let read = read_other(d, user, name, rest);
-    answer_read(d, number, &read, workbench, output)
+    match read_other(d, user, name, rest) {
+        Ok(command) => answer_command(d, number, &command, workbench, output),
+        Err(refusal) => answer_refused(d, number, refusal, output),
+    }
 }
 
 // Answers a line of these words, after the one that names the user.
@@ -192,10 +199,10 @@ fn answer_words<A: Allocator + Copy, O: Output>(
         (state workbench.old) (state workbench.new) output.old output.new result }
 {
     let Some(user) = words.next() else {
-        return answer_refused(d, number, Refusal::Syntax, workbench, output);
+        return answer_refused(d, number, Refusal::Syntax, output);
     };
     let Some(name) = words.next() else {
-        return answer_refused(d, number, Refusal::Syntax, workbench, output);
+        return answer_refused(d, number, Refusal::Syntax, output);
     };
     answer_named(d, number, user, name, words, workbench, output)
 }
@@ -225,11 +232,11 @@ pub(crate) fn answer_line<A: Allocator + Copy, O: Output>(
     // Cells have kinds whose members have names.
     d.limits();
     let Some(line) = line else {
-        return answer_refused(d, number, Refusal::LineTooLong, workbench, output);
+        return answer_refused(d, number, Refusal::LineTooLong, output);
     };
     match line_words(line) {
         Ok(Some(words)) => answer_words(d, number, words, workbench, output),
         Ok(None) => Ok(false),
-        Err(refusal) => answer_refused(d, number, refusal, workbench, output),
+        Err(refusal) => answer_refused(d, number, refusal, output),
     }
 }

@@ -1,26 +1,18 @@
 use Rattle.pw_decl.specs.inside.Fields.{declared}
+use Rattle.pw_sessions.specs.inside.Fields.{state}
 use Rattle.pw_transcript.proofs.AnswerLemmas.{answers_if}
 use Rattle.pw_transcript.proofs.SpokenLemmas.{named_words, no_words, one_word}
 use Rattle.pw_transcript.proofs.answer.answer_words.Goals as goal
 
-pub answer_refused-requires-clause-reads : goal.answer_refused-requires-clause-reads
-answer_refused-requires-clause-reads g c =
-    (c.requires.reads.0, no_words (declared c.args.d.now) c.args.words c.requires.reads.0 c.in_default.ensures.0 c.requires.reads.1)
-
 pub returns-in_default : goal.returns-in_default
-returns-in_default g c = answers_if (λ held. no_words (declared c.args.d.now) c.args.words held c.in_default.ensures.0) c.answer_refused.ensures
-
-pub answer_refused-requires-in_default-next-clause-reads : goal.answer_refused-requires-in_default-next-clause-reads
-answer_refused-requires-in_default-next-clause-reads g c = (
-  c.requires.reads.0,
-  one_word (declared c.args.d.now) c.args.words c.next.new.self c.in-Some.user.now c.requires.reads.0 c.in-Some.ensures c.in_default-next.ensures.0
-      c.requires.reads.1,
-)
+returns-in_default g c =
+    answers_if (λ held. no_words (declared c.args.d.now) c.args.words held c.in_default.ensures.0)
+    (c.answer_refused.ensures (state c.args.workbench.now) c.requires.left)
 
 pub returns-in_default-next : goal.returns-in_default-next
 returns-in_default-next g c =
     answers_if (λ held. one_word (declared c.args.d.now) c.args.words c.next.new.self c.in-Some.user.now held c.in-Some.ensures c.in_default-next.ensures.0)
-    c.answer_refused-in_default-next.ensures
+    (c.answer_refused-in_default-next.ensures (state c.args.workbench.now) c.requires.left)
 
 pub answer_named-requires-clause-reads : goal.answer_named-requires-clause-reads
 answer_named-requires-clause-reads g c = (
