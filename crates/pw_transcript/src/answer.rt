@@ -51,8 +51,8 @@ fn answer_command<A: Allocator + Copy, O: Output>(
     }
 }
 
-// Answers a refused line. The line leaves the workbench as it is, whatever the lines before left.
-// Never inlined: few lines are refused.
+// Answers a refused line. It does not take the workbench, since such a line never changes it. Never
+// inlined: few lines are refused.
 #[inline(never)]
 fn answer_refused<A: Allocator + Copy, O: Output>(
     d: &Declaration<'_, A>,

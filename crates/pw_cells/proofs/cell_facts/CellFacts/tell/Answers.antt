@@ -18,7 +18,7 @@ boxed_same g c = elim c.match-self.branch [
       (λ j. (w.many-is j).value) ∙ w.in_ok-many-in-Few.ensures ∙ ap cell_of (sym w.in-Few.is) ∙ c.self.view_is
 ]
 
--- before the fact is told, the box holds the cell unchanged
+-- the cell in the box is unchanged until the fact is told
 boxed_before : (g : Over) (c : goal.After-deref_mut-2 g) → c.match-self.many.value ≡ c.args.self.now
 boxed_before g c = elim c.match-self.branch [
   | in-One+in_ok-listed-in-One+in_ok-many-in-One w ↦
