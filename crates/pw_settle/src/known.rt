@@ -175,7 +175,8 @@ fn take_in_wide_news<A: Allocator + Copy>(
     take_in(infos, supports, cell, info, support)
 }
 
-// Merges news on premises below 64 into what is known about a cell.
+// Merges news on premises below 64 into what is known about a cell. They are copied part by part, since
+// procedures soon read them so.
 #[inline(always)]
 pub(crate) fn take_in_narrow<A: Allocator>(
     infos: &mut [Info],
@@ -189,7 +190,7 @@ pub(crate) fn take_in_narrow<A: Allocator>(
 {
     let place = cell as usize;
     if info.implies(&infos[place]) {
-        infos[place] = *info;
+        infos[place] = info.copied();
         supports.put_narrow(place, support);
     } else {
         infos[place] = infos[place].meet(info);

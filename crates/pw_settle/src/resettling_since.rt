@@ -170,7 +170,9 @@ fn take_in_arrival<A: Allocator + Copy>(
     queue_visible_readers(network, worldview, sees_all, agenda, cell);
 }
 
-// The same for all that came since a mark, the last first: it mostly says the most.
+// The same for all that came since a mark, the last first: it mostly says the most. Never inlined, so that
+// the loop has the registers for itself.
+#[inline(never)]
 fn take_in_arrivals<A: Allocator + Copy>(
     network: &Network<'_, '_, A>,
     store: &CellStore<A>,

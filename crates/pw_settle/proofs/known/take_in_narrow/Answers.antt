@@ -25,10 +25,10 @@ there g c = omega (arith, c.requires.there, c.requires.as_many)
 
 pub returns-then-implies : goal.returns-then-implies
 returns-then-implies g c =
-    subst (TakesIn c.args.cell (fact_on c.args.info.now c.args.support) c.args.infos.now (set c.args.infos.now c.args.cell c.args.info.now) c.args.supports.now)
+    rw c.copied.ensures (subst (TakesIn c.args.cell (fact_on c.args.info.now c.args.support) c.args.infos.now (set c.args.infos.now c.args.cell c.args.info.now) c.args.supports.now)
     (sym {A = List Premises} c.put_narrow.ensures)
     (takes_second c.args.infos.now c.args.supports.now c.args.cell c.args.info.now c.args.support (there g (goal.at.returns-then-implies g c).After-implies) c.requires.kind c.requires.news
-    ((says_all g (goal.at.returns-then-implies g c).After-implies).0 c.if-implies.true))
+    ((says_all g (goal.at.returns-then-implies g c).After-implies).0 c.if-implies.true)))
 
 pub returns-else-implies : goal.returns-else-implies
 returns-else-implies g c =
