@@ -1,4 +1,5 @@
 pub mod AfterSettling
+pub mod ApartSnapshots
 pub mod AskedCells
 pub mod AskedUsers
 pub mod BlankLemmas

@@ -15,9 +15,10 @@ use Rattle.pw_cells.specs.Cells.{Store}
 use Rattle.pw_network.specs.Network.{Network}
 use Rattle.pw_settle.specs.Settled.{Settled}
 use Rattle.pw_settle.proofs.Membership.{each_member}
-use Rattle.pw_sessions.specs.Snapshot.{EachBecomes, IsSnapshotOf, Snapshot, is_of, is_within, snapshot_in, start_for}
+use Rattle.pw_sessions.specs.Snapshot.{AreApart, EachBecomes, IsSnapshotOf, Snapshot, is_of, is_within, snapshot_in, start_for}
 use Rattle.pw_sessions.specs.inside.Steps.{AreAmong, IsLatest, OnlySpares, is_believed}
 use Rattle.pw_sessions.specs.Workbench.{SnapshotsFit}
+use Rattle.pw_sessions.proofs.ApartSnapshots.{AreOthers, apart_front, apart_others, apart_remove, none_of}
 
 -- ---- the first that passes a test
 
@@ -197,10 +198,11 @@ spares_next beliefs old now next place so_far there spare is = record {
       so_far.among snapshot (among_without now place there snapshot (subst (λ (l : List Snapshot). Contains l snapshot) is has));
   stay = λ w believed.
       ap (λ (l : List Snapshot). snapshot_in l w) is
-      ∙ found_without (is_of w) now place there (λ d. apart w believed d) ∙ so_far.stay w believed;
+      ∙ found_without (is_of w) now place there (λ d. is_other w believed d) ∙ so_far.stay w believed;
+  apart = λ was. subst AreApart (sym is) (apart_remove now place there (so_far.apart was));
 } where
-  apart : (w : Premises) → is_believed beliefs w ≡ true → (d : Snapshot) → is_of w (get_or now place d) ≡ false
-  apart w believed d = elim (cases_Bool (is_of w (get_or now place d))) [
+  is_other : (w : Premises) → is_believed beliefs w ≡ true → (d : Snapshot) → is_of w (get_or now place d) ≡ false
+  is_other w believed d = elim (cases_Bool (is_of w (get_or now place d))) [
     | inl same ↦
         let own = (same_numbers_equal (get_or now place d).values.worldview w).0 same in
         absurd (both_ways (is_believed beliefs w) (subst (λ (u : Premises). is_believed beliefs u ≡ false) own (spare d)) believed)
@@ -209,15 +211,25 @@ spares_next beliefs old now next place so_far there spare is = record {
 
 -- ---- the latest snapshot
 
+-- in front of those that are left of others, it is the only one of its worldview
+pub apart_first : (beliefs : List Premises) (rest left new : List Snapshot) (first : Snapshot) → AreOthers first.values.worldview rest →
+    OnlySpares beliefs rest left → new ≡ first ∷ left → AreApart rest → AreApart new
+apart_first beliefs rest left new first others spares is apart =
+    subst AreApart (sym is)
+    (apart_front first left (all_among (λ snapshot. snapshot.values.worldview ≢ first.values.worldview) left rest spares.among others) (spares.apart apart))
+
 -- without the earlier one of its worldview, and without others that nobody believes
 pub latest_after : (beliefs : List Premises) (old rest left new : List Snapshot) (values : Settled) →
-    (rest ≡ old) ⊎ ((place : ℕ) × (position (is_of values.worldview) old ≡ Some place) × (rest ≡ remove old place)) →
+    ((position (is_of values.worldview) old ≡ None) × (rest ≡ old)) ⊎ ((place : ℕ) × (position (is_of values.worldview) old ≡ Some place) × (rest ≡ remove old place)) →
     OnlySpares beliefs rest left → new ≡ record { values = values; is_current = true } ∷ left → IsLatest beliefs old values new
-latest_after beliefs old rest left new values (inl same) spares is = record {
+latest_after beliefs old rest left new values (inl (none, same)) spares is = record {
   earlier = left;
   latest = is;
   among = λ snapshot has. subst (λ (l : List Snapshot). Contains l snapshot) same (spares.among snapshot has);
   stay = λ w believed other. spares.stay w believed ∙ ap (λ (l : List Snapshot). snapshot_in l w) same;
+  apart = λ apart.
+      apart_first beliefs rest left new (record { values = values; is_current = true })
+      (subst (AreOthers values.worldview) (sym same) (none_of values.worldview old none)) spares is (subst AreApart (sym same) apart);
 }
 latest_after beliefs old rest left new values (inr (place, at, without)) spares is = record {
   earlier = left;
@@ -225,16 +237,26 @@ latest_after beliefs old rest left new values (inr (place, at, without)) spares 
   among = λ snapshot has.
       among_without old place there snapshot (subst (λ (l : List Snapshot). Contains l snapshot) without (spares.among snapshot has));
   stay = λ w believed other.
-      spares.stay w believed ∙ ap (λ (l : List Snapshot). snapshot_in l w) without ∙ found_without (is_of w) old place there (λ d. apart w other d);
+      spares.stay w believed ∙ ap (λ (l : List Snapshot). snapshot_in l w) without ∙ found_without (is_of w) old place there (λ d. is_other w other d);
+  apart = λ apart.
+      apart_first beliefs rest left new now
+      (subst (AreOthers values.worldview) (sym without)
+      (subst (λ u. AreOthers u (remove old place)) (own now) (apart_others old place now there apart))) spares is
+      (subst AreApart (sym without) (apart_remove old place there apart));
 } where
+  now : Snapshot
+  now = record { values = values; is_current = true }
+
   there : place < length old
   there = position_within (is_of values.worldview) old place at
 
-  apart : (w : Premises) → w ≢ values.worldview → (d : Snapshot) → is_of w (get_or old place d) ≡ false
-  apart w other d = elim (cases_Bool (is_of w (get_or old place d))) [
+  own : (d : Snapshot) → (get_or old place d).values.worldview ≡ values.worldview
+  own d = its_worldview old values.worldview (get_or old place d) (found_at (is_of values.worldview) old place d at)
+
+  is_other : (w : Premises) → w ≢ values.worldview → (d : Snapshot) → is_of w (get_or old place d) ≡ false
+  is_other w other d = elim (cases_Bool (is_of w (get_or old place d))) [
     | inl same ↦
-        let own = its_worldview old values.worldview (get_or old place d) (found_at (is_of values.worldview) old place d at) in
-        absurd (other (sym ((same_numbers_equal (get_or old place d).values.worldview w).0 same) ∙ own))
+        absurd (other (sym ((same_numbers_equal (get_or old place d).values.worldview w).0 same) ∙ own d))
     | inr differs ↦ differs
   ]
 

@@ -85,6 +85,13 @@ pub record EachBecomes (From : Snapshot → Snapshot → Type 0) (old new : List
     pub each : (place : ℕ) (d : Snapshot) → place < length old →
         From (slice_index_or old place d) (slice_index_or new place d)
 
+-- no two of the snapshots are of the same worldview
+abbrev pub AreApart : List Snapshot → Type 0
+AreApart snapshots =
+    (one other : ℕ) (d : Snapshot) → one < length snapshots → other < length snapshots →
+    (slice_index_or snapshots one d).values.worldview
+    ≡ (slice_index_or snapshots other d).values.worldview → one ≡ other
+
 -- ---- which snapshot is used; they are listed in the order in which they were made, or have grown,
 -- the latest first
 

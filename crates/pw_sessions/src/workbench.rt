@@ -12,11 +12,10 @@ ghost use Rattle.pw_network.specs.Network.{MayAttach, bare};
 ghost use Rattle.pw_procs.specs.Registry.{cells_of};
 ghost use Rattle.pw_sessions.specs.Beliefs.{beliefs_at};
 ghost use Rattle.pw_sessions.specs.Carrying.{CanBeCarriedOut, CarriesOut, IsUserOf};
-ghost use Rattle.pw_sessions.specs.inside.Fields.{state};
 ghost use Rattle.pw_sessions.specs.Freshness.{CountsCalls, KeepsFresh};
 ghost use Rattle.pw_sessions.specs.Reply.{LineReading};
 ghost use Rattle.pw_sessions.specs.Reply.{reply_by};
-ghost use Rattle.pw_sessions.specs.Snapshot.{after_entry};
+ghost use Rattle.pw_sessions.specs.Snapshot.{AreApart, after_entry};
 ghost use Rattle.pw_sessions.specs.inside.Steps.{CanCarryOut, CarriesOutNext, IsAsBefore};
 ghost use Rattle.pw_sessions.specs.inside.Steps.{IsAttached, IsTold};
 ghost use Rattle.pw_sessions.specs.inside.Steps.{StoreFits};
@@ -60,15 +59,22 @@ pub struct Workbench<'d, 'r, A: Allocator = Global> {
     // What questions found, one snapshot a worldview. They are shared by all users, and their values
     // still fit.
     snapshots: Vec<Snapshot<A>, A>,
+    // The place at which the snapshot of each user's beliefs was last, by number: where `place_for`
+    // looks first.
+    places: Vec<usize, A>,
     // What settlings use one after another.
     workspace: Workspace<A>,
     // The number of settlings so far.
     settlings: u64,
     // The number of procedure calls made by the last command's own settling.
     calls: u128,
+    // No two snapshots are of the same worldview.
+    ghost apart: { AreApart snapshots.items },
 }
 
 impl<'d, 'r, A: Allocator + Copy> Workbench<'d, 'r, A> {
+    ghost use Rattle.pw_sessions.specs.inside.Fields.{state};
+
     /// The workbench before the first line, from a new network of the declaration: nothing was told
     /// about its cells, and each user believes every premise. Fails only when out of memory.
     pub fn new(
@@ -87,12 +93,14 @@ impl<'d, 'r, A: Allocator + Copy> Workbench<'d, 'r, A> {
         let users = declaration.users();
         let beliefs = Vec::from_elem(alloc, premises, usize::from(users))?;
         let snapshots = Vec::with_capacity(alloc, room_for(usize::from(users)))?;
+        let places = Vec::from_elem(alloc, 0, usize::from(users))?;
         Ok(Workbench {
             network,
             store,
             nogoods: Nogoods::new(alloc),
             beliefs,
             snapshots,
+            places,
             workspace: Workspace::new(alloc),
             settlings: 0,
             calls: 0,

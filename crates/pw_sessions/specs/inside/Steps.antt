@@ -35,7 +35,7 @@ use Rattle.pw_sessions.specs.Reply.{LineReading, Says}
 use Rattle.pw_sessions.specs.Command.{IsDeclared}
 use Rattle.pw_sessions.specs.Snapshot.{EachBecomes, IsAfterTell, Snapshot, after_entry, snapshot_in}
 use Rattle.pw_sessions.specs.Freshness.{AreCalls, CallsDueFor, CallsFew, IsFresh, IsSettledFor}
-use Rattle.pw_sessions.specs.Snapshot.{AllRestUpstream, IsCurrent, is_of}
+use Rattle.pw_sessions.specs.Snapshot.{AllRestUpstream, AreApart, IsCurrent, is_of}
 use Rattle.pw_sessions.specs.Workbench.{Workbench, IsLeftBy, IsSetUpFor, IsCarriedOut, SnapshotsFit}
 use Rattle.pw_sessions.specs.Workbench.{beliefs_in}
 use Rattle.pw_settle.specs.Settled.{Settled}
@@ -164,21 +164,25 @@ abbrev pub AreAmong : List Snapshot → List Snapshot → Type 0
 AreAmong snapshots others =
     (snapshot : Snapshot) → Contains snapshots snapshot → Contains others snapshot
 
--- some snapshots were given up, but none of these beliefs
+-- some snapshots were given up, but none of these beliefs; if no two were of the same worldview, no
+-- two are
 pub record OnlySpares (beliefs : List Premises) (old new : List Snapshot) : Type 0 where
   pub among : AreAmong new old
   pub stay : (w : Premises) → is_believed beliefs w ≡ true → snapshot_in new w ≡ snapshot_in old w
+  pub apart : AreApart old → AreApart new
 
 -- the snapshot at this place is the first one, and of the others some were given up, but none of
--- these beliefs
+-- these beliefs; if no two were of the same worldview, no two are
 pub record IsBroughtFirst (beliefs : List Premises) (place : ℕ) (old new : List Snapshot) : Type 0
   where
     pub left : List Snapshot
     pub first : (d : Snapshot) → new ≡ slice_index_or old place d ∷ left
     pub spares : OnlySpares beliefs (remove old place) left
+    pub apart : AreApart old → AreApart new
 
 -- these values are the latest snapshot, and current; of the earlier ones some were given up, but
--- none of another worldview that is one of these beliefs
+-- none of another worldview that is one of these beliefs; if no two were of the same worldview, no
+-- two are
 pub record IsLatest (beliefs : List Premises) (old : List Snapshot) (values : Settled)
     (new : List Snapshot) : Type 0 where
   pub earlier : List Snapshot
@@ -186,6 +190,7 @@ pub record IsLatest (beliefs : List Premises) (old : List Snapshot) (values : Se
   pub among : AreAmong earlier old
   pub stay : (w : Premises) → is_believed beliefs w ≡ true → w ≢ values.worldview →
       snapshot_in earlier w ≡ snapshot_in old w
+  pub apart : AreApart old → AreApart new
 
 -- the same in a workbench, of which only the snapshots are other ones
 pub record IsRemembered (old : Workbench) (values : Settled) (new : Workbench) : Type 0 where

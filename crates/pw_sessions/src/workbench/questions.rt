@@ -25,7 +25,7 @@ ghost use Rattle.pw_sessions.specs.inside.Steps.{SeesWriter, StaysUpstreamOf, is
 
 use super::Workbench;
 use super::snapshot::Snapshot;
-use super::snapshots::{bring_first, place_of, place_within, remember};
+use super::snapshots::{bring_first, is_at, place_of, place_within, remember};
 use crate::reply::{Refusal, Reply};
 use pw_cells::CellStore;
 use pw_network::Network;
@@ -88,12 +88,20 @@ fn settle_within<A: Allocator + Copy>(
 }
 
 impl<'d, 'r, A: Allocator + Copy> Workbench<'d, 'r, A> {
-    // The place of the snapshot of the beliefs of the user, who must exist, if there is one.
+    // The place of the snapshot of the beliefs of the user, who must exist, if there is one. It looks
+    // first where that snapshot was last: as no two are of the same worldview, no other place has to
+    // be looked at if it still is there.
     fn place_for(&self, user: u8) -> Option<usize>
         requires { user < length (state self.now).beliefs }
         ensures { result ≡ place_in (state self.now) user }
     {
-        place_of(&self.snapshots, &self.beliefs[usize::from(user)])
+        let beliefs = &self.beliefs[usize::from(user)];
+        if let Some(place) = self.places.get(usize::from(user)) {
+            if is_at(&self.snapshots, *place, beliefs) {
+                return Some(*place);
+            }
+        }
+        place_of(&self.snapshots, beliefs)
     }
 
     // Settles again in the worldview of the snapshot at this place. The result is its place from then
@@ -147,9 +155,18 @@ impl<'d, 'r, A: Allocator + Copy> Workbench<'d, 'r, A> {
         Ok(0)
     }
 
+    // Notes the place at which the snapshot of the beliefs of the user is now.
+    fn note_place(&mut self, user: u8, place: usize)
+        ensures { state self.new ≡ state self.old }
+    {
+        if let Some(last) = self.places.get_mut(usize::from(user)) {
+            *last = place;
+        }
+    }
+
     // Settles under the beliefs of the user, who must exist. The place is that of their snapshot, if
-    // there is one. The result is the place of the snapshot that has the values. Fails only when out
-    // of memory.
+    // there is one. The result is the place of the snapshot that has the values, which is noted for
+    // the user. Fails only when out of memory.
     fn settle_for(&mut self, user: u8, place: Option<usize>) -> Result<usize, AllocError>
         requires can { CanAnswer (state self.old) user }
         requires calls { (state self.old).calls ≡ 0 }
@@ -159,10 +176,12 @@ impl<'d, 'r, A: Allocator + Copy> Workbench<'d, 'r, A> {
         ensures after { IsAfterSettling (state self.old) user (state self.new) }
         ensures refused { OnErr result ((state self.new).calls ≡ 0) }
     {
-        match place {
-            Some(place) => self.settle_again(user, place),
-            None => self.settle_anew(user),
-        }
+        let place = match place {
+            Some(place) => self.settle_again(user, place)?,
+            None => self.settle_anew(user)?,
+        };
+        self.note_place(user, place);
+        Ok(place)
     }
 
     // What is known about the declared cell under the beliefs of the user, who must exist.
@@ -177,13 +196,13 @@ impl<'d, 'r, A: Allocator + Copy> Workbench<'d, 'r, A> {
         ensures grows { OnlyKeepsMore (state self.old) user (state self.new) }
     {
         let place = self.place_for(user);
+        let beliefs = &self.beliefs[usize::from(user)];
         if let Some(place) = place {
             let snapshot = &self.snapshots[place];
             if snapshot.is_current {
                 return Reply::Value(snapshot.values.info(cell));
             }
         }
-        let beliefs = &self.beliefs[usize::from(user)];
         if !is_written_by(&self.network, cell, beliefs) {
             return Reply::Value(self.store.recall(user, cell, beliefs));
         }

@@ -1,10 +1,10 @@
 //! The snapshots of a workbench, in the order in which they were made, the latest first. One that has
 //! grown comes first too.
 ghost use Rattle.std.specs.Prelude.{◌≡◌, ◌<◌, ◌≤◌, ◌∷◌, length, map, position, remove, IfSome};
-ghost use Rattle.std.specs.Prelude.{None, OnErr, OnOk, vec_capacity, vec_len};
+ghost use Rattle.std.specs.Prelude.{IsTrue, None, OnErr, OnOk, Some, vec_capacity, vec_len};
 ghost use Rattle.pw_info.specs.Information.{kind_of};
 ghost use Rattle.pw_premises.specs.PremiseSubsets.{has_same_numbers};
-ghost use Rattle.pw_sessions.specs.Snapshot.{EachBecomes, HaveValues, IsAfterTell};
+ghost use Rattle.pw_sessions.specs.Snapshot.{AreApart, EachBecomes, HaveValues, IsAfterTell};
 ghost use Rattle.pw_sessions.specs.Snapshot.{after_entry, is_of, is_within};
 ghost use Rattle.pw_sessions.specs.inside.Steps.{CanBeSpared, IsBroughtFirst, IsLatest, OnlySpares};
 ghost use Rattle.pw_sessions.specs.inside.Steps.{is_believed};
@@ -46,6 +46,22 @@ pub(super) fn place_of<A: Allocator>(
     ensures { result ≡ position (is_of worldview.now) snapshots.now }
 {
     snapshots.iter().position(|snapshot| are_same(snapshot.values.worldview(), worldview))
+}
+
+// Whether the snapshot at this place is of exactly this worldview. Then, as no two are of the same, it
+// is the one that `place_of` finds.
+pub(super) fn is_at<A: Allocator>(
+    snapshots: &[Snapshot<A>],
+    place: usize,
+    worldview: &PremiseSet,
+) -> bool
+    ensures { IsTrue result → AreApart snapshots.now →
+        position (is_of worldview.now) snapshots.now ≡ Some place }
+{
+    match snapshots.get(place) {
+        Some(snapshot) => are_same(snapshot.values.worldview(), worldview),
+        None => false,
+    }
 }
 
 // The place of the first snapshot whose worldview lies within this one, if there is one.

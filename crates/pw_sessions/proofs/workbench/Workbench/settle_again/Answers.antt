@@ -1,12 +1,22 @@
-use Rattle.std.proofs.Common.{◌∙◌, set, ap, arith}
+use Rattle.std.proofs.Common.{◌∙◌, set, ap, sym, subst, arith}
 use Rattle.std.proofs.lemmas.List.{length-set}
 use Rattle.pw_sessions.specs.inside.Fields.{state}
-use Rattle.pw_sessions.specs.Snapshot.{Snapshot, is_of}
+use Rattle.pw_sessions.specs.Snapshot.{AreApart, Snapshot, is_of}
 use Rattle.pw_sessions.specs.Workbench.{beliefs_in}
+use Rattle.pw_sessions.proofs.ApartSnapshots.{apart_set}
 use Rattle.pw_sessions.proofs.SettledAgain.{after_first, after_in_place, after_refused_again, settled_first, settled_in_place}
 use Rattle.pw_sessions.proofs.SnapshotLists.{position_within}
 use Rattle.pw_sessions.proofs.TurnedLists.{first_brought, others_brought}
 use Rattle.pw_sessions.proofs.workbench.Workbench.settle_again.Goals as goal
+
+-- ---- the snapshot settled again, or was refused: it is of the same worldview
+
+pub invariant_of-self : goal.invariant_of-self
+invariant_of-self g c = record {
+  apart = apart_set c.args.self.now.snapshots.items c.args.place c.index_mut-snapshot.result.now c.settle_again.new.self
+      (position_within (is_of (beliefs_in (state c.args.self.now) c.args.user)) c.args.self.now.snapshots.items c.args.place c.requires.place)
+      (c.settle_again.ensures.worldview ∙ ap (λ (s : Snapshot). s.values.worldview) c.index_mut-snapshot.ensures.value) c.args.self.now.apart;
+}
 
 -- ---- it was refused
 
@@ -44,6 +54,15 @@ bring_first-requires g c =
     let there = position_within (is_of (beliefs_in (state c.args.self.now) c.args.user)) c.args.self.now.snapshots.items c.args.place c.requires.place in
     let stored : Snapshot = record { values = c.snapshot-2.inside.values; is_current = c.snapshot-2.inside.is_current } in
     omega (arith, there, length-set c.args.self.now.snapshots.items c.args.place stored)
+
+pub invariant_of-self-2 : goal.invariant_of-self-2
+invariant_of-self-2 g c = record {
+  apart = c.bring_first.ensures.apart
+      (subst AreApart (sym (ap (λ (s : Snapshot). set c.args.self.now.snapshots.items c.args.place s) c.snapshot-2.view_is))
+      (apart_set c.args.self.now.snapshots.items c.args.place c.index_mut-snapshot.result.now c.settle_again.new.self
+      (position_within (is_of (beliefs_in (state c.args.self.now) c.args.user)) c.args.self.now.snapshots.items c.args.place c.requires.place)
+      (c.settle_again.ensures.worldview ∙ ap (λ (s : Snapshot). s.values.worldview) c.index_mut-snapshot.ensures.value) c.args.self.now.apart));
+}
 
 pub returns-clause-settled : goal.returns-clause-settled
 returns-clause-settled g c =
