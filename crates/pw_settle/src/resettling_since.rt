@@ -171,7 +171,7 @@ fn take_in_arrival<A: Allocator + Copy>(
 }
 
 // The same for all that came since a mark, the last first: it mostly says the most. Never inlined, so that
-// the loop has the registers for itself.
+// the loop is compiled by itself.
 #[inline(never)]
 fn take_in_arrivals<A: Allocator + Copy>(
     network: &Network<'_, '_, A>,
