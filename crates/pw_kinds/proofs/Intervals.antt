@@ -1,5 +1,5 @@
 -- Intervals by what they leave possible.
-use Rattle.std.proofs.Common.{◌≡◌, ℤ, pos, ◌≤ℤ◌, ◌<ℤ◌, Bool, true, false, ◌&&◌, Option, Some, None, arith, refl, sym, ◌∙◌, subst, ap, ◌⊎◌, inl, inr}
+use Rattle.std.proofs.Common.{◌≡◌, ℤ, ◌≤ℤ◌, ◌<ℤ◌, Bool, true, false, ◌&&◌, Option, Some, None, arith, refl, sym, ◌∙◌, subst, ap, ◌⊎◌, inl, inr}
 use Rattle.std.specs.Int.Signed.{le_z}
 use Rattle.std.specs.Int.{int_max, int_min}
 use Rattle.std.proofs.lemmas.Int.{ints, clamps, by_lt_z}
@@ -36,7 +36,7 @@ allows_in_range i v e =
 
 -- an interval with its ends crossed is the empty one
 pub crossed_is : (i : Interval) → i.hi <ℤ i.lo → i ≡ empty
-crossed_is i h = let e : (i.lo ≡ pos 1) × (i.hi ≡ pos 0) = i.span.empty h in same_ends i empty e.0 e.1
+crossed_is i h = let e : (i.lo ≡ interval_highest) × (i.hi ≡ interval_lowest) = i.span.empty h in same_ends i empty e.0 e.1
 
 pub crossed_none : (i : Interval) (v : ℤ) → i.hi <ℤ i.lo → allows i v ≡ true → ⊥
 crossed_none i v h e = let ends : (i.lo ≤ℤ v) × (v ≤ℤ i.hi) = allows_true i v e in omega (arith, ints)
@@ -243,12 +243,33 @@ meet_between i j lo hi s p q = meet_is i j (record { lo = lo; hi = hi; span = s 
 pub meet_values : (i j r : Interval) → r ≡ meet_of i j → (v : ℤ) → allows r v ≡ (allows i v && allows j v)
 meet_values i j r e v = ap (λ (k : Interval). allows k v) e ∙ allows-meet i j v
 
--- one interval is within another if it is empty or its ends lie between the other's
-pub within_ends : (i j : Interval) → i.lo ≤ℤ i.hi → IsWithin i j → (j.lo ≤ℤ i.lo) × (i.hi ≤ℤ j.hi)
-within_ends i j ordered w =
+-- both ends are in range, also those of the empty interval
+pub span_low : (i : Interval) → interval_lowest ≤ℤ i.lo
+span_low i = let span : IsSpan i.lo i.hi = i.span in span.low
+
+pub span_high : (i : Interval) → i.hi ≤ℤ interval_highest
+span_high i = let span : IsSpan i.lo i.hi = i.span in span.high
+
+pub least_end : (i : Interval) → i.lo ≤ℤ interval_highest
+least_end i = by_lt_z i.hi i.lo
+    (λ h. let e : i.lo ≡ interval_highest = (i.span.empty h).0 in omega (arith, ints, e))
+    (λ h. let high : i.hi ≤ℤ interval_highest = i.span.high in omega (arith, ints, h, high))
+
+pub greatest_end : (i : Interval) → interval_lowest ≤ℤ i.hi
+greatest_end i = by_lt_z i.hi i.lo
+    (λ h. let e : i.hi ≡ interval_lowest = (i.span.empty h).1 in omega (arith, ints, e))
+    (λ h. let low : interval_lowest ≤ℤ i.lo = i.span.low in omega (arith, ints, h, low))
+
+-- one interval is within another exactly if its ends lie between the other's
+pub within_ends : (i j : Interval) → IsWithin i j → (j.lo ≤ℤ i.lo) × (i.hi ≤ℤ j.hi)
+within_ends i j w = by_lt_z i.hi i.lo
+    (λ crossed.
+    let e : (i.lo ≡ interval_highest) × (i.hi ≡ interval_lowest) = i.span.empty crossed in
+    (omega (arith, ints, e.0, least_end j), omega (arith, ints, e.1, greatest_end j)))
+    (λ ordered.
     let low : (j.lo ≤ℤ i.lo) × (i.lo ≤ℤ j.hi) = allows_true j i.lo (w i.lo (true_allows i i.lo (omega (arith, ints)) ordered)) in
     let high : (j.lo ≤ℤ i.hi) × (i.hi ≤ℤ j.hi) = allows_true j i.hi (w i.hi (true_allows i i.hi ordered (omega (arith, ints)))) in
-    (low.0, high.1)
+    (low.0, high.1))
 
 pub ends_within : (i j : Interval) → j.lo ≤ℤ i.lo → i.hi ≤ℤ j.hi → IsWithin i j
 ends_within i j p q v e = let at : (i.lo ≤ℤ v) × (v ≤ℤ i.hi) = allows_true i v e in true_allows j v (omega (arith, ints)) (omega (arith, ints))

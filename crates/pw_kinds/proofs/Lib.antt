@@ -1,5 +1,6 @@
 pub mod Order
 pub mod Searches
+pub mod Signs
 pub mod Intervals
 pub mod Examples
 pub mod Masks

@@ -36,9 +36,9 @@ IsFromTo i lo hi = (v : ℤ) → allows i v ≡ (le_z lo v && le_z v hi)
 abbrev pub AreEnds : ℤ → ℤ → Type 0
 AreEnds lo hi = (lo ≤ℤ hi) × IsInIntervalRange lo × IsInIntervalRange hi
 
--- the interval that leaves no number possible
+-- the interval that leaves no number possible, in the form in which its ends lie within those of any other
 abbrev pub empty : Interval
-empty = record { lo = pos 1; hi = pos 0; span = empty_span }
+empty = record { lo = interval_highest; hi = interval_lowest; span = empty_span }
 
 -- the interval from lo to hi if the test of its ends passes, and otherwise the empty one
 unfoldable pub checked : (lo hi : ℤ) (b : Bool) →

@@ -67,9 +67,9 @@ count p (suc n) v = cond (p v) 1 0 + count p n (v +ℤ pos 1)
 pub record IsSpan (lo hi : ℤ) : Type 0 where
   pub low : interval_lowest ≤ℤ lo
   pub high : hi ≤ℤ interval_highest
-  pub empty : hi <ℤ lo → (lo ≡ pos 1) × (hi ≡ pos 0)
+  pub empty : hi <ℤ lo → (lo ≡ interval_highest) × (hi ≡ interval_lowest)
 
-pub empty_span : IsSpan (pos 1) (pos 0)
+pub empty_span : IsSpan interval_highest interval_lowest
 empty_span = record {
   low = omega (arith, ints);
   high = omega (arith, ints);

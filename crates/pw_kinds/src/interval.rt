@@ -47,7 +47,11 @@ impl Interval {
         ensures values { IsEmpty result }
         ensures exact { result ≡ empty }
     {
-        Interval { lo: 1, hi: 0 }
+        // Its ends lie within those of any other interval.
+        Interval {
+            lo: 1_000_000,
+            hi: -1_000_000,
+        }
     }
 
     /// Whether no number is possible.
@@ -92,6 +96,8 @@ impl Interval {
     pub fn within(self, other: Interval) -> bool
         ensures { IsTrue result ↔ IsWithin self other }
     {
-        self.is_empty() || other.lo <= self.lo && self.hi <= other.hi
+        // Neither difference is negative. One test of both is faster than two: which of two fails is
+        // hard to foresee.
+        ((self.lo - other.lo) | (other.hi - self.hi)) >= 0
     }
 }

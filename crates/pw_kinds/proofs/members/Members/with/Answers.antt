@@ -1,4 +1,4 @@
-use Rattle.std.proofs.Common.{◌≡◌, ◌<◌, ◌*◌, ◌^◌, ◌%◌, ap, arith, bit_or, subst, sym, ◌∙◌}
+use Rattle.std.proofs.Common.{◌<◌, ◌*◌, ◌^◌, ◌%◌, ap, arith, bit_or, subst, sym, ◌∙◌}
 use Rattle.pw_kinds.specs.Members.{mask_in}
 use Rattle.pw_kinds.specs.Places.{IsMask, mask_allows}
 use Rattle.pw_kinds.proofs.Masks.{with_bit_below}
