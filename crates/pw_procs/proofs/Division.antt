@@ -1,11 +1,12 @@
 -- Quotients of whole numbers by their corners.
 use Rattle.std.proofs.Common.{◌≡◌, ℕ, ℤ, pos, negsuc, ◌≤ℤ◌, ◌<ℤ◌, ◌*ℤ◌, neg_ℤ, ◌≤◌, ◌<◌, ◌*◌, ◌/◌, suc, zero, Bool, true, false, ◌&&◌, ◌||◌, if◌then◌else◌, ◌⊎◌, inl, inr, arith, refl, sym, ◌∙◌, ap}
 use Rattle.std.specs.Int.Signed.{le_z, lt_z}
-use Rattle.std.specs.Int.{int_div_euclid, int_min, int_max}
+use Rattle.std.specs.Int.{int_div_euclid}
 use Rattle.std.proofs.Math.Nat.{le-div_iff_mul-le, div-lt_iff_lt-mul}
 use Rattle.std.proofs.Math.IntN.{zero-*ℤ, *ℤ_comm}
+use Rattle.std.proofs.Math.Bool.{or_comm}
 use Rattle.std.proofs.lemmas.Bool.{or_cases, or_left, or_right}
-use Rattle.std.proofs.lemmas.Int.{ints, clamps, by_lt_z}
+use Rattle.std.proofs.lemmas.Int.{ints}
 use Rattle.pw_kinds.specs.declared.interval.Interval.{Interval}
 use Rattle.pw_kinds.specs.Ranges.{interval_lowest, interval_highest, is_in_interval_range}
 use Rattle.pw_kinds.specs.Interval as interval
@@ -79,27 +80,36 @@ both_same p q = λ k. sym p k && sym q k
 either_same : {a b c d : Bool} → a ≡ b → c ≡ d → (b || d) ≡ (a || c)
 either_same p q = λ k. sym p k || sym q k
 
--- the lesser of two is at or below a number exactly if one of them is
-min_below : (a b v : ℤ) → le_z (int_min a b) v ≡ (le_z a v || le_z b v)
-min_below a b v = same_test _ _
-    (λ e.
-    let h : int_min a b ≤ℤ v = le_true (int_min a b) v e in
-    by_lt_z v a (λ l. or_right (le_z a v) (le_z b v) (true_le b v (omega (arith, ints, clamps)))) (λ l. or_left (le_z a v) (le_z b v) (true_le a v l)))
-    (λ e. elim (or_cases (le_z a v) (le_z b v) e) [
-      | inl l ↦ let h : a ≤ℤ v = le_true a v l in true_le (int_min a b) v (omega (arith, ints, clamps))
-      | inr l ↦ let h : b ≤ℤ v = le_true b v l in true_le (int_min a b) v (omega (arith, ints, clamps))
-    ])
+-- of two tests, one that holds where the other does holds exactly if one of them does
+by_last : (a b : Bool) → (a ≡ true → b ≡ true) → b ≡ (a || b)
+by_last true b h = h refl
+by_last false b h = refl
 
--- the greater of two is at or above a number exactly if one of them is
-max_above : (a b v : ℤ) → le_z v (int_max a b) ≡ (le_z v a || le_z v b)
-max_above a b v = same_test _ _
-    (λ e.
-    let h : v ≤ℤ int_max a b = le_true v (int_max a b) e in
-    by_lt_z a v (λ l. or_right (le_z v a) (le_z v b) (true_le v b (omega (arith, ints, clamps)))) (λ l. or_left (le_z v a) (le_z v b) (true_le v a l)))
-    (λ e. elim (or_cases (le_z v a) (le_z v b) e) [
-      | inl l ↦ let h : v ≤ℤ a = le_true v a l in true_le v (int_max a b) (omega (arith, ints, clamps))
-      | inr l ↦ let h : v ≤ℤ b = le_true v b l in true_le v (int_max a b) (omega (arith, ints, clamps))
-    ])
+by_first : (a b : Bool) → (b ≡ true → a ≡ true) → a ≡ (a || b)
+by_first true b h = refl
+by_first false true h = h refl
+by_first false false h = refl
+
+-- a product that is at or above a positive number stays so with a greater divisor
+up_to_greater : (t x y q : ℤ) → pos 0 <ℤ x → x ≤ℤ y → pos 0 <ℤ t → t ≤ℤ (q *ℤ x) → t ≤ℤ (q *ℤ y)
+up_to_greater t x y (pos k) p l m h = let e = product_up x y k l in omega (arith, ints, e)
+up_to_greater t x y (negsuc k) p l m h = let e = product_down (pos 0) x k (omega (arith, ints)) in absurd (omega (arith, ints, e))
+
+-- one at or above another number, with a lesser divisor
+up_to_lesser : (t x y q : ℤ) → pos 0 <ℤ x → x ≤ℤ y → t ≤ℤ pos 0 → t ≤ℤ (q *ℤ y) → t ≤ℤ (q *ℤ x)
+up_to_lesser t x y (pos k) p l m h = let e = product_up (pos 0) x k (omega (arith, ints)) in omega (arith, ints, e)
+up_to_lesser t x y (negsuc k) p l m h = let e = product_down x y k l in omega (arith, ints, e)
+
+-- one at or below a positive number, with a lesser divisor
+down_to_lesser : (t x y q : ℤ) → pos 0 <ℤ x → x ≤ℤ y → pos 0 <ℤ t → (q *ℤ y) ≤ℤ t → (q *ℤ x) ≤ℤ t
+down_to_lesser t x y (pos k) p l m h = let e = product_up x y k l in omega (arith, ints, e)
+down_to_lesser t x y (negsuc k) p l m h = let e = product_down (pos 0) x k (omega (arith, ints)) in omega (arith, ints, e)
+
+-- one at or below another number, with a greater divisor
+down_to_greater : (t x y q : ℤ) → pos 0 <ℤ x → x ≤ℤ y → t ≤ℤ pos 0 → (q *ℤ x) ≤ℤ t → (q *ℤ y) ≤ℤ t
+down_to_greater t x y (pos zero) p l m h = let (e, f) : (pos zero *ℤ x ≡ pos 0) × (pos zero *ℤ y ≡ pos 0) = (zero-*ℤ x, zero-*ℤ y) in omega (arith, ints, e, f)
+down_to_greater t x y (pos (suc k)) p l m h = let e = product_up (pos 1) x (suc k) (omega (arith, ints)) in absurd (omega (arith, ints, e))
+down_to_greater t x y (negsuc k) p l m h = let e = product_down x y k l in omega (arith, ints, e)
 
 -- a number times one of two divisors is at or above a dividend: with positive divisors, the number
 -- is at or above a true quotient
@@ -110,16 +120,19 @@ is_above_corner t x y q = le_z t (q *ℤ x) || le_z t (q *ℤ y)
 abbrev is_below_corner : ℤ → ℤ → ℤ → ℤ → Bool
 is_below_corner t x y q = le_z (q *ℤ x) t || le_z (q *ℤ y) t
 
--- the numbers between two quotients rounded up, the lesser, and two rounded down, the greater
-pub rounded_between : (t_lo t_hi x_lo x_hi up up' down down' lo hi q : ℤ)
-    → le_z up q ≡ le_z t_lo (q *ℤ x_lo) → le_z up' q ≡ le_z t_lo (q *ℤ x_hi)
-    → le_z q down ≡ le_z (q *ℤ x_lo) t_hi → le_z q down' ≡ le_z (q *ℤ x_hi) t_hi
-    → lo ≡ int_min up up' → hi ≡ int_max down down'
-    → (is_in_interval_range q && le_z lo q && le_z q hi) ≡ (is_in_interval_range q && is_above_corner t_lo x_lo x_hi q && is_below_corner t_hi x_lo x_hi q)
-rounded_between t_lo t_hi x_lo x_hi up up' down down' lo hi q one other one' other' low high =
-    let from : le_z lo q ≡ is_above_corner t_lo x_lo x_hi q = ap (λ z. le_z z q) low ∙ min_below up up' q ∙ ap (λ b. b || le_z up' q) one ∙ ap (λ b. le_z t_lo (q *ℤ x_lo) || b) other in
-    let to : le_z q hi ≡ is_below_corner t_hi x_lo x_hi q = ap (λ z. le_z q z) high ∙ max_above down down' q ∙ ap (λ b. b || le_z q down') one' ∙ ap (λ b. le_z (q *ℤ x_lo) t_hi || b) other' in
-    ap (λ b. is_in_interval_range q && b && le_z q hi) from ∙ ap (λ b. is_in_interval_range q && is_above_corner t_lo x_lo x_hi q && b) to
+-- so the least quotient of a positive number is by the greatest divisor, and that of another by the least
+pub least_by_greatest : (t x y q : ℤ) → pos 0 <ℤ x → x ≤ℤ y → pos 0 <ℤ t → le_z t (q *ℤ y) ≡ is_above_corner t x y q
+least_by_greatest t x y q p l m = by_last (le_z t (q *ℤ x)) (le_z t (q *ℤ y)) (λ e. true_le t (q *ℤ y) (up_to_greater t x y q p l m (le_true t (q *ℤ x) e)))
+
+pub least_by_least : (t x y q : ℤ) → pos 0 <ℤ x → x ≤ℤ y → t ≤ℤ pos 0 → le_z t (q *ℤ x) ≡ is_above_corner t x y q
+least_by_least t x y q p l m = by_first (le_z t (q *ℤ x)) (le_z t (q *ℤ y)) (λ e. true_le t (q *ℤ x) (up_to_lesser t x y q p l m (le_true t (q *ℤ y) e)))
+
+-- and the greatest quotient the other way round
+pub greatest_by_least : (t x y q : ℤ) → pos 0 <ℤ x → x ≤ℤ y → pos 0 <ℤ t → le_z (q *ℤ x) t ≡ is_below_corner t x y q
+greatest_by_least t x y q p l m = by_first (le_z (q *ℤ x) t) (le_z (q *ℤ y) t) (λ e. true_le (q *ℤ x) t (down_to_lesser t x y q p l m (le_true (q *ℤ y) t e)))
+
+pub greatest_by_greatest : (t x y q : ℤ) → pos 0 <ℤ x → x ≤ℤ y → t ≤ℤ pos 0 → le_z (q *ℤ y) t ≡ is_below_corner t x y q
+greatest_by_greatest t x y q p l m = by_last (le_z (q *ℤ x) t) (le_z (q *ℤ y) t) (λ e. true_le (q *ℤ y) t (down_to_greater t x y q p l m (le_true (q *ℤ x) t e)))
 
 -- ---- corners
 
@@ -263,7 +276,7 @@ negated_below t x s y q d e =
 -- of negative divisors, the interval between the corners of the negated ends is the quotient
 pub negative_quotient : (t x r : Interval) (t_lo t_hi x_lo x_hi s_lo s_hi y_lo y_hi : ℤ) → IsLeastOf t t_lo → IsGreatestOf t t_hi → IsLeastOf x x_lo → IsGreatestOf x x_hi → x_hi <ℤ pos 0
     → ((q : ℤ) → interval.allows r q ≡ (is_in_interval_range q && is_above_corner s_lo y_lo y_hi q && is_below_corner s_hi y_lo y_hi q))
-    → s_lo ≡ neg_ℤ t_hi → s_hi ≡ neg_ℤ t_lo → y_lo ≡ neg_ℤ x_lo → y_hi ≡ neg_ℤ x_hi
+    → s_lo ≡ neg_ℤ t_hi → s_hi ≡ neg_ℤ t_lo → y_lo ≡ neg_ℤ x_hi → y_hi ≡ neg_ℤ x_lo
     → info.Interval r ≡ quotient_of (info.Interval t) (info.Interval x)
 negative_quotient t x r t_lo t_hi x_lo x_hi s_lo s_hi y_lo y_hi t_least t_most x_least x_most n corners low high one other = quotient_is t x r
     (λ a here e. let l : pos 0 ≤ℤ x_hi = x_most.1 (pos 0) e in omega (arith, ints))
@@ -273,5 +286,5 @@ negative_quotient t x r t_lo t_hi x_lo x_hi s_lo s_hi y_lo y_hi t_least t_most x
     corners q
     ∙ ap (λ (b : Bool). b && is_above_corner s_lo y_lo y_hi q && is_below_corner s_hi y_lo y_hi q) (true_between interval_lowest q interval_highest from_first to_last)
     ∙ both_same
-    (from ∙ either_same (negated_above t_hi x_lo s_lo y_lo q low one) (negated_above t_hi x_hi s_lo y_hi q low other))
-    (to ∙ either_same (negated_below t_lo x_lo s_hi y_lo q high one) (negated_below t_lo x_hi s_hi y_hi q high other)))
+    (from ∙ or_comm (le_z (q *ℤ x_lo) t_hi) (le_z (q *ℤ x_hi) t_hi) ∙ either_same (negated_above t_hi x_hi s_lo y_lo q low one) (negated_above t_hi x_lo s_lo y_hi q low other))
+    (to ∙ or_comm (le_z t_lo (q *ℤ x_lo)) (le_z t_lo (q *ℤ x_hi)) ∙ either_same (negated_below t_lo x_hi s_hi y_lo q high one) (negated_below t_lo x_lo s_hi y_hi q high other)))

@@ -1,5 +1,5 @@
 //! Quotients of intervals, by their corners.
-ghost use Rattle.std.specs.Prelude.{◌≡◌, ℤ, pos, ◌<ℤ◌, ◌*ℤ◌, ◌&&◌, ◌||◌};
+ghost use Rattle.std.specs.Prelude.{◌≡◌, ℤ, pos, ◌<ℤ◌, ◌≤ℤ◌, ◌*ℤ◌, ◌&&◌, ◌||◌};
 ghost use Rattle.std.specs.Int.Signed.{le_z};
 ghost use Rattle.pw_kinds.specs.Ranges.{IsInIntervalRange, is_in_interval_range};
 ghost use Rattle.pw_kinds.specs.Interval.{allows, IsEmpty};
@@ -53,9 +53,34 @@ fn possible_quotient(t: Interval, x: Interval) -> Interval
         return between(t_lo, t_hi, x_lo, x_hi);
     }
     if x_hi < 0 {
-        return between(-t_hi, -t_lo, -x_lo, -x_hi);
+        return between(-t_hi, -t_lo, -x_hi, -x_lo);
     }
     Interval::whole()
+}
+
+// The least quotient of a number by a positive one from `x_lo` to `x_hi`, rounded up. The greatest
+// divisor makes the quotient of a positive number least.
+fn least_quotient(t: i64, x_lo: i64, x_hi: i64) -> i64
+    requires range { IsInIntervalRange t }
+    requires positive { pos 0 <ℤ x_lo }
+    requires order { x_lo ≤ℤ x_hi }
+    ensures { (q : ℤ) → le_z result q ≡ (le_z t (q *ℤ x_lo) || le_z t (q *ℤ x_hi)) }
+{
+    if t > 0 { ceil(t, x_hi) } else { ceil(t, x_lo) }
+}
+
+// The greatest quotient of a number by a positive one from `x_lo` to `x_hi`, rounded down.
+fn greatest_quotient(t: i64, x_lo: i64, x_hi: i64) -> i64
+    requires range { IsInIntervalRange t }
+    requires positive { pos 0 <ℤ x_lo }
+    requires order { x_lo ≤ℤ x_hi }
+    ensures { (q : ℤ) → le_z q result ≡ (le_z (q *ℤ x_lo) t || le_z (q *ℤ x_hi) t) }
+{
+    if t > 0 {
+        floor(t, x_lo)
+    } else {
+        floor(t, x_hi)
+    }
 }
 
 // From the least quotient of a number from `t_lo` to `t_hi` by one from `x_lo` to `x_hi`, rounded
@@ -63,14 +88,14 @@ fn possible_quotient(t: Interval, x: Interval) -> Interval
 fn between(t_lo: i64, t_hi: i64, x_lo: i64, x_hi: i64) -> Interval
     requires t_lo { IsInIntervalRange t_lo }
     requires t_hi { IsInIntervalRange t_hi }
-    requires x_lo { pos 0 <ℤ x_lo }
-    requires x_hi { pos 0 <ℤ x_hi }
+    requires positive { pos 0 <ℤ x_lo }
+    requires order { x_lo ≤ℤ x_hi }
     ensures { (q : ℤ) → allows result q ≡ (is_in_interval_range q
         && (le_z t_lo (q *ℤ x_lo) || le_z t_lo (q *ℤ x_hi))
         && (le_z (q *ℤ x_lo) t_hi || le_z (q *ℤ x_hi) t_hi)) }
 {
     from_to(
-        ceil(t_lo, x_lo).min(ceil(t_lo, x_hi)),
-        floor(t_hi, x_lo).max(floor(t_hi, x_hi)),
+        least_quotient(t_lo, x_lo, x_hi),
+        greatest_quotient(t_hi, x_lo, x_hi),
     )
 }
