@@ -29,12 +29,12 @@ use Rattle.pw_settle.proofs.KeptFacts.{implies_also, implies_shown}
 use Rattle.pw_settle.proofs.KnownParts.{AreParts, IsPart, no_less, parts_kept, parts_taken, upstream_taken}
 use Rattle.pw_settle.proofs.TakenNews.{news_known}
 
--- so far the last facts of the list were taken in, as many as this number
-pub record AreTakenIn (store : Store) (before : Settled) (list : List Arrival) (back : ℕ) (infos : List Info) (supports : List Premises) : Type 0 where
+-- so far the facts of the list from this place on were taken in
+pub record AreTakenIn (store : Store) (before : Settled) (list : List Arrival) (left : ℕ) (infos : List Info) (supports : List Premises) : Type 0 where
   pub parts : AreParts store before.worldview infos supports
   pub more : (cell : ℕ) → cell < length before.infos → Implies (info_at infos cell) (info_at before.infos cell)
   pub new : (cell : ℕ) → length before.infos ≤ cell → cell < length store.cells → Implies (info_at infos cell) (kept_in store cell before.worldview)
-  pub came : (k : ℕ) (d : Arrival) → length list ≤ k + back → k < length list →
+  pub came : (k : ℕ) (d : Arrival) → left ≤ k → k < length list →
       Implies (info_at infos (get_or list k d).cell) (shows before.worldview (get_or list k d).fact)
   pub upstream : (network : Network) → LieUpstreamAfter network store before.supports supports
 
@@ -105,7 +105,7 @@ module _ (store : Store) (before : Settled) (continues : CanContinue store befor
       ]
 
   -- at first none of the facts was
-  pub taken_none : (list : List Arrival) → AreTakenIn store before list 0 infos supports
+  pub taken_none : (list : List Arrival) → AreTakenIn store before list (length list) infos supports
   taken_none list = record {
     parts = record { many = read.many; as_many = read.as_many ∙ sym read.many; each = first_each };
     more = λ cell below. implies_same (info_at infos cell) (info_at before.infos cell) (read.infos_stay cell below);
@@ -126,8 +126,8 @@ module _ (store : Store) (before : Settled) (continues : CanContinue store befor
 
 -- ---- one fact more
 
-module _ (store : Store) (before : Settled) (list : List Arrival) (back : ℕ) (infos : List Info) (supports : List Premises)
-    (taken : AreTakenIn store before list back infos supports) (place : ℕ) (here : place + back + 1 ≡ length list) (a : Arrival)
+module _ (store : Store) (before : Settled) (list : List Arrival) (place : ℕ) (infos : List Info) (supports : List Premises)
+    (taken : AreTakenIn store before list (place + 1) infos supports) (a : Arrival)
     (is : (d : Arrival) → get_or list place d ≡ a) (kept : IsKept store a) where
   pub cell_known : a.cell < length infos
   cell_known = omega (arith, kept.there, taken.parts.many)
@@ -137,18 +137,18 @@ module _ (store : Store) (before : Settled) (list : List Arrival) (back : ℕ) (
 
   -- what is known says what this fact shows
   came_more : (new_infos : List Info) → ((c : ℕ) → Implies (info_at new_infos c) (info_at infos c)) → Implies (info_at new_infos a.cell) (shows before.worldview a.fact) →
-      (k : ℕ) (d : Arrival) → length list ≤ k + (back + 1) → k < length list →
+      (k : ℕ) (d : Arrival) → place ≤ k → k < length list →
       Implies (info_at new_infos (get_or list k d).cell) (shows before.worldview (get_or list k d).fact)
   came_more new_infos no_less says k d least within =
       elim (cases_Bool (eqb k place)) [
         | inl same ↦
             subst (λ (x : Arrival). Implies (info_at new_infos x.cell) (shows before.worldview x.fact)) (sym (ap (λ (n : ℕ). get_or list n d) (eqb-true k place same) ∙ is d)) says
         | inr other ↦
-            λ u possible. taken.came k d (omega (arith, least, within, here, eqb-false k place other)) within u (no_less (get_or list k d).cell u possible)
+            λ u possible. taken.came k d (omega (arith, least, eqb-false k place other)) within u (no_less (get_or list k d).cell u possible)
       ]
 
   pub taken_known : (new_infos : List Info) (new_supports : List Premises) → IsKnown a.cell a.fact before.worldview infos new_infos supports new_supports →
-      AreTakenIn store before list (back + 1) new_infos new_supports
+      AreTakenIn store before list place new_infos new_supports
   taken_known new_infos new_supports known = rw (known.infos_stay, known.supports_stay) (record {
     parts = taken.parts;
     more = taken.more;
@@ -162,7 +162,7 @@ module _ (store : Store) (before : Settled) (list : List Arrival) (back : ℕ) (
     still : (c : ℕ) → Implies (info_at new_infos c) (info_at infos c)
     still = no_less store before.worldview infos supports taken.parts a.cell kept.there a.fact kept.kind news.within kept.says new_infos new_supports news.taken
 
-    pub taken_new : AreTakenIn store before list (back + 1) new_infos new_supports
+    pub taken_new : AreTakenIn store before list place new_infos new_supports
     taken_new = record {
       parts = parts_taken store before.worldview infos supports taken.parts a.cell kept.there a.fact kept.kind news.within kept.says new_infos new_supports news.taken;
       more = λ cell below u possible. taken.more cell below u (still cell u possible);
@@ -177,7 +177,7 @@ module _ (store : Store) (before : Settled) (list : List Arrival) (back : ℕ) (
 -- ---- the end
 
 module _ (store : Store) (before : Settled) (continues : CanContinue store before) (list : List Arrival) (is : since store before.mark ≡ Some list)
-    (infos : List Info) (supports : List Premises) (taken : AreTakenIn store before list (length list) infos supports) where
+    (infos : List Info) (supports : List Premises) (taken : AreTakenIn store before list 0 infos supports) where
   -- what is known says all that is kept
   says_kept : (cell : ℕ) → cell < length store.cells → Implies (info_at infos cell) (kept_in store cell before.worldview)
   says_kept cell there =
@@ -186,7 +186,7 @@ module _ (store : Store) (before : Settled) (continues : CanContinue store befor
             continues.accounted.all list is cell (ltb-true cell (length before.infos) below) (info_at infos cell) (taken.parts.each cell there).kind
             (taken.more cell (ltb-true cell (length before.infos) below))
             (λ k d within same. subst (λ (c : ℕ). Implies (info_at infos c) (shows before.worldview (get_or list k d).fact)) same
-            (taken.came k d (omega (arith, within)) within))
+            (taken.came k d (omega arith) within))
         | inr not ↦ taken.new cell (ltb-false cell (length before.infos) not) there
       ]
 

@@ -147,31 +147,31 @@ module _ (network : Network) (visible first queued new_queued : List Bool) (stor
   }
 
 -- one fact more was taken in, and what is known and queued is as before, or the fact is news
-pub record OneTaken (network : Network) (visible : List Bool) (store : Store) (before : Settled) (list : List Arrival) (back : ℕ)
+pub record OneTaken (network : Network) (visible : List Bool) (store : Store) (before : Settled) (list : List Arrival) (place : ℕ)
     (infos new_infos : List Info) (supports new_supports : List Premises) (queued new_queued : List Bool) : Type 0 where
-  pub taken : AreTakenIn store before list (back + 1) new_infos new_supports
+  pub taken : AreTakenIn store before list place new_infos new_supports
   pub flags : length new_queued ≡ length queued
   pub queues : (first : List Bool) → QueuesChanged network visible before.infos infos first queued →
       QueuesChanged network visible before.infos new_infos first new_queued
 
-pub one_taken : (network : Network) (visible : List Bool) (store : Store) (before : Settled) (list : List Arrival) (back : ℕ) (infos : List Info)
-    (supports : List Premises) (taken : AreTakenIn store before list back infos supports) (place : ℕ) (here : place + back + 1 ≡ length list) (a : Arrival)
+pub one_taken : (network : Network) (visible : List Bool) (store : Store) (before : Settled) (list : List Arrival) (place : ℕ) (infos : List Info)
+    (supports : List Premises) (taken : AreTakenIn store before list (place + 1) infos supports) (a : Arrival)
     (is : (d : Arrival) → get_or list place d ≡ a) (kept : IsKept store a)
     (upstream : (network : Network) (given : ℕ → ℕ → Bool) → RestsUpstream network given store → LiesUpstream network given a.cell a.fact.support)
     (new_infos : List Info) (new_supports : List Premises) (queued new_queued : List Bool) →
     (IsKnown a.cell a.fact before.worldview infos new_infos supports new_supports × (new_queued ≡ queued))
     ⊎ (IsNewHere a.cell a.fact before.worldview infos new_infos supports new_supports × QueuesReaders network visible (λ c. c ≡ a.cell) queued new_queued) →
-    OneTaken network visible store before list back infos new_infos supports new_supports queued new_queued
-one_taken network visible store before list back infos supports taken place here a is kept upstream new_infos new_supports queued new_queued (inl (known, same)) =
+    OneTaken network visible store before list place infos new_infos supports new_supports queued new_queued
+one_taken network visible store before list place infos supports taken a is kept upstream new_infos new_supports queued new_queued (inl (known, same)) =
     record {
-      taken = taken_known store before list back infos supports taken place here a is kept new_infos new_supports known;
+      taken = taken_known store before list place infos supports taken a is kept new_infos new_supports known;
       flags = ap length same;
       queues = λ first so_far. subst (QueuesChanged network visible before.infos new_infos first) (sym same)
           (subst (λ (l : List Info). QueuesChanged network visible before.infos l first queued) (sym known.infos_stay) so_far);
     }
-one_taken network visible store before list back infos supports taken place here a is kept upstream new_infos new_supports queued new_queued (inr (news, readers)) =
-    let now : AreTakenIn store before list (back + 1) new_infos new_supports =
-    taken_new store before list back infos supports taken place here a is kept upstream new_infos new_supports news in
+one_taken network visible store before list place infos supports taken a is kept upstream new_infos new_supports queued new_queued (inr (news, readers)) =
+    let now : AreTakenIn store before list place new_infos new_supports =
+    taken_new store before list place infos supports taken a is kept upstream new_infos new_supports news in
     record {
       taken = now;
       flags = readers.flags;

@@ -92,8 +92,8 @@ impl<A: Allocator + Copy> Agenda<A> {
         ensures { self.new ≡ slice_set self.old number true }
     {
         if !self.queued[number] {
-            make_room(&mut self.listed, &mut self.taken);
             self.queued[number] = true;
+            make_room(&mut self.listed, &mut self.taken);
             let _ = self.listed.push(number as u32);
         }
     }

@@ -215,7 +215,7 @@ pub(crate) fn take_in<A: Allocator + Copy>(
     let place = cell as usize;
     if info.implies(&infos[place]) {
         supports.replace(place, support)?;
-        infos[place] = *info;
+        infos[place] = info.copied();
     } else {
         let known = supports.get(place);
         supports.replace(place, known.join(support))?;

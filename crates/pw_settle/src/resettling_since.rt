@@ -194,9 +194,10 @@ fn take_in_arrivals<A: Allocator + Copy>(
         return;
     };
     let sees_all = network.are_all_visible(worldview);
-    for back in 0..arrivals.len() {
-        let arrival = &arrivals[arrivals.len() - 1 - back];
-        take_in_arrival(network, worldview, sees_all, arrival, known, agenda);
+    let mut left = arrivals.len();
+    while left > 0 {
+        left -= 1;
+        take_in_arrival(network, worldview, sees_all, &arrivals[left], known, agenda);
     }
 }
 

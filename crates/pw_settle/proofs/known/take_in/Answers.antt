@@ -26,10 +26,10 @@ there g c = omega (arith, c.requires.there, c.requires.as_many)
 
 pub returns-in_ok-replace-clause-taken : goal.returns-in_ok-replace-clause-taken
 returns-in_ok-replace-clause-taken g c =
-    subst (TakesIn c.args.cell (fact_on c.args.info.now c.args.support) c.args.infos.now (set c.args.infos.now c.args.cell c.args.info.now) c.args.supports.now)
+    rw c.copied.ensures (subst (TakesIn c.args.cell (fact_on c.args.info.now c.args.support) c.args.infos.now (set c.args.infos.now c.args.cell c.args.info.now) c.args.supports.now)
     (sym {A = List Premises} c.in_ok-replace.ensures.ok)
     (takes_second c.args.infos.now c.args.supports.now c.args.cell c.args.info.now c.args.support (there g (goal.at.returns-in_ok-replace-clause-taken g c).After-implies) c.requires.kind c.requires.news
-    ((says_all g (goal.at.returns-in_ok-replace-clause-taken g c).After-implies).0 c.if-implies.true))
+    ((says_all g (goal.at.returns-in_ok-replace-clause-taken g c).After-implies).0 c.if-implies.true)))
 
 pub returns-in_ok-replace-2-clause-taken : goal.returns-in_ok-replace-2-clause-taken
 returns-in_ok-replace-2-clause-taken g c =
