@@ -87,7 +87,7 @@ impl<A: Allocator + Copy> Arrivals<A> {
     }
 
     // A fact came, and is forgotten with all others.
-    #[inline(never)]
+    #[inline(always)]
     pub(crate) fn forget(&mut self)
         requires { self.old.past < most_past }
         ensures { IsForgotten self.old self.new }
