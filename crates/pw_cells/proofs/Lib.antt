@@ -5,6 +5,7 @@ pub mod Rests
 pub mod Assimilations
 pub mod Stores
 pub mod Wholes
+pub mod FactsBySupport
 pub mod ToldFacts
 pub mod Late
 pub mod Current

@@ -27,10 +27,10 @@ LeavesOpen w v f = allows (shows w f) v ≡ true
 
 -- ---- from any information on
 
-abbrev with_shown : Premises → Info → Fact → Info
+abbrev pub with_shown : Premises → Info → Fact → Info
 with_shown w i f = meet i (shows w f)
 
-kind-fold : (k : Kind) (w : Premises) (i : Info) (fs : List Fact) → kind_of i ≡ k → kind_of (fold (with_shown w) i fs) ≡ k
+pub kind-fold : (k : Kind) (w : Premises) (i : Info) (fs : List Fact) → kind_of i ≡ k → kind_of (fold (with_shown w) i fs) ≡ k
 kind-fold k w i [] e = e
 kind-fold k w i (f ∷ fs) e = kind-fold k w (meet i (shows w f)) fs (kind-meet i (shows w f) ∙ e)
 

@@ -25,8 +25,8 @@ use pw_premises::PremiseSet;
 use std::alloc::{AllocError, Allocator};
 use std::marker::Model;
 
-// This many facts are gone over quickly. A tell also looks at this many of the late facts, so that
-// a fact told again and again is not held as often.
+// A tell looks at this many of the late facts, so that a fact told again and again is not held as
+// often.
 const FEW: usize = 8;
 
 // A cell's kind, the facts told about it, and the facts kept of it. Facts told under one support
@@ -192,7 +192,7 @@ impl<C: Content, S: Support, A: Allocator + Copy> FactLists<C, S, A> {
     // Whether there are few told facts to go over.
     #[inline(always)]
     pub(crate) fn is_told_little(&self) -> bool {
-        self.told.len() <= FEW
+        self.told.are_few()
     }
 
     // The merge of the told facts, in a worldview.
@@ -273,7 +273,7 @@ fn copied<C: Content, S: Support, A: Allocator>(
 
 // The same facts, with supports of any premises, and room for this many. Fails only when out of
 // memory.
-fn all_widened<C: Content, S: Support, A: Allocator>(
+pub(crate) fn all_widened<C: Content, S: Support, A: Allocator>(
     alloc: A,
     facts: &[Held<C, S>],
     room: usize,

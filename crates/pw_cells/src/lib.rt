@@ -9,6 +9,7 @@ mod cell_facts;
 mod cell_store;
 mod content;
 mod fact_lists;
+mod facts_by_support;
 mod few_facts;
 mod held;
 pub mod laws;

@@ -1,8 +1,8 @@
 use Rattle.std.proofs.Common.{◌∙◌, ap}
 use Rattle.std.proofs.lemmas.List.{take_all}
 use Rattle.pw_cells.specs.inside.OneCell.{facts_held}
-use Rattle.pw_cells.proofs.ToldFacts.{one_wider, all_held}
-use Rattle.pw_cells.proofs.told_facts.ToldFacts.widened.Goals as goal
+use Rattle.pw_cells.proofs.FactsBySupport.{one_wider, all_held}
+use Rattle.pw_cells.proofs.facts_by_support.FactsBySupport.widened.Goals as goal
 
 pub loop-place-init : goal.loop-place-init
 loop-place-init g c = ap (facts_held (λ s. s)) c.new-wide.ensures.empty
