@@ -1,4 +1,4 @@
--- Told facts in a list after others: what they show from an information on, and once one more is told.
+-- Told facts, the first few in a list: what they show together, and what one more fact changes.
 use Rattle.std.proofs.Common.{◌≡◌, ℕ, ◌+◌, ◌-◌, ◌<◌, false, List, [], ◌∷◌, ◌++◌, length, get_or, set, take, length-append, sym, ◌∙◌, ap, subst, arith}
 use Rattle.std.specs.Prelude.{fold}
 use Rattle.std.specs.FinSet.{is_subset}

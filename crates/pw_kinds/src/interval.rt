@@ -96,8 +96,7 @@ impl Interval {
     pub fn within(self, other: Interval) -> bool
         ensures { IsTrue result ↔ IsWithin self other }
     {
-        // Neither difference is negative. One test of both is faster than two: which of two fails is
-        // hard to foresee.
+        // Neither difference is negative.
         ((self.lo - other.lo) | (other.hi - self.hi)) >= 0
     }
 }
