@@ -28,9 +28,10 @@ pub struct FlatCall {
     pub places: Arguments,
 }
 
-// The cell at a place: one of these cells, or, past their end, an inner cell. The first inner cell
-// has the number `first`.
-fn cell_at(cells: &[u32], first: u32, place: u32) -> u32
+/// The cell at a place: one of these cells, or, past their end, an inner cell. The first inner cell
+/// has the number `first`.
+#[inline(always)]
+pub fn cell_at(cells: &[u32], first: u32, place: u32) -> u32
     requires { first + place ≤ 4294967295 }
     ensures { result ≡ at_place cells.now (λ j. first + j) place }
 {

@@ -18,6 +18,6 @@ mod version;
 
 pub use decl_fault::{DeclFault, DeclFaultKind};
 pub use declaration::Declaration;
-pub use flat_call::{FlatCall, place_cells};
+pub use flat_call::{FlatCall, cell_at, place_cells};
 pub use step::{Callable, Step};
 pub use text::read_declaration;

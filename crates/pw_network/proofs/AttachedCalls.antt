@@ -2,7 +2,7 @@
 use Rattle.std.proofs.Common.{◌≡◌, ℕ, zero, suc, ◌+◌, ◌<◌, ◌≤◌, List, [], ◌∷◌, ◌++◌, Some, length, map, Bool, true, IsTrue, ◌↔◌, sym, ap, subst, ◌∙◌, arith, append-nil}
 use Rattle.std.specs.Prelude.{All}
 use Rattle.std.proofs.lemmas.List.{length-map, map-append, map_push}
-use Rattle.std.proofs.lemmas.List.Elements.{All-tail, All-weaker}
+use Rattle.std.proofs.lemmas.List.Elements.{All-map, All-tail, All-weaker}
 use Rattle.pw_info.specs.declared.kind.Kind.{Kind}
 use Rattle.pw_premises.specs.Premises.{Premises}
 use Rattle.pw_procs.specs.Registry.{cells_of}
@@ -16,7 +16,7 @@ use Rattle.pw_decl.specs.Limits.{most_inner_cells}
 use Rattle.pw_network.specs.declared.network.InnerCell.{InnerCell as InnerType}
 use Rattle.pw_network.specs.declared.instance.Instance.{Instance as InstanceType}
 use Rattle.pw_decl.specs.inside.Held.{AreCallsOf, IsBelow, instances_of}
-use Rattle.pw_network.specs.inside.Held.{attachment, inner_of, wiring_from}
+use Rattle.pw_network.specs.inside.Held.{attachment, cells_placed, inner_of, wiring_from}
 use Rattle.pw_network.specs.Network.{MayAttach}
 use Rattle.pw_network.specs.Network.{last_attachment_line}
 use Rattle.pw_network.specs.Network.{Network, IsWellNetwork, attached_at, cells_in, inner_cells_from, kind_in, with_attached}
@@ -62,15 +62,16 @@ pub calls_here : (network : Network) (line number : ℕ) (calls : List FlatCall)
     AreCallsOf network.declared.compounds number calls → MayAttach network line (callables.Compound number) cells →
     length (inner_kinds_of network.declared.compounds (callables.Compound number)) ≤ most_inner_cells → (first many : ℕ) → first ≡ cells_in network →
     many ≡ cells_in network + length (inner_kinds_of network.declared.compounds (callables.Compound number)) →
-    All (λ call. All (λ place. at_place cells (λ j. first + j) place < many) (cells_of call.places)) calls
+    All (λ call. All (λ cell. cell < many) (cells_placed cells first call)) calls
 calls_here network line number calls cells support well are may few first many is are_many =
     let inner = length (inner_kinds_of network.declared.compounds (callables.Compound number)) in
     let count = length are.compound.parameters in
     let parameters : count ≡ length cells = as_many network line number calls cells support well are may few in
     let here = All-weaker (λ cell. cell < length network.declared.cells) (λ cell. cell < many) (λ cell declared. omega (arith, are_many)) cells may.here in
-    All-weaker (IsBelow (count + inner)) (λ call. All (λ place. at_place cells (λ j. first + j) place < many) (cells_of call.places))
-    (λ call below. All-weaker (λ place. place < count + inner) (λ place. at_place cells (λ j. first + j) place < many)
-    (λ place within. placed_here cells first place inner many (omega (arith, parameters)) here (omega (arith, is, are_many))) (cells_of call.places) below)
+    All-weaker (IsBelow (count + inner)) (λ call. All (λ cell. cell < many) (cells_placed cells first call))
+    (λ call below. All-map (λ cell. cell < many) (at_place cells (λ j. first + j)) (cells_of call.places)
+    (All-weaker (λ place. place < count + inner) (λ place. at_place cells (λ j. first + j) place < many)
+    (λ place within. placed_here cells first place inner many (omega (arith, parameters)) here (omega (arith, is, are_many))) (cells_of call.places) below))
     calls are.below
 
 -- what the code has after it appended is the network with the compound attached

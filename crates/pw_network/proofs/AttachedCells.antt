@@ -1,5 +1,5 @@
 -- What an attachment appends, one after another.
-use Rattle.std.proofs.Common.{◌≡◌, ℕ, ◌+◌, ◌<◌, List, [], ◌∷◌, ◌++◌, length, map, take, get_or, refl, sym, ap, ◌∙◌, arith, length-take, append-nil}
+use Rattle.std.proofs.Common.{◌≡◌, ℕ, ◌+◌, ◌-◌, ◌<◌, ◌≤◌, List, [], ◌∷◌, ◌++◌, length, map, take, drop, get_or, refl, sym, ap, ◌∙◌, arith, length-take, take-append-drop, append-nil}
 use Rattle.std.proofs.lemmas.List.{map-append, append_assoc, take_more, map_push, length-map, take-map}
 use Rattle.std.proofs.Math.ListN.{get_or-map}
 use Rattle.pw_info.specs.declared.kind.Kind.{Kind}
@@ -80,3 +80,25 @@ instances_more line support name old before after calls i call placed x there re
     ∙ ap become (sym (instances_push (take i calls) call)
     ∙ ap (λ c. instances_of (take i calls ++ c ∷ [])) read
     ∙ ap instances_of (sym (take_more calls i call there))))
+
+-- instances, and then those that came after them
+pub rejoined : (old new : List InstanceType) → take (length old) new ≡ old → new ≡ old ++ drop (length old) new
+rejoined old new first = sym (take-append-drop (length old) new) ∙ ap (λ l. l ++ drop (length old) new) first
+
+-- ---- the inputs of an instance with one input or two
+
+pub one_input : (name : ℕ → ℕ) (places inputs : List ℕ) (one : ℕ) → 2 ≤ length places → length places < 3 →
+    one ≡ name (get_or places 0 0) → inputs ≡ one ∷ [] → inputs ≡ take (length (map name places) - 1) (map name places)
+one_input name [] inputs one least below is are = absurd (omega (arith, least))
+one_input name (a ∷ []) inputs one least below is are = absurd (omega (arith, least))
+one_input name (a ∷ b ∷ []) inputs one least below is are = are ∙ ap (λ x. x ∷ []) is
+one_input name (a ∷ b ∷ c ∷ places) inputs one least below is are = absurd (omega (arith, below))
+
+pub two_inputs : (name : ℕ → ℕ) (places inputs : List ℕ) (one another : ℕ) → 3 ≤ length places → length places < 4 →
+    one ≡ name (get_or places 0 0) → another ≡ name (get_or places 1 0) → inputs ≡ one ∷ another ∷ [] →
+    inputs ≡ take (length (map name places) - 1) (map name places)
+two_inputs name [] inputs one another least below is other are = absurd (omega (arith, least))
+two_inputs name (a ∷ []) inputs one another least below is other are = absurd (omega (arith, least))
+two_inputs name (a ∷ b ∷ []) inputs one another least below is other are = absurd (omega (arith, least))
+two_inputs name (a ∷ b ∷ c ∷ []) inputs one another least below is other are = are ∙ (λ i. is i ∷ other i ∷ [])
+two_inputs name (a ∷ b ∷ c ∷ d ∷ places) inputs one another least below is other are = absurd (omega (arith, below))

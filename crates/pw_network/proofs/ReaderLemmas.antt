@@ -1,10 +1,9 @@
 -- The readers and the writers of a cell, with one more instance.
-use Rattle.std.proofs.Common.{◌≡◌, ℕ, zero, suc, ◌+◌, ◌-◌, ◌<◌, Bool, true, false, cond, List, [], ◌∷◌, ◌++◌, length, map, take, get_or, eqb, refl, sym, ap, subst, ◌∙◌, arith}
+use Rattle.std.proofs.Common.{◌≡◌, ℕ, zero, suc, ◌+◌, ◌-◌, ◌<◌, ◌≤◌, Bool, true, false, cond, List, [], ◌∷◌, ◌++◌, length, map, take, drop, get_or, eqb, refl, sym, ap, subst, ◌∙◌, arith}
 use Rattle.std.specs.Prelude.{All, filter}
 use Rattle.std.specs.List.{list_any, range_with_len}
-use Rattle.std.proofs.lemmas.List.{get_or_append_left, get_or_push, length-map, length_push, map_push}
-use Rattle.std.proofs.lemmas.List.Elements.{All-map, All-same, All-take}
-use Rattle.pw_procs.specs.Registry.{cells_of}
+use Rattle.std.proofs.lemmas.List.{get_or-drop, get_or_append_left, length-drop, get_or_push, length-map, length_push, map_push}
+use Rattle.std.proofs.lemmas.List.Elements.{All-same, All-take}
 use Rattle.pw_decl.specs.declared.flat_call.FlatCall.{FlatCall}
 use Rattle.pw_network.specs.declared.instance.Instance.{Instance as InstanceType}
 use Rattle.pw_network.specs.inside.Held.{attachment}
@@ -85,18 +84,24 @@ writers_more cells same old new instances after x number numbered many pushed ap
     ∙ (λ i. writers cell there i ++ cond (eqb cell x.output) (number ∷ []) [])
     ∙ sym (numbers_after (writes cell) instances after x number numbered pushed)
 
+-- ---- one of the instances from a number on
+
+-- what holds of all of them holds of it
+pub holds_from : (P : InstanceType → Type 0) (instances : List InstanceType) (first number : ℕ) (x : InstanceType) →
+    first ≤ number → number < length instances → x ≡ get_or instances number x → All P (drop first instances) → P x
+holds_from P instances first number x from there is all =
+    let long = length-drop first instances in
+    let same : first + (number - first) ≡ number = omega (arith, from) in
+    subst P (get_or-drop first instances (number - first) x ∙ ap (λ k. get_or instances k x) same ∙ sym is)
+    (all (number - first) x (omega (arith, from, there, long)))
+
 -- ---- the cells that are read are there
 
-pub inputs_here : (calls : List FlatCall) (i : ℕ) (call : FlatCall) (name : ℕ → ℕ) (placed inputs : List ℕ) (cells many : ℕ) →
-    i < length calls → call ≡ get_or calls i call → placed ≡ map name (cells_of call.places) →
-    inputs ≡ take (length placed - 1) placed → many ≡ cells →
-    All (λ call. All (λ place. name place < cells) (cells_of call.places)) calls → All (λ cell. cell < many) inputs
-inputs_here calls i call name placed inputs cells many there read at taken same here =
-    let own : All (λ place. name place < cells) (cells_of call.places) =
-    subst (λ (c : FlatCall). All (λ place. name place < cells) (cells_of c.places)) (sym read) (here i call there) in
-    let all : All (λ cell. cell < cells) inputs =
-    All-same (λ cell. cell < cells) inputs (take (length placed - 1) placed) taken
-    (All-take (λ cell. cell < cells) (length placed - 1) placed
-    (All-same (λ cell. cell < cells) placed (map name (cells_of call.places)) at
-    (All-map (λ cell. cell < cells) name (cells_of call.places) own))) in
-    subst (λ n. All (λ cell. cell < n) inputs) (sym same) all
+pub inputs_here : (calls : List FlatCall) (i : ℕ) (call : FlatCall) (placed : FlatCall → List ℕ) (inputs : List ℕ) (many : ℕ) →
+    i < length calls → call ≡ get_or calls i call → inputs ≡ take (length (placed call) - 1) (placed call) →
+    All (λ call. All (λ cell. cell < many) (placed call)) calls → All (λ cell. cell < many) inputs
+inputs_here calls i call placed inputs many there read taken here =
+    let own : All (λ cell. cell < many) (placed call) =
+    subst (λ (c : FlatCall). All (λ cell. cell < many) (placed c)) (sym read) (here i call there) in
+    All-same (λ cell. cell < many) inputs (take (length (placed call) - 1) (placed call)) taken
+    (All-take (λ cell. cell < many) (length (placed call) - 1) (placed call) own)

@@ -1,4 +1,5 @@
 -- What only the steps of the code and their proofs speak of.
+pub mod Appended
 pub mod Held
 pub mod Lists
 pub mod Reads

@@ -1,5 +1,5 @@
 //! The cells that an instance reads.
-ghost use Rattle.std.specs.Prelude.{◌≡◌, IfOk};
+ghost use Rattle.std.specs.Prelude.{◌≡◌, ◌∷◌, [], IfOk};
 
 use smallvec::SmallVec;
 use std::alloc::{AllocError, Global};
@@ -40,6 +40,26 @@ impl Inputs {
             more => Cells::More(Box::new(alloc, SmallVec::from_slice(alloc, more)?)?),
         };
         Ok(Inputs { cells })
+    }
+
+    // One cell. Takes no memory.
+    #[inline(always)]
+    pub(crate) fn one(cell: u32) -> Inputs
+        ensures { result ≡ cell ∷ [] }
+    {
+        Inputs {
+            cells: Cells::One([cell]),
+        }
+    }
+
+    // Two cells. Takes no memory.
+    #[inline(always)]
+    pub(crate) fn two(one: u32, another: u32) -> Inputs
+        ensures { result ≡ one ∷ another ∷ [] }
+    {
+        Inputs {
+            cells: Cells::Two([one, another]),
+        }
     }
 
     /// The cells, in the order in which the procedure takes them.

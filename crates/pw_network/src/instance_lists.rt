@@ -122,6 +122,7 @@ impl<A: Allocator + Copy> InstanceLists<A> {
     }
 
     // Appends an instance to the list of a cell.
+    #[inline(always)]
     fn link(&mut self, number: u32, cell: u32)
         requires here { cell < vec_len self.old.ends }
         requires room { vec_len self.old.links < vec_capacity self.old.links }

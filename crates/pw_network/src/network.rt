@@ -26,9 +26,7 @@ ghost use Rattle.pw_network.specs.Readers.{AreReaders};
 ghost use Rattle.pw_network.specs.Writers.{AreWriters};
 ghost use Rattle.pw_network.specs.inside.Lists.{listed_by};
 
-use crate::attaching::{
-    append_inner, append_instance, append_instances, instances_of, with_support,
-};
+use crate::attaching::{append_calls, append_inner, list_instances, with_support};
 use crate::attachment::Attachment;
 use crate::instance::{Instance, MOST_INPUTS};
 use crate::instance_lists::{InstanceLists, reserve_numbered};
@@ -252,12 +250,9 @@ impl<'d, 'r, A: Allocator + Copy> Network<'d, 'r, A> {
         reserve_numbered(&mut self.instances, 1)?;
         self.readers.reserve(0, MOST_INPUTS)?;
         self.writers.reserve(0, 1)?;
-        append_instance(
-            &mut self.instances,
-            &mut self.readers,
-            &mut self.writers,
-            instance,
-        );
+        let count = self.instances.len();
+        let _ = self.instances.push(instance);
+        list_instances(&self.instances, count, &mut self.readers, &mut self.writers);
         self.premises = self.premises.join(support);
         self.last_line = line;
         Ok(())
@@ -287,22 +282,24 @@ impl<'d, 'r, A: Allocator + Copy> Network<'d, 'r, A> {
         ensures err { OnErr result (wiring self.new ≡ wiring self.old) }
     {
         let first = self.cells();
-        let alloc = *self.instances.allocator();
         let global = self.declaration.registry().allocator();
         let shared = Attachment::shared(global, line, &support)?;
-        let attached = instances_of(alloc, global, calls, cells.cells(), first, &shared)?;
         self.inner.reserve(kinds.len())?;
         reserve_numbered(&mut self.instances, calls.len())?;
         self.readers
             .reserve(kinds.len(), calls.len() * MOST_INPUTS)?;
         self.writers.reserve(0, calls.len())?;
-        self.readers.add_cells(kinds.len());
-        append_instances(
+        let count = self.instances.len();
+        append_calls(
             &mut self.instances,
-            &mut self.readers,
-            &mut self.writers,
-            attached,
-        );
+            global,
+            calls,
+            cells.cells(),
+            first,
+            &shared,
+        )?;
+        self.readers.add_cells(kinds.len());
+        list_instances(&self.instances, count, &mut self.readers, &mut self.writers);
         append_inner(&mut self.inner, kinds, line);
         self.premises = with_support(self.premises, support, calls);
         self.last_line = line;

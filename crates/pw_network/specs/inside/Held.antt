@@ -1,8 +1,10 @@
 -- Instances, inner cells and a network, by the fields that the code stores.
-use Rattle.std.specs.Prelude.{◌≡◌, ◌↔◌, ℕ, List, All, IsTrue, map, true}
+use Rattle.std.specs.Prelude.{◌≡◌, ◌+◌, ◌↔◌, ℕ, List, All, IsTrue, map, true}
 use Rattle.std.specs.Coded.{Coded, coded_ℕ}
 use Rattle.std.specs.FinSet.{code, is_subset}
 use Rattle.pw_decl.specs.Declaration.{Declared}
+use Rattle.pw_decl.specs.Expansion.{at_place}
+use Rattle.pw_procs.specs.Registry.{cells_of}
 use Rattle.pw_network.specs.declared.network.InnerCell.{InnerCell as InnerType}
 use Rattle.pw_network.specs.declared.instance.Instance.{Instance as InstanceType}
 use Rattle.pw_network.specs.Network.{Attached, InnerCell, Network, attached_at}
@@ -41,6 +43,10 @@ wiring_from declared inner instances last_line =
 -- two supports are equal in one way at most, since they have a code
 pub support_code : Coded Premises
 support_code = code coded_ℕ
+
+-- the cells at the places of a call: first these cells, and then the inner cells from a number on
+abbrev pub cells_placed : List ℕ → ℕ → FlatCall → List ℕ
+cells_placed cells first call = map (at_place cells (λ j. first + j)) (cells_of call.places)
 
 -- what calls over places are on these cells, attached in this line under these premises
 abbrev pub attached_on : ℕ → Premises → List ℕ → ℕ → List FlatCall → List Attached
