@@ -1,5 +1,5 @@
 -- What an attachment appends, one after another.
-use Rattle.std.proofs.Common.{◌≡◌, ℕ, ◌+◌, ◌-◌, ◌<◌, ◌≤◌, List, [], ◌∷◌, ◌++◌, length, map, take, drop, get_or, refl, sym, ap, ◌∙◌, arith, length-take, take-append-drop, append-nil}
+use Rattle.std.proofs.Common.{◌≡◌, ℕ, ◌+◌, ◌-◌, ◌<◌, ◌≤◌, List, [], ◌∷◌, ◌++◌, length, map, take, drop, get_or, cond, leb, refl, sym, ap, ◌∙◌, arith, length-take, take-append-drop, append-nil}
 use Rattle.std.proofs.lemmas.List.{map-append, append_assoc, take_more, map_push, length-map, take-map}
 use Rattle.std.proofs.Math.ListN.{get_or-map}
 use Rattle.pw_info.specs.declared.kind.Kind.{Kind}
@@ -85,20 +85,38 @@ instances_more line support name old before after calls i call placed x there re
 pub rejoined : (old new : List InstanceType) → take (length old) new ≡ old → new ≡ old ++ drop (length old) new
 rejoined old new first = sym (take-append-drop (length old) new) ∙ ap (λ l. l ++ drop (length old) new) first
 
--- ---- the inputs of an instance with one input or two
+-- ---- an instance with one input or two, between the cells at these places
 
-pub one_input : (name : ℕ → ℕ) (places inputs : List ℕ) (one : ℕ) → 2 ≤ length places → length places < 3 →
-    one ≡ name (get_or places 0 0) → inputs ≡ one ∷ [] → inputs ≡ take (length (map name places) - 1) (map name places)
-one_input name [] inputs one least below is are = absurd (omega (arith, least))
-one_input name (a ∷ []) inputs one least below is are = absurd (omega (arith, least))
-one_input name (a ∷ b ∷ []) inputs one least below is are = are ∙ ap (λ x. x ∷ []) is
-one_input name (a ∷ b ∷ c ∷ places) inputs one least below is are = absurd (omega (arith, below))
+pub one_placed : (procedure output one : ℕ) (name : ℕ → ℕ) (places more : List ℕ) (held : ℕ × List ℕ × ℕ) →
+    2 ≤ length places → length places < 3 → one ≡ name (get_or places 0 0) → held ≡ (1, one ∷ 0 ∷ [], get_or places 1 0) → output ≡ name held.2 →
+    instance_on procedure (map name places) ≡ record { procedure = procedure; inputs = take held.0 (cond (leb held.0 2) held.1 more); output = output } ∷ []
+one_placed procedure output one name [] more held least below is same last = absurd (omega (arith, least))
+one_placed procedure output one name (a ∷ []) more held least below is same last = absurd (omega (arith, least))
+one_placed procedure output one name (a ∷ b ∷ []) more held least below is same last =
+    let inputs : name a ∷ [] ≡ take held.0 (cond (leb held.0 2) held.1 more) =
+    ap (λ x. x ∷ []) (sym is) ∙ ap (λ (p : ℕ × List ℕ × ℕ). take p.0 (cond (leb p.0 2) p.1 more)) (sym same) in
+    let outputs : name b ≡ output = sym (last ∙ ap (λ (p : ℕ × List ℕ × ℕ). name p.2) same) in
+    λ i. record { procedure = procedure; inputs = inputs i; output = outputs i } ∷ []
+one_placed procedure output one name (a ∷ b ∷ c ∷ places) more held least below is same last = absurd (omega (arith, below))
 
-pub two_inputs : (name : ℕ → ℕ) (places inputs : List ℕ) (one another : ℕ) → 3 ≤ length places → length places < 4 →
-    one ≡ name (get_or places 0 0) → another ≡ name (get_or places 1 0) → inputs ≡ one ∷ another ∷ [] →
-    inputs ≡ take (length (map name places) - 1) (map name places)
-two_inputs name [] inputs one another least below is other are = absurd (omega (arith, least))
-two_inputs name (a ∷ []) inputs one another least below is other are = absurd (omega (arith, least))
-two_inputs name (a ∷ b ∷ []) inputs one another least below is other are = absurd (omega (arith, least))
-two_inputs name (a ∷ b ∷ c ∷ []) inputs one another least below is other are = are ∙ (λ i. is i ∷ other i ∷ [])
-two_inputs name (a ∷ b ∷ c ∷ d ∷ places) inputs one another least below is other are = absurd (omega (arith, below))
+pub two_placed : (procedure output one another : ℕ) (name : ℕ → ℕ) (places more : List ℕ) (held : ℕ × List ℕ × ℕ) →
+    3 ≤ length places → length places < 4 → one ≡ name (get_or places 0 0) → another ≡ name (get_or places 1 0) →
+    held ≡ (2, one ∷ another ∷ [], get_or places 2 0) → output ≡ name held.2 →
+    instance_on procedure (map name places) ≡ record { procedure = procedure; inputs = take held.0 (cond (leb held.0 2) held.1 more); output = output } ∷ []
+two_placed procedure output one another name [] more held least below is other same last = absurd (omega (arith, least))
+two_placed procedure output one another name (a ∷ []) more held least below is other same last = absurd (omega (arith, least))
+two_placed procedure output one another name (a ∷ b ∷ []) more held least below is other same last = absurd (omega (arith, least))
+two_placed procedure output one another name (a ∷ b ∷ c ∷ []) more held least below is other same last =
+    let inputs : name a ∷ name b ∷ [] ≡ take held.0 (cond (leb held.0 2) held.1 more) =
+    (λ i. sym is i ∷ sym other i ∷ []) ∙ ap (λ (p : ℕ × List ℕ × ℕ). take p.0 (cond (leb p.0 2) p.1 more)) (sym same) in
+    let outputs : name c ≡ output = sym (last ∙ ap (λ (p : ℕ × List ℕ × ℕ). name p.2) same) in
+    λ i. record { procedure = procedure; inputs = inputs i; output = outputs i } ∷ []
+two_placed procedure output one another name (a ∷ b ∷ c ∷ d ∷ places) more held least below is other same last = absurd (omega (arith, below))
+
+-- an instance reads all its cells but the last
+pub inputs_on : (procedure : ℕ) (cells : List ℕ) (instance : Instance ℕ) → instance_on procedure cells ≡ instance ∷ [] →
+    instance.inputs ≡ take (length cells - 1) cells
+inputs_on procedure [] instance is = absurd (let e = ap length is in omega (arith, e))
+inputs_on procedure (cell ∷ cells) instance is =
+    let many : length cells ≡ length (cell ∷ cells) - 1 = omega arith in
+    ap (λ (l : List (Instance ℕ)). (get_or l 0 instance).inputs) (sym is) ∙ ap (λ n. take n (cell ∷ cells)) many

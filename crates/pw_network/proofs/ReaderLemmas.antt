@@ -65,7 +65,7 @@ numbers_after test instances after x number numbered pushed =
 
 -- lists that an instance is appended to, as its inputs say, list the readers with it
 pub readers_more : (old new : List Listed) (instances after : List InstanceType) (x : InstanceType) (number : ℕ) (inputs : List ℕ) →
-    number ≡ length instances → inputs ≡ x.inputs → after ≡ instances ++ x ∷ [] →
+    number ≡ length instances → inputs ≡ (attachment x).instance.inputs → after ≡ instances ++ x ∷ [] →
     ((cell : ℕ) → numbers_for cell new ≡ numbers_for cell old ++ cond (list_any (eqb cell) inputs) (number ∷ []) []) →
     AreReaders old (map attachment instances) → AreReaders new (map attachment after)
 readers_more old new instances after x number inputs numbered are_inputs pushed appended readers cell =

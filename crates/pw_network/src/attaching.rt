@@ -89,9 +89,10 @@ pub(crate) fn list_instances<A: Allocator + Copy>(
         ≤ no_place }
     requires writer_places { vec_len writers.old.links + (length instances.now - first)
         ≤ no_place }
-    requires few { All (λ instance. length instance.inputs ≤ 8) (drop first instances.now) }
+    requires few { All (λ instance. length (attachment instance).instance.inputs ≤ 8)
+        (drop first instances.now) }
     requires here { All (λ instance. All (λ cell. cell < vec_len readers.old.ends)
-        instance.inputs) (drop first instances.now) }
+        (attachment instance).instance.inputs) (drop first instances.now) }
     requires readers { AreReaders (map listed_by readers.old.links.items)
         (map attachment (take first instances.now)) }
     requires writers { AreWriters (vec_len writers.old.ends) (map listed_by
@@ -105,7 +106,7 @@ pub(crate) fn list_instances<A: Allocator + Copy>(
 {
     for number in first..instances.len() {
         let instance = &instances[number];
-        readers.append(number as u32, instance.inputs.as_slice());
+        readers.append(number as u32, instance.inputs());
         writers.append_to(number as u32, instance.output);
     }
 }

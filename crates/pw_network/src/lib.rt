@@ -4,14 +4,12 @@
 
 mod attaching;
 mod attachment;
-mod inputs;
 mod instance;
 mod instance_lists;
 mod instance_numbers;
 pub mod laws;
 mod network;
 
-pub use inputs::Inputs;
 pub use instance::Instance;
 pub use instance_numbers::InstanceNumbers;
 pub use network::{Network, NetworkFault};

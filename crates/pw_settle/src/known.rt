@@ -106,7 +106,7 @@ pub(crate) fn joined_support<A: Allocator>(
         (attachment instance.now).instance.inputs }
 {
     let mut joined = instance.support().widen();
-    for input in instance.inputs.as_slice() {
+    for input in instance.inputs() {
         joined = joined.join(supports.get(*input as usize));
     }
     joined
@@ -124,7 +124,7 @@ pub(crate) fn joined_narrow<A: Allocator>(
 {
     let narrow = supports.narrow()?;
     let mut joined = NarrowSet::of(&instance.support().widen())?;
-    for input in instance.inputs.as_slice() {
+    for input in instance.inputs() {
         joined = joined.join(narrow[*input as usize]);
     }
     Some(joined)

@@ -61,7 +61,7 @@ fn answer_on_many(
     ensures kind { kind_of result ≡ (numbered (map kind_of known.now)).kind instance.now.output }
 {
     let mut inputs = [Info::nothing(Kind::Interval); MOST_INPUTS];
-    let cells = instance.inputs.as_slice();
+    let cells = instance.inputs();
     for place in 0..cells.len() {
         inputs[place] = known[cells[place] as usize].copied();
     }
@@ -104,7 +104,7 @@ fn news_on(
     ensures none { IfNone result (GivesNone (procedures_in registry.now) known.now
         (attachment instance.now)) }
 {
-    match instance.inputs.as_slice() {
+    match instance.inputs() {
         [one] => {
             let given = slice::from_ref(&known[*one as usize]);
             let info = procedure_value(registry, instance, known, given, calls);

@@ -174,7 +174,7 @@ fn show_cells(
     network: &Network<'_, '_>,
     instance: &Instance,
 ) -> Result<(), AllocError> {
-    for cell in instance.inputs.as_slice() {
+    for cell in instance.inputs() {
         text.push(' ')?;
         show_cell(text, network, *cell)?;
     }

@@ -11,8 +11,8 @@ pub record AppendsCalls (line : ℕ) (support : Premises) (cells : List ℕ) (fi
   pub before : take (length old) new ≡ old
   pub made : map attachment (drop (length old) new) ≡ attached_on line support cells first calls
   -- an instance has at most eight inputs
-  pub few : All (λ instance. length instance.inputs ≤ 8) (drop (length old) new)
+  pub few : All (λ instance. length (attachment instance).instance.inputs ≤ 8) (drop (length old) new)
   -- if the cells at all places are below this number, so is each input
   pub here : (many : ℕ)
       → All (λ call. All (λ cell. cell < many) (cells_placed cells first call)) calls
-      → All (λ instance. All (λ cell. cell < many) instance.inputs) (drop (length old) new)
+      → All (λ instance. All (λ cell. cell < many) (attachment instance).instance.inputs) (drop (length old) new)

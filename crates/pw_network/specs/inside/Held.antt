@@ -7,6 +7,7 @@ use Rattle.pw_decl.specs.Expansion.{at_place}
 use Rattle.pw_procs.specs.Registry.{cells_of}
 use Rattle.pw_network.specs.declared.network.InnerCell.{InnerCell as InnerType}
 use Rattle.pw_network.specs.declared.instance.Instance.{Instance as InstanceType}
+use Rattle.pw_network.specs.inside.Reads.{inputs_held}
 use Rattle.pw_network.specs.Network.{Attached, InnerCell, Network, attached_at}
 use Rattle.pw_premises.specs.Premises.{Premises}
 use Rattle.pw_decl.specs.declared.flat_call.FlatCall.{FlatCall}
@@ -18,9 +19,8 @@ attachment kept =
     record {
       instance = record {
         procedure = kept.procedure;
-        inputs = kept.inputs;
-        output =
-            kept.output;
+        inputs = inputs_held kept.count kept.cells kept.attached.value.inputs.items;
+        output = kept.output;
       };
       line = kept.attached.value.line;
       support = kept.attached.value.support;

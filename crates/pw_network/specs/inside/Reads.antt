@@ -1,9 +1,5 @@
--- The cells that an instance reads, however many they are: one, two, or more in a box.
-use Rattle.std.specs.Prelude.{ℕ, List}
-use Rattle.pw_network.specs.declared.inputs.Cells.{Cells}
-use Rattle.pw_network.specs.declared.inputs.Cells.TheVariants.{One, Two, More}
+-- The cells that an instance reads: at most two are in the instance, and more beside its line and premises.
+use Rattle.std.specs.Prelude.{ℕ, List, cond, leb, take}
 
-abbrev pub cells_held : Cells → List ℕ
-cells_held (One cells) = cells
-cells_held (Two cells) = cells
-cells_held (More cells) = cells.value.items
+abbrev pub inputs_held : ℕ → List ℕ → List ℕ → List ℕ
+inputs_held count cells beside = take count (cond (leb count 2) cells beside)

@@ -53,7 +53,7 @@ fn add_answer(
         return Ok(());
     }
     let mut inputs = [Info::nothing(Kind::Interval); 8];
-    let cells = instance.inputs.as_slice();
+    let cells = instance.inputs();
     if cells.len() > 8 {
         return Err("too many inputs".into());
     }

@@ -4,7 +4,7 @@ use Rattle.std.proofs.lemmas.List.{drop-append-le, take-append-le, take_all}
 use Rattle.std.proofs.lemmas.List.Elements.{All-push, All-same}
 use Rattle.pw_decl.specs.Expansion.{at_place}
 use Rattle.pw_network.specs.declared.instance.Instance.{Instance as InstanceType}
-use Rattle.pw_network.specs.inside.Held.{attached_on, cells_placed}
+use Rattle.pw_network.specs.inside.Held.{attached_on, attachment, cells_placed}
 use Rattle.pw_network.proofs.AttachedCells.{instances_more}
 use Rattle.pw_network.proofs.ReaderLemmas.{inputs_here}
 use Rattle.pw_network.proofs.attaching.push_calls.Goals as goal
@@ -29,11 +29,11 @@ loop-call-preserved g c =
           c.in_ok-instance.ensures.line c.in_ok-instance.ensures.support c.loop-call.invariant.made;
       len = let long = rw done at c.push.ensures.len in omega (arith, long, c.loop-call.invariant.len);
       room = omega (arith, c.loop-call.invariant.room, c.push.ensures.capacity);
-      few = All-same (λ (y : InstanceType). length y.inputs ≤ 8) (drop n after) (drop n before ++ x ∷ []) more
-          (All-push (λ (y : InstanceType). length y.inputs ≤ 8) (drop n before) x c.loop-call.invariant.few c.in_ok-instance.ensures.few);
-      here = λ many here. All-same (λ (y : InstanceType). All (λ cell. cell < many) y.inputs) (drop n after) (drop n before ++ x ∷ []) more
-          (All-push (λ (y : InstanceType). All (λ cell. cell < many) y.inputs) (drop n before) x (c.loop-call.invariant.here many here)
-          (inputs_here c.args.calls.now i c.call-item.result (cells_placed c.args.cells.now c.args.first) x.inputs many c.loop-call-test.true c.call-item.is
+      few = All-same (λ (y : InstanceType). length (attachment y).instance.inputs ≤ 8) (drop n after) (drop n before ++ x ∷ []) more
+          (All-push (λ (y : InstanceType). length (attachment y).instance.inputs ≤ 8) (drop n before) x c.loop-call.invariant.few c.in_ok-instance.ensures.few);
+      here = λ many here. All-same (λ (y : InstanceType). All (λ cell. cell < many) (attachment y).instance.inputs) (drop n after) (drop n before ++ x ∷ []) more
+          (All-push (λ (y : InstanceType). All (λ cell. cell < many) (attachment y).instance.inputs) (drop n before) x (c.loop-call.invariant.here many here)
+          (inputs_here c.args.calls.now i c.call-item.result (cells_placed c.args.cells.now c.args.first) (attachment x).instance.inputs many c.loop-call-test.true c.call-item.is
           c.in_ok-instance.ensures.inputs here));
     }
 

@@ -13,7 +13,7 @@ invariant-loop-call g l = record {
       ≡ map (attached_at l.attached.value.line l.attached.value.support) (map (renamed (at_place l.cells (λ j. l.first + j))) (instances_of (take l.call-index l.calls)));
   len : vec_len l.instances ≡ vec_len l.fn.instances + l.call-index;
   room : vec_capacity l.fn.instances ≤ vec_capacity l.instances;
-  few : All (λ instance. length instance.inputs ≤ 8) (drop (length l.fn.instances.items) l.instances.items);
+  few : All (λ instance. length (attachment instance).instance.inputs ≤ 8) (drop (length l.fn.instances.items) l.instances.items);
   here : (many : ℕ) → All (λ call. All (λ cell. cell < many) (cells_placed l.cells l.first call)) l.calls
-      → All (λ instance. All (λ cell. cell < many) instance.inputs) (drop (length l.fn.instances.items) l.instances.items);
+      → All (λ instance. All (λ cell. cell < many) (attachment instance).instance.inputs) (drop (length l.fn.instances.items) l.instances.items);
 }

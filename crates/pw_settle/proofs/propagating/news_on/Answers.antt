@@ -21,32 +21,32 @@ is_there known inputs cells place same there below =
     omega (arith, all place 0 below, length-map known kind_of)
 
 pub bounds-known-one : goal.bounds-known-one
-bounds-known-one g c = is_there c.args.known.now _ c.as_slice.result.now 0 c.as_slice.ensures c.requires.placed.0.0 (omega (arith, c.in-len1.len_at_least))
+bounds-known-one g c = is_there c.args.known.now _ c.inputs.result.now 0 c.inputs.ensures c.requires.placed.0.0 (omega (arith, c.in-len1.len_at_least))
 
 pub procedure_value-info-requires-clause-given : goal.procedure_value-info-requires-clause-given
 procedure_value-info-requires-clause-given g c =
-    let cells = c.as_slice.result.now in
-    let first = is_there c.args.known.now _ cells 0 c.as_slice.ensures c.requires.placed.0.0 (omega (arith, c.in-len1.len_at_least)) in
+    let cells = c.inputs.result.now in
+    let first = is_there c.args.known.now _ cells 0 c.inputs.ensures c.requires.placed.0.0 (omega (arith, c.in-len1.len_at_least)) in
     c.from_ref-given.ensures.value
     ∙ one_given c.args.known.now cells c.index-known-one.result (omega (arith, c.in-len1.len_at_least)) (omega (arith, c.in-len1.len_below)) first c.index-known-one.is
-    ∙ ap (map (info_at c.args.known.now)) c.as_slice.ensures
+    ∙ ap (map (info_at c.args.known.now)) c.inputs.ensures
 
 pub bounds-known-one-in-len2 : goal.bounds-known-one-in-len2
-bounds-known-one-in-len2 g c = is_there c.args.known.now _ c.as_slice.result.now 0 c.as_slice.ensures c.requires.placed.0.0 (omega (arith, c.in-len2.len_at_least))
+bounds-known-one-in-len2 g c = is_there c.args.known.now _ c.inputs.result.now 0 c.inputs.ensures c.requires.placed.0.0 (omega (arith, c.in-len2.len_at_least))
 
 pub bounds-known-another : goal.bounds-known-another
-bounds-known-another g c = is_there c.args.known.now _ c.as_slice.result.now 1 c.as_slice.ensures c.requires.placed.0.0 (omega (arith, c.in-len2.len_at_least))
+bounds-known-another g c = is_there c.args.known.now _ c.inputs.result.now 1 c.inputs.ensures c.requires.placed.0.0 (omega (arith, c.in-len2.len_at_least))
 
 pub procedure_value-info-requires-in-len2-clause-given : goal.procedure_value-info-requires-in-len2-clause-given
 procedure_value-info-requires-in-len2-clause-given g c =
-    let cells = c.as_slice.result.now in
-    let first = is_there c.args.known.now _ cells 0 c.as_slice.ensures c.requires.placed.0.0 (omega (arith, c.in-len2.len_at_least)) in
-    let second = is_there c.args.known.now _ cells 1 c.as_slice.ensures c.requires.placed.0.0 (omega (arith, c.in-len2.len_at_least)) in
+    let cells = c.inputs.result.now in
+    let first = is_there c.args.known.now _ cells 0 c.inputs.ensures c.requires.placed.0.0 (omega (arith, c.in-len2.len_at_least)) in
+    let second = is_there c.args.known.now _ cells 1 c.inputs.ensures c.requires.placed.0.0 (omega (arith, c.in-len2.len_at_least)) in
     let same : c.copied.result ∷ c.copied-in-len2.result ∷ [] ≡ c.index-known-one-in-len2.result ∷ c.index-known-another.result ∷ [] =
     λ i. c.copied.ensures i ∷ c.copied-in-len2.ensures i ∷ [] in
     same ∙ two_given c.args.known.now cells c.index-known-one-in-len2.result c.index-known-another.result (omega (arith, c.in-len2.len_at_least))
     (omega (arith, c.in-len2.len_below)) first second c.index-known-one-in-len2.is c.index-known-another.is
-    ∙ ap (map (info_at c.args.known.now)) c.as_slice.ensures
+    ∙ ap (map (info_at c.args.known.now)) c.inputs.ensures
 
 pub returns-in-len1-clause-news : goal.returns-in-len1-clause-news
 returns-in-len1-clause-news g c =
@@ -58,6 +58,12 @@ returns-in-len2-clause-news g c =
     news_given (procedures_in c.args.registry.now) c.args.known.now (attachment c.args.instance.now) c.procedure_value-info-in-len2.result
     c.procedure_value-info-in-len2.ensures.says c.procedure_value-info-in-len2.ensures.kind c.unless_known-in-len2.result
     c.unless_known-in-len2.ensures.some c.unless_known-in-len2.ensures.news
+
+pub returns-in_default-clause-news : goal.returns-in_default-clause-news
+returns-in_default-clause-news g c =
+    news_given (procedures_in c.args.registry.now) c.args.known.now (attachment c.args.instance.now) c.answer_on_many-info.result
+    c.answer_on_many-info.ensures.says c.answer_on_many-info.ensures.kind c.unless_known-in_default.result
+    c.unless_known-in_default.ensures.some c.unless_known-in_default.ensures.news
 
 -- what it gave is no news where it was known
 none_given : (procedures : List Procedure) (known : List Info) (a : Attached) (info : Info) → Gives procedures known a info →
@@ -78,3 +84,8 @@ pub returns-in-len2-clause-none : goal.returns-in-len2-clause-none
 returns-in-len2-clause-none g c =
     none_given (procedures_in c.args.registry.now) c.args.known.now (attachment c.args.instance.now) c.procedure_value-info-in-len2.result
     c.procedure_value-info-in-len2.ensures.says c.unless_known-in-len2.result c.unless_known-in-len2.ensures.none
+
+pub returns-in_default-clause-none : goal.returns-in_default-clause-none
+returns-in_default-clause-none g c =
+    none_given (procedures_in c.args.registry.now) c.args.known.now (attachment c.args.instance.now) c.answer_on_many-info.result
+    c.answer_on_many-info.ensures.says c.unless_known-in_default.result c.unless_known-in_default.ensures.none

@@ -28,7 +28,7 @@ list_instances-requires-clause-here g c =
     (let long = ap length c.requires.kinds in omega (arith, c.add_cells.ensures.cells, c.reserve-2.ensures.cells, c.args.self.now.cells)) in
     let placed = rw (← c.cells.ensures.cells) at here in
     let count : length c.reserve_numbered.new.list.items ≡ c.len-count.result = omega (arith, c.len-count.ensures, c.reserve_numbered.new.list.ok.0) in
-    let P : InstanceType → Type 0 = λ y. All (λ cell. cell < many) y.inputs in
+    let P : InstanceType → Type 0 = λ y. All (λ cell. cell < many) (attachment y).instance.inputs in
     subst (λ n. All P (drop n c.deref.result.now)) count
     (subst (λ l. All P (drop (length c.reserve_numbered.new.list.items) l)) (sym c.deref.ensures.value)
     (c.in_ok-append_calls.ensures.appended.here many placed))

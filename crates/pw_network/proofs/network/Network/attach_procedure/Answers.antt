@@ -1,4 +1,4 @@
-use Rattle.std.proofs.Common.{◌≡◌, ◌-◌, ◌<◌, ◌∙◌, ◌++◌, [], ◌∷◌, ap, drop, length, map, subst, sym, take, vec_len, arith, rules}
+use Rattle.std.proofs.Common.{◌≡◌, ◌-◌, ◌<◌, ◌≤◌, ◌∙◌, ◌++◌, [], ◌∷◌, ap, drop, length, map, subst, sym, take, vec_len, arith, rules}
 use Rattle.std.specs.Prelude.{All}
 use Rattle.std.proofs.lemmas.List.{drop_at}
 use Rattle.std.proofs.lemmas.List.Elements.{All-cons, All-nil, All-same, All-take, All-weaker}
@@ -30,10 +30,21 @@ list_instances-requires-clause-here g c =
     ap (drop c.len-count.result) (c.deref.ensures.value ∙ pushed) ∙ drop_at old (x ∷ []) c.len-count.result count in
     let there = All-weaker (λ cell. cell < length (declared c.args.self.now.declaration.now).cells) (λ cell. cell < many)
     (λ cell below. omega (arith, below, c.reserve.ensures.cells, c.args.self.now.cells)) cells c.requires.here in
-    let own = All-same (λ cell. cell < many) x.inputs (take (length cells - 1) cells) c.in_ok-instance.ensures.inputs
+    let own = All-same (λ cell. cell < many) (attachment x).instance.inputs (take (length cells - 1) cells) c.in_ok-instance.ensures.inputs
     (All-take (λ cell. cell < many) (length cells - 1) cells there) in
-    let P : InstanceType → Type 0 = λ y. All (λ cell. cell < many) y.inputs in
+    let P : InstanceType → Type 0 = λ y. All (λ cell. cell < many) (attachment y).instance.inputs in
     All-same P (drop c.len-count.result c.deref.result.now) (x ∷ []) new (All-cons P x [] own (All-nil P))
+
+pub list_instances-requires-clause-few : goal.list_instances-requires-clause-few
+list_instances-requires-clause-few g c =
+    let x = c.in_ok-instance.instance in
+    let old = c.reserve_numbered.new.list.items in
+    let pushed : c.push.new.self.items ≡ old ++ x ∷ [] = search rules in
+    let count : length old ≡ c.len-count.result = omega (arith, c.len-count.ensures, c.reserve_numbered.new.list.ok.0) in
+    let new : drop c.len-count.result c.deref.result.now ≡ x ∷ [] =
+    ap (drop c.len-count.result) (c.deref.ensures.value ∙ pushed) ∙ drop_at old (x ∷ []) c.len-count.result count in
+    let P : InstanceType → Type 0 = λ y. length (attachment y).instance.inputs ≤ 8 in
+    All-same P (drop c.len-count.result c.deref.result.now) (x ∷ []) new (All-cons P x [] c.in_ok-instance.ensures.few (All-nil P))
 
 pub invariant_of-self-2-clause-well : goal.invariant_of-self-2-clause-well
 invariant_of-self-2-clause-well g c =
