@@ -29,10 +29,13 @@ use std::marker::Model;
 // often.
 const FEW: usize = 8;
 
+// When as many facts are late, and few are kept, the late ones are assimilated.
+const MOST_LATE: usize = 64;
+
 // A cell's kind, the facts told about it, and the facts kept of it. Facts told under one support
 // are held as one fact, their meet, so asking for them costs no more for a cell that was told
-// often. Told facts are assimilated late, when the kept facts are first asked for. So a cell that
-// gets only tells and asks needs no walk over its facts.
+// often. Told facts are assimilated late: when the kept facts are first asked for, or when many were
+// told while few are kept. So no tell walks over many facts.
 #[derive(Drop)]
 pub(crate) struct FactLists<C: Content, S: Support, A: Allocator> {
     kind: Kind,
@@ -114,6 +117,38 @@ impl<C: Content, S: Support, A: Allocator + Copy> FactLists<C, S, A> {
 
     // Records that a fact was told, and keeps it. If memory is refused, nothing changes.
     pub(crate) fn tell(&mut self, fact: &Held<C, S>) -> Result<(), AllocError>
+        requires { kind_of fact.now.info ≡ self.old.kind }
+        ensures told { OnOk result (GainsFact fact.now (told_of self.old) (told_of self.new)) }
+        ensures kept { OnOk result (GainsFact fact.now (kept_of self.old) (kept_of self.new)) }
+        ensures assimilates { OnOk result (Assimilates fact.now self.old.kept self.new.kept) }
+        ensures kind { self.new.kind ≡ self.old.kind }
+        ensures err { OnErr result (self.new ≡ self.old) }
+    {
+        self.shorten_late();
+        self.tell_late(fact)
+    }
+
+    // Assimilates the late facts if they have become many while few are kept. So they take little
+    // memory, however often a cell is told under few supports.
+    #[inline(always)]
+    fn shorten_late(&mut self)
+        ensures { self.new ≡ self.old }
+    {
+        if self.late.len() >= MOST_LATE && self.kept.len() < LEAST_LIMIT {
+            assimilate_late(
+                self.kind,
+                &mut self.kept,
+                &mut self.bound,
+                &mut self.limit,
+                &mut self.late,
+            );
+        }
+    }
+
+    // Records that a fact was told, and adds it to the late ones. If memory is refused, nothing
+    // changes.
+    #[inline(always)]
+    fn tell_late(&mut self, fact: &Held<C, S>) -> Result<(), AllocError>
         requires { kind_of fact.now.info ≡ self.old.kind }
         ensures told { OnOk result (GainsFact fact.now (told_of self.old) (told_of self.new)) }
         ensures kept { OnOk result (GainsFact fact.now (kept_of self.old) (kept_of self.new)) }

@@ -8,8 +8,8 @@ use Rattle.pw_cells.specs.inside.OneCell.{Bounds}
 use Rattle.pw_cells.specs.Cells.{Cell, IsSubsumedBy}
 use Rattle.pw_cells.specs.inside.OneCell.{AreOfKind, current}
 use Rattle.pw_cells.proofs.Tells.{KeepsMore, keeps_more, whole_told, late_more}
-use Rattle.pw_cells.proofs.fact_lists.FactLists.tell.Given as given
-use Rattle.pw_cells.proofs.fact_lists.FactLists.tell.Goals as goal
+use Rattle.pw_cells.proofs.fact_lists.FactLists.tell_late.Given as given
+use Rattle.pw_cells.proofs.fact_lists.FactLists.tell_late.Goals as goal
 
 pub is_lately_subsumed-known-requires : goal.is_lately_subsumed-known-requires
 is_lately_subsumed-known-requires g c =
