@@ -1,9 +1,9 @@
 -- What is known about the cells at the start of a settling beside the store: it follows.
-use Rattle.std.proofs.Common.{◌≡◌, ℕ, ◌+◌, ◌<◌, ◌≤◌, true, eqb, List, [], ◌∷◌, ◌++◌, length, map, sym, ap, ◌∙◌, subst, arith, inl, inr, length-append}
+use Rattle.std.proofs.Common.{◌≡◌, ℕ, ◌+◌, ◌<◌, ◌≤◌, true, eqb, ◌≢◌, set, List, [], ◌∷◌, ◌++◌, length, map, sym, ap, ◌∙◌, subst, arith, inl, inr, length-append}
 use Rattle.std.specs.Prelude.{nat_lt}
 use Rattle.std.specs.FinSet.{empty, is_subset, union}
 use Rattle.std.proofs.lemmas.Bool.{cases_Bool, eqb-false, eqb-true, ltb-true, ltb-false}
-use Rattle.std.proofs.lemmas.List.{get_or_append_left, get_or_default, get_or_past, get_or_push, length-map, same_lists}
+use Rattle.std.proofs.lemmas.List.{get_or_append_left, get_or_default, get_or_past, get_or_push, get_or-set_other, get_or-set_same, length-map, length-set, same_lists}
 use Rattle.pw_info.specs.declared.kind.Kind.TheVariants as kinds
 use Rattle.pw_info.specs.declared.info.Info.{Info}
 use Rattle.pw_info.specs.Information.{allows, kind_of, meet, nothing, Implies}
@@ -176,6 +176,94 @@ found_more network store w count infos supports info support so_far one = record
 } where
   last : IsFound network store w count (info_at (infos ++ info ∷ []) count) (support_at (supports ++ support ∷ []) count)
   last = rw (get_or_push infos info (nothing kinds.Interval) count so_far.many, get_or_push supports support empty count so_far.as_many) one
+
+-- ---- the cells in place, in a part of the earlier worldview
+
+-- so far what is known about the cells below this number is found, and about the others it is as before
+pub record IsPutTo (network : Network) (store : Store) (w : Premises) (before : Settled) (count : ℕ) (infos : List Info) (supports : List Premises) : Type 0 where
+  pub many : length infos ≡ length store.cells
+  pub as_many : length supports ≡ length store.cells
+  pub found : (cell : ℕ) → cell < count → IsFound network store w cell (info_at infos cell) (support_at supports cell)
+  pub infos_stay : (cell : ℕ) → count ≤ cell → info_at infos cell ≡ info_at before.infos cell
+  pub supports_stay : (cell : ℕ) → count ≤ cell → support_at supports cell ≡ support_at before.supports cell
+
+module _ (network : Network) (well : IsWellNetwork network) (store : Store) (same : kinds_of store ≡ kinds_in network) (w : Premises)
+    (before : Settled) (is : IsSettled network store before.worldview before) where
+  -- there are as many earlier values as cells
+  pub earlier_many : length before.infos ≡ length store.cells
+  earlier_many = omega (arith, is.cells, kinds_many network well, length-map store.cells (λ (x : Cell). x.kind), ap length same)
+
+  pub earlier_supports : length before.supports ≡ length store.cells
+  earlier_supports = omega (arith, is.supports, kinds_many network well, length-map store.cells (λ (x : Cell). x.kind), ap length same)
+
+  -- at first all are as before
+  pub put_none : (infos : List Info) (supports : List Premises) → infos ≡ before.infos → supports ≡ before.supports →
+      IsPutTo network store w before 0 infos supports
+  put_none infos supports are also = record {
+    many = ap length are ∙ earlier_many;
+    as_many = ap length also ∙ earlier_supports;
+    found = λ cell below. absurd (omega (arith, below));
+    infos_stay = λ cell past. ap (λ l. info_at l cell) are;
+    supports_stay = λ cell past. ap (λ l. support_at l cell) also;
+  }
+
+  module _ (count : ℕ) (there : count < length store.cells) (infos : List Info) (supports : List Premises)
+      (so_far : IsPutTo network store w before count infos supports) where
+    -- a value stays that rests on premises of the worldview
+    pub put_stays : is_subset (support_at supports count) w ≡ true → is_subset w before.worldview ≡ true →
+        IsPutTo network store w before (count + 1) infos supports
+    put_stays within part = record {
+      many = so_far.many;
+      as_many = so_far.as_many;
+      found = λ cell below. elim (cases_Bool (eqb cell count)) [
+        | inl e ↦ subst (λ (c : ℕ). IsFound network store w c (info_at infos c) (support_at supports c)) (sym (eqb-true cell count e)) here
+        | inr other ↦ so_far.found cell (omega (arith, below, eqb-false cell count other))
+      ];
+      infos_stay = λ cell past. so_far.infos_stay cell (omega (arith, past));
+      supports_stay = λ cell past. so_far.supports_stay cell (omega (arith, past));
+    } where
+      info_is : info_at infos count ≡ info_at before.infos count
+      info_is = so_far.infos_stay count (omega arith)
+
+      support_is : support_at supports count ≡ support_at before.supports count
+      support_is = so_far.supports_stay count (omega arith)
+
+      here : IsFound network store w count (info_at infos count) (support_at supports count)
+      here = rw (info_is, support_is)
+          (earlier_found network store same w count well before is (omega (arith, there, length-map store.cells (λ (x : Cell). x.kind), ap length same))
+          (ap (λ (s : Premises). is_subset s w) (sym support_is) ∙ within) part)
+
+    -- what is kept takes the place of another
+    pub put_one : (info : Info) (support : Premises) (new_infos : List Info) (new_supports : List Premises) →
+        new_infos ≡ set infos count info → new_supports ≡ set supports count support → IsFound network store w count info support →
+        IsPutTo network store w before (count + 1) new_infos new_supports
+    put_one info support new_infos new_supports infos_are supports_are one = record {
+      many = ap length infos_are ∙ length-set infos count info ∙ so_far.many;
+      as_many = ap length supports_are ∙ length-set supports count support ∙ so_far.as_many;
+      found = λ cell below. elim (cases_Bool (eqb cell count)) [
+        | inl e ↦ subst (λ (c : ℕ). IsFound network store w c (info_at new_infos c) (support_at new_supports c)) (sym (eqb-true cell count e)) here
+        | inr other ↦ rw (elsewhere cell (eqb-false cell count other), elsewhere_also cell (eqb-false cell count other))
+            (so_far.found cell (omega (arith, below, eqb-false cell count other)))
+      ];
+      infos_stay = λ cell past. elsewhere cell (λ e. absurd (omega (arith, e, past))) ∙ so_far.infos_stay cell (omega (arith, past));
+      supports_stay = λ cell past. elsewhere_also cell (λ e. absurd (omega (arith, e, past))) ∙ so_far.supports_stay cell (omega (arith, past));
+    } where
+      elsewhere : (cell : ℕ) → cell ≢ count → info_at new_infos cell ≡ info_at infos cell
+      elsewhere cell other = ap (λ l. info_at l cell) infos_are ∙ get_or-set_other infos count cell info (nothing kinds.Interval) other
+
+      elsewhere_also : (cell : ℕ) → cell ≢ count → support_at new_supports cell ≡ support_at supports cell
+      elsewhere_also cell other = ap (λ l. support_at l cell) supports_are ∙ get_or-set_other supports count cell support empty other
+
+      here : IsFound network store w count (info_at new_infos count) (support_at new_supports count)
+      here = rw (
+        ap (λ l. info_at l count) infos_are ∙ get_or-set_same infos count info (nothing kinds.Interval) (omega (arith, there, so_far.many)),
+        ap (λ l. support_at l count) supports_are ∙ get_or-set_same supports count support empty (omega (arith, there, so_far.as_many)),
+      ) one
+
+  -- in the end all are found
+  pub put_all : (infos : List Info) (supports : List Premises) → IsPutTo network store w before (length store.cells) infos supports →
+      IsFoundTo network store w (length store.cells) infos supports
+  put_all infos supports to = record { many = to.many; as_many = to.as_many; found = to.found }
 
 -- about no cell past the last anything is known
 pub past_found : (network : Network) (store : Store) (same : kinds_of store ≡ kinds_in network) (w : Premises) (cell : ℕ) → length store.cells ≤ cell →

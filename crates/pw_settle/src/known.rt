@@ -5,7 +5,7 @@ ghost use Rattle.pw_network.specs.inside.Held.{attachment};
 ghost use Rattle.pw_network.specs.Network.{Network as Networks};
 ghost use Rattle.pw_cells.specs.Shown.{IsKeptIn};
 ghost use Rattle.pw_settle.specs.inside.Known.{AreInputsThere, AreKept, IsAtHandFor, IsNewTo};
-ghost use Rattle.pw_settle.specs.inside.Known.{LeavesKept, ListsOneMore, SaysTold, StaysAtHand};
+ghost use Rattle.pw_settle.specs.inside.Known.{LeavesKept, ListsOneMore, PutsKept, SaysTold, StaysAtHand};
 ghost use Rattle.pw_settle.specs.inside.Known.{ReadsUpstream, TakesIn, TakesInKept, joined};
 ghost use Rattle.pw_settle.specs.inside.Known.{news_on};
 ghost use Rattle.pw_settle.specs.inside.Since.{BeginsWith};
@@ -92,6 +92,51 @@ fn push_wide_kept<A: Allocator + Copy>(
     let fact = store.kept(cell, worldview);
     infos.push(fact.info)?;
     supports.push(fact.support)?;
+    Ok(())
+}
+
+// Puts what is kept of a cell in a worldview in place of what is known about it. Fails only when out
+// of memory.
+#[inline(always)]
+pub(crate) fn put_kept<A: Allocator + Copy>(
+    store: &mut CellStore<A>,
+    cell: u32,
+    worldview: &PremiseSet,
+    known: &mut Known<A>,
+) -> Result<(), AllocError>
+    requires exists { cell < length store.old.cells }
+    requires there { cell < length known.old.infos.items }
+    requires support { cell < length known.old.supports }
+    ensures unchanged { store.new ≡ store.old }
+    ensures put { OnOk result (PutsKept store.old cell worldview.now known.old.infos.items
+        known.new.infos.items known.old.supports known.new.supports) }
+{
+    if let Some(fact) = store.kept_narrow(cell, worldview) {
+        known.infos[cell as usize] = fact.info;
+        known.supports.put_narrow(cell as usize, fact.support);
+        return Ok(());
+    }
+    put_wide_kept(store, cell, worldview, known)
+}
+
+// The same, on any premises. Never inlined, so that what is narrow makes no room for wide sets.
+#[inline(never)]
+fn put_wide_kept<A: Allocator + Copy>(
+    store: &mut CellStore<A>,
+    cell: u32,
+    worldview: &PremiseSet,
+    known: &mut Known<A>,
+) -> Result<(), AllocError>
+    requires exists { cell < length store.old.cells }
+    requires there { cell < length known.old.infos.items }
+    requires support { cell < length known.old.supports }
+    ensures unchanged { store.new ≡ store.old }
+    ensures put { OnOk result (PutsKept store.old cell worldview.now known.old.infos.items
+        known.new.infos.items known.old.supports known.new.supports) }
+{
+    let fact = store.kept(cell, worldview);
+    known.supports.replace(cell as usize, fact.support)?;
+    known.infos[cell as usize] = fact.info;
     Ok(())
 }
 

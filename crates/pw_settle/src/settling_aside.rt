@@ -16,7 +16,7 @@ ghost use Rattle.pw_settle.specs.inside.Progress.{AreQueuedVisible, AreSatisfied
 use crate::agenda::Agenda;
 use crate::calling_aside::settle_aside_from;
 use crate::growing_aside::grow_aside;
-use crate::known::Known;
+use crate::known::{Known, put_kept};
 use crate::resettling::queue_changed;
 use crate::settled::Settled;
 use crate::settling::seen;
@@ -107,7 +107,8 @@ fn merged_narrow(a: NarrowFact, b: NarrowFact) -> NarrowFact
     }
 }
 
-// What `start_value` answers, if all premises at hand are below 64.
+// What is known about a cell at the start, if all premises at hand are below 64. A part of the earlier
+// worldview is no case of its own: `part_values` is for that.
 #[inline(always)]
 fn start_narrow<A: Allocator + Copy>(
     before: &Settled<A>,
@@ -115,11 +116,9 @@ fn start_narrow<A: Allocator + Copy>(
     store: &mut CellStore<A>,
     cell: u32,
     worldview: &PremiseSet,
-    is_part: bool,
 ) -> Option<NarrowFact>
     requires start { CanStart (wiring network.now) store.old before.now }
     requires cell { cell < length store.old.cells }
-    requires part { is_part ≡ true → is_subset worldview.now before.now.worldview ≡ true }
     ensures unchanged { store.new ≡ store.old }
     ensures found { IfSome result (λ fact. IsFound (wiring network.now) store.old worldview.now cell
         fact.info fact.support) }
@@ -129,9 +128,6 @@ fn start_narrow<A: Allocator + Copy>(
     let earlier = before.narrow_value(cell)?;
     if !earlier.support.is_within(worldview) {
         return store.kept_narrow(cell, worldview);
-    }
-    if is_part {
-        return Some(earlier);
     }
     let kept = store.kept_narrow(cell, worldview)?;
     Some(merged_narrow(earlier, kept))
@@ -145,18 +141,16 @@ fn push_start<A: Allocator + Copy>(
     store: &mut CellStore<A>,
     cell: u32,
     worldview: &PremiseSet,
-    is_part: bool,
     infos: &mut Vec<Info, A>,
     supports: &mut SupportList<A>,
 ) -> Result<(), AllocError>
     requires start { CanStart (wiring network.now) store.old before.now }
     requires cell { cell < length store.old.cells }
-    requires part { is_part ≡ true → is_subset worldview.now before.now.worldview ≡ true }
     ensures unchanged { store.new ≡ store.old }
     ensures found { OnOk result (ListsOneMore (IsFound (wiring network.now) store.old worldview.now
         cell) infos.old.items infos.new.items supports.old supports.new) }
 {
-    if let Some(fact) = start_narrow(before, network, store, cell, worldview, is_part) {
+    if let Some(fact) = start_narrow(before, network, store, cell, worldview) {
         infos.push(fact.info)?;
         supports.push_narrow(fact.support)?;
         return Ok(());
@@ -187,8 +181,8 @@ fn push_wide_start<A: Allocator + Copy>(
     Ok(())
 }
 
-// What is known about the cells at the start. Fails only when out of memory.
-fn start_values<A: Allocator + Copy>(
+// What is known about the cells at the start, cell by cell. Fails only when out of memory.
+fn other_values<A: Allocator + Copy>(
     alloc: A,
     before: &Settled<A>,
     network: &Network<'_, '_, A>,
@@ -202,7 +196,6 @@ fn start_values<A: Allocator + Copy>(
 {
     let mut infos = Vec::with_capacity(alloc, store.cells() as usize)?;
     let mut supports = SupportList::with_capacity(alloc, store.cells() as usize)?;
-    let is_part = worldview.is_subset(before.worldview());
     for cell in 0..store.cells() {
         push_start(
             before,
@@ -210,12 +203,56 @@ fn start_values<A: Allocator + Copy>(
             store,
             cell,
             worldview,
-            is_part,
             &mut infos,
             &mut supports,
         )?;
     }
     Ok(Known { infos, supports })
+}
+
+// The same, in a part of the earlier worldview. There the earlier values stay, but for those that
+// rest on a premise which it lacks. Fails only when out of memory.
+fn part_values<A: Allocator + Copy>(
+    alloc: A,
+    before: &Settled<A>,
+    network: &Network<'_, '_, A>,
+    store: &mut CellStore<A>,
+    worldview: &PremiseSet,
+) -> Result<Known<A>, AllocError>
+    requires start { CanStart (wiring network.now) store.old before.now }
+    requires part { is_subset worldview.now before.now.worldview ≡ true }
+    ensures unchanged { store.new ≡ store.old }
+    ensures found { IfOk result (λ known. AreFound (wiring network.now) store.old worldview.now
+        known.infos.items known.supports) }
+{
+    // The network belongs to the store.
+    let _instances = network.instances();
+    let mut known = before.known(alloc)?;
+    for cell in 0..store.cells() {
+        if !known.supports.is_within(cell as usize, worldview) {
+            put_kept(store, cell, worldview, &mut known)?;
+        }
+    }
+    Ok(known)
+}
+
+// What is known about the cells at the start. Fails only when out of memory.
+fn start_values<A: Allocator + Copy>(
+    alloc: A,
+    before: &Settled<A>,
+    network: &Network<'_, '_, A>,
+    store: &mut CellStore<A>,
+    worldview: &PremiseSet,
+) -> Result<Known<A>, AllocError>
+    requires start { CanStart (wiring network.now) store.old before.now }
+    ensures unchanged { store.new ≡ store.old }
+    ensures found { IfOk result (λ known. AreFound (wiring network.now) store.old worldview.now
+        known.infos.items known.supports) }
+{
+    if worldview.is_subset(before.worldview()) {
+        return part_values(alloc, before, network, store, worldview);
+    }
+    other_values(alloc, before, network, store, worldview)
 }
 
 // Whether the instance of this number was visible, and no less is known now of the cell that it

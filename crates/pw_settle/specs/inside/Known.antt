@@ -144,6 +144,14 @@ pub record TakesInKept (store : Store) (cell : ℕ) (w : Premises) (is_news : Bo
   pub none : is_news ≡ false → Implies (info_at infos cell) (kept_in store cell w)
       × (new_infos ≡ infos) × (new_supports ≡ supports)
 
+-- what is kept of a cell in a worldview takes the place of what is at hand for it
+pub record PutsKept (store : Store) (cell : ℕ) (w : Premises) (infos new_infos : List Info)
+    (supports new_supports : List Premises) : Type 0 where
+  pub fact : Fact
+  pub is : IsKeptIn store cell w fact
+  pub infos_are : new_infos ≡ set infos cell fact.info
+  pub supports_are : new_supports ≡ set supports cell fact.support
+
 -- what is kept of a cell in a worldview is news, and what is at hand for it stays
 pub record LeavesKept (store : Store) (cell : ℕ) (w : Premises) (infos new_infos : List Info)
     (supports new_supports : List Premises) : Type 0 where

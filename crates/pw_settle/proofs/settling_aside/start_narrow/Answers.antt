@@ -1,15 +1,11 @@
 use Rattle.std.proofs.Common.{◌≡◌, sym, ap, ◌∙◌}
-use Rattle.std.specs.Prelude.{true}
-use Rattle.std.specs.FinSet.{is_subset}
 use Rattle.std.proofs.lemmas.Option.{IfSome_then}
 use Rattle.pw_info.specs.Information.{kind_of}
-use Rattle.pw_premises.specs.Premises.{Premises}
 use Rattle.pw_facts.specs.declared.fact.Fact.{Fact}
 use Rattle.pw_facts.proofs.Merges.{merge_rests, merge_shows}
 use Rattle.pw_cells.specs.Cells.{fact_on}
 use Rattle.pw_network.specs.Wiring.{wiring}
-use Rattle.pw_settle.specs.Settled.{support_at}
-use Rattle.pw_settle.proofs.AsideStarts.{cell_there, earlier_found, earlier_kind, kept_found, merged_found}
+use Rattle.pw_settle.proofs.AsideStarts.{cell_there, earlier_kind, kept_found, merged_found}
 use Rattle.pw_settle.proofs.KeptFacts.{kind_there}
 use Rattle.pw_settle.proofs.settling_aside.start_narrow.Goals as goal
 
@@ -18,15 +14,6 @@ returns-then-not-is_within-clause-found g c =
     IfSome_then c.kept_narrow.result c.kept_narrow.ensures.kept
     (λ fact is. kept_found (wiring c.args.network.now) c.args.store.now c.requires.start.kinds c.args.worldview.now c.args.cell c.requires.start.sound
     fact.info fact.support is.info is.within is.larger is.told)
-
-pub returns-then-is_part-clause-found : goal.returns-then-is_part-clause-found
-returns-then-is_part-clause-found g c =
-    let network = wiring c.args.network.now in
-    let within : is_subset (support_at c.args.before.now.supports c.args.cell) c.args.worldview.now ≡ true =
-    ap (λ (s : Premises). is_subset s c.args.worldview.now) (sym c.in_ok-earlier.ensures.support) ∙ sym c.is_within.ensures.subset ∙ c.if-not-is_within.false in
-    rw (c.in_ok-earlier.ensures.info, c.in_ok-earlier.ensures.support)
-    (earlier_found network c.args.store.now c.requires.start.kinds c.args.worldview.now c.args.cell c.args.network.now.well c.args.before.now c.requires.start.settled
-    (cell_there network c.args.store.now c.args.cell c.requires.start.kinds c.requires.cell) within (c.requires.part c.if-is_part.true))
 
 pub merged_narrow-requires : goal.merged_narrow-requires
 merged_narrow-requires g c =

@@ -4,7 +4,7 @@ use Rattle.pw_cells.specs.Cells.{Store}
 use Rattle.pw_network.specs.Wiring.{wiring}
 use Rattle.pw_settle.specs.inside.Aside.{IsFound}
 use Rattle.pw_settle.proofs.AsideStarts.{IsFoundTo, all_found, found_more, found_none}
-use Rattle.pw_settle.proofs.settling_aside.start_values.Goals as goal
+use Rattle.pw_settle.proofs.settling_aside.other_values.Goals as goal
 
 pub loop-cell-init : goal.loop-cell-init
 loop-cell-init g c = record {

@@ -1,7 +1,7 @@
 use Rattle.std.proofs.Common.{◌≡◌}
 use Rattle.pw_network.specs.Wiring.{wiring}
 use Rattle.pw_settle.proofs.AsideStarts.{IsFoundTo}
-use Rattle.pw_settle.proofs.settling_aside.start_values.Given as goal
+use Rattle.pw_settle.proofs.settling_aside.other_values.Given as goal
 
 abbrev pub invariant-loop-cell : goal.invariant-loop-cell
 invariant-loop-cell g l = record {
