@@ -128,8 +128,8 @@ impl<C: Content, S: Support, A: Allocator + Copy> FactLists<C, S, A> {
         self.tell_late(fact)
     }
 
-    // Assimilates the late facts if they have become many while few are kept. So they take little
-    // memory, however often a cell is told under few supports.
+    // Assimilates the late facts if many are late and few are kept. Otherwise a cell that is told again
+    // and again, and never asked for what is kept, would hold every fact that it was told.
     #[inline(always)]
     fn shorten_late(&mut self)
         ensures { self.new ≡ self.old }
