@@ -1,18 +1,20 @@
 -- What an instance of a network makes of what is at hand.
 use Rattle.std.proofs.Common.{◌≡◌, ℕ, ◌<◌, List, [], ◌∷◌, All, length, map, get_or, sym, ap, ◌∙◌, subst, arith}
-use Rattle.std.specs.Prelude.{IfSome, None, Option, Some}
+use Rattle.std.specs.Prelude.{IfNone, IfSome, None, Option, Some}
 use Rattle.std.proofs.Math.ListN.{get_or-map}
 use Rattle.std.proofs.lemmas.List.{get_or_default, length-map}
 use Rattle.pw_info.specs.declared.kind.Kind.{Kind}
 use Rattle.pw_info.specs.declared.kind.Kind.TheVariants as kinds
 use Rattle.pw_info.specs.declared.info.Info.{Info}
 use Rattle.pw_info.specs.Information.{kind_of, nothing, Implies}
+use Rattle.pw_premises.specs.Premises.{Premises}
 use Rattle.pw_procs.specs.Procedure.{Procedure}
 use Rattle.pw_network.specs.declared.instance.Instance.{Instance}
 use Rattle.pw_network.specs.inside.Held.{attachment}
 use Rattle.pw_network.specs.Network.{Attached, Network, IsWellNetwork}
 use Rattle.pw_cells.specs.Cells.{IsUnsaid}
-use Rattle.pw_settle.specs.inside.Known.{Gives, GivesNews, IsPlaced}
+use Rattle.pw_settle.specs.inside.Known.{Gives, GivesNews, GivesNone, IsPlaced, joined, news_on}
+use Rattle.pw_settle.specs.inside.Progress.{IsNews}
 use Rattle.pw_settle.specs.Values.{IsSatisfied, attached_no}
 use Rattle.pw_settle.specs.Settled.{info_at}
 use Rattle.pw_settle.specs.Sources.{IsImplied, said_by}
@@ -39,6 +41,23 @@ news_given procedures known a info gives kind (Some news) same unsaid =
       news = subst (IsUnsaid (info_at known a.instance.output)) same unsaid;
     })
 news_given procedures known a info gives kind None same unsaid = same
+
+-- and what it gave is no news where it was known
+pub none_given : (procedures : List Procedure) (known : List Info) (a : Attached) (info : Info) → Gives procedures known a info →
+    (found : Option Info) → IfNone found (Implies (info_at known a.instance.output) info) → IfNone found (GivesNone procedures known a)
+none_given procedures known a info gives (Some news) said = said
+none_given procedures known a info gives None said = record {
+  info = info;
+  gives = gives;
+  said = said;
+}
+
+-- a cell of the list is there
+pub cell_there : (known : List Info) (inputs cells : List ℕ) (place : ℕ) → cells ≡ inputs → All (λ cell. cell < length (map kind_of known)) inputs →
+    place < length cells → get_or cells place 0 < length known
+cell_there known inputs cells place same there below =
+    let all : All (λ cell. cell < length (map kind_of known)) cells = subst (All (λ cell. cell < length (map kind_of known))) (sym same) there in
+    omega (arith, all place 0 below, length-map known kind_of)
 
 module _ (network : Network) (well : IsWellNetwork network) (infos : List Info) (procedures : List Procedure) (number : ℕ) (a : Attached)
     (same : procedures ≡ network.declared.procedures) (kinds_are : map kind_of infos ≡ kinds_in network)
@@ -80,3 +99,17 @@ module _ (network : Network) (well : IsWellNetwork network) (infos : List Info) 
       (all_sources procedures (map kind_of infos) a.instance placed_here (IsImplied (info_at infos))
       (subst (Implies (info_at infos a.instance.output))
       (sym (the_source procedures (map kind_of infos) a.instance placed_here (λ source. said_by (info_at infos) source ≡ info) says)) implied)))
+
+  -- news that it gave are news of the instance
+  pub news_here : (info : Info) → GivesNews procedures infos a info → (supports : List Premises) → (d : Attached) →
+      IsNews network infos supports (attached_no network number d) a.instance.output (news_on supports a info)
+  news_here info gives supports d = record {
+    output = ap (λ (b : Attached). b.instance.output) (sym (is d));
+    says = said_here info gives.gives d;
+    rests = ap (λ (b : Attached). joined supports b.support b.instance.inputs) (sym (is d));
+    new = gives.news;
+  }
+
+  -- and where it gave none, the instance is satisfied
+  pub none_here : GivesNone procedures infos a → (d : Attached) → IsSatisfied network (info_at infos) (attached_no network number d)
+  none_here none = satisfied_here none.info none.gives none.said

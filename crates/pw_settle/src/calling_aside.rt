@@ -1,7 +1,9 @@
 //! Calling instances beside the store, until nothing more follows.
-ghost use Rattle.std.specs.Prelude.{◌≡◌, ◌+◌, ◌<◌, ◌≤◌, true, IfOk, OnOk, length};
+ghost use Rattle.std.specs.Prelude.{◌≡◌, ◌+◌, ◌<◌, ◌≤◌, true, IfOk, OnOk, length, map};
 ghost use Rattle.pw_cells.specs.Cells.{kinds_of};
 ghost use Rattle.pw_network.specs.Wiring.{wiring};
+ghost use Rattle.pw_procs.specs.Registry.{procedures_in};
+ghost use Rattle.pw_network.specs.inside.Held.{attachment};
 ghost use Rattle.pw_settle.specs.Calls.{AreVisible, most_calls, visible_at};
 ghost use Rattle.pw_settle.specs.Settled.{IsSettled, info_at};
 ghost use Rattle.pw_settle.specs.Values.{kinds_in};
@@ -11,18 +13,22 @@ ghost use Rattle.pw_settle.specs.inside.Progress.{AreSatisfied, tally};
 
 use crate::agenda::Agenda;
 use crate::known::{Known, take_in_news};
-use crate::propagating::news_of;
+use crate::propagating::news_on;
 use crate::settled::Settled;
 use crate::settling::queue_readers;
 use pw_cells::CellStore;
-use pw_network::Network;
+use pw_network::{Instance, Network};
 use pw_premises::PremiseSet;
+use pw_procs::Registry;
 use std::alloc::{AllocError, Allocator};
 
 // Calls the procedure of an instance, which is visible and not queued. If the value is news, it is
-// taken in, and the visible readers of the output are queued. Fails only when out of memory.
+// taken in, and the visible readers of the output are queued. The registry and the instances are the
+// network's. Fails only when out of memory.
 fn call_aside<A: Allocator + Copy>(
     network: &Network<'_, '_, A>,
+    registry: &Registry,
+    instances: &[Instance],
     store: &CellStore<A>,
     worldview: &PremiseSet,
     known: &mut Known<A>,
@@ -31,6 +37,8 @@ fn call_aside<A: Allocator + Copy>(
     number: usize,
     calls: &mut u128,
 ) -> Result<(), AllocError>
+    requires registry { procedures_in registry.now ≡ (wiring network.now).declared.procedures }
+    requires instances { map attachment instances.now ≡ (wiring network.now).attached }
     requires kinds { kinds_of store.now ≡ kinds_in (wiring network.now) }
     requires found { AreFound (wiring network.now) store.now worldview.now known.old.infos.items
         known.old.supports }
@@ -53,16 +61,16 @@ fn call_aside<A: Allocator + Copy>(
         ≤ tally agenda.old
         + weight_of (wiring network.now) worldview.now known.old.infos.items) }
 {
-    if let Some(news) = news_of(network, &known.infos, number, calls) {
-        let instance = &network.instances()[number];
+    let instance = &instances[number];
+    if let Some(info) = news_on(registry, instance, &known.infos, calls) {
         take_in_news(
             &mut known.infos,
             &mut known.supports,
-            news.cell,
+            instance.output,
             instance,
-            &news.info,
+            &info,
         )?;
-        queue_readers(network, visible, agenda, news.cell);
+        queue_readers(network, visible, agenda, instance.output);
     }
     Ok(())
 }
@@ -94,10 +102,15 @@ fn work_aside<A: Allocator + Copy>(
     // These lengths bound the count.
     let _cells = store.cells();
     let _instances = visible.len();
+    // Looked up once: otherwise the compiled loop looks them up for each call.
+    let registry = network.declaration().registry();
+    let instances = network.instances();
     let mut calls = 0;
     while let Some(number) = agenda.take() {
         call_aside(
             network,
+            registry,
+            instances,
             store,
             worldview,
             known,

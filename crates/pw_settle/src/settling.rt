@@ -5,6 +5,7 @@ ghost use Rattle.std.specs.List.{count_by};
 ghost use Rattle.pw_info.specs.Information.{kind_of};
 ghost use Rattle.pw_cells.specs.Cells.{IsUnsaid, kept_in, kind_in_store, kinds_of};
 ghost use Rattle.pw_network.specs.Wiring.{wiring};
+ghost use Rattle.pw_procs.specs.Registry.{procedures_in};
 ghost use Rattle.pw_network.specs.inside.Held.{attachment};
 ghost use Rattle.pw_network.specs.Network.{AreAllVisible, HaveSupportsByLine};
 ghost use Rattle.pw_network.specs.Readers.{readers_of};
@@ -27,7 +28,7 @@ ghost use Rattle.pw_settle.specs.Growth.{HasValues};
 
 use crate::agenda::Agenda;
 use crate::known::{Known, joined_narrow, joined_support, read_kept, take_in, take_in_narrow};
-use crate::propagating::news_of;
+use crate::propagating::news_on;
 use crate::settled::Settled;
 use crate::support_list::SupportList;
 use pw_cells::CellStore;
@@ -35,6 +36,7 @@ use pw_facts::Fact;
 use pw_info::Info;
 use pw_network::{Instance, Network};
 use pw_premises::PremiseSet;
+use pw_procs::Registry;
 use std::alloc::{AllocError, Allocator};
 
 // Which instances are visible in the worldview, by number. Instances of one line have one support.
@@ -233,9 +235,12 @@ fn keep_wide_news<A: Allocator + Copy>(
 }
 
 // Calls the procedure of an instance, which is visible and not queued. If the value is news, the
-// store keeps it, and the visible readers of the output are queued. Fails only when out of memory.
+// store keeps it, and the visible readers of the output are queued. The registry and the instances are
+// the network's. Fails only when out of memory.
 fn call<A: Allocator + Copy>(
     network: &Network<'_, '_, A>,
+    registry: &Registry,
+    instances: &[Instance],
     store: &mut CellStore<A>,
     worldview: &PremiseSet,
     sees_all: bool,
@@ -244,6 +249,8 @@ fn call<A: Allocator + Copy>(
     number: usize,
     calls: &mut u128,
 ) -> Result<(), AllocError>
+    requires registry { procedures_in registry.now ≡ (wiring network.now).declared.procedures }
+    requires instances { map attachment instances.now ≡ (wiring network.now).attached }
     requires kinds { kinds_of store.old ≡ kinds_in (wiring network.now) }
     requires all { IsTrue sees_all → AreAllVisible (wiring network.now) worldview.now }
     requires kept { AreKept store.old worldview.now known.old.infos.items known.old.supports }
@@ -269,17 +276,17 @@ fn call<A: Allocator + Copy>(
     ensures most { OnOk result (LeavesNoMore (wiring network.now) worldview.now store.old
         agenda.old store.new agenda.new) }
 {
-    if let Some(news) = news_of(network, &known.infos, number, calls) {
-        let instance = &network.instances()[number];
+    let instance = &instances[number];
+    if let Some(info) = news_on(registry, instance, &known.infos, calls) {
         keep_news(
             store,
             &mut known.infos,
             &mut known.supports,
-            news.cell,
+            instance.output,
             instance,
-            &news.info,
+            &info,
         )?;
-        queue_visible_readers(network, worldview, sees_all, agenda, news.cell);
+        queue_visible_readers(network, worldview, sees_all, agenda, instance.output);
     }
     Ok(())
 }
@@ -313,14 +320,17 @@ pub(crate) fn work<A: Allocator + Copy>(
     ensures most { IfOk result (CallsNoMore (wiring network.now) worldview.now store.old agenda.old
         store.new) }
 {
-    // These lengths bound the count.
+    // The number of cells and that of instances bound the count.
     let _cells = store.cells();
-    let _instances = network.instances().len();
+    // Looked up once: otherwise the compiled loop looks them up for each call.
+    let registry = network.declaration().registry();
+    let instances = network.instances();
     let sees_all = network.are_all_visible(worldview);
     let mut calls = 0;
     while let Some(number) = agenda.take() {
         call(
-            network, store, worldview, sees_all, known, agenda, number, &mut calls,
+            network, registry, instances, store, worldview, sees_all, known, agenda, number,
+            &mut calls,
         )?;
     }
     Ok(calls)

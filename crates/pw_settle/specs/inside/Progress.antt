@@ -10,7 +10,7 @@ use Rattle.pw_facts.specs.declared.fact.Fact.{Fact}
 use Rattle.pw_cells.specs.Cells.{Store, kept_in}
 use Rattle.pw_network.specs.Network.{Attached, Network}
 use Rattle.pw_settle.specs.Calls.{is_instance_visible, reader_count, sum_below, visible_at}
-use Rattle.pw_settle.specs.inside.Known.{joined, news_on}
+use Rattle.pw_settle.specs.inside.Known.{joined}
 use Rattle.pw_settle.specs.Settled.{info_at}
 use Rattle.pw_settle.specs.Sources.{said_by}
 use Rattle.pw_settle.specs.Values.{propagators_of, IsSatisfied, attached_no}
@@ -82,10 +82,3 @@ LeavesNoMore network w old queued_before new queued_now =
 abbrev pub CallsNoMore : Network → Premises → Store → List Bool → Store → ℕ → Type 0
 CallsNoMore network w old queued_before new calls =
     calls + weight network new w ≤ tally queued_before + weight network old w
-
--- it is news of the instance of this number, on any premises at hand
-abbrev pub IsNewsOf : Network → List Info → ℕ → ℕ → Info → Type 0
-IsNewsOf network infos number cell info =
-    (supports : List Premises) (d : Attached) →
-    IsNews network infos supports (attached_no network number d) cell
-    (news_on supports (attached_no network number d) info)

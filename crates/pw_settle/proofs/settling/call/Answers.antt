@@ -1,5 +1,5 @@
 use Rattle.std.proofs.Common.{◌≡◌, ℕ, ◌<◌, List, ◌++◌, length, map, take, drop, refl, sym, ap, subst, ◌∙◌, inl, inr, arith}
-use Rattle.std.proofs.lemmas.List.{get_or_default, length-set}
+use Rattle.std.proofs.lemmas.List.{get_or_default, length-map, length-set}
 use Rattle.pw_info.specs.declared.info.Info.{Info}
 use Rattle.pw_info.specs.Information.{kind_of}
 use Rattle.pw_facts.specs.declared.fact.Fact.{Fact}
@@ -7,26 +7,51 @@ use Rattle.pw_cells.specs.Cells.{Store, kept_in}
 use Rattle.pw_cells.proofs.Stores.{OnErr_always}
 use Rattle.pw_network.specs.Wiring.{wiring}
 use Rattle.pw_network.specs.inside.Held.{attachment}
+use Rattle.pw_procs.specs.Registry.{procedures_in}
 use Rattle.pw_network.specs.Network.{Attached}
 use Rattle.pw_settle.specs.Growth.{KeepsMore}
-use Rattle.pw_settle.specs.inside.Known.{AreUpstream, IsNewTo, TakesIn, news_on}
+use Rattle.pw_settle.specs.inside.Known.{AreUpstream, GivesNews, GivesNone, IsNewTo, IsPlaced, TakesIn, news_on}
 use Rattle.pw_settle.specs.inside.Progress.{IsNews}
-use Rattle.pw_settle.specs.Values.{IsSatisfied, attached_no}
+use Rattle.pw_settle.specs.Values.{attached_no}
 use Rattle.pw_settle.specs.Settled.{info_at}
 use Rattle.pw_settle.proofs.Growing.{keeps_more_same}
 use Rattle.pw_settle.proofs.KeptFacts.{kind-kept}
 use Rattle.pw_settle.proofs.KeptProgress.{IsAfterNews, after_news, keeps_news, keeps_upstream, kinds_at_hand, no_instance, satisfied_all, satisfied_kept, visible_below, visible_no}
 use Rattle.pw_settle.proofs.KeptNews.{unsaid}
-use Rattle.pw_settle.proofs.NewsLemmas.{inputs_there, kept_instance}
+use Rattle.pw_settle.proofs.NewsLemmas.{inputs_there, kept_instance, news_here, none_here, output_kind, output_there, placed_here}
 use Rattle.pw_settle.proofs.SourceLists.{came_back}
 use Rattle.pw_settle.proofs.settling.call.Given as given
 use Rattle.pw_settle.proofs.settling.call.Goals as goal
 use Rattle.pw_settle.proofs.settling.call.Goals.{After-deref_mut, After-queue_visible_readers}
 
-pub news_of-requires-clause-kinds : goal.news_of-requires-clause-kinds
-news_of-requires-clause-kinds g c =
-    ap (map kind_of) c.deref.ensures.value
-    ∙ kinds_at_hand c.args.store.now c.args.worldview.now c.args.known.now.infos.items c.args.known.now.supports c.requires.kept ∙ c.requires.kinds
+pub bounds-instances-number : goal.bounds-instances-number
+bounds-instances-number g c =
+    omega (
+      arith,
+      visible_below (wiring c.args.network.now) c.args.worldview.now c.args.number c.requires.number,
+      ap length c.requires.instances,
+      length-map c.args.instances.now attachment,
+    )
+
+pub news_on-requires-clause-placed : goal.news_on-requires-clause-placed
+news_on-requires-clause-placed g c =
+    subst (λ (l : List Info). IsPlaced (procedures_in c.args.registry.now) (map kind_of l) (attachment c.index-instances-number.result).instance) (sym c.deref.ensures.value)
+    (placed_here (wiring c.args.network.now) c.args.network.now.well c.args.known.now.infos.items (procedures_in c.args.registry.now) c.args.number
+    (attachment c.index-instances-number.result) c.requires.registry
+    (kinds_at_hand c.args.store.now c.args.worldview.now c.args.known.now.infos.items c.args.known.now.supports c.requires.kept ∙ c.requires.kinds)
+    (visible_below (wiring c.args.network.now) c.args.worldview.now c.args.number c.requires.number)
+    (λ d. kept_instance (wiring c.args.network.now) c.args.instances.now c.args.number c.index-instances-number.result d c.requires.instances
+    (visible_below (wiring c.args.network.now) c.args.worldview.now c.args.number c.requires.number) c.index-instances-number.is))
+
+pub news_on-requires-clause-there : goal.news_on-requires-clause-there
+news_on-requires-clause-there g c =
+    subst (λ (l : List Info). c.index-instances-number.result.output < length l) (sym c.deref.ensures.value)
+    (output_there (wiring c.args.network.now) c.args.network.now.well c.args.known.now.infos.items (procedures_in c.args.registry.now) c.args.number
+    (attachment c.index-instances-number.result) c.requires.registry
+    (kinds_at_hand c.args.store.now c.args.worldview.now c.args.known.now.infos.items c.args.known.now.supports c.requires.kept ∙ c.requires.kinds)
+    (visible_below (wiring c.args.network.now) c.args.worldview.now c.args.number c.requires.number)
+    (λ d. kept_instance (wiring c.args.network.now) c.args.instances.now c.args.number c.index-instances-number.result d c.requires.instances
+    (visible_below (wiring c.args.network.now) c.args.worldview.now c.args.number c.requires.number) c.index-instances-number.is))
 
 -- its number is one of the instances'
 low : (g : given.Over) (c : After-deref_mut g) → c.args.number < length (wiring c.args.network.now).attached
@@ -36,39 +61,52 @@ low g c = visible_below (wiring c.args.network.now) c.args.worldview.now c.args.
 called : (g : given.Over) (c : After-deref_mut g) (d : Attached) →
     attached_no (wiring c.args.network.now) c.args.number d ≡ attachment c.index-instances-number.result
 called g c d =
-    kept_instance (wiring c.args.network.now) c.instances.result.now c.args.number c.index-instances-number.result d c.instances.ensures.instances
+    kept_instance (wiring c.args.network.now) c.args.instances.now c.args.number c.index-instances-number.result d c.requires.instances
     (low g c) c.index-instances-number.is
 
 -- its news, as a fact on what is at hand
 abbrev fact : (g : given.Over) (c : After-deref_mut g) → Fact
-fact g c = news_on c.args.known.now.supports (attachment c.index-instances-number.result) c.in-Some.news.info
+fact g c = news_on c.args.known.now.supports (attachment c.index-instances-number.result) c.in-Some.info
+
+-- what it gave, of the informations at hand
+gives : (g : given.Over) (c : After-deref_mut g) →
+    GivesNews (procedures_in c.args.registry.now) c.args.known.now.infos.items (attachment c.index-instances-number.result) c.in-Some.info
+gives g c =
+    subst (λ (l : List Info). GivesNews (procedures_in c.args.registry.now) l (attachment c.index-instances-number.result) c.in-Some.info) c.deref.ensures.value
+    c.in-Some.ensures.news
 
 news_is : (g : given.Over) (c : After-deref_mut g) →
     IsNews (wiring c.args.network.now) c.args.known.now.infos.items c.args.known.now.supports
-    (attached_no (wiring c.args.network.now) c.args.number no_instance) c.in-Some.news.cell (fact g c)
+    (attached_no (wiring c.args.network.now) c.args.number no_instance) c.index-instances-number.result.output (fact g c)
 news_is g c =
-    subst (λ (a : Attached). IsNews (wiring c.args.network.now) c.args.known.now.infos.items c.args.known.now.supports
-    (attached_no (wiring c.args.network.now) c.args.number no_instance) c.in-Some.news.cell (news_on c.args.known.now.supports a c.in-Some.news.info)) (called g c no_instance)
-    (subst (λ (l : List Info). IsNews (wiring c.args.network.now) l c.args.known.now.supports
-    (attached_no (wiring c.args.network.now) c.args.number no_instance) c.in-Some.news.cell
-    (news_on c.args.known.now.supports (attached_no (wiring c.args.network.now) c.args.number no_instance) c.in-Some.news.info)) c.deref.ensures.value
-    (c.in-Some.ensures.news c.args.known.now.supports no_instance))
+    news_here (wiring c.args.network.now) c.args.network.now.well c.args.known.now.infos.items (procedures_in c.args.registry.now) c.args.number
+    (attachment c.index-instances-number.result) c.requires.registry
+    (kinds_at_hand c.args.store.now c.args.worldview.now c.args.known.now.infos.items c.args.known.now.supports c.requires.kept ∙ c.requires.kinds) (low g c) (called g c)
+    c.in-Some.info (gives g c) c.args.known.now.supports no_instance
 
 -- it is about a cell, and of its kind
-below : (g : given.Over) (c : After-deref_mut g) → c.in-Some.news.cell < length c.args.known.now.infos.items
-below g c = subst (λ (l : List Info). c.in-Some.news.cell < length l) c.deref.ensures.value c.in-Some.ensures.there
+below : (g : given.Over) (c : After-deref_mut g) → c.index-instances-number.result.output < length c.args.known.now.infos.items
+below g c =
+    output_there (wiring c.args.network.now) c.args.network.now.well c.args.known.now.infos.items (procedures_in c.args.registry.now) c.args.number
+    (attachment c.index-instances-number.result) c.requires.registry
+    (kinds_at_hand c.args.store.now c.args.worldview.now c.args.known.now.infos.items c.args.known.now.supports c.requires.kept ∙ c.requires.kinds) (low g c) (called g c)
 
-of_kind : (g : given.Over) (c : After-deref_mut g) → kind_of c.in-Some.news.info ≡ kind_of (info_at c.args.known.now.infos.items c.in-Some.news.cell)
-of_kind g c = c.in-Some.ensures.kind ∙ ap (λ (l : List Info). kind_of (info_at l c.in-Some.news.cell)) c.deref.ensures.value
+of_kind : (g : given.Over) (c : After-deref_mut g) →
+    kind_of c.in-Some.info ≡ kind_of (info_at c.args.known.now.infos.items c.index-instances-number.result.output)
+of_kind g c =
+    output_kind (wiring c.args.network.now) c.args.network.now.well c.args.known.now.infos.items (procedures_in c.args.registry.now) c.args.number
+    (attachment c.index-instances-number.result) c.requires.registry
+    (kinds_at_hand c.args.store.now c.args.worldview.now c.args.known.now.infos.items c.args.known.now.supports c.requires.kept ∙ c.requires.kinds) (low g c) (called g c)
+    c.in-Some.info (gives g c).kind
 
 pub keep_news-requires-clause-cell : goal.keep_news-requires-clause-cell
 keep_news-requires-clause-cell g c =
-    subst (λ (n : ℕ). c.in-Some.news.cell < n) c.requires.kept.many (below g (goal.at.keep_news-requires-clause-cell g c).After-deref_mut)
+    subst (λ (n : ℕ). c.index-instances-number.result.output < n) c.requires.kept.many (below g (goal.at.keep_news-requires-clause-cell g c).After-deref_mut)
 
 pub keep_news-requires-clause-kind : goal.keep_news-requires-clause-kind
 keep_news-requires-clause-kind g c =
     let d = (goal.at.keep_news-requires-clause-kind g c).After-deref_mut in
-    of_kind g d ∙ ap kind_of (c.requires.kept.infos_are c.in-Some.news.cell) ∙ kind-kept c.args.store.now c.in-Some.news.cell c.args.worldview.now
+    of_kind g d ∙ ap kind_of (c.requires.kept.infos_are c.index-instances-number.result.output) ∙ kind-kept c.args.store.now c.index-instances-number.result.output c.args.worldview.now
 
 pub keep_news-requires-clause-inputs : goal.keep_news-requires-clause-inputs
 keep_news-requires-clause-inputs g c =
@@ -81,7 +119,7 @@ keep_news-requires-clause-inputs g c =
 pub keep_news-requires-clause-new : goal.keep_news-requires-clause-new
 keep_news-requires-clause-new g c =
     let d = (goal.at.keep_news-requires-clause-new g c).After-deref_mut in
-    subst (λ (l : List Info). IsNewTo l c.args.known.now.supports c.in-Some.news.cell c.in-Some.news.info) (sym c.deref_mut.ensures.value)
+    subst (λ (l : List Info). IsNewTo l c.args.known.now.supports c.index-instances-number.result.output c.in-Some.info) (sym c.deref_mut.ensures.value)
     (record {
       there = below g d;
       as_many = c.requires.kept.as_many ∙ sym c.requires.kept.many;
@@ -95,23 +133,23 @@ keep_news-requires-clause-unsaid g c =
     unsaid (wiring c.args.network.now) c.args.network.now.well c.args.store.now c.requires.kinds c.args.worldview.now
     c.args.known.now.infos.items c.args.known.now.supports c.requires.kept (attached_no (wiring c.args.network.now) c.args.number no_instance)
     (c.args.number, low g d, get_or_default (wiring c.args.network.now).attached c.args.number (attached_no (wiring c.args.network.now) c.args.number no_instance) no_instance (low g d))
-    (visible_no (wiring c.args.network.now) c.args.worldview.now c.args.number no_instance (low g d) ∙ c.requires.number) c.in-Some.news.cell (fact g d) (news_is g d)
+    (visible_no (wiring c.args.network.now) c.args.worldview.now c.args.number no_instance (low g d) ∙ c.requires.number) c.index-instances-number.result.output (fact g d) (news_is g d)
 
 -- how they are taken in
 taken : (g : given.Over) (c : After-queue_visible_readers g) →
-    TakesIn c.in-Some.news.cell (fact g (goal.at.returns-in_ok-keep_news-clause-grows g c).After-deref_mut) c.args.known.now.infos.items c.keep_news.new.infos c.args.known.now.supports c.keep_news.new.supports
+    TakesIn c.index-instances-number.result.output (fact g (goal.at.returns-in_ok-keep_news-clause-grows g c).After-deref_mut) c.args.known.now.infos.items c.keep_news.new.infos c.args.known.now.supports c.keep_news.new.supports
 taken g c =
-    subst (λ (l : List Info). TakesIn c.in-Some.news.cell (fact g (goal.at.returns-in_ok-keep_news-clause-grows g c).After-deref_mut) l c.keep_news.new.infos c.args.known.now.supports c.keep_news.new.supports)
+    subst (λ (l : List Info). TakesIn c.index-instances-number.result.output (fact g (goal.at.returns-in_ok-keep_news-clause-grows g c).After-deref_mut) l c.keep_news.new.infos c.args.known.now.supports c.keep_news.new.supports)
     c.deref_mut.ensures.value c.in_ok-keep_news.ensures.kept.takes_in
 
 -- and what there is afterwards
 after : (g : given.Over) (c : After-queue_visible_readers g) →
     IsAfterNews (wiring c.args.network.now) c.args.store.now c.keep_news.new.store c.args.worldview.now c.keep_news.new.infos
-    c.args.known.now.supports c.keep_news.new.supports c.args.number c.in-Some.news.cell
+    c.args.known.now.supports c.keep_news.new.supports c.args.number c.index-instances-number.result.output
 after g c =
     let kept = c.in_ok-keep_news.ensures.kept.keeps in
     after_news (wiring c.args.network.now) c.args.network.now.well c.args.store.now c.keep_news.new.store c.requires.kinds c.args.worldview.now
-    c.args.known.now.infos.items c.args.known.now.supports c.requires.kept c.args.number c.requires.number c.in-Some.news.cell (fact g (goal.at.returns-in_ok-keep_news-clause-grows g c).After-deref_mut) (news_is g (goal.at.returns-in_ok-keep_news-clause-grows g c).After-deref_mut)
+    c.args.known.now.infos.items c.args.known.now.supports c.requires.kept c.args.number c.requires.number c.index-instances-number.result.output (fact g (goal.at.returns-in_ok-keep_news-clause-grows g c).After-deref_mut) (news_is g (goal.at.returns-in_ok-keep_news-clause-grows g c).After-deref_mut)
     (below g (goal.at.returns-in_ok-keep_news-clause-grows g c).After-deref_mut) (of_kind g (goal.at.returns-in_ok-keep_news-clause-grows g c).After-deref_mut) kept.told kept.kept kept.assimilates kept.others kept.kinds kept.remembers kept.continues c.keep_news.new.infos c.keep_news.new.supports (taken g c)
 
 -- the informations at hand come back whole
@@ -119,7 +157,7 @@ infos_back : (g : given.Over) (c : After-queue_visible_readers g) →
     take c.args.known.now.infos.len (c.keep_news.new.infos ++ drop (length c.keep_news.new.infos) c.args.known.now.infos.items) ≡ c.keep_news.new.infos
 infos_back g c =
     came_back c.keep_news.new.infos c.args.known.now.infos.items c.args.known.now.infos.len
-    (sym c.deref.ensures.len ∙ ap length c.deref.ensures.value) (ap length (taken g c).infos_are ∙ length-set c.args.known.now.infos.items c.in-Some.news.cell _)
+    (sym c.deref.ensures.len ∙ ap length c.deref.ensures.value) (ap length (taken g c).infos_are ∙ length-set c.args.known.now.infos.items c.index-instances-number.result.output _)
 
 -- where they are not taken in, the store has kept them all the same, or is as it was
 pub returns-in_err-keep_news-clause-grows : goal.returns-in_err-keep_news-clause-grows
@@ -129,7 +167,7 @@ returns-in_err-keep_news-clause-grows g c =
       | inl same ↦ subst (λ (s : Store). KeepsMore (wiring c.args.network.now) c.args.store.now s) (sym {A = Store} same) (keeps_more_same (wiring c.args.network.now) c.args.store.now)
       | inr kept ↦
           keeps_news (wiring c.args.network.now) c.args.network.now.well c.args.store.now c.keep_news.new.store c.requires.kinds c.args.worldview.now
-          c.args.known.now.infos.items c.args.known.now.supports c.requires.kept c.args.number c.requires.number c.in-Some.news.cell (fact g d) (news_is g d)
+          c.args.known.now.infos.items c.args.known.now.supports c.requires.kept c.args.number c.requires.number c.index-instances-number.result.output (fact g d) (news_is g d)
           (below g d) (of_kind g d) kept.told kept.kept kept.assimilates kept.others kept.kinds kept.remembers kept.continues
     ]
 
@@ -141,7 +179,7 @@ returns-in_err-keep_news-clause-upstream g c given are =
       | inl same ↦ subst (λ (s : Store). AreUpstream (wiring c.args.network.now) given s c.args.known.now.supports) (sym {A = Store} same) are
       | inr kept ↦
           keeps_upstream (wiring c.args.network.now) c.args.network.now.well c.args.store.now c.keep_news.new.store c.requires.kinds c.args.worldview.now
-          c.args.known.now.infos.items c.args.known.now.supports c.requires.kept c.args.number c.requires.number c.in-Some.news.cell (fact g d) (news_is g d)
+          c.args.known.now.infos.items c.args.known.now.supports c.requires.kept c.args.number c.requires.number c.index-instances-number.result.output (fact g d) (news_is g d)
           (below g d) (of_kind g d) kept.told kept.kept kept.assimilates kept.others kept.kinds kept.remembers kept.continues given are
     ])
 
@@ -171,7 +209,7 @@ returns-in_ok-keep_news-clause-kept g c =
 pub returns-in_ok-keep_news-clause-satisfied : goal.returns-in_ok-keep_news-clause-satisfied
 returns-in_ok-keep_news-clause-satisfied g c =
     (after g c).satisfied c.args.agenda.now c.queue_visible_readers.new.agenda c.requires.others
-    (λ n reader seen. c.queue_visible_readers.ensures.readers.readers c.in-Some.news.cell n refl reader seen)
+    (λ n reader seen. c.queue_visible_readers.ensures.readers.readers c.index-instances-number.result.output n refl reader seen)
     c.queue_visible_readers.ensures.readers.stay
 
 pub returns-in_ok-keep_news-clause-most : goal.returns-in_ok-keep_news-clause-most
@@ -184,5 +222,11 @@ returns-in_default-clause-satisfied g c =
     c.requires.others
     (λ d. satisfied_kept (wiring c.args.network.now) c.args.store.now c.args.worldview.now c.args.known.now.infos.items c.args.known.now.supports
     c.requires.kept (attached_no (wiring c.args.network.now) c.args.number d)
-    (subst (λ (l : List Info). IsSatisfied (wiring c.args.network.now) (info_at l) (attached_no (wiring c.args.network.now) c.args.number d))
-    c.deref.ensures.value (c.in_default.ensures.none d)))
+    (none_here (wiring c.args.network.now) c.args.network.now.well c.args.known.now.infos.items (procedures_in c.args.registry.now) c.args.number
+    (attachment c.index-instances-number.result) c.requires.registry
+    (kinds_at_hand c.args.store.now c.args.worldview.now c.args.known.now.infos.items c.args.known.now.supports c.requires.kept ∙ c.requires.kinds)
+    (visible_below (wiring c.args.network.now) c.args.worldview.now c.args.number c.requires.number)
+    (λ d. kept_instance (wiring c.args.network.now) c.args.instances.now c.args.number c.index-instances-number.result d c.requires.instances
+    (visible_below (wiring c.args.network.now) c.args.worldview.now c.args.number c.requires.number) c.index-instances-number.is)
+    (subst (λ (l : List Info). GivesNone (procedures_in c.args.registry.now) l (attachment c.index-instances-number.result)) c.deref.ensures.value
+    c.in_default.ensures.none) d))
