@@ -21,7 +21,7 @@ ghost use Rattle.pw_settle.specs.Growth.{HasValues};
 use crate::agenda::Agenda;
 use crate::known::{Known, read_kept};
 use crate::settled::Settled;
-use crate::settling::{queue_visible_readers, seen, settle, settle_from};
+use crate::settling::{queue_visible_readers, settle, settle_from, visible_in};
 use pw_cells::CellStore;
 use pw_info::Info;
 use pw_network::Network;
@@ -174,7 +174,7 @@ pub fn resettle_from<A: Allocator + Copy>(
     if !before.worldview.is_subset(worldview) {
         return settle(alloc, network, store, worldview);
     }
-    let visible = seen(alloc, network.instances(), worldview)?;
+    let visible = visible_in(alloc, network, worldview)?;
     let (known, agenda) = due_instances(alloc, before, network, store, worldview, &visible)?;
     settle_from(network, store, worldview, known, agenda)
 }

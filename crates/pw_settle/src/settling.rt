@@ -11,7 +11,7 @@ ghost use Rattle.pw_network.specs.Network.{AreAllVisible, HaveSupportsByLine};
 ghost use Rattle.pw_network.specs.Readers.{readers_of};
 ghost use Rattle.pw_settle.specs.inside.Progress.{IsIdle, is_set, tally};
 ghost use Rattle.pw_settle.specs.Calls.{gains, is_instance_visible, most_calls, reader_count};
-ghost use Rattle.pw_settle.specs.Calls.{visible_at};
+ghost use Rattle.pw_settle.specs.Calls.{AreVisible, visible_at};
 ghost use Rattle.pw_settle.specs.Calls.{visible_count};
 ghost use Rattle.pw_settle.specs.inside.Due.{QueuesReaders};
 ghost use Rattle.pw_settle.specs.Growth.{KeepsMore, RestOnUpstream, StaysUpstream};
@@ -41,7 +41,7 @@ use std::alloc::{AllocError, Allocator};
 
 // Which instances are visible in the worldview, by number. Instances of one line have one support.
 // Fails only when out of memory.
-pub(crate) fn seen<A: Allocator + Copy>(
+fn seen<A: Allocator + Copy>(
     alloc: A,
     instances: &[Instance],
     worldview: &PremiseSet,
@@ -65,6 +65,22 @@ pub(crate) fn seen<A: Allocator + Copy>(
         let _ = visible.push(is_visible);
     }
     Ok(visible)
+}
+
+// Which instances of a network are visible in the worldview, by number. If all are, as is mostly so,
+// none is tested by itself. Fails only when out of memory.
+pub(crate) fn visible_in<A: Allocator + Copy>(
+    alloc: A,
+    network: &Network<'_, '_, A>,
+    worldview: &PremiseSet,
+) -> Result<Vec<bool, A>, AllocError>
+    ensures { IfOk result (λ visible. AreVisible (wiring network.now) worldview.now visible.items) }
+{
+    let instances = network.instances();
+    if network.are_all_visible(worldview) {
+        return vec![in alloc; true; instances.len()];
+    }
+    seen(alloc, instances, worldview)
 }
 
 // An agenda of the instances whose flags are set. Fails only when out of memory.
@@ -403,7 +419,7 @@ pub fn settle<A: Allocator + Copy>(
         settled.calls) }
     ensures most { IfOk result (CallsAtMost (wiring network.now) store.old store.new worldview.now) }
 {
-    let visible = seen(alloc, network.instances(), worldview)?;
+    let visible = visible_in(alloc, network, worldview)?;
     let agenda = agenda_of(alloc, &visible)?;
     let known = read_kept(alloc, store, worldview)?;
     settle_from(network, store, worldview, known, agenda)

@@ -19,7 +19,7 @@ use crate::growing_aside::grow_aside;
 use crate::known::{Known, put_kept};
 use crate::resettling::queue_changed;
 use crate::settled::Settled;
-use crate::settling::seen;
+use crate::settling::visible_in;
 use crate::support_list::SupportList;
 use pw_cells::{CellStore, NarrowFact};
 use pw_facts::{Fact, merge_facts};
@@ -330,7 +330,7 @@ fn unmet_instances<A: Allocator + Copy>(
         // What is visible was visible, and of no cell more is known.
         return fallen_instances(alloc, network, visible, visible, earlier, now);
     }
-    let was_visible = seen(alloc, network.instances(), before.worldview())?;
+    let was_visible = visible_in(alloc, network, before.worldview())?;
     let mut agenda = fallen_instances(alloc, network, visible, &was_visible, earlier, now)?;
     queue_changed(network, worldview, earlier, now, &mut agenda);
     Ok(agenda)
@@ -365,7 +365,7 @@ pub fn settle_aside<A: Allocator + Copy>(
     if before.worldview().is_subset(worldview) {
         return grow_aside(alloc, before, network, store, worldview);
     }
-    let visible = seen(alloc, network.instances(), worldview)?;
+    let visible = visible_in(alloc, network, worldview)?;
     let known = start_values(alloc, before, network, store, worldview)?;
     let agenda = unmet_instances(alloc, before, network, store, worldview, &visible, &known)?;
     settle_aside_from(network, store, worldview, known, &visible, agenda)

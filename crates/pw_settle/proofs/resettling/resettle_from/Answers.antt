@@ -15,14 +15,7 @@ use Rattle.pw_settle.specs.Sound.{IsSound, RestsUpstream}
 use Rattle.pw_settle.specs.Values.{value_in}
 use Rattle.pw_settle.proofs.FittingValues.{satisfied_but_due}
 use Rattle.pw_settle.proofs.NewInstances.{both_ok}
-use Rattle.pw_settle.proofs.SeenLines.{lines_of_items, supports_of_items}
 use Rattle.pw_settle.proofs.resettling.resettle_from.Goals as goal
-
-pub seen-requires-clause-lines : goal.seen-requires-clause-lines
-seen-requires-clause-lines g c = lines_of_items (wiring c.args.network.now) c.args.network.now.well c.instances.result.now c.instances.ensures.instances
-
-pub seen-requires-clause-supports : goal.seen-requires-clause-supports
-seen-requires-clause-supports g c = supports_of_items (wiring c.args.network.now) c.args.network.now.well c.instances.result.now c.instances.ensures.instances
 
 pub due_instances-requires-clause-within : goal.due_instances-requires-clause-within
 due_instances-requires-clause-within g c =

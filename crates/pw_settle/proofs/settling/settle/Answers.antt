@@ -12,14 +12,7 @@ use Rattle.pw_settle.specs.Sound.{IsSound, RestsUpstream}
 use Rattle.pw_settle.specs.Values.{value_in}
 use Rattle.pw_settle.proofs.KeptProgress.{visible_no}
 use Rattle.pw_settle.proofs.SettledStores.{tally_visible}
-use Rattle.pw_settle.proofs.SeenLines.{lines_of_items, supports_of_items}
 use Rattle.pw_settle.proofs.settling.settle.Goals as goal
-
-pub seen-requires-clause-lines : goal.seen-requires-clause-lines
-seen-requires-clause-lines g c = lines_of_items (wiring c.args.network.now) c.args.network.now.well c.instances.result.now c.instances.ensures.instances
-
-pub seen-requires-clause-supports : goal.seen-requires-clause-supports
-seen-requires-clause-supports g c = supports_of_items (wiring c.args.network.now) c.args.network.now.well c.instances.result.now c.instances.ensures.instances
 
 pub settle_from-requires-clause-kinds : goal.settle_from-requires-clause-kinds
 settle_from-requires-clause-kinds g c = ap kinds_of c.read_kept.ensures.unchanged ∙ c.requires
@@ -37,7 +30,7 @@ settle_from-requires-clause-flags g c =
     let network = wiring c.args.network.now in
     let w = c.args.worldview.now in
     let flags : c.in_ok-agenda.agenda ≡ map (is_instance_visible w) network.attached =
-    c.in_ok-agenda.ensures ∙ c.deref.ensures.value ∙ c.in_ok-visible.ensures ∙ ap (map (is_instance_visible w)) c.instances.ensures.instances in
+    c.in_ok-agenda.ensures ∙ c.deref.ensures.value ∙ c.in_ok-visible.ensures in
     ap length flags ∙ length-map network.attached (is_instance_visible w)
 
 pub settle_from-requires-clause-seen : goal.settle_from-requires-clause-seen
@@ -45,7 +38,7 @@ settle_from-requires-clause-seen g c n flag =
     let network = wiring c.args.network.now in
     let w = c.args.worldview.now in
     let flags : c.in_ok-agenda.agenda ≡ map (is_instance_visible w) network.attached =
-    c.in_ok-agenda.ensures ∙ c.deref.ensures.value ∙ c.in_ok-visible.ensures ∙ ap (map (is_instance_visible w)) c.instances.ensures.instances in
+    c.in_ok-agenda.ensures ∙ c.deref.ensures.value ∙ c.in_ok-visible.ensures in
     sym (ap (λ (l : List Bool). is_set l n) flags) ∙ flag
 
 pub settle_from-requires-clause-satisfied : goal.settle_from-requires-clause-satisfied
@@ -53,7 +46,7 @@ settle_from-requires-clause-satisfied g c n d below seen free =
     let network = wiring c.args.network.now in
     let w = c.args.worldview.now in
     let flags : c.in_ok-agenda.agenda ≡ map (is_instance_visible w) network.attached =
-    c.in_ok-agenda.ensures ∙ c.deref.ensures.value ∙ c.in_ok-visible.ensures ∙ ap (map (is_instance_visible w)) c.instances.ensures.instances in
+    c.in_ok-agenda.ensures ∙ c.deref.ensures.value ∙ c.in_ok-visible.ensures in
     let flag : is_set c.in_ok-agenda.agenda n ≡ true =
     ap (λ (l : List Bool). is_set l n) flags ∙ sym (visible_no network w n d below) ∙ seen in
     absurd (cc)
@@ -84,7 +77,7 @@ returns-clause-kept g c =
 pub returns-clause-most : goal.returns-clause-most
 returns-clause-most g c =
     let flags : c.in_ok-agenda.agenda ≡ map (is_instance_visible c.args.worldview.now) (wiring c.args.network.now).attached =
-    c.in_ok-agenda.ensures ∙ c.deref.ensures.value ∙ c.in_ok-visible.ensures ∙ ap (map (is_instance_visible c.args.worldview.now)) c.instances.ensures.instances in
+    c.in_ok-agenda.ensures ∙ c.deref.ensures.value ∙ c.in_ok-visible.ensures in
     let count : tally c.in_ok-agenda.agenda ≡ visible_count (wiring c.args.network.now) c.args.worldview.now =
     ap tally flags ∙ tally_visible (is_instance_visible c.args.worldview.now) (wiring c.args.network.now).attached in
     subst (λ n. IfOk c.settle_from.result (λ settled. settled.calls ≤ n + gains (wiring c.args.network.now) c.args.store.now c.settle_from.new.store c.args.worldview.now))
@@ -96,7 +89,7 @@ returns-clause-most g c =
 pub returns-clause-least : goal.returns-clause-least
 returns-clause-least g c =
     let flags : c.in_ok-agenda.agenda ≡ map (is_instance_visible c.args.worldview.now) (wiring c.args.network.now).attached =
-    c.in_ok-agenda.ensures ∙ c.deref.ensures.value ∙ c.in_ok-visible.ensures ∙ ap (map (is_instance_visible c.args.worldview.now)) c.instances.ensures.instances in
+    c.in_ok-agenda.ensures ∙ c.deref.ensures.value ∙ c.in_ok-visible.ensures in
     let count : tally c.in_ok-agenda.agenda ≡ visible_count (wiring c.args.network.now) c.args.worldview.now =
     ap tally flags ∙ tally_visible (is_instance_visible c.args.worldview.now) (wiring c.args.network.now).attached in
     subst (λ n. IfOk c.settle_from.result (λ settled. n ≤ settled.calls)) count c.settle_from.ensures.least

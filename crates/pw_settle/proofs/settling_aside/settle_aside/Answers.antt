@@ -1,18 +1,10 @@
-use Rattle.std.proofs.Common.{map, sym, ap, ◌∙◌, subst}
+use Rattle.std.proofs.Common.{sym, ap, ◌∙◌, subst}
 use Rattle.std.specs.Prelude.{IfOk}
 use Rattle.pw_cells.specs.Cells.{Store, kinds_of}
 use Rattle.pw_network.specs.Wiring.{wiring}
-use Rattle.pw_settle.specs.Calls.{is_instance_visible}
 use Rattle.pw_settle.specs.Settled.{IsSettled}
 use Rattle.pw_settle.specs.inside.Aside.{AreFound}
-use Rattle.pw_settle.proofs.SeenLines.{lines_of_items, supports_of_items}
 use Rattle.pw_settle.proofs.settling_aside.settle_aside.Goals as goal
-
-pub seen-requires-clause-lines : goal.seen-requires-clause-lines
-seen-requires-clause-lines g c = lines_of_items (wiring c.args.network.now) c.args.network.now.well c.instances.result.now c.instances.ensures.instances
-
-pub seen-requires-clause-supports : goal.seen-requires-clause-supports
-seen-requires-clause-supports g c = supports_of_items (wiring c.args.network.now) c.args.network.now.well c.instances.result.now c.instances.ensures.instances
 
 pub unmet_instances-requires-clause-kinds : goal.unmet_instances-requires-clause-kinds
 unmet_instances-requires-clause-kinds g c = ap kinds_of c.start_values.ensures.unchanged ∙ c.requires.kinds
@@ -24,7 +16,7 @@ unmet_instances-requires-clause-before g c =
 
 pub unmet_instances-requires-clause-visible : goal.unmet_instances-requires-clause-visible
 unmet_instances-requires-clause-visible g c =
-    c.deref.ensures.value ∙ c.in_ok-visible.ensures ∙ ap (map (is_instance_visible c.args.worldview.now)) c.instances.ensures.instances
+    c.deref.ensures.value ∙ c.in_ok-visible.ensures
 
 pub unmet_instances-requires-clause-found : goal.unmet_instances-requires-clause-found
 unmet_instances-requires-clause-found g c =
@@ -41,7 +33,7 @@ settle_aside_from-requires-clause-found g c =
 
 pub settle_aside_from-requires-clause-visible : goal.settle_aside_from-requires-clause-visible
 settle_aside_from-requires-clause-visible g c =
-    c.deref-2.ensures.value ∙ c.in_ok-visible.ensures ∙ ap (map (is_instance_visible c.args.worldview.now)) c.instances.ensures.instances
+    c.deref-2.ensures.value ∙ c.in_ok-visible.ensures
 
 pub settle_aside_from-requires-clause-flags : goal.settle_aside_from-requires-clause-flags
 settle_aside_from-requires-clause-flags g c = c.in_ok-agenda.ensures.flags

@@ -10,7 +10,6 @@ use Rattle.pw_settle.specs.Calls.{is_instance_visible}
 use Rattle.pw_settle.proofs.AsideEnds.{kinds_looked_at, satisfied_by, satisfied_in_part}
 use Rattle.pw_settle.specs.inside.Progress.{is_set}
 use Rattle.pw_settle.proofs.AsideStarts.{found_kinds, settled_kinds}
-use Rattle.pw_settle.proofs.SeenLines.{lines_of_items, supports_of_items}
 use Rattle.pw_settle.proofs.SettledValues.{kinds_many}
 use Rattle.pw_settle.proofs.settling_aside.unmet_instances.Goals as goal
 
@@ -54,7 +53,7 @@ returns-clause-satisfied g c =
     satisfied_by (wiring c.args.network.now) c.args.network.now.well c.args.store.now c.requires.kinds c.args.worldview.now c.args.before.now c.requires.before
     c.args.known.now.infos.items c.args.known.now.supports c.requires.found c.infos-earlier.result.now c.as_slice-now.result.now c.infos-earlier.ensures
     c.as_slice-now.ensures.value c.args.visible.now c.deref.result.now c.in_ok-agenda.agenda c.queue_changed.new.agenda c.requires.visible
-    (c.deref.ensures.value ∙ c.in_ok-was_visible.ensures ∙ ap (map (is_instance_visible c.worldview-2.result.now)) c.instances.ensures.instances
+    (c.deref.ensures.value ∙ c.in_ok-was_visible.ensures
     ∙ ap (λ (w : Premises). map (is_instance_visible w) (wiring c.args.network.now).attached) c.worldview-2.ensures)
     c.in_ok-agenda.ensures
     (subst (λ (seen : List Bool). QueuesReaders (wiring c.args.network.now) seen
@@ -70,15 +69,9 @@ fallen_instances-requires-clause-was_visible g c = ap length c.requires.visible 
 pub fallen_instances-requires-2-clause-visible : goal.fallen_instances-requires-2-clause-visible
 fallen_instances-requires-2-clause-visible g c = ap length c.requires.visible ∙ length-map (wiring c.args.network.now).attached (is_instance_visible c.args.worldview.now)
 
-pub seen-requires-clause-lines : goal.seen-requires-clause-lines
-seen-requires-clause-lines g c = lines_of_items (wiring c.args.network.now) c.args.network.now.well c.instances.result.now c.instances.ensures.instances
-
-pub seen-requires-clause-supports : goal.seen-requires-clause-supports
-seen-requires-clause-supports g c = supports_of_items (wiring c.args.network.now) c.args.network.now.well c.instances.result.now c.instances.ensures.instances
-
 pub fallen_instances-requires-2-clause-was_visible : goal.fallen_instances-requires-2-clause-was_visible
 fallen_instances-requires-2-clause-was_visible g c =
-    ap length (c.deref.ensures.value ∙ c.in_ok-was_visible.ensures ∙ ap (map (is_instance_visible c.worldview-2.result.now)) c.instances.ensures.instances)
+    ap length (c.deref.ensures.value ∙ c.in_ok-was_visible.ensures)
     ∙ length-map (wiring c.args.network.now).attached (is_instance_visible c.worldview-2.result.now)
 
 pub queue_changed-requires-clause-flags : goal.queue_changed-requires-clause-flags
