@@ -1,11 +1,9 @@
 -- What an attachment of a compound appends is its expansion.
-use Rattle.std.proofs.Common.{◌≡◌, ℕ, zero, suc, ◌+◌, ◌<◌, ◌≤◌, List, [], ◌∷◌, ◌++◌, Some, length, map, Bool, true, IsTrue, ◌↔◌, sym, ap, subst, ◌∙◌, arith, append-nil}
+use Rattle.std.proofs.Common.{◌≡◌, ℕ, ◌+◌, ◌<◌, ◌≤◌, List, [], ◌∷◌, ◌++◌, Some, length, map, Bool, true, IsTrue, ◌↔◌, sym, ap, subst, ◌∙◌, arith, append-nil}
 use Rattle.std.specs.Prelude.{All}
 use Rattle.std.proofs.lemmas.List.{length-map, map-append, map_push}
-use Rattle.std.proofs.lemmas.List.Elements.{All-map, All-tail, All-weaker}
 use Rattle.pw_info.specs.declared.kind.Kind.{Kind}
 use Rattle.pw_premises.specs.Premises.{Premises}
-use Rattle.pw_procs.specs.Registry.{cells_of}
 use Rattle.pw_decl.specs.declared.flat_call.FlatCall.{FlatCall}
 use Rattle.pw_decl.specs.declared.step.Callable.{Callable}
 use Rattle.pw_decl.specs.declared.step.Callable.TheVariants as callables
@@ -15,15 +13,18 @@ use Rattle.pw_decl.specs.Expansion.{instance_on, expansion_of, inner_kinds_of, o
 use Rattle.pw_decl.specs.Limits.{most_inner_cells}
 use Rattle.pw_network.specs.declared.network.InnerCell.{InnerCell as InnerType}
 use Rattle.pw_network.specs.declared.instance.Instance.{Instance as InstanceType}
-use Rattle.pw_decl.specs.inside.Held.{AreCallsOf, IsBelow, instances_of}
-use Rattle.pw_network.specs.inside.Held.{attachment, cells_placed, inner_of, wiring_from}
+use Rattle.pw_decl.specs.inside.Held.{AreCallsOf, instances_of}
+use Rattle.pw_network.specs.inside.CompoundLists.{inner_made}
+use Rattle.pw_network.specs.inside.Held.{attachment, inner_of, wiring_from}
 use Rattle.pw_network.specs.Network.{MayAttach}
 use Rattle.pw_network.specs.Network.{last_attachment_line}
 use Rattle.pw_network.specs.Network.{Network, IsWellNetwork, attached_at, cells_in, inner_cells_from, kind_in, with_attached}
 use Rattle.pw_decl.proofs.ExpansionLemmas.{expansion_placed}
+use Rattle.pw_network.proofs.AttachedCells.{made_are}
 use Rattle.pw_network.proofs.WellNetworks.{kinds_of_cells}
 
-some_is : {A : Type 0} (x y : A) → Some x ≡ Some y → x ≡ y
+-- what is given is one thing
+pub some_is : {A : Type 0} (x y : A) → Some x ≡ Some y → x ≡ y
 some_is x y e = cc
 
 -- as many cells as parameters
@@ -49,47 +50,24 @@ calls_placed network line number calls cells support well are may few first is =
     (are.calls_are ∙ ap (on_places (expansion_of network.declared.compounds (callables.Compound number))) (as_many network line number calls cells support well are may few))
     ∙ sym (expansion_placed network.declared.compounds (callables.Compound number) cells (λ j. cells_in network + j))
 
--- what is at a place is a cell that exists
-placed_here : (cells : List ℕ) (first place inner many : ℕ) → place < length cells + inner → All (λ cell. cell < many) cells → first + inner ≤ many →
-    at_place cells (λ j. first + j) place < many
-placed_here [] first place inner many below here room = omega arith
-placed_here (cell ∷ cells) first zero inner many below here room = here zero cell (omega arith)
-placed_here (cell ∷ cells) first (suc place) inner many below here room =
-    placed_here cells first place inner many (omega arith) (All-tail (λ cell. cell < many) cell cells here) room
-
--- and so are all cells of the placed calls
-pub calls_here : (network : Network) (line number : ℕ) (calls : List FlatCall) (cells : List ℕ) (support : Premises) → IsWellNetwork network →
-    AreCallsOf network.declared.compounds number calls → MayAttach network line (callables.Compound number) cells →
-    length (inner_kinds_of network.declared.compounds (callables.Compound number)) ≤ most_inner_cells → (first many : ℕ) → first ≡ cells_in network →
-    many ≡ cells_in network + length (inner_kinds_of network.declared.compounds (callables.Compound number)) →
-    All (λ call. All (λ cell. cell < many) (cells_placed cells first call)) calls
-calls_here network line number calls cells support well are may few first many is are_many =
-    let inner = length (inner_kinds_of network.declared.compounds (callables.Compound number)) in
-    let count = length are.compound.parameters in
-    let parameters : count ≡ length cells = as_many network line number calls cells support well are may few in
-    let here = All-weaker (λ cell. cell < length network.declared.cells) (λ cell. cell < many) (λ cell declared. omega (arith, are_many)) cells may.here in
-    All-weaker (IsBelow (count + inner)) (λ call. All (λ cell. cell < many) (cells_placed cells first call))
-    (λ call below. All-map (λ cell. cell < many) (at_place cells (λ j. first + j)) (cells_of call.places)
-    (All-weaker (λ place. place < count + inner) (λ place. at_place cells (λ j. first + j) place < many)
-    (λ place within. placed_here cells first place inner many (omega (arith, parameters)) here (omega (arith, is, are_many))) (cells_of call.places) below))
-    calls are.below
-
 -- what the code has after it appended is the network with the compound attached
 pub compound_attached : (declared : Declared) (inner inner_room inner_after : List InnerType) (instances instances_room attached instances_after : List InstanceType)
     (last line number : ℕ) (calls : List FlatCall) (kinds : List Kind) (cells : List ℕ) (support : Premises) →
     IsWellNetwork (wiring_from declared inner instances last) → AreCallsOf declared.compounds number calls →
     MayAttach (wiring_from declared inner instances last) line (callables.Compound number) cells →
     kinds ≡ inner_kinds_of declared.compounds (callables.Compound number) → length kinds ≤ most_inner_cells →
-    (first : ℕ) → first ≡ cells_in (wiring_from declared inner instances last) →
-    inner_room ≡ inner → map inner_of inner_after ≡ map inner_of inner_room ++ inner_cells_from line 0 kinds →
+    (first count list : ℕ) → first ≡ cells_in (wiring_from declared inner instances last) →
+    inner_room ≡ inner → inner_after ≡ inner_room ++ inner_made line count list 0 kinds →
     instances_room ≡ instances → instances_after ≡ instances_room ++ attached →
     map attachment attached ≡ map (attached_at line support) (map (renamed (at_place cells (λ j. first + j))) (instances_of calls)) →
     wiring_from declared inner_after instances_after line ≡ with_attached (wiring_from declared inner instances last) line (callables.Compound number) cells support
 compound_attached declared inner inner_room inner_after instances instances_room attached instances_after last line number calls kinds cells support
-    well are may are_kinds few first is same_inner more_inner same_instances appended made =
+    well are may are_kinds few first count list is same_inner more_inner same_instances appended made =
     let network = wiring_from declared inner instances last in
     let few : length (inner_kinds_of declared.compounds (callables.Compound number)) ≤ most_inner_cells = let l = ap length are_kinds in omega arith in
-    let inners = more_inner ∙ ap (λ l. map inner_of l ++ inner_cells_from line 0 kinds) same_inner ∙ ap (λ l. map inner_of inner ++ inner_cells_from line 0 l) are_kinds in
+    let inners = ap (map inner_of) more_inner ∙ map-append inner_of inner_room (inner_made line count list 0 kinds)
+    ∙ (λ i. map inner_of (same_inner i) ++ made_are line count list 0 kinds i)
+    ∙ ap (λ l. map inner_of inner ++ inner_cells_from line 0 l) are_kinds in
     let attaches = ap (map attachment) appended ∙ map-append attachment instances_room attached
     ∙ ap (λ l. map attachment instances_room ++ l) made
     ∙ ap (λ l. map attachment l ++ map (attached_at line support) (map (renamed (at_place cells (λ j. first + j))) (instances_of calls))) same_instances

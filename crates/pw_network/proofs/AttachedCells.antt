@@ -1,5 +1,5 @@
 -- What an attachment appends, one after another.
-use Rattle.std.proofs.Common.{◌≡◌, ℕ, ◌+◌, ◌-◌, ◌<◌, ◌≤◌, List, [], ◌∷◌, ◌++◌, length, map, take, drop, get_or, cond, leb, refl, sym, ap, ◌∙◌, arith, length-take, take-append-drop, append-nil}
+use Rattle.std.proofs.Common.{◌≡◌, ℕ, zero, suc, ◌+◌, ◌-◌, ◌<◌, ◌≤◌, List, [], ◌∷◌, ◌++◌, length, map, take, drop, get_or, cond, leb, refl, sym, ap, ◌∙◌, arith, length-take, take-append-drop, append-nil}
 use Rattle.std.proofs.lemmas.List.{map-append, append_assoc, take_more, map_push, length-map, take-map}
 use Rattle.std.proofs.Math.ListN.{get_or-map}
 use Rattle.pw_info.specs.declared.kind.Kind.{Kind}
@@ -10,31 +10,65 @@ use Rattle.pw_decl.specs.Expansion.{Instance, instance_on, renamed}
 use Rattle.pw_decl.specs.inside.Held.{instances_of}
 use Rattle.pw_network.specs.declared.network.InnerCell.{InnerCell as InnerType}
 use Rattle.pw_network.specs.declared.instance.Instance.{Instance as InstanceType}
+use Rattle.pw_network.specs.inside.CompoundLists.{inner_made}
 use Rattle.pw_network.specs.inside.Held.{attachment, inner_of}
-use Rattle.pw_network.specs.Network.{InnerCell, Attached, attached_at, inner_cells_from}
+use Rattle.pw_network.specs.Network.{Attached, attached_at, inner_cells_from}
 
 -- ---- inner cells
 
-inner_push : (line number : ℕ) (kinds : List Kind) (kind : Kind) (at : ℕ) → number + length kinds ≡ at →
-    inner_cells_from line number (kinds ++ kind ∷ []) ≡ inner_cells_from line number kinds ++ record { line = line; number = at; kind = kind } ∷ []
-inner_push line number [] kind at is = let same : number ≡ at = omega arith in ap (λ n. record { line = line; number = n; kind = kind } ∷ []) same
-inner_push line number (k ∷ kinds) kind at is =
-    ap (λ cells. record { line = line; number = number; kind = k } ∷ cells) (inner_push line (number + 1) kinds kind at (omega arith))
+abbrev made_at : ℕ → ℕ → ℕ → ℕ → Kind → InnerType
+made_at line first list number kind =
+    record {
+      line = line;
+      first = first;
+      list = list + number;
+      number = number;
+      kind = kind;
+    }
+
+made_push : (line first list number : ℕ) (kinds : List Kind) (kind : Kind) (at : ℕ) → number + length kinds ≡ at →
+    inner_made line first list number (kinds ++ kind ∷ []) ≡ inner_made line first list number kinds ++ made_at line first list at kind ∷ []
+made_push line first list number [] kind at is =
+    let same : number ≡ at = omega (arith, is) in ap (λ n. made_at line first list n kind ∷ []) same
+made_push line first list number (k ∷ kinds) kind at is =
+    ap (λ cells. made_at line first list number k ∷ cells) (made_push line first list (number + 1) kinds kind at (omega (arith, is)))
 
 -- one more inner cell
-pub inner_more : (line : ℕ) (old : List InnerCell) (before after : List InnerType) (kinds : List Kind) (i : ℕ) (x : InnerType) →
-    i < length kinds → after ≡ before ++ x ∷ [] → x.line ≡ line → x.number ≡ i → x.kind ≡ get_or kinds i x.kind →
-    map inner_of before ≡ old ++ inner_cells_from line 0 (take i kinds) →
-    map inner_of after ≡ old ++ inner_cells_from line 0 (take (i + 1) kinds)
-inner_more line old before after kinds i x there pushed lines numbers kind so_far =
-    ap (map inner_of) pushed ∙ map_push inner_of before x
-    ∙ ap (λ xs. xs ++ inner_of x ∷ []) so_far
-    ∙ append_assoc old (inner_cells_from line 0 (take i kinds)) (inner_of x ∷ [])
+pub made_more : (line first list : ℕ) (old before after : List InnerType) (kinds : List Kind) (i : ℕ) (kind : Kind) →
+    i < length kinds → after ≡ before ++ made_at line first list i kind ∷ [] → kind ≡ get_or kinds i kind →
+    before ≡ old ++ inner_made line first list 0 (take i kinds) →
+    after ≡ old ++ inner_made line first list 0 (take (i + 1) kinds)
+made_more line first list old before after kinds i kind there pushed is so_far =
+    pushed ∙ ap (λ xs. xs ++ made_at line first list i kind ∷ []) so_far
+    ∙ append_assoc old (inner_made line first list 0 (take i kinds)) (made_at line first list i kind ∷ [])
     ∙ ap (λ xs. old ++ xs) (
-    (λ j. inner_cells_from line 0 (take i kinds) ++ record { line = lines j; number = numbers j; kind = x.kind } ∷ [])
-    ∙ sym (inner_push line 0 (take i kinds) x.kind i (omega (arith, length-take i kinds)))
-    ∙ ap (λ k. inner_cells_from line 0 (take i kinds ++ k ∷ [])) kind
-    ∙ ap (inner_cells_from line 0) (sym (take_more kinds i x.kind there)))
+    sym (made_push line first list 0 (take i kinds) kind i (omega (arith, length-take i kinds)))
+    ∙ ap (λ k. inner_made line first list 0 (take i kinds ++ k ∷ [])) is
+    ∙ ap (inner_made line first list 0) (sym (take_more kinds i kind there)))
+
+-- they are the inner cells of the attachment
+pub made_are : (line first list number : ℕ) (kinds : List Kind) →
+    map inner_of (inner_made line first list number kinds) ≡ inner_cells_from line number kinds
+made_are line first list number [] = refl
+made_are line first list number (kind ∷ kinds) =
+    ap (λ cells. record { line = line; number = number; kind = kind } ∷ cells) (made_are line first list (number + 1) kinds)
+
+pub length-made : (line first list number : ℕ) (kinds : List Kind) → length (inner_made line first list number kinds) ≡ length kinds
+length-made line first list number [] = refl
+length-made line first list number (kind ∷ kinds) = let rest = length-made line first list (number + 1) kinds in omega (arith, rest)
+
+-- what one of them holds
+pub record IsMadeAt (first list : ℕ) (inner : InnerType) : Type 0 where
+  pub first_is : inner.first ≡ first
+  pub list_is : inner.list ≡ list
+
+pub made_get : (line first list number : ℕ) (kinds : List Kind) (i : ℕ) (d : InnerType) → i < length kinds →
+    IsMadeAt first (list + (number + i)) (get_or (inner_made line first list number kinds) i d)
+made_get line first list number [] i d there = absurd (omega arith)
+made_get line first list number (kind ∷ kinds) zero d there = record { first_is = refl; list_is = omega arith }
+made_get line first list number (kind ∷ kinds) (suc i) d there =
+    let rest = made_get line first list (number + 1) kinds i d (omega arith) in
+    record { first_is = rest.first_is; list_is = let is = rest.list_is in omega (arith, is) }
 
 -- ---- instances
 
@@ -48,7 +82,7 @@ instance_on_renamed number name (cell ∷ cells) =
     let output = ap (λ n. get_or (map name (cell ∷ cells)) n (name cell)) long ∙ get_or-map name (cell ∷ cells) (length cells) cell in
     λ i. record { procedure = number; inputs = inputs i; output = output i } ∷ []
 
-instances_push : (calls : List FlatCall) (call : FlatCall) →
+pub instances_push : (calls : List FlatCall) (call : FlatCall) →
     instances_of (calls ++ call ∷ []) ≡ instances_of calls ++ instance_on call.procedure (cells_of call.places)
 instances_push [] call = append-nil (instance_on call.procedure (cells_of call.places))
 instances_push (first ∷ calls) call =

@@ -2,6 +2,7 @@ pub mod AppendedLemmas
 pub mod AttachedCalls
 pub mod AttachedCells
 pub mod CellLemmas
+pub mod CompoundListLemmas
 pub mod LineLemmas
 pub mod LinkLemmas
 pub mod NameLemmas

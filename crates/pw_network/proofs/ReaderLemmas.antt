@@ -1,10 +1,9 @@
 -- The readers and the writers of a cell, with one more instance.
-use Rattle.std.proofs.Common.{◌≡◌, ℕ, zero, suc, ◌+◌, ◌-◌, ◌<◌, ◌≤◌, Bool, true, false, cond, List, [], ◌∷◌, ◌++◌, length, map, take, drop, get_or, eqb, refl, sym, ap, subst, ◌∙◌, arith}
+use Rattle.std.proofs.Common.{◌≡◌, ℕ, zero, suc, ◌+◌, ◌-◌, ◌<◌, ◌≤◌, Bool, true, false, cond, List, [], ◌∷◌, ◌++◌, length, map, drop, get_or, eqb, refl, sym, ap, subst, ◌∙◌, append-nil, append_assoc, arith}
 use Rattle.std.specs.Prelude.{All, filter}
 use Rattle.std.specs.List.{list_any, range_with_len}
-use Rattle.std.proofs.lemmas.List.{get_or-drop, get_or_append_left, length-drop, get_or_push, length-map, length_push, map_push}
-use Rattle.std.proofs.lemmas.List.Elements.{All-same, All-take}
-use Rattle.pw_decl.specs.declared.flat_call.FlatCall.{FlatCall}
+use Rattle.std.proofs.lemmas.List.{get_or-drop, get_or_append_left, length-drop, get_or_push, length-map, length_push, map-append, map_push}
+use Rattle.std.proofs.lemmas.List.Elements.{All-tail}
 use Rattle.pw_network.specs.declared.instance.Instance.{Instance as InstanceType}
 use Rattle.pw_network.specs.inside.Held.{attachment}
 use Rattle.pw_network.specs.Network.{Attached}
@@ -36,7 +35,7 @@ filter_alike p q a (suc n) alike =
 
 -- ---- one more instance
 
-numbers_more : (test : Attached → Bool) (attached : List Attached) (x : Attached) (number : ℕ) → number ≡ length attached →
+pub numbers_more : (test : Attached → Bool) (attached : List Attached) (x : Attached) (number : ℕ) → number ≡ length attached →
     numbers_from test (attached ++ x ∷ []) 0 ≡ numbers_from test attached 0 ++ cond (test x) (number ∷ []) []
 numbers_more test attached x number is =
     let before : ℕ → Bool = λ k. get_or (map test attached) k false in
@@ -64,24 +63,32 @@ numbers_after test instances after x number numbered pushed =
     ∙ numbers_more test (map attachment instances) (attachment x) number (numbered ∙ sym (length-map instances attachment))
 
 -- lists that an instance is appended to, as its inputs say, list the readers with it
-pub readers_more : (old new : List Listed) (instances after : List InstanceType) (x : InstanceType) (number : ℕ) (inputs : List ℕ) →
+pub readers_push : (cells : ℕ) (old new : List Listed) (attached after : List Attached) (x : Attached) (number : ℕ) (inputs : List ℕ) →
+    number ≡ length attached → inputs ≡ x.instance.inputs → after ≡ attached ++ x ∷ [] →
+    ((cell : ℕ) → cell < cells → numbers_for cell new ≡ numbers_for cell old ++ cond (list_any (eqb cell) inputs) (number ∷ []) []) →
+    AreReaders cells old attached → AreReaders cells new after
+readers_push cells old new attached after x number inputs numbered are_inputs pushed appended readers cell within =
+    appended cell within
+    ∙ (λ i. readers cell within i ++ cond (list_any (eqb cell) (are_inputs i)) (number ∷ []) [])
+    ∙ sym (ap (λ l. numbers_from (reads cell) l 0) pushed ∙ numbers_more (reads cell) attached x number numbered)
+
+-- the same, of what the code holds
+pub readers_more : (cells : ℕ) (old new : List Listed) (instances after : List InstanceType) (x : InstanceType) (number : ℕ) (inputs : List ℕ) →
     number ≡ length instances → inputs ≡ (attachment x).instance.inputs → after ≡ instances ++ x ∷ [] →
-    ((cell : ℕ) → numbers_for cell new ≡ numbers_for cell old ++ cond (list_any (eqb cell) inputs) (number ∷ []) []) →
-    AreReaders old (map attachment instances) → AreReaders new (map attachment after)
-readers_more old new instances after x number inputs numbered are_inputs pushed appended readers cell =
-    appended cell
-    ∙ (λ i. readers cell i ++ cond (list_any (eqb cell) (are_inputs i)) (number ∷ []) [])
-    ∙ sym (numbers_after (reads cell) instances after x number numbered pushed)
+    ((cell : ℕ) → cell < cells → numbers_for cell new ≡ numbers_for cell old ++ cond (list_any (eqb cell) inputs) (number ∷ []) []) →
+    AreReaders cells old (map attachment instances) → AreReaders cells new (map attachment after)
+readers_more cells old new instances after x number inputs numbered are_inputs pushed appended readers =
+    readers_push cells old new (map attachment instances) (map attachment after) (attachment x) number inputs
+    (numbered ∙ sym (length-map instances attachment)) are_inputs (ap (map attachment) pushed ∙ map_push attachment instances x) appended readers
 
 -- lists that an instance is appended to, as its output says, list the writers with it
-pub writers_more : (cells same : ℕ) (old new : List Listed) (instances after : List InstanceType) (x : InstanceType) (number : ℕ) →
-    number ≡ length instances → same ≡ cells → after ≡ instances ++ x ∷ [] →
+pub writers_more : (cells : ℕ) (old new : List Listed) (instances after : List InstanceType) (x : InstanceType) (number : ℕ) →
+    number ≡ length instances → after ≡ instances ++ x ∷ [] →
     ((cell : ℕ) → cell < cells → numbers_for cell new ≡ numbers_for cell old ++ cond (eqb cell x.output) (number ∷ []) []) →
-    AreWriters cells old (map attachment instances) → AreWriters same new (map attachment after)
-writers_more cells same old new instances after x number numbered many pushed appended writers cell within =
-    let there : cell < cells = omega (arith, within, many) in
-    appended cell there
-    ∙ (λ i. writers cell there i ++ cond (eqb cell x.output) (number ∷ []) [])
+    AreWriters cells old (map attachment instances) → AreWriters cells new (map attachment after)
+writers_more cells old new instances after x number numbered pushed appended writers cell within =
+    appended cell within
+    ∙ (λ i. writers cell within i ++ cond (eqb cell x.output) (number ∷ []) [])
     ∙ sym (numbers_after (writes cell) instances after x number numbered pushed)
 
 -- ---- one of the instances from a number on
@@ -95,13 +102,56 @@ holds_from P instances first number x from there is all =
     subst P (get_or-drop first instances (number - first) x ∙ ap (λ k. get_or instances k x) same ∙ sym is)
     (all (number - first) x (omega (arith, from, there, long)))
 
--- ---- the cells that are read are there
+-- numbers that count from none are as they are
+pub from_none : (numbers : List ℕ) → map (λ n. 0 + n) numbers ≡ numbers
+from_none [] = refl
+from_none (n ∷ numbers) = let same : 0 + n ≡ n = omega arith in λ i. same i ∷ from_none numbers i
 
-pub inputs_here : (calls : List FlatCall) (i : ℕ) (call : FlatCall) (placed : FlatCall → List ℕ) (inputs : List ℕ) (many : ℕ) →
-    i < length calls → call ≡ get_or calls i call → inputs ≡ take (length (placed call) - 1) (placed call) →
-    All (λ call. All (λ cell. cell < many) (placed call)) calls → All (λ cell. cell < many) inputs
-inputs_here calls i call placed inputs many there read taken here =
-    let own : All (λ cell. cell < many) (placed call) =
-    subst (λ (c : FlatCall). All (λ cell. cell < many) (placed c)) (sym read) (here i call there) in
-    All-same (λ cell. cell < many) inputs (take (length (placed call) - 1) (placed call)) taken
-    (All-take (λ cell. cell < many) (length (placed call) - 1) (placed call) own)
+-- ---- instances after others
+
+numbers_one : (test : Attached → Bool) (x : Attached) → numbers_from test (x ∷ []) 0 ≡ cond (test x) (0 ∷ []) []
+numbers_one test x = numbers_more test [] x 0 refl
+
+shifted_one : (a : ℕ) (b : Bool) → map (λ n. a + n) (cond b (0 ∷ []) []) ≡ cond b (a ∷ []) []
+shifted_one a true = let same : a + 0 ≡ a = omega arith in ap (λ n. n ∷ []) same
+shifted_one a false = refl
+
+shifted_twice : (a b : ℕ) → b ≡ a + 1 → (numbers : List ℕ) → map (λ n. a + n) (map (λ n. 1 + n) numbers) ≡ map (λ n. b + n) numbers
+shifted_twice a b next [] = refl
+shifted_twice a b next (n ∷ numbers) = let same : a + (1 + n) ≡ b + n = omega (arith, next) in λ i. same i ∷ shifted_twice a b next numbers i
+
+-- their numbers count from those before
+pub numbers_append : (test : Attached → Bool) (attached more : List Attached) →
+    numbers_from test (attached ++ more) 0 ≡ numbers_from test attached 0 ++ map (λ n. length attached + n) (numbers_from test more 0)
+numbers_append test attached [] = ap (λ l. numbers_from test l 0) (append-nil attached) ∙ sym (append-nil (numbers_from test attached 0))
+numbers_append test attached (x ∷ more) =
+    let rest = numbers_from test more 0 in
+    let count = length attached in
+    let before = numbers_from test attached 0 in
+    let next : length (attached ++ x ∷ []) ≡ count + 1 = length_push attached x in
+    let own : map (λ n. count + n) (numbers_from test (x ∷ more) 0) ≡ cond (test x) (count ∷ []) [] ++ map (λ n. length (attached ++ x ∷ []) + n) rest =
+    ap (map (λ n. count + n)) (numbers_append test (x ∷ []) more)
+    ∙ map-append (λ n. count + n) (numbers_from test (x ∷ []) 0) (map (λ n. 1 + n) rest)
+    ∙ (λ i. map (λ n. count + n) (numbers_one test x i) ++ shifted_twice count (length (attached ++ x ∷ [])) next rest i)
+    ∙ ap (λ l. l ++ map (λ n. length (attached ++ x ∷ []) + n) rest) (shifted_one count (test x)) in
+    ap (λ l. numbers_from test l 0) (sym (append_assoc attached (x ∷ []) more))
+    ∙ numbers_append test (attached ++ x ∷ []) more
+    ∙ ap (λ l. l ++ map (λ n. length (attached ++ x ∷ []) + n) rest) (numbers_more test attached x count refl)
+    ∙ append_assoc before (cond (test x) (count ∷ []) []) (map (λ n. length (attached ++ x ∷ []) + n) rest)
+    ∙ ap (λ l. before ++ l) (sym own)
+
+-- none of them passes
+pub numbers_none : (test : Attached → Bool) (more : List Attached) → All (λ x. test x ≡ false) more → numbers_from test more 0 ≡ []
+numbers_none test [] none = refl
+numbers_none test (x ∷ more) none =
+    numbers_append test (x ∷ []) more
+    ∙ (λ i. numbers_one test x i ++ map (λ n. 1 + n) (numbers_none test more (All-tail (λ x. test x ≡ false) x more none) i))
+    ∙ ap (λ b. cond b (0 ∷ []) [] ++ []) (none 0 x (omega arith))
+
+-- others that pass another test alike
+pub numbers_alike : (test other : Attached → Bool) (attached more : List Attached) → map test attached ≡ map other more →
+    numbers_from test attached 0 ≡ numbers_from other more 0
+numbers_alike test other attached more same =
+    let long : length attached - 0 ≡ length more - 0 =
+    let a = length-map attached test in let b = length-map more other in let c = ap length same in omega arith in
+    λ i. filter (λ n. get_or (same i) n false) (range_with_len 0 (long i))

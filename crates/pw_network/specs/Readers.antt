@@ -1,5 +1,5 @@
 -- Which instances read a cell.
-use Rattle.std.specs.Prelude.{◌≡◌, ℕ, ◌-◌, List, Bool, false, map, filter, length}
+use Rattle.std.specs.Prelude.{◌≡◌, ℕ, ◌-◌, ◌<◌, List, Bool, false, map, filter, length}
 use Rattle.std.specs.Prelude.{nat_eq, slice_index_or}
 use Rattle.std.specs.List.{list_any, range_with_len}
 use Rattle.pw_network.specs.inside.Lists.{Listed, numbers_for}
@@ -25,7 +25,7 @@ readers_from attached cell number = numbers_from (reads cell) attached number
 abbrev pub readers_of : Network → ℕ → List ℕ
 readers_of network cell = readers_from network.attached cell 0
 
--- these list the readers of each cell
-abbrev pub AreReaders : List Listed → List Attached → Type 0
-AreReaders listed attached = (cell : ℕ) → numbers_for cell listed
+-- these list the readers of each of the first cells, up to this number of cells
+abbrev pub AreReaders : ℕ → List Listed → List Attached → Type 0
+AreReaders cells listed attached = (cell : ℕ) → cell < cells → numbers_for cell listed
     ≡ readers_from attached cell 0

@@ -4,11 +4,12 @@ ghost use Rattle.std.specs.Prelude.{OnErr, OnOk, take, vec_len, vec_capacity};
 ghost use Rattle.std.specs.FinSet.{union};
 ghost use Rattle.pw_procs.specs.Registry.{cells_of};
 ghost use Rattle.pw_network.specs.inside.Appended.{AppendsCalls};
-ghost use Rattle.pw_network.specs.inside.Held.{attachment, inner_of};
-ghost use Rattle.pw_network.specs.Network.{inner_cells_from};
+ghost use Rattle.pw_decl.specs.Limits.{most_inner_cells};
+ghost use Rattle.pw_network.specs.inside.CompoundLists.{inner_made};
+ghost use Rattle.pw_network.specs.inside.Held.{attachment};
 ghost use Rattle.pw_network.specs.Readers.{AreReaders};
 ghost use Rattle.pw_network.specs.Writers.{AreWriters};
-ghost use Rattle.pw_network.specs.inside.Lists.{listed_by, no_place};
+ghost use Rattle.pw_network.specs.inside.Lists.{LeavesFrom, listed_by, no_place};
 
 use crate::attachment::Attachment;
 use crate::instance::Instance;
@@ -71,8 +72,8 @@ pub(crate) fn append_calls<A: Allocator>(
     outcome
 }
 
-// Appends the numbers of the instances from a number on to the lists of the cells that they read, and
-// to those of the cells that they write, where these have a list of writers.
+// Appends the numbers of the instances from a number on to the lists of the declared cells that they
+// read, and to those of the declared cells that they write.
 pub(crate) fn list_instances<A: Allocator + Copy>(
     instances: &[Instance],
     first: usize,
@@ -81,6 +82,7 @@ pub(crate) fn list_instances<A: Allocator + Copy>(
 )
     requires there { first ≤ length instances.now }
     requires numbers { length instances.now ≤ no_place }
+    requires lists { vec_len writers.old.ends ≤ vec_len readers.old.ends }
     requires reader_room { vec_len readers.old.links + 8 * (length instances.now - first)
         ≤ vec_capacity readers.old.links }
     requires writer_room { vec_len writers.old.links + (length instances.now - first)
@@ -91,37 +93,47 @@ pub(crate) fn list_instances<A: Allocator + Copy>(
         ≤ no_place }
     requires few { All (λ instance. length (attachment instance).instance.inputs ≤ 8)
         (drop first instances.now) }
-    requires here { All (λ instance. All (λ cell. cell < vec_len readers.old.ends)
-        (attachment instance).instance.inputs) (drop first instances.now) }
-    requires readers { AreReaders (map listed_by readers.old.links.items)
-        (map attachment (take first instances.now)) }
+    requires readers { AreReaders (vec_len writers.old.ends) (map listed_by
+        readers.old.links.items) (map attachment (take first instances.now)) }
     requires writers { AreWriters (vec_len writers.old.ends) (map listed_by
         writers.old.links.items) (map attachment (take first instances.now)) }
-    ensures readers { AreReaders (map listed_by readers.new.links.items)
-        (map attachment instances.now) }
-    ensures writers { AreWriters (vec_len writers.new.ends) (map listed_by
+    ensures readers { AreReaders (vec_len writers.old.ends) (map listed_by
+        readers.new.links.items) (map attachment instances.now) }
+    ensures writers { AreWriters (vec_len writers.old.ends) (map listed_by
         writers.new.links.items) (map attachment instances.now) }
-    ensures cells { vec_len readers.new.ends ≡ vec_len readers.old.ends }
-    ensures writer_cells { vec_len writers.new.ends ≡ vec_len writers.old.ends }
+    ensures kept { LeavesFrom (vec_len writers.old.ends) (map listed_by
+        readers.old.links.items) (map listed_by readers.new.links.items) }
+    ensures lists { vec_len readers.new.ends ≡ vec_len readers.old.ends }
+    ensures writer_lists { vec_len writers.new.ends ≡ vec_len writers.old.ends }
 {
     for number in first..instances.len() {
         let instance = &instances[number];
-        readers.append(number as u32, instance.inputs());
+        readers.append(number as u32, instance.inputs(), 0, writers.len() as u32);
         writers.append_to(number as u32, instance.output);
     }
 }
 
-// Appends inner cells of these kinds, numbered from 0.
-pub(crate) fn append_inner<A: Allocator>(inner: &mut Vec<InnerCell, A>, kinds: &[Kind], line: u32)
+// Appends the inner cells of an attachment at this line: they are of these kinds, and numbered from 0.
+// The first instance of the attachment has the number `first`, and the readers of the first inner cell
+// are in this list.
+pub(crate) fn append_inner<A: Allocator>(
+    inner: &mut Vec<InnerCell, A>,
+    kinds: &[Kind],
+    line: u32,
+    first: u32,
+    list: u32,
+)
     requires room { vec_len inner.old + length kinds.now ≤ vec_capacity inner.old }
-    requires few { length kinds.now ≤ 65535 }
-    ensures { map inner_of inner.new.items
-        ≡ map inner_of inner.old.items ++ inner_cells_from line 0 kinds.now }
+    requires few { length kinds.now ≤ most_inner_cells }
+    requires lists { list + length kinds.now ≤ no_place }
+    ensures { inner.new.items ≡ inner.old.items ++ inner_made line first list 0 kinds.now }
 {
     for (number, kind) in kinds.iter().enumerate() {
         let _ = inner.push(InnerCell {
             line,
-            number: number as u16,
+            first,
+            list: list + number as u32,
+            number: number as u8,
             kind: *kind,
         });
     }

@@ -1,6 +1,7 @@
-//! For each cell a list of instances: those that read it, or those that write it.
+//! Lists of instances: those that read a cell, those that write it, or the calls of a compound that
+//! read one of its places.
 ghost use Rattle.std.proofs.Props.{props};
-ghost use Rattle.std.specs.Prelude.{◌≡◌, ◌+◌, ◌<◌, ◌≤◌, ◌++◌, ◌∷◌, [], All, drop, length, map};
+ghost use Rattle.std.specs.Prelude.{◌≡◌, ◌+◌, ◌<◌, ◌≤◌, ◌++◌, ◌∷◌, [], drop, length, map};
 ghost use Rattle.std.specs.Prelude.{slice_set};
 ghost use Rattle.std.specs.Prelude.{IfOk, OnOk, nat_eq, vec_len, vec_capacity};
 ghost use Rattle.std.specs.List.{list_any};
@@ -12,24 +13,25 @@ use std::alloc::{AllocError, Allocator, Global};
 
 #[derive(Clone, Copy, Debug)]
 pub(crate) struct Link {
-    pub(crate) cell: u32,
+    // The number of its list.
+    pub(crate) list: u32,
     // The number of the instance.
     pub(crate) number: u32,
-    // The place of the next link of the cell.
+    // The place of the next link of the list.
     pub(crate) next: u32,
 }
 
-// The places of the first and the last link of a cell. They are past the end if its list is empty.
+// The places of the first and the last link of a list. They are past the end if it is empty.
 #[derive(Clone, Copy, Debug)]
 pub(crate) struct Ends {
     pub(crate) first: u32,
     pub(crate) last: u32,
 }
 
-// Means no link: no table has a link at this place.
+// Means no link: no table has a link at this place. No list has this number.
 const NONE: u32 = u32::MAX;
 
-// A list of instances for each cell, in the order in which they were appended. All lists are in one
+// Lists of instances by number, each in the order in which they were appended. All lists are in one
 // table, so room in the table is room for any of them. A table is so short that a place takes 32
 // bits.
 #[derive(Drop)]
@@ -37,14 +39,16 @@ pub(crate) struct InstanceLists<A: Allocator = Global> {
     links: Vec<Link, A>,
     ends: Vec<Ends, A>,
     ghost few: { vec_len links ≤ no_place },
+    ghost few_lists: { vec_len ends ≤ no_place },
     ghost linked: { AreLinked (map listed_by links.items) (map next_of links.items) ends.items } by { Prim.hlevel props },
 }
 
 impl<A: Allocator + Copy> InstanceLists<A> {
-    // This many cells, with empty lists. Fails only when out of memory.
-    pub(crate) fn new(alloc: A, cells: usize) -> Result<InstanceLists<A>, AllocError>
+    // This many empty lists. Fails only when out of memory.
+    pub(crate) fn new(alloc: A, count: usize) -> Result<InstanceLists<A>, AllocError>
+        requires few { count ≤ no_place }
         ensures links { IfOk result (λ lists. lists.links.items ≡ []) }
-        ensures cells { IfOk result (λ lists. vec_len lists.ends ≡ cells) }
+        ensures lists { IfOk result (λ lists. vec_len lists.ends ≡ count) }
     {
         let none = Ends {
             first: NONE,
@@ -52,31 +56,40 @@ impl<A: Allocator + Copy> InstanceLists<A> {
         };
         Ok(InstanceLists {
             links: Vec::new(alloc),
-            ends: vec![in alloc; none; cells]?,
+            ends: vec![in alloc; none; count]?,
         })
     }
 
-    // Makes room for this many more cells and this many more links. Fails only when out of memory;
-    // links whose places would not fit 32 bits count as that. The lists are unchanged.
-    pub(crate) fn reserve(&mut self, cells: usize, links: usize) -> Result<(), AllocError>
-        ensures links { self.new.links.items ≡ self.old.links.items }
-        ensures cells { vec_len self.new.ends ≡ vec_len self.old.ends }
-        ensures room_for_links { OnOk result (vec_len self.new.links + links ≤ vec_capacity
-            self.new.links) }
-        ensures few { OnOk result (vec_len self.new.links + links ≤ no_place) }
-        ensures room_for_cells { OnOk result (vec_len self.new.ends + cells ≤ vec_capacity
-            self.new.ends) }
+    // The number of lists.
+    #[inline(always)]
+    pub(crate) fn len(&self) -> usize
+        ensures { result ≡ vec_len self.now.ends }
     {
-        reserve_numbered(&mut self.links, links)?;
-        self.ends.reserve(cells)?;
-        Ok(())
+        self.ends.len()
     }
 
-    // Adds `count` cells, with empty lists.
-    pub(crate) fn add_cells(&mut self, count: usize)
+    // Makes room for this many more lists and links. Fails only when out of memory; what would not
+    // have a number or a place of 32 bits counts as that. The lists are unchanged.
+    pub(crate) fn reserve(&mut self, lists: usize, links: usize) -> Result<(), AllocError>
+        ensures links { self.new.links.items ≡ self.old.links.items }
+        ensures lists { vec_len self.new.ends ≡ vec_len self.old.ends }
+        ensures room_for_links { OnOk result (vec_len self.new.links + links ≤ vec_capacity
+            self.new.links) }
+        ensures few_links { OnOk result (vec_len self.new.links + links ≤ no_place) }
+        ensures room_for_lists { OnOk result (vec_len self.new.ends + lists ≤ vec_capacity
+            self.new.ends) }
+        ensures few_lists { OnOk result (vec_len self.new.ends + lists ≤ no_place) }
+    {
+        reserve_numbered(&mut self.links, links)?;
+        reserve_numbered(&mut self.ends, lists)
+    }
+
+    // Adds `count` empty lists.
+    pub(crate) fn add(&mut self, count: usize)
         requires room { vec_len self.old.ends + count ≤ vec_capacity self.old.ends }
+        requires few { vec_len self.old.ends + count ≤ no_place }
         ensures links { self.new.links ≡ self.old.links }
-        ensures cells { vec_len self.new.ends ≡ vec_len self.old.ends + count }
+        ensures lists { vec_len self.new.ends ≡ vec_len self.old.ends + count }
     {
         let none = Ends {
             first: NONE,
@@ -85,89 +98,94 @@ impl<A: Allocator + Copy> InstanceLists<A> {
         let _ = self.ends.resize(self.ends.len() + count, none);
     }
 
-    // Appends an instance to the list of each of these cells, only once if a cell is named twice.
-    pub(crate) fn append(&mut self, number: u32, cells: &[u32])
-        requires here { All (λ cell. cell < vec_len self.old.ends) cells.now }
+    // Appends an instance to the list of each of these cells below `count`, only once if a cell is
+    // named twice. The list of cell 0 has the number `base`.
+    #[inline(always)]
+    pub(crate) fn append(&mut self, number: u32, cells: &[u32], base: u32, count: u32)
+        requires here { base + count ≤ vec_len self.old.ends }
         requires room { vec_len self.old.links + length cells.now ≤ vec_capacity self.old.links }
         requires few { vec_len self.old.links + length cells.now ≤ no_place }
-        ensures lists { AddsNumber cells.now number (map listed_by self.old.links.items) (map
-            listed_by self.new.links.items) }
-        ensures cells { vec_len self.new.ends ≡ vec_len self.old.ends }
-        ensures ends_room { vec_capacity self.old.ends ≤ vec_capacity self.new.ends }
+        ensures added { AddsNumber base count cells.now number (map listed_by
+            self.old.links.items) (map listed_by self.new.links.items) }
+        ensures lists { vec_len self.new.ends ≡ vec_len self.old.ends }
         ensures links { vec_len self.new.links ≤ vec_len self.old.links + length cells.now }
         ensures room { vec_capacity self.old.links ≤ vec_capacity self.new.links }
     {
         for place in 0..cells.len() {
             let cell = cells[place];
+            if cell >= count {
+                continue;
+            }
             if has(&cells[..place], cell) {
                 continue;
             }
-            self.link(number, cell);
+            self.link(number, base + cell);
         }
     }
 
-    // Appends an instance to the list of a cell, if the cell has one.
-    pub(crate) fn append_to(&mut self, number: u32, cell: u32)
+    // Appends an instance to a list, if there is one of this number.
+    #[inline(always)]
+    pub(crate) fn append_to(&mut self, number: u32, list: u32)
         requires room { vec_len self.old.links < vec_capacity self.old.links }
         requires few { vec_len self.old.links < no_place }
-        ensures lists { AddsNumberTo (vec_len self.old.ends) cell number (map listed_by
+        ensures added { AddsNumberTo (vec_len self.old.ends) list number (map listed_by
             self.old.links.items) (map listed_by self.new.links.items) }
-        ensures cells { vec_len self.new.ends ≡ vec_len self.old.ends }
+        ensures lists { vec_len self.new.ends ≡ vec_len self.old.ends }
         ensures links { vec_len self.new.links ≤ vec_len self.old.links + 1 }
         ensures room { vec_capacity self.old.links ≤ vec_capacity self.new.links }
     {
-        if (cell as usize) < self.ends.len() {
-            self.link(number, cell);
+        if (list as usize) < self.ends.len() {
+            self.link(number, list);
         }
     }
 
-    // Appends an instance to the list of a cell.
+    // Appends an instance to a list.
     #[inline(always)]
-    fn link(&mut self, number: u32, cell: u32)
-        requires here { cell < vec_len self.old.ends }
+    fn link(&mut self, number: u32, list: u32)
+        requires here { list < vec_len self.old.ends }
         requires room { vec_len self.old.links < vec_capacity self.old.links }
         requires few { vec_len self.old.links < no_place }
         ensures listed { map listed_by self.new.links.items ≡ map listed_by
-            self.old.links.items ++ record { cell = cell; number = number } ∷ [] }
-        ensures cells { vec_len self.new.ends ≡ vec_len self.old.ends }
-        ensures ends_room { vec_capacity self.old.ends ≤ vec_capacity self.new.ends }
+            self.old.links.items ++ record { list = list; number = number } ∷ [] }
+        ensures lists { vec_len self.new.ends ≡ vec_len self.old.ends }
         ensures links { vec_len self.new.links ≡ vec_len self.old.links + 1 }
         ensures room { vec_capacity self.old.links ≤ vec_capacity self.new.links }
     {
         let at = self.links.len() as u32;
-        let ends = self.ends[cell as usize];
+        let ends = self.ends[list as usize];
         lead(&mut self.links, ends.last as usize, at);
-        self.ends[cell as usize] = Ends {
+        self.ends[list as usize] = Ends {
             first: ends.first.min(at),
             last: at,
         };
         let _ = self.links.push(Link {
-            cell,
+            list,
             number,
             next: NONE,
         });
     }
 
-    // The instances of a cell, in the order in which they were appended. None for a cell without a
-    // list.
-    pub(crate) fn numbers(&self, cell: u32) -> InstanceNumbers<'_>
-        ensures { result ≡ numbers_for cell (map listed_by self.now.links.items) }
+    // The instances of a list, in the order in which they were appended. They count from the instance
+    // of number `first`. None if there is no list of this number.
+    pub(crate) fn numbers(&self, list: u32, first: u32) -> InstanceNumbers<'_>
+        ensures { result ≡ map (λ n. first + n) (numbers_for list (map listed_by
+            self.now.links.items)) }
     {
-        let first = self.first(cell);
-        InstanceNumbers::new(&self.links, cell, first)
+        let at = self.first(list);
+        InstanceNumbers::new(&self.links, list, at, first)
     }
 
-    // The place of the first link of a cell.
-    fn first(&self, cell: u32) -> u32
+    // The place of the first link of a list.
+    fn first(&self, list: u32) -> u32
         ensures walk { IsWalk (map listed_by self.now.links.items) (map next_of
-            self.now.links.items) cell result }
-        ensures all { numbers_for cell (drop result (map listed_by self.now.links.items))
-            ≡ numbers_for cell (map listed_by self.now.links.items) }
+            self.now.links.items) list result }
+        ensures all { numbers_for list (drop result (map listed_by self.now.links.items))
+            ≡ numbers_for list (map listed_by self.now.links.items) }
     {
-        if cell as usize >= self.ends.len() {
+        if list as usize >= self.ends.len() {
             return NONE;
         }
-        self.ends[cell as usize].first
+        self.ends[list as usize].first
     }
 }
 
@@ -206,7 +224,7 @@ fn lead<A: Allocator>(links: &mut Vec<Link, A>, place: usize, next: u32)
     if place < links.len() {
         let link = links[place];
         links[place] = Link {
-            cell: link.cell,
+            list: link.list,
             number: link.number,
             next,
         };

@@ -4,6 +4,7 @@
 
 mod attaching;
 mod attachment;
+mod compound_lists;
 mod instance;
 mod instance_lists;
 mod instance_numbers;

@@ -1,6 +1,6 @@
 //! What is attached to the cells of a declaration: instances of procedures, between its cells and
 //! inner ones.
-ghost use Rattle.std.specs.Prelude.{◌≡◌, ◌<◌, ◌≤◌, ◌↔◌, length, map, IfOk, IfErr, OnOk, OnErr};
+ghost use Rattle.std.specs.Prelude.{◌≡◌, ◌+◌, ◌<◌, ◌≤◌, ◌↔◌, length, map, IfOk, IfErr, OnOk, OnErr};
 ghost use Rattle.pw_procs.specs.Registry.{cells_of};
 ghost use Rattle.pw_decl.specs.declared.step.Callable.TheVariants as callables;
 ghost use Rattle.pw_decl.specs.Expansion.{inner_kinds_of};
@@ -18,16 +18,18 @@ ghost use Rattle.pw_network.specs.Network.{MayAttach, TakesCells};
 ghost use Rattle.pw_network.specs.Readers.{readers_of};
 ghost use Rattle.pw_network.specs.Writers.{writers_of};
 ghost use Rattle.std.proofs.Props.{props};
-ghost use Rattle.std.specs.Prelude.{vec_len, IsTrue};
+ghost use Rattle.std.specs.Prelude.{◌*◌, vec_capacity, vec_len, IsTrue};
 ghost use Rattle.pw_decl.specs.inside.Held.{named_prop};
+ghost use Rattle.pw_network.specs.inside.CompoundLists.{AreOwnLists, AreReadAs, HasLists};
 ghost use Rattle.pw_network.specs.inside.Held.{support_code, wiring_from};
 ghost use Rattle.pw_network.specs.Network.{IsWellNetwork};
 ghost use Rattle.pw_network.specs.Readers.{AreReaders};
 ghost use Rattle.pw_network.specs.Writers.{AreWriters};
-ghost use Rattle.pw_network.specs.inside.Lists.{listed_by};
+ghost use Rattle.pw_network.specs.inside.Lists.{listed_by, no_place};
 
 use crate::attaching::{append_calls, append_inner, list_instances, with_support};
 use crate::attachment::Attachment;
+use crate::compound_lists::CompoundLists;
 use crate::instance::{Instance, MOST_INPUTS};
 use crate::instance_lists::{InstanceLists, reserve_numbered};
 use crate::instance_numbers::InstanceNumbers;
@@ -42,8 +44,12 @@ use std::alloc::{AllocError, Allocator, Global};
 pub(crate) struct InnerCell {
     // The line of the attachment.
     pub(crate) line: u32,
+    // The number of the first instance of the attachment.
+    pub(crate) first: u32,
+    // The number of the list of the calls that read it.
+    pub(crate) list: u32,
     // The number of the cell among the inner cells of the attachment, from 0.
-    pub(crate) number: u16,
+    pub(crate) number: u8,
     pub(crate) kind: Kind,
 }
 
@@ -63,8 +69,10 @@ pub struct Network<'d, 'r, A: Allocator = Global> {
     declaration: &'d Declaration<'r, A>,
     inner: Vec<InnerCell, A>,
     instances: Vec<Instance, A>,
-    // The numbers of the instances that read each cell.
+    // For each declared cell the list of the instances that read it, and after these, for each place of
+    // a compound that was attached, the list of its calls that read it.
     readers: InstanceLists<A>,
+    compounds: CompoundLists<A>,
     // The numbers of the instances that write each declared cell. Inner cells have no such list.
     writers: InstanceLists<A>,
     // The line of the last attachment, 0 before the first.
@@ -73,10 +81,11 @@ pub struct Network<'d, 'r, A: Allocator = Global> {
     premises: PremiseSet,
     ghost well: { IsWellNetwork (wiring_from (declared declaration.now) inner.items instances.items
         last_line) } by { Prim.hlevel (props, named_prop, support_code) },
-    ghost cells: { vec_len readers.ends
-        ≡ cells_in (wiring_from (declared declaration.now) inner.items instances.items last_line) },
+    ghost read_cells: { length (declared declaration.now).cells ≤ vec_len readers.ends },
     ghost declared_cells: { vec_len writers.ends ≡ length (declared declaration.now).cells },
-    ghost read: { AreReaders (map listed_by readers.links.items) (map attachment instances.items) } by { Prim.hlevel props },
+    ghost read: { AreReaders (vec_len writers.ends) (map listed_by readers.links.items) (map attachment instances.items) } by { Prim.hlevel props },
+    ghost calls: { AreOwnLists (declared declaration.now).compounds (vec_len writers.ends) compounds (vec_len readers.ends) (map listed_by readers.links.items) } by { Prim.hlevel props },
+    ghost inner_read: { AreReadAs (vec_len writers.ends) (vec_len readers.ends) (map listed_by readers.links.items) (map attachment instances.items) inner.items } by { Prim.hlevel props },
     ghost written: { AreWriters (vec_len writers.ends) (map listed_by writers.links.items) (map attachment instances.items) } by { Prim.hlevel props },
     ghost visible: { ArePremisesOf (map attachment instances.items) premises },
 }
@@ -97,6 +106,7 @@ impl<'d, 'r, A: Allocator + Copy> Network<'d, 'r, A> {
             inner: Vec::new(alloc),
             instances: Vec::new(alloc),
             readers: InstanceLists::new(alloc, declaration.cells() as usize)?,
+            compounds: CompoundLists::new(alloc),
             writers: InstanceLists::new(alloc, declaration.cells() as usize)?,
             last_line: 0,
             premises: PremiseSet::empty(),
@@ -152,7 +162,7 @@ impl<'d, 'r, A: Allocator + Copy> Network<'d, 'r, A> {
             return None;
         }
         let inner = self.inner[(cell - declared) as usize];
-        Some((inner.line, inner.number))
+        Some((inner.line, u16::from(inner.number)))
     }
 
     /// The line of the last attachment, 0 before the first.
@@ -167,7 +177,14 @@ impl<'d, 'r, A: Allocator + Copy> Network<'d, 'r, A> {
     pub fn readers(&self, cell: u32) -> InstanceNumbers<'_>
         ensures { result ≡ readers_of (wiring self.now) cell }
     {
-        self.readers.numbers(cell)
+        let declared = self.writers.len();
+        if (cell as usize) < declared {
+            return self.readers.numbers(cell, 0);
+        }
+        match self.inner.get(cell as usize - declared) {
+            Some(inner) => self.readers.numbers(inner.list, inner.first),
+            None => self.readers.numbers(u32::MAX, 0),
+        }
     }
 
     /// The numbers of the instances that write the declared cell, in rising order.
@@ -175,7 +192,7 @@ impl<'d, 'r, A: Allocator + Copy> Network<'d, 'r, A> {
         requires { cell < length (wiring self.now).declared.cells }
         ensures { result ≡ writers_of (wiring self.now) cell }
     {
-        self.writers.numbers(cell)
+        self.writers.numbers(cell, 0)
     }
 
     /// Whether all instances are visible in the worldview: they rest only on premises of it. Takes
@@ -247,15 +264,81 @@ impl<'d, 'r, A: Allocator + Copy> Network<'d, 'r, A> {
         let global = self.declaration.registry().allocator();
         let attached = Attachment::shared(global, line, &support)?;
         let instance = Instance::new(global, procedure, cells, &attached)?;
-        reserve_numbered(&mut self.instances, 1)?;
-        self.readers.reserve(0, MOST_INPUTS)?;
-        self.writers.reserve(0, 1)?;
+        self.reserve(0, 1)?;
         let count = self.instances.len();
         let _ = self.instances.push(instance);
         list_instances(&self.instances, count, &mut self.readers, &mut self.writers);
         self.premises = self.premises.join(support);
         self.last_line = line;
         Ok(())
+    }
+
+    // Makes room for this many more inner cells and instances. Fails only when out of memory.
+    fn reserve(&mut self, inner: usize, instances: usize) -> Result<(), AllocError>
+        ensures same { wiring self.new ≡ wiring self.old }
+        ensures links { self.new.readers.links.items ≡ self.old.readers.links.items }
+        ensures reader_lists { vec_len self.new.readers.ends ≡ vec_len self.old.readers.ends }
+        ensures writer_lists { vec_len self.new.writers.ends ≡ vec_len self.old.writers.ends }
+        ensures inner { OnOk result (vec_len self.new.inner + inner
+            ≤ vec_capacity self.new.inner) }
+        ensures instances { OnOk result (vec_len self.new.instances + instances
+            ≤ vec_capacity self.new.instances) }
+        ensures few { OnOk result (vec_len self.new.instances + instances ≤ no_place) }
+        ensures reader_room { OnOk result (vec_len self.new.readers.links + 8 * instances
+            ≤ vec_capacity self.new.readers.links) }
+        ensures reader_places { OnOk result (vec_len self.new.readers.links + 8 * instances
+            ≤ no_place) }
+        ensures writer_room { OnOk result (vec_len self.new.writers.links + instances
+            ≤ vec_capacity self.new.writers.links) }
+        ensures writer_places { OnOk result (vec_len self.new.writers.links + instances
+            ≤ no_place) }
+    {
+        self.inner.reserve(inner)?;
+        reserve_numbered(&mut self.instances, instances)?;
+        self.reserve_lists(instances)
+    }
+
+    // Makes room in the lists for this many more instances. Fails only when out of memory.
+    fn reserve_lists(&mut self, count: usize) -> Result<(), AllocError>
+        requires few { count ≤ no_place }
+        ensures same { wiring self.new ≡ wiring self.old }
+        ensures inner { self.new.inner ≡ self.old.inner }
+        ensures instances { self.new.instances ≡ self.old.instances }
+        ensures links { self.new.readers.links.items ≡ self.old.readers.links.items }
+        ensures reader_lists { vec_len self.new.readers.ends ≡ vec_len self.old.readers.ends }
+        ensures writer_lists { vec_len self.new.writers.ends ≡ vec_len self.old.writers.ends }
+        ensures reader_room { OnOk result (vec_len self.new.readers.links + 8 * count
+            ≤ vec_capacity self.new.readers.links) }
+        ensures reader_places { OnOk result (vec_len self.new.readers.links + 8 * count
+            ≤ no_place) }
+        ensures writer_room { OnOk result (vec_len self.new.writers.links + count
+            ≤ vec_capacity self.new.writers.links) }
+        ensures writer_places { OnOk result (vec_len self.new.writers.links + count ≤ no_place) }
+    {
+        self.readers.reserve(0, count * MOST_INPUTS)?;
+        self.writers.reserve(0, count)
+    }
+
+    // The number of the list of a compound's first place, of this many. The lists of its other places
+    // follow: each has the calls that read the place. Fails only when out of memory.
+    fn list_calls(
+        &mut self,
+        compound: u8,
+        calls: &[FlatCall],
+        places: usize,
+    ) -> Result<u32, AllocError>
+        requires calls { AreCallsOf (wiring self.old).declared.compounds compound calls.now }
+        requires places { (are : AreCallsOf (wiring self.old).declared.compounds compound
+            calls.now) → places ≡ length are.compound.parameters + length
+            (inner_kinds_of (wiring self.old).declared.compounds (callables.Compound compound)) }
+        requires some { 1 ≤ places }
+        ensures same { wiring self.new ≡ wiring self.old }
+        ensures listed { IfOk result (λ first. HasLists (vec_len self.new.writers.ends) places
+            calls.now first (vec_len self.new.readers.ends) (map listed_by
+            self.new.readers.links.items)) }
+    {
+        self.compounds
+            .first(&mut self.readers, compound, calls, places)
     }
 
     // Attaches a compound with these calls and these kinds of inner cells. Fails only when out of
@@ -284,23 +367,19 @@ impl<'d, 'r, A: Allocator + Copy> Network<'d, 'r, A> {
         let first = self.cells();
         let global = self.declaration.registry().allocator();
         let shared = Attachment::shared(global, line, &support)?;
-        self.inner.reserve(kinds.len())?;
-        reserve_numbered(&mut self.instances, calls.len())?;
-        self.readers
-            .reserve(kinds.len(), calls.len() * MOST_INPUTS)?;
-        self.writers.reserve(0, calls.len())?;
+        let cells = cells.cells();
+        let list = self.list_calls(compound, calls, cells.len() + kinds.len())?;
+        self.reserve(kinds.len(), calls.len())?;
         let count = self.instances.len();
-        append_calls(
-            &mut self.instances,
-            global,
-            calls,
-            cells.cells(),
-            first,
-            &shared,
-        )?;
-        self.readers.add_cells(kinds.len());
+        append_calls(&mut self.instances, global, calls, cells, first, &shared)?;
         list_instances(&self.instances, count, &mut self.readers, &mut self.writers);
-        append_inner(&mut self.inner, kinds, line);
+        append_inner(
+            &mut self.inner,
+            kinds,
+            line,
+            count as u32,
+            list + cells.len() as u32,
+        );
         self.premises = with_support(self.premises, support, calls);
         self.last_line = line;
         Ok(())

@@ -1,77 +1,86 @@
--- How the links of a table list instances for each cell.
+-- How the links of a table make lists of instances.
 use Rattle.std.specs.Prelude.{◌≡◌, ℕ, ◌+◌, ◌<◌, ◌≤◌, List, [], ◌∷◌, ◌++◌, All, cond, drop, length}
 use Rattle.std.specs.Prelude.{nat_eq, slice_index_or}
 use Rattle.std.specs.List.{list_any}
 use Rattle.pw_network.specs.declared.instance_lists.Ends.{Ends}
 use Rattle.pw_network.specs.declared.instance_lists.Link.{Link}
 
--- the instance of this number is listed for the cell
+-- the list of this number has the instance of that one
 pub record Listed : Type 0 where
-  pub cell : ℕ
+  pub list : ℕ
   pub number : ℕ
 
 -- the content of a link
 abbrev pub listed_by : Link → Listed
-listed_by link = record { cell = link.cell; number = link.number }
+listed_by link = record { list = link.list; number = link.number }
 
--- the place of the next instance that is listed for its cell
+-- the place of the next instance of its list
 abbrev pub next_of : Link → ℕ
 next_of link = link.next
 
--- the number of the instance, if it is listed for the cell
+-- the number of the instance, if it is in the list
 abbrev pub number_for : ℕ → Listed → List ℕ
-number_for cell entry = cond (nat_eq cell entry.cell) (entry.number ∷ []) []
+number_for list entry = cond (nat_eq list entry.list) (entry.number ∷ []) []
 
--- the numbers of the instances that are listed for the cell, in order
+-- the numbers of the instances of the list, in order
 abbrev pub numbers_for : ℕ → List Listed → List ℕ
-numbers_for cell [] = []
-numbers_for cell (entry ∷ listed) = number_for cell entry ++ numbers_for cell listed
+numbers_for list [] = []
+numbers_for list (entry ∷ listed) = number_for list entry ++ numbers_for list listed
 
--- the place that means no place: no link is there, and no instance has this number
+-- the place that means no place: no link is there, and no list and no instance has this number
 abbrev pub no_place : ℕ
 no_place = 4294967295
 
--- the first instance that is listed for the cell, from a place on, is at this place, or there is
--- none
-pub record LeadsTo (listed : List Listed) (cell from at : ℕ) : Type 0 where
-  pub same : numbers_for cell (drop at listed) ≡ numbers_for cell (drop from listed)
-  pub for_cell : (d : Listed) → at < length listed → (slice_index_or listed at d).cell ≡ cell
+-- the first instance of the list, from a place on, is at this place, or there is none
+pub record LeadsTo (listed : List Listed) (list from at : ℕ) : Type 0 where
+  pub same : numbers_for list (drop at listed) ≡ numbers_for list (drop from listed)
+  pub of_list : (d : Listed) → at < length listed → (slice_index_or listed at d).list ≡ list
   pub none : length listed ≤ at → at ≡ no_place
 
--- the last instance that is listed for the cell is at this place, or there is none
-pub record EndsAt (listed : List Listed) (cell at : ℕ) : Type 0 where
-  pub rest : numbers_for cell (drop (at + 1) listed) ≡ []
-  pub for_cell : (d : Listed) → at < length listed → (slice_index_or listed at d).cell ≡ cell
-  pub none : length listed ≤ at → (at ≡ no_place) × (numbers_for cell listed ≡ [])
+-- the last instance of the list is at this place, or there is none
+pub record EndsAt (listed : List Listed) (list at : ℕ) : Type 0 where
+  pub rest : numbers_for list (drop (at + 1) listed) ≡ []
+  pub of_list : (d : Listed) → at < length listed → (slice_index_or listed at d).list ≡ list
+  pub none : length listed ≤ at → (at ≡ no_place) × (numbers_for list listed ≡ [])
 
--- each link leads to the next for its cell
+-- each link leads to the next of its list
 abbrev pub AreChained : List Listed → List ℕ → Type 0
 AreChained listed nexts =
     (at : ℕ) (d : Listed) → at < length listed →
-    LeadsTo listed (slice_index_or listed at d).cell (at + 1) (slice_index_or nexts at 0)
+    LeadsTo listed (slice_index_or listed at d).list (at + 1) (slice_index_or nexts at 0)
 
--- the links are chained, and these are where the list of each cell begins and ends
+-- the links are chained, and this is where each list begins and ends
 pub record AreLinked (listed : List Listed) (nexts : List ℕ) (ends : List Ends) : Type 0 where
   pub chained : AreChained listed nexts
-  pub firsts : (cell : ℕ) (d : Ends) → cell < length ends →
-      LeadsTo listed cell 0 (slice_index_or ends cell d).first
-  pub lasts : (cell : ℕ) (d : Ends) → cell < length ends →
-      EndsAt listed cell (slice_index_or ends cell d).last
-  pub here : All (λ entry. entry.cell < length ends) listed
+  pub firsts : (list : ℕ) (d : Ends) → list < length ends →
+      LeadsTo listed list 0 (slice_index_or ends list d).first
+  pub lasts : (list : ℕ) (d : Ends) → list < length ends →
+      EndsAt listed list (slice_index_or ends list d).last
+  pub here : All (λ entry. entry.list < length ends) listed
 
--- each link leads to the next for its cell, and at this place is a link of this cell, if any
-pub record IsWalk (listed : List Listed) (nexts : List ℕ) (cell at : ℕ) : Type 0 where
+-- each link leads to the next of its list, and at this place is a link of this one, if any
+pub record IsWalk (listed : List Listed) (nexts : List ℕ) (list at : ℕ) : Type 0 where
   pub chained : AreChained listed nexts
-  pub for_cell : (d : Listed) → at < length listed → (slice_index_or listed at d).cell ≡ cell
+  pub of_list : (d : Listed) → at < length listed → (slice_index_or listed at d).list ≡ list
 
--- for each of these cells one instance more is listed, and for the others none
-abbrev pub AddsNumber : List ℕ → ℕ → List Listed → List Listed → Type 0
-AddsNumber cells number old new =
-    (cell : ℕ) → numbers_for cell new ≡ numbers_for cell old
-    ++ cond (list_any (nat_eq cell) cells) (number ∷ []) []
+-- for each of these cells below `count` its list has one instance more, and no other list has. The list of cell 0 has
+-- the number `base`
+pub record AddsNumber (base count : ℕ) (cells : List ℕ) (number : ℕ) (old new : List Listed) : Type 0 where
+  pub own : (cell : ℕ) → cell < count → numbers_for (base + cell) new ≡ numbers_for (base + cell) old
+      ++ cond (list_any (nat_eq cell) cells) (number ∷ []) []
+  pub before : (list : ℕ) → list < base → numbers_for list new ≡ numbers_for list old
+  pub after : (list : ℕ) → base + count ≤ list → numbers_for list new ≡ numbers_for list old
 
--- for the cell one instance more is listed, and for the other cells below this number none
+-- the list has one instance more, and the other lists below the first number have none
 abbrev pub AddsNumberTo : ℕ → ℕ → ℕ → List Listed → List Listed → Type 0
-AddsNumberTo cells cell number old new =
-    (c : ℕ) → c < cells → numbers_for c new ≡ numbers_for c old
-    ++ cond (nat_eq c cell) (number ∷ []) []
+AddsNumberTo lists list number old new =
+    (other : ℕ) → other < lists → numbers_for other new ≡ numbers_for other old
+    ++ cond (nat_eq other list) (number ∷ []) []
+
+-- the lists below this number have what they had
+abbrev pub LeavesBelow : ℕ → List Listed → List Listed → Type 0
+LeavesBelow most old new = (list : ℕ) → list < most → numbers_for list new ≡ numbers_for list old
+
+-- and those from this number on
+abbrev pub LeavesFrom : ℕ → List Listed → List Listed → Type 0
+LeavesFrom least old new = (list : ℕ) → least ≤ list → numbers_for list new ≡ numbers_for list old

@@ -1,6 +1,5 @@
-use Rattle.std.proofs.Common.{refl, map, arith}
-use Rattle.pw_network.specs.inside.Held.{inner_of}
-use Rattle.pw_network.proofs.AttachedCells.{inner_more}
+use Rattle.std.proofs.Common.{arith}
+use Rattle.pw_network.proofs.AttachedCells.{made_more}
 use Rattle.pw_network.proofs.attaching.append_inner.Goals as goal
 
 pub loop-number-preserved : goal.loop-number-preserved
@@ -8,8 +7,8 @@ loop-number-preserved g c =
     let i = c.loop-number.number in
     let done = c.push.ensures.succeeds (omega (arith, c.loop-number.invariant.room, c.loop-number-test.true)) in
     record {
-      items = inner_more c.args.line (map inner_of c.args.inner.now.items) c.loop-number.inner.items c.push.new.self.items c.args.kinds.now
-          i (record { line = c.args.line; number = i; kind = c.index-kinds-number.result }) c.loop-number-test.true (rw done at c.push.ensures.items)
-          refl refl c.index-kinds-number.is c.loop-number.invariant.items;
+      items = made_more c.args.line c.args.first c.args.list c.args.inner.now.items c.loop-number.inner.items c.push.new.self.items c.args.kinds.now
+          i c.index-kinds-number.result c.loop-number-test.true (rw done at c.push.ensures.items)
+          c.index-kinds-number.is c.loop-number.invariant.items;
       room = omega (arith, c.loop-number.invariant.room, c.push.ensures.upper_bound, c.push.ensures.capacity);
     }

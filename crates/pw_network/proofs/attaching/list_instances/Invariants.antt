@@ -1,16 +1,17 @@
 use Rattle.std.proofs.Common.{◌≡◌, ◌+◌, ◌-◌, ◌*◌, ◌≤◌, map, take, vec_len, vec_capacity}
 use Rattle.pw_network.specs.inside.Held.{attachment}
-use Rattle.pw_network.specs.inside.Lists.{listed_by}
+use Rattle.pw_network.specs.inside.Lists.{LeavesFrom, listed_by}
 use Rattle.pw_network.specs.Readers.{AreReaders}
 use Rattle.pw_network.specs.Writers.{AreWriters}
 use Rattle.pw_network.proofs.attaching.list_instances.Given as goal
 
 abbrev pub invariant-loop-number : goal.invariant-loop-number
 invariant-loop-number g l = record {
-  readers : AreReaders (map listed_by l.readers.links.items) (map attachment (take l.number l.instances));
-  writers : AreWriters (vec_len l.writers.ends) (map listed_by l.writers.links.items) (map attachment (take l.number l.instances));
-  cells : vec_len l.readers.ends ≡ vec_len l.fn.readers.ends;
-  writer_cells : vec_len l.writers.ends ≡ vec_len l.fn.writers.ends;
+  readers : AreReaders (vec_len l.fn.writers.ends) (map listed_by l.readers.links.items) (map attachment (take l.number l.instances));
+  writers : AreWriters (vec_len l.fn.writers.ends) (map listed_by l.writers.links.items) (map attachment (take l.number l.instances));
+  kept : LeavesFrom (vec_len l.fn.writers.ends) (map listed_by l.fn.readers.links.items) (map listed_by l.readers.links.items);
+  lists : vec_len l.readers.ends ≡ vec_len l.fn.readers.ends;
+  writer_lists : vec_len l.writers.ends ≡ vec_len l.fn.writers.ends;
   reader_links : vec_len l.readers.links ≤ vec_len l.fn.readers.links + 8 * (l.number - l.fn.first);
   reader_room : vec_capacity l.fn.readers.links ≤ vec_capacity l.readers.links;
   writer_links : vec_len l.writers.links ≤ vec_len l.fn.writers.links + (l.number - l.fn.first);

@@ -1,12 +1,10 @@
-use Rattle.std.proofs.Common.{◌≡◌, ◌+◌, ◌<◌, ◌≤◌, ◌++◌, ◌∷◌, [], drop, length, take, refl, ap, ◌∙◌, arith}
-use Rattle.std.specs.Prelude.{All}
+use Rattle.std.proofs.Common.{◌≡◌, ◌+◌, ◌≤◌, ◌++◌, ◌∷◌, [], drop, length, take, refl, ap, ◌∙◌, arith}
 use Rattle.std.proofs.lemmas.List.{drop-append-le, take-append-le, take_all}
 use Rattle.std.proofs.lemmas.List.Elements.{All-push, All-same}
 use Rattle.pw_decl.specs.Expansion.{at_place}
 use Rattle.pw_network.specs.declared.instance.Instance.{Instance as InstanceType}
 use Rattle.pw_network.specs.inside.Held.{attached_on, attachment, cells_placed}
 use Rattle.pw_network.proofs.AttachedCells.{instances_more}
-use Rattle.pw_network.proofs.ReaderLemmas.{inputs_here}
 use Rattle.pw_network.proofs.attaching.push_calls.Goals as goal
 
 pub loop-call-preserved : goal.loop-call-preserved
@@ -31,10 +29,6 @@ loop-call-preserved g c =
       room = omega (arith, c.loop-call.invariant.room, c.push.ensures.capacity);
       few = All-same (λ (y : InstanceType). length (attachment y).instance.inputs ≤ 8) (drop n after) (drop n before ++ x ∷ []) more
           (All-push (λ (y : InstanceType). length (attachment y).instance.inputs ≤ 8) (drop n before) x c.loop-call.invariant.few c.in_ok-instance.ensures.few);
-      here = λ many here. All-same (λ (y : InstanceType). All (λ cell. cell < many) (attachment y).instance.inputs) (drop n after) (drop n before ++ x ∷ []) more
-          (All-push (λ (y : InstanceType). All (λ cell. cell < many) (attachment y).instance.inputs) (drop n before) x (c.loop-call.invariant.here many here)
-          (inputs_here c.args.calls.now i c.call-item.result (cells_placed c.args.cells.now c.args.first) (attachment x).instance.inputs many c.loop-call-test.true c.call-item.is
-          c.in_ok-instance.ensures.inputs here));
     }
 
 pub returns-clause-appended : goal.returns-clause-appended
@@ -45,5 +39,4 @@ returns-clause-appended g c =
           ∙ ap (λ l. attached_on c.args.attached.now.value.line c.args.attached.now.value.support c.args.cells.now c.args.first l)
           (take_all c.loop-call.call-index c.args.calls.now c.loop-call-test.false);
       few = c.loop-call.invariant.few;
-      here = c.loop-call.invariant.here;
     }

@@ -1,7 +1,7 @@
-use Rattle.std.proofs.Common.{◌≡◌, ℕ, ◌+◌, ◌<◌, ◌≤◌, drop, length, map, take, vec_len, vec_capacity}
+use Rattle.std.proofs.Common.{◌≡◌, ◌+◌, ◌≤◌, drop, length, map, take, vec_len, vec_capacity}
 use Rattle.std.specs.Prelude.{All}
 use Rattle.pw_decl.specs.Expansion.{at_place, renamed}
-use Rattle.pw_network.specs.inside.Held.{attachment, cells_placed}
+use Rattle.pw_network.specs.inside.Held.{attachment}
 use Rattle.pw_decl.specs.inside.Held.{instances_of}
 use Rattle.pw_network.specs.Network.{attached_at}
 use Rattle.pw_network.proofs.attaching.push_calls.Given as goal
@@ -14,6 +14,4 @@ invariant-loop-call g l = record {
   len : vec_len l.instances ≡ vec_len l.fn.instances + l.call-index;
   room : vec_capacity l.fn.instances ≤ vec_capacity l.instances;
   few : All (λ instance. length (attachment instance).instance.inputs ≤ 8) (drop (length l.fn.instances.items) l.instances.items);
-  here : (many : ℕ) → All (λ call. All (λ cell. cell < many) (cells_placed l.cells l.first call)) l.calls
-      → All (λ instance. All (λ cell. cell < many) (attachment instance).instance.inputs) (drop (length l.fn.instances.items) l.instances.items);
 }

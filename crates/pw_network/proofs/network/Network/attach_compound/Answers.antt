@@ -1,79 +1,132 @@
-use Rattle.std.proofs.Common.{◌≡◌, ◌<◌, length, drop, map, ap, subst, sym, arith, vec_len}
+use Rattle.std.proofs.Common.{◌≡◌, ◌+◌, ◌<◌, ◌≤◌, ◌∙◌, length, drop, map, ap, refl, subst, sym, arith, vec_len}
 use Rattle.std.specs.Prelude.{All}
-use Rattle.std.proofs.lemmas.List.{length-drop}
+use Rattle.std.proofs.lemmas.List.{length-drop, length-map}
+use Rattle.std.proofs.lemmas.List.Elements.{All-weaker}
 use Rattle.pw_procs.specs.Registry.{cells_of}
 use Rattle.pw_decl.specs.declared.step.Callable.TheVariants as callables
+use Rattle.pw_decl.specs.Expansion.{inner_kinds_of}
+use Rattle.pw_decl.specs.Limits.{most_inner_cells}
 use Rattle.pw_decl.specs.inside.Fields.{declared}
-use Rattle.pw_decl.specs.inside.Held.{instances_on}
-use Rattle.pw_network.specs.declared.instance.Instance.{Instance as InstanceType}
-use Rattle.pw_network.specs.inside.Held.{attachment}
+use Rattle.pw_decl.specs.inside.Held.{AreCallsOf, IsBelow, instances_on}
+use Rattle.pw_network.specs.inside.CompoundLists.{HasLists}
+use Rattle.pw_network.specs.inside.Held.{attachment, inner_of, wiring_from}
 use Rattle.pw_network.specs.inside.Lists.{listed_by}
 use Rattle.pw_network.specs.Readers.{AreReaders}
 use Rattle.pw_network.specs.Writers.{AreWriters}
 use Rattle.pw_network.specs.Wiring.{wiring}
-use Rattle.pw_network.specs.Network.{IsWellNetwork, cells_in}
-use Rattle.pw_network.proofs.AttachedCalls.{calls_here, compound_attached}
+use Rattle.pw_network.specs.Network.{IsWellNetwork, MayAttach, Network, cells_in, with_attached}
+use Rattle.pw_network.proofs.AttachedCalls.{as_many, compound_attached}
 use Rattle.pw_network.proofs.AttachedCells.{rejoined}
+use Rattle.pw_network.proofs.CompoundListLemmas.{all_read_after, has_in_room, own_later, read_as}
 use Rattle.pw_network.proofs.LineLemmas.{IsOf, attached_of}
 use Rattle.pw_network.proofs.SupportLemmas.{premises_after}
-use Rattle.pw_network.proofs.WellNetworks.{cells_after, well_with_attached}
+use Rattle.pw_network.proofs.WellNetworks.{well_with_attached}
 use Rattle.pw_network.proofs.network.Network.attach_compound.Goals as goal
 
-pub list_instances-requires-clause-here : goal.list_instances-requires-clause-here
-list_instances-requires-clause-here g c =
-    let many = vec_len c.add_cells.new.self.ends in
-    let here = calls_here (wiring c.args.self.now) c.args.line c.args.compound c.args.calls.now (cells_of c.args.cells) c.args.support c.args.self.now.well
-    c.requires.calls c.requires.may (let few = c.requires.few in let long = ap length c.requires.kinds in omega arith)
-    c.cells-first.result many c.cells-first.ensures.count
-    (let long = ap length c.requires.kinds in omega (arith, c.add_cells.ensures.cells, c.reserve-2.ensures.cells, c.args.self.now.cells)) in
-    let placed = rw (← c.cells.ensures.cells) at here in
-    let count : length c.reserve_numbered.new.list.items ≡ c.len-count.result = omega (arith, c.len-count.ensures, c.reserve_numbered.new.list.ok.0) in
-    let P : InstanceType → Type 0 = λ y. All (λ cell. cell < many) (attachment y).instance.inputs in
-    subst (λ n. All P (drop n c.deref.result.now)) count
-    (subst (λ l. All P (drop (length c.reserve_numbered.new.list.items) l)) (sym c.deref.ensures.value)
-    (c.in_ok-append_calls.ensures.appended.here many placed))
+pub list_calls-requires-clause-places : goal.list_calls-requires-clause-places
+list_calls-requires-clause-places g c = λ are.
+    let old = c.args.self.now in
+    let cells = cells_of c.args.cells in
+    let kinds = ap length c.requires.kinds in
+    let few : length (inner_kinds_of (declared old.declaration.now).compounds (callables.Compound c.args.compound)) ≤ most_inner_cells = omega (arith, kinds, c.requires.few) in
+    let many = as_many (wiring old) c.args.line c.args.compound c.args.calls.now cells c.args.support old.well are c.requires.may few in
+    let same : length c.cells-cells.result.now ≡ length cells = ap length c.cells-cells.ensures.cells in
+    omega (arith, many, same, kinds)
 
-pub returns-clause-ok : goal.returns-clause-ok
-returns-clause-ok g c =
-    let old = c.reserve_numbered.new.list.items in
-    let new = c.append_calls.new.instances.items in
-    compound_attached (declared c.args.self.now.declaration.now) c.args.self.now.inner.items c.reserve.new.self.items c.append_inner.new.inner.items
-    c.args.self.now.instances.items old (drop (length old) new) new
-    c.args.self.now.last_line c.args.line c.args.compound c.args.calls.now c.args.kinds.now (cells_of c.args.cells) c.args.support
-    c.args.self.now.well c.requires.calls c.requires.may c.requires.kinds c.requires.few c.cells-first.result c.cells-first.ensures.count
-    c.reserve.ensures.items c.append_inner.ensures c.reserve_numbered.ensures.items (rejoined old new c.in_ok-append_calls.ensures.appended.before)
-    (rw (c.cells.ensures.cells, c.in_ok-shared.ensures.line, c.in_ok-shared.ensures.support) at c.in_ok-append_calls.ensures.appended.made)
+pub append_calls-requires-clause-numbers : goal.append_calls-requires-clause-numbers
+append_calls-requires-clause-numbers g c =
+    let old = c.args.self.now in
+    let cells = cells_of c.args.cells in
+    let first = c.cells-first.result in
+    let kinds = ap length c.requires.kinds in
+    let few : length (inner_kinds_of (declared old.declaration.now).compounds (callables.Compound c.args.compound)) ≤ most_inner_cells = omega (arith, kinds, c.requires.few) in
+    let many = as_many (wiring old) c.args.line c.args.compound c.args.calls.now cells c.args.support old.well c.requires.calls c.requires.may few in
+    let same : length c.cells-cells.result.now ≡ length cells = ap length c.cells-cells.ensures.cells in
+    let places = length c.requires.calls.compound.parameters + length (inner_kinds_of (declared old.declaration.now).compounds (callables.Compound c.args.compound)) in
+    let most : first + places ≤ 4294967295 = omega (arith, many, same, few, c.cells-cells.ensures.most, c.cells-first.ensures.most) in
+    All-weaker (IsBelow places) (λ call. All (λ place. first + place ≤ 4294967295) (cells_of call.places))
+    (λ call below. All-weaker (λ place. place < places) (λ place. first + place ≤ 4294967295) (λ place within. omega (arith, within, most)) (cells_of call.places) below)
+    c.args.calls.now c.requires.calls.below
 
 pub invariant_of-self-2 : goal.invariant_of-self-2
 invariant_of-self-2 g c =
-    let network = wiring c.args.self.now in
+    let listed = c.list_calls.new.self in
+    let old = c.reserve.new.self in
+    let network = wiring old in
+    let line = c.args.line in
+    let compound = c.args.compound in
+    let callable = callables.Compound compound in
     let cells = cells_of c.args.cells in
-    let old = c.reserve_numbered.new.list.items in
+    let calls = c.args.calls.now in
+    let kinds = c.args.kinds.now in
+    let support = c.args.support in
+    let instances = old.instances.items in
     let new = c.append_calls.new.instances.items in
-    let joined = rejoined old new c.in_ok-append_calls.ensures.appended.before in
-    let after = compound_attached (declared c.args.self.now.declaration.now) c.args.self.now.inner.items c.reserve.new.self.items c.append_inner.new.inner.items
-    c.args.self.now.instances.items old (drop (length old) new) new
-    c.args.self.now.last_line c.args.line c.args.compound c.args.calls.now c.args.kinds.now cells c.args.support
-    c.args.self.now.well c.requires.calls c.requires.may c.requires.kinds c.requires.few c.cells-first.result c.cells-first.ensures.count
-    c.reserve.ensures.items c.append_inner.ensures c.reserve_numbered.ensures.items joined
-    (rw (c.cells.ensures.cells, c.in_ok-shared.ensures.line, c.in_ok-shared.ensures.support) at c.in_ok-append_calls.ensures.appended.made) in
-    let long = ap length c.requires.kinds in
-    let more = cells_after network c.args.line (callables.Compound c.args.compound) cells c.args.support c.args.self.now.well in
-    let here = ap cells_in after in
-    let own = subst (All (IsOf c.args.line c.args.support)) (sym (rw (c.in_ok-shared.ensures.line, c.in_ok-shared.ensures.support) at c.in_ok-append_calls.ensures.appended.made))
-    (attached_of c.args.line c.args.support (instances_on c.cells.result.now c.cells-first.result c.args.calls.now)) in
-    let made : length (drop (length old) new) ≡ length c.args.calls.now =
-    omega (arith, length-drop (length old) new, c.append_calls.new.instances.ok.0, c.reserve_numbered.new.list.ok.0, c.in_ok-append_calls.ensures.len) in
+    let own = drop (length instances) new in
+    let inner = c.append_inner.new.inner.items in
+    let later = map attachment new in
+    let least = vec_len old.writers.ends in
+    let now = vec_len c.list_instances.new.writers.ends in
+    let count = vec_len old.readers.ends in
+    let more = vec_len c.list_instances.new.readers.ends in
+    let before = map listed_by old.readers.links.items in
+    let after = map listed_by c.list_instances.new.readers.links.items in
+    let list = c.in_ok-list.list in
+    let first = c.len-count.result in
+    let same : network ≡ wiring c.args.self.now = c.reserve.ensures.same ∙ c.list_calls.ensures.same in
+    let are = subst (λ n. AreCallsOf n.declared.compounds compound calls) (sym same) c.requires.calls in
+    let may = subst (λ n. MayAttach n line callable cells) (sym same) c.requires.may in
+    let are_kinds = c.requires.kinds ∙ ap (λ n. inner_kinds_of n.declared.compounds callable) (sym same) in
+    let all_kinds = ap length are_kinds in
+    let many : length c.cells-cells.result.now ≡ length cells = ap length c.cells-cells.ensures.cells in
+    let joined = rejoined instances new c.in_ok-append_calls.ensures.appended.before in
+    let made = rw (c.cells-cells.ensures.cells, c.in_ok-shared.ensures.line, c.in_ok-shared.ensures.support) at c.in_ok-append_calls.ensures.appended.made in
+    let attached : wiring_from (declared old.declaration.now) inner new line ≡ with_attached network line callable cells support =
+    compound_attached (declared old.declaration.now) old.inner.items old.inner.items inner instances instances own new old.last_line line compound calls kinds cells support
+    old.well are may are_kinds c.requires.few c.cells-first.result first (list + length c.cells-cells.result.now) (c.cells-first.ensures.count ∙ ap cells_in (sym same))
+    refl c.append_inner.ensures refl joined made in
+    let has = has_in_room (vec_len listed.writers.ends) least (vec_len listed.readers.ends) count listed.readers.links.items old.readers.links.items
+    c.reserve.ensures.writer_lists c.reserve.ensures.reader_lists c.reserve.ensures.links (length c.cells-cells.result.now + length kinds) calls list c.in_ok-list.ensures.listed in
     record {
-      well = subst IsWellNetwork (sym after)
-          (well_with_attached network c.args.line (callables.Compound c.args.compound) cells c.args.support c.args.self.now.well c.requires.may
-          (let few = c.requires.few in omega (arith, long)));
-      cells = omega (arith, here, more, long, c.list_instances.ensures.cells, c.add_cells.ensures.cells, c.reserve-2.ensures.cells, c.args.self.now.cells);
-      declared_cells = omega (arith, c.list_instances.ensures.writer_cells, c.reserve-3.ensures.cells, c.args.self.now.declared_cells);
-      read = subst (λ l. AreReaders (map listed_by c.list_instances.new.readers.links.items) (map attachment l)) c.deref.ensures.value c.list_instances.ensures.readers;
-      written = subst (λ l. AreWriters (vec_len c.list_instances.new.writers.ends) (map listed_by c.list_instances.new.writers.links.items) (map attachment l)) c.deref.ensures.value
-          c.list_instances.ensures.writers;
-      visible = premises_after c.args.self.now.premises c.args.support c.with_support-self.result c.args.line c.args.self.now.instances.items
-          old (drop (length old) new) new c.reserve_numbered.ensures.items joined own c.args.self.now.visible
-          (length c.args.calls.now) made c.with_support-self.ensures.none c.with_support-self.ensures.some;
+      well = subst IsWellNetwork (sym attached) (well_with_attached network line callable cells support old.well may (omega (arith, all_kinds, c.requires.few)));
+      read_cells = omega (arith, old.read_cells, c.list_instances.ensures.lists);
+      declared_cells = omega (arith, old.declared_cells, c.list_instances.ensures.writer_lists);
+      read = subst (λ n. AreReaders n after later) (sym c.list_instances.ensures.writer_lists)
+          (subst (λ l. AreReaders least after (map attachment l)) c.deref.ensures.value c.list_instances.ensures.readers);
+      calls = own_later network.declared.compounds least now count more old.compounds before after c.list_instances.ensures.writer_lists c.list_instances.ensures.lists
+          c.list_instances.ensures.kept old.calls;
+      inner_read = read_as least now count more after later inner c.list_instances.ensures.writer_lists c.list_instances.ensures.lists
+          (all_read_after network line compound calls cells support kinds old.well are may are_kinds c.requires.few least count before after later old.inner.items inner
+          first list (list + length c.cells-cells.result.now) old.declared_cells (sym (length-map old.inner.items inner_of)) (ap (λ (n : Network). n.attached) attached)
+          (let held = length-map instances attachment in omega (arith, held, c.len-count.ensures, old.instances.ok.0)) c.list_instances.ensures.kept
+          (subst (λ n. HasLists least (n + length kinds) calls list count before) many has) (omega (arith, many)) c.append_inner.ensures old.inner_read);
+      written = subst (λ n. AreWriters n (map listed_by c.list_instances.new.writers.links.items) later) (sym c.list_instances.ensures.writer_lists)
+          (subst (λ l. AreWriters least (map listed_by c.list_instances.new.writers.links.items) (map attachment l)) c.deref.ensures.value c.list_instances.ensures.writers);
+      visible =
+          let of_line = subst (All (IsOf line support)) (sym made) (attached_of line support (instances_on cells c.cells-first.result calls)) in
+          let long : length own ≡ length calls =
+          omega (arith, length-drop (length instances) new, c.append_calls.new.instances.ok.0, old.instances.ok.0, c.in_ok-append_calls.ensures.len) in
+          premises_after old.premises support c.with_support-self.result line instances instances own new refl joined of_line old.visible
+          (length calls) long c.with_support-self.ensures.none c.with_support-self.ensures.some;
     }
+
+pub returns-clause-ok : goal.returns-clause-ok
+returns-clause-ok g c =
+    let old = c.reserve.new.self in
+    let network = wiring old in
+    let line = c.args.line in
+    let compound = c.args.compound in
+    let callable = callables.Compound compound in
+    let cells = cells_of c.args.cells in
+    let instances = old.instances.items in
+    let new = c.append_calls.new.instances.items in
+    let same : network ≡ wiring c.args.self.now = c.reserve.ensures.same ∙ c.list_calls.ensures.same in
+    compound_attached (declared old.declaration.now) old.inner.items old.inner.items c.append_inner.new.inner.items instances instances (drop (length instances) new) new old.last_line
+    line compound c.args.calls.now c.args.kinds.now cells c.args.support old.well
+    (subst (λ n. AreCallsOf n.declared.compounds compound c.args.calls.now) (sym same) c.requires.calls)
+    (subst (λ n. MayAttach n line callable cells) (sym same) c.requires.may)
+    (c.requires.kinds ∙ ap (λ n. inner_kinds_of n.declared.compounds callable) (sym same)) c.requires.few c.cells-first.result c.len-count.result
+    (c.in_ok-list.list + length c.cells-cells.result.now) (c.cells-first.ensures.count ∙ ap cells_in (sym same))
+    refl c.append_inner.ensures refl (rejoined instances new c.in_ok-append_calls.ensures.appended.before)
+    (rw (c.cells-cells.ensures.cells, c.in_ok-shared.ensures.line, c.in_ok-shared.ensures.support) at c.in_ok-append_calls.ensures.appended.made)
+    ∙ ap (λ n. with_attached n line callable cells c.args.support) same

@@ -1,4 +1,4 @@
-use Rattle.std.proofs.Common.{ℕ, ◌-◌, ◌∙◌, Option, Some, None, map, refl, sym, arith}
+use Rattle.std.proofs.Common.{ℕ, ◌-◌, ◌∙◌, Option, Some, None, map, refl, sym, ap, arith}
 use Rattle.std.proofs.lemmas.List.{length-map}
 use Rattle.pw_network.specs.Wiring.{wiring}
 use Rattle.pw_network.specs.inside.Held.{inner_of}
@@ -20,6 +20,6 @@ returns-clause-origin g c =
     let inner = c.args.self.now.inner.items in
     let many = length-map inner inner_of in
     let named = length-map network.declared.cells (λ name. no_origin) in
-    after_declared (λ cell. Some (cell.line, cell.number)) (map (λ name. no_origin) network.declared.cells) inner c.cells-declared.result c.args.cell (c.args.cell - c.cells-declared.result) c.index-inner.result.now None
+    ap (λ n. Some (c.index-inner.result.now.line, n)) c.from.ensures ∙ after_declared (λ cell. Some (cell.line, cell.number)) (map (λ name. no_origin) network.declared.cells) inner c.cells-declared.result c.args.cell (c.args.cell - c.cells-declared.result) c.index-inner.result.now None
     (named ∙ sym c.cells-declared.ensures.count) (omega (arith, c.if-cell-declared.false)) refl
     (omega (arith, many, c.requires, c.if-cell-declared.false, c.cells-declared.ensures.count)) c.index-inner.ensures
