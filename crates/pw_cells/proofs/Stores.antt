@@ -1,8 +1,9 @@
 -- A cell of a store, as it is read and as it is written.
 use Rattle.std.proofs.Common.{◌≡◌, ℕ, zero, suc, ◌<◌, List, [], ◌∷◌, length, get_or, set, map, get_or-set_same, refl, sym, ◌∙◌, ap, subst}
 use Rattle.std.specs.Prelude.{slice_index_or, Result, Ok, Err, IfOk, OnErr}
-use Rattle.std.proofs.lemmas.List.{get_or_default, set-get_or}
+use Rattle.std.proofs.lemmas.List.{get_or_default, get_or-set_other, set-get_or}
 use Rattle.std.proofs.Math.Seq.{map-set_same}
+use Rattle.pw_info.specs.declared.kind.Kind.{Kind}
 use Rattle.pw_info.specs.declared.kind.Kind.TheVariants as kinds
 use Rattle.pw_cells.specs.Cells.{Cell, Store, cell_at, new_cell, kinds_of}
 
@@ -31,6 +32,18 @@ pub same_kinds : (inside now : Store) (c : ℕ) (x y : Cell) → x ≡ get_or in
     → map (λ (c : Cell). c.kind) (set inside.cells c y) ≡ kinds_of now
 same_kinds inside now c x y read is kind =
     map-set_same (λ (c : Cell). c.kind) inside.cells c y x (kind ∙ ap (λ (c : Cell). c.kind) read) ∙ ap kinds_of is
+
+-- every other cell is unchanged
+pub others_same : (inside now : Store) (c : ℕ) (y : Cell) → inside ≡ now
+    → (k : ℕ) → (k ≡ c → ⊥) → slice_index_or (set inside.cells c y) k (new_cell kinds.Interval) ≡ cell_at now k
+others_same inside now c y is k other =
+    get_or-set_other inside.cells c k y (new_cell kinds.Interval) other ∙ ap (λ s. cell_at s k) is
+
+-- a fact of the kind of the cell of this number is of the kind of the cell that is read
+pub of_kind_read : (inside now : Store) (c : ℕ) (x : Cell) (k : Kind) → x ≡ get_or inside.cells c x → inside ≡ now → c < length now.cells
+    → k ≡ (cell_at now c).kind → k ≡ x.kind
+of_kind_read inside now c x k read is within kind =
+    kind ∙ sym (ap (λ (cell : Cell). cell.kind) (cell_read inside now c x read is within))
 
 -- writing a cell unchanged leaves the store unchanged
 pub same_store : (inside now : Store) (c : ℕ) (x y : Cell) → x ≡ get_or inside.cells c x → inside ≡ now → y ≡ x

@@ -1,9 +1,9 @@
-use Rattle.std.proofs.Common.{◌≡◌, false, length-set, subst, arith}
+use Rattle.std.proofs.Common.{◌≡◌, false, length-set, subst, ap, arith}
 use Rattle.std.specs.Prelude.{◌↔◌, IfOk, OnOk}
-use Rattle.pw_cells.specs.Cells.{Cell, shown_by, told_of, kept_of, IsSubsumedBy}
+use Rattle.pw_cells.specs.Cells.{Cell, Store, shown_by, told_of, kept_of, IsSubsumedBy}
 use Rattle.pw_cells.specs.Changes.{GainsFact, Assimilates}
 use Rattle.pw_cells.proofs.RightAnswers.{slots_told_the_same}
-use Rattle.pw_cells.proofs.Stores.{there, cell_read, cell_changed, same_kinds, same_store, OnErr_then, IfOk_then}
+use Rattle.pw_cells.proofs.Stores.{there, cell_read, of_kind_read, others_same, cell_changed, same_kinds, same_store, OnErr_then, IfOk_then}
 use Rattle.pw_cells.proofs.cell_store.CellStore.take_in.Goals as goal
 
 pub returns-clause-kept : goal.returns-clause-kept
@@ -43,3 +43,18 @@ invariant_of-self g c =
       slots_told_the_same _ _ _ _ _ c.index_mut.ensures.value within
           (λ w i. shown_by (c.keep.ensures.kind i) w (c.keep.ensures.told i)) c.self.invariant.1,
     )
+
+pub index_mut-requires : goal.index_mut-requires
+index_mut-requires g c = omega (arith, there _ _ _ c.self.view_is c.requires.there)
+
+pub keep-requires : goal.keep-requires
+keep-requires g c = of_kind_read _ _ _ _ _ c.index_mut.ensures.value c.self.view_is c.requires.there c.requires.kind
+
+pub returns-clause-others : goal.returns-clause-others
+returns-clause-others g c = others_same _ _ _ _ c.self.view_is
+
+pub returns-clause-room : goal.returns-clause-room
+returns-clause-room g c = ap (λ (s : Store). s.room) c.self.view_is
+
+pub returns-clause-arrivals : goal.returns-clause-arrivals
+returns-clause-arrivals g c = ap (λ (s : Store). s.arrivals) c.self.view_is
