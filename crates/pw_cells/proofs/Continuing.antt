@@ -1,6 +1,6 @@
 -- What accounted for what is kept still does: after a call that changes no cell, after cells are
 -- added, and after one more fact came to be kept.
-use Rattle.std.proofs.Common.{◌≡◌, ◌⊎◌, ℕ, ◌+◌, ◌-◌, ◌<◌, ◌≤◌, true, cond, List, [], ◌∷◌, ◌++◌, length, drop, nat_lt, inl, inr, sym, ◌∙◌, ap, subst, arith}
+use Rattle.std.proofs.Common.{◌≡◌, ◌⊎◌, ℕ, ◌+◌, ◌-◌, ◌<◌, ◌≤◌, true, cond, List, [], ◌∷◌, ◌++◌, length, drop, nat_lt, inl, inr, refl, sym, ◌∙◌, ap, subst, arith}
 use Rattle.std.specs.Prelude.{All, Contains, Some, None, slice_index_or}
 use Rattle.std.proofs.lemmas.Option.{none-some, same_Some}
 use Rattle.std.proofs.lemmas.Bool.{cases_Bool, cases_eq, lt-ltb}
@@ -240,6 +240,14 @@ told_unchanged cell fact old new kind told w =
     subst (Implies (meet (told_in old cell w) (shows w fact))) (sym (told w))
     (meet_first (told_in old cell w) (shows w fact)
     (kind-shown_by (cell_at old cell).kind w (cell_at old cell).told ∙ sym kind ∙ sym (kind-shows w fact)))
+
+-- what came lately takes the fact, and the rest of the store stays
+pub noted : (cell : ℕ) (fact : Fact) (inside old : Store) (now : Arrivals) → inside ≡ old
+    → IsAfterArrival (record { cell = cell; fact = fact }) inside.arrivals now ⊎ IsForgotten inside.arrivals now
+    → Notes cell fact old (record { cells = inside.cells; room = inside.room; arrivals = now })
+noted cell fact inside old now is came =
+    subst (λ (s : Store). Notes cell fact s (record { cells = inside.cells; room = inside.room; arrivals = now })) is
+    (record { cells = refl; room = refl; arrivals = came })
 
 -- noting a fact changes neither what was told nor what is kept
 pub gains_noted : (cell : ℕ) (fact : Fact) (old mid new : Store) → Notes cell fact mid new → Gains cell fact old mid → Gains cell fact old new

@@ -1,9 +1,9 @@
-use Rattle.std.proofs.Common.{◌≡◌, length-set, arith}
+use Rattle.std.proofs.Common.{◌≡◌, length-set, sym, ap, subst, arith}
 use Rattle.std.specs.Prelude.{OnOk}
-use Rattle.pw_cells.specs.Cells.{fact_on, shown_by, told_of, kept_of}
+use Rattle.pw_cells.specs.Cells.{Cell, Store, IsUnsaid, fact_on, shown_by, told_of, kept_of}
 use Rattle.pw_cells.specs.Changes.{GainsFact, Assimilates}
 use Rattle.pw_cells.proofs.RightAnswers.{slots_told_the_same}
-use Rattle.pw_cells.proofs.Stores.{there, cell_changed, same_kinds, same_store, OnErr_then}
+use Rattle.pw_cells.proofs.Stores.{there, cell_read, cell_changed, of_kind_read, others_same, same_kinds, same_store, OnErr_then}
 use Rattle.pw_cells.proofs.cell_store.CellStore.take_in_news.Goals as goal
 
 pub returns-clause-kept : goal.returns-clause-kept
@@ -32,3 +32,23 @@ invariant_of-self g c =
       slots_told_the_same _ _ _ _ _ c.index_mut.ensures.value within
           (λ w i. shown_by (c.keep_news.ensures.kind i) w (c.keep_news.ensures.told i)) c.self.invariant.1,
     )
+
+pub index_mut-requires : goal.index_mut-requires
+index_mut-requires g c = omega (arith, there _ _ _ c.self.view_is c.requires.there)
+
+pub keep_news-requires-clause-kind : goal.keep_news-requires-clause-kind
+keep_news-requires-clause-kind g c = of_kind_read _ _ _ _ _ c.index_mut.ensures.value c.self.view_is c.requires.there c.requires.kind
+
+pub keep_news-requires-clause-news : goal.keep_news-requires-clause-news
+keep_news-requires-clause-news g c =
+    subst (λ (cell : Cell). IsUnsaid (kept_of cell c.args.support) c.args.info.now)
+    (sym {A = Cell} (cell_read _ _ _ _ c.index_mut.ensures.value c.self.view_is c.requires.there)) c.requires.news
+
+pub returns-clause-others : goal.returns-clause-others
+returns-clause-others g c = others_same _ _ _ _ c.self.view_is
+
+pub returns-clause-room : goal.returns-clause-room
+returns-clause-room g c = ap (λ (s : Store). s.room) c.self.view_is
+
+pub returns-clause-arrivals : goal.returns-clause-arrivals
+returns-clause-arrivals g c = ap (λ (s : Store). s.arrivals) c.self.view_is

@@ -4,9 +4,9 @@ use Rattle.pw_info.specs.Information.{kind_of}
 use Rattle.pw_cells.specs.declared.recalled.Recalled.{Recalled}
 use Rattle.pw_cells.specs.inside.OneCell.{AreRight, after_tell}
 use Rattle.pw_cells.proofs.RightAnswers.{kind_of_answer, answers_after, slots_still, slots_then, slots_told_the_same}
-use Rattle.pw_cells.specs.Cells.{Cell, told_of, kept_of}
+use Rattle.pw_cells.specs.Cells.{Cell, Store, told_of, kept_of}
 use Rattle.pw_cells.specs.Changes.{GainsFact, Assimilates}
-use Rattle.pw_cells.proofs.Stores.{there, cell_changed, cell_read, same_kinds, same_store, OnErr_always}
+use Rattle.pw_cells.proofs.Stores.{there, cell_changed, cell_read, of_kind_read, others_same, same_kinds, same_store, OnErr_always}
 use Rattle.pw_cells.proofs.cell_store.CellStore.take_told.Goals as goal
 
 pub returns-clause-told : goal.returns-clause-told
@@ -58,3 +58,30 @@ invariant_of-self-2 g c =
           (λ answers. answers_after c.self.inside.cells.items c.args.cell c.index_mut.result.now c.tell.new.self c.args.fact.now answers c.index_mut.ensures.value within kind
           c.in_ok-tell.ensures.told) c.self.invariant.1),
     )
+
+pub index_mut-requires : goal.index_mut-requires
+index_mut-requires g c = omega (arith, there _ _ _ c.self.view_is c.requires.there)
+
+pub tell-requires : goal.tell-requires
+tell-requires g c = of_kind_read _ _ _ _ _ c.index_mut.ensures.value c.self.view_is c.requires.there c.requires.kind
+
+pub returns-in_err-tell-clause-others : goal.returns-in_err-tell-clause-others
+returns-in_err-tell-clause-others g c = others_same _ _ _ _ c.self.view_is
+
+pub returns-in_err-tell-clause-kinds : goal.returns-in_err-tell-clause-kinds
+returns-in_err-tell-clause-kinds g c = same_kinds _ _ _ _ _ c.index_mut.ensures.value c.self.view_is c.tell.ensures.kind
+
+pub returns-in_err-tell-clause-room : goal.returns-in_err-tell-clause-room
+returns-in_err-tell-clause-room g c = ap (λ (s : Store). s.room) c.self.view_is
+
+pub returns-in_err-tell-clause-arrivals : goal.returns-in_err-tell-clause-arrivals
+returns-in_err-tell-clause-arrivals g c = ap (λ (s : Store). s.arrivals) c.self.view_is
+
+pub returns-clause-others : goal.returns-clause-others
+returns-clause-others g c = others_same _ _ _ _ c.self.view_is
+
+pub returns-clause-room : goal.returns-clause-room
+returns-clause-room g c = ap (λ (s : Store). s.room) c.self.view_is
+
+pub returns-clause-arrivals : goal.returns-clause-arrivals
+returns-clause-arrivals g c = ap (λ (s : Store). s.arrivals) c.self.view_is
