@@ -17,8 +17,8 @@ use Rattle.pw_facts.specs.Facts.{shows}
 use Rattle.pw_facts.proofs.Shown.{kind-shows, implies_same}
 use Rattle.pw_cells.specs.declared.arrival.Arrival.{Arrival}
 use Rattle.pw_cells.specs.Arrivals.{Continues, IsKept, Remembers, SaysWhatCame, since}
-use Rattle.pw_cells.specs.Cells.{Arrivals, Cell, Store, cell_at, kept_in, kept_of, kind_in_store, kinds_of, told_in, told_of, new_cell}
-use Rattle.pw_cells.specs.Changes.{GainsKept, GainsTold, LeavesOthers}
+use Rattle.pw_cells.specs.Cells.{Arrivals, Cell, Store, cell_at, kept_at, kept_in, kept_of, kind_in_store, kinds_of, told_in, told_of, new_cell}
+use Rattle.pw_cells.specs.Changes.{Assimilates, AssimilatesAt, GainsKept, GainsTold, LeavesOthers}
 use Rattle.pw_cells.specs.inside.Lately.{IsAfterArrival, IsForgotten, Notes, since_in}
 use Rattle.pw_cells.proofs.Closest.{meet_mono}
 use Rattle.pw_cells.proofs.Together.{kind-shown_by, meet_first}
@@ -260,6 +260,11 @@ gains_noted cell fact old mid new notes gains =
       others = gains.others;
       kinds = gains.kinds;
     })
+
+pub assimilates_noted : (cell : ℕ) (fact : Fact) (old mid new : Store) → Notes cell fact mid new → AssimilatesAt cell fact old mid → AssimilatesAt cell fact old new
+assimilates_noted cell fact old mid new notes assimilates =
+    subst (λ (l : List Cell). Assimilates fact (kept_at old cell) (slice_index_or l cell (new_cell kinds.Interval)).kept) (sym {A = List Cell} notes.cells)
+    assimilates
 
 -- what comes when it was noted: one fact more, or all are forgotten
 arrivals_noted : (cell : ℕ) (fact : Fact) (old mid new : Store) → mid.arrivals ≡ old.arrivals → Notes cell fact mid new

@@ -1,7 +1,7 @@
 use Rattle.std.proofs.Common.{◌≡◌, List, sym, ◌∙◌, ap, subst}
 use Rattle.pw_kinds.proofs.Order.{not_both}
 use Rattle.pw_cells.specs.Cells.{Cell, Store, told_at, told_in}
-use Rattle.pw_cells.proofs.Continuing.{Gains, continues_noted, continues_same, gains_noted, remembers_noted, remembers_same, told_unchanged}
+use Rattle.pw_cells.proofs.Continuing.{Gains, assimilates_noted, continues_noted, continues_same, gains_noted, remembers_noted, remembers_same, told_unchanged}
 use Rattle.pw_cells.proofs.cell_store.CellStore.keep.Given as given
 use Rattle.pw_cells.proofs.cell_store.CellStore.keep.Goals as goal
 
@@ -82,3 +82,26 @@ pub returns-else-is_news-clause-continues : goal.returns-else-is_news-clause-con
 returns-else-is_news-clause-continues g c =
     let same : c.take_in.new.self ≡ c.args.self.now = c.in_ok-is_news.ensures.known c.if-is_news.false in
     continues_same c.args.self.now c.take_in.new.self (ap (λ (s : Store). s.cells) same) c.take_in.ensures.arrivals
+
+pub returns-in_err-is_news-clause-others : goal.returns-in_err-is_news-clause-others
+returns-in_err-is_news-clause-others g c = c.take_in.ensures.others
+
+pub returns-in_err-is_news-clause-kinds : goal.returns-in_err-is_news-clause-kinds
+returns-in_err-is_news-clause-kinds g c = c.take_in.ensures.kinds
+
+pub returns-in_err-is_news-clause-room : goal.returns-in_err-is_news-clause-room
+returns-in_err-is_news-clause-room g c = c.take_in.ensures.room
+
+pub returns-in_err-is_news-clause-remembers : goal.returns-in_err-is_news-clause-remembers
+returns-in_err-is_news-clause-remembers g c = remembers_same c.args.cell c.args.fact c.args.self.now c.take_in.new.self c.take_in.ensures.arrivals
+
+pub returns-in_err-is_news-clause-continues : goal.returns-in_err-is_news-clause-continues
+returns-in_err-is_news-clause-continues g c =
+    continues_same c.args.self.now c.take_in.new.self (ap (λ (s : Store). s.cells) c.in_err-is_news.ensures.err) c.take_in.ensures.arrivals
+
+pub returns-then-is_news-clause-assimilates : goal.returns-then-is_news-clause-assimilates
+returns-then-is_news-clause-assimilates g c =
+    assimilates_noted c.args.cell c.args.fact c.args.self.now c.take_in.new.self c.note.new.self c.note.ensures c.in_ok-is_news.ensures.assimilates
+
+pub returns-in_err-is_news-clause-told : goal.returns-in_err-is_news-clause-told
+returns-in_err-is_news-clause-told g c = c.take_in.ensures.told

@@ -1,6 +1,6 @@
-use Rattle.std.proofs.Common.{◌≡◌, List, sym, subst}
-use Rattle.pw_cells.specs.Cells.{Cell, fact_on, told_at, told_in}
-use Rattle.pw_cells.proofs.Continuing.{Gains, continues_noted, gains_noted, remembers_noted, told_unchanged}
+use Rattle.std.proofs.Common.{◌≡◌, List, sym, ◌∙◌, ap, subst}
+use Rattle.pw_cells.specs.Cells.{Cell, Store, fact_on, told_at, told_in}
+use Rattle.pw_cells.proofs.Continuing.{Gains, assimilates_noted, continues_noted, continues_same, gains_noted, remembers_noted, remembers_same, told_unchanged}
 use Rattle.pw_cells.proofs.cell_store.CellStore.keep_news.Given as given
 use Rattle.pw_cells.proofs.cell_store.CellStore.keep_news.Goals as goal
 
@@ -41,3 +41,33 @@ pub returns-clause-continues : goal.returns-clause-continues
 returns-clause-continues g c =
     continues_noted c.args.cell (fact_on c.args.info.now c.args.support) c.args.self.now c.take_in_news.new.self c.note_narrow.new.self c.take_in_news.ensures.arrivals
     c.note_narrow.ensures (gains g c)
+
+pub returns-in_err-take_in_news-clause-others : goal.returns-in_err-take_in_news-clause-others
+returns-in_err-take_in_news-clause-others g c = c.take_in_news.ensures.others
+
+pub returns-in_err-take_in_news-clause-kinds : goal.returns-in_err-take_in_news-clause-kinds
+returns-in_err-take_in_news-clause-kinds g c = c.take_in_news.ensures.kinds
+
+pub returns-in_err-take_in_news-clause-room : goal.returns-in_err-take_in_news-clause-room
+returns-in_err-take_in_news-clause-room g c = c.take_in_news.ensures.room
+
+pub returns-in_err-take_in_news-clause-remembers : goal.returns-in_err-take_in_news-clause-remembers
+returns-in_err-take_in_news-clause-remembers g c = remembers_same c.args.cell (fact_on c.args.info.now c.args.support) c.args.self.now c.take_in_news.new.self c.take_in_news.ensures.arrivals
+
+pub returns-in_err-take_in_news-clause-continues : goal.returns-in_err-take_in_news-clause-continues
+returns-in_err-take_in_news-clause-continues g c =
+    continues_same c.args.self.now c.take_in_news.new.self (ap (λ (s : Store). s.cells) c.in_err-take_in_news.ensures.err) c.take_in_news.ensures.arrivals
+
+pub returns-in_err-take_in_news-clause-told : goal.returns-in_err-take_in_news-clause-told
+returns-in_err-take_in_news-clause-told g c = c.take_in_news.ensures.told
+
+pub returns-clause-assimilates : goal.returns-clause-assimilates
+returns-clause-assimilates g c =
+    assimilates_noted c.args.cell (fact_on c.args.info.now c.args.support) c.args.self.now c.take_in_news.new.self c.note_narrow.new.self c.note_narrow.ensures
+    c.in_ok-take_in_news.ensures.assimilates
+
+pub returns-clause-kinds : goal.returns-clause-kinds
+returns-clause-kinds g c = (gains_still g c).kinds
+
+pub returns-clause-room : goal.returns-clause-room
+returns-clause-room g c = c.note_narrow.ensures.room ∙ c.take_in_news.ensures.room

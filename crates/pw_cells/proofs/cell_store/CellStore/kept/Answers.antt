@@ -42,3 +42,9 @@ returns-clause-smaller g c = subst (λ (cell : Cell). IsMostBelow c.args.worldvi
 
 pub returns-clause-rests : goal.returns-clause-rests
 returns-clause-rests g c = subst (λ (cell : Cell). ArePremisesOf cell.kept c.kept.result.support) (read g c) c.kept.ensures.stands.rests
+
+pub index_mut-requires : goal.index_mut-requires
+index_mut-requires g c = omega (arith, there _ _ _ c.self.view_is c.requires)
+
+pub returns-clause-within : goal.returns-clause-within
+returns-clause-within g c = c.kept.ensures.stands.within

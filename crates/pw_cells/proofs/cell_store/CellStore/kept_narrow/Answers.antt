@@ -21,3 +21,6 @@ pub returns-clause-kept : goal.returns-clause-kept
 returns-clause-kept g c =
     subst (λ (cell : Cell). IfSome c.kept_narrow.result (λ fact. IsKeptOf cell c.args.worldview.now (fact_on fact.info fact.support)))
     (cell_read _ _ _ _ c.index_mut.ensures.value c.self.view_is c.requires) c.kept_narrow.ensures.kept
+
+pub index_mut-requires : goal.index_mut-requires
+index_mut-requires g c = omega (arith, there _ _ _ c.self.view_is c.requires)
