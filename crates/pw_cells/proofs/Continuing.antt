@@ -19,7 +19,7 @@ use Rattle.pw_cells.specs.declared.arrival.Arrival.{Arrival}
 use Rattle.pw_cells.specs.Arrivals.{Continues, IsKept, Remembers, SaysWhatCame, since}
 use Rattle.pw_cells.specs.Cells.{Arrivals, Cell, Store, cell_at, kept_at, kept_in, kept_of, kind_in_store, kinds_of, told_in, told_of, new_cell}
 use Rattle.pw_cells.specs.Changes.{Assimilates, AssimilatesAt, GainsKept, GainsTold, LeavesOthers}
-use Rattle.pw_cells.specs.inside.Lately.{IsAfterArrival, IsForgotten, Notes, since_in}
+use Rattle.pw_cells.specs.inside.Lately.{IsAfterArrival, IsForgotten, Notes, most_past, since_in}
 use Rattle.pw_cells.proofs.Closest.{meet_mono}
 use Rattle.pw_cells.proofs.Together.{kind-shown_by, meet_first}
 use Rattle.pw_cells.proofs.Stores.{kind-listed}
@@ -265,6 +265,10 @@ pub assimilates_noted : (cell : ℕ) (fact : Fact) (old mid new : Store) → Not
 assimilates_noted cell fact old mid new notes assimilates =
     subst (λ (l : List Cell). Assimilates fact (kept_at old cell) (slice_index_or l cell (new_cell kinds.Interval)).kept) (sym {A = List Cell} notes.cells)
     assimilates
+
+-- one more fact can be counted, as before a call after which the same is remembered
+pub still_counts : (inside old mid : Store) → inside ≡ old → mid.arrivals ≡ old.arrivals → inside.arrivals.past < most_past → mid.arrivals.past < most_past
+still_counts inside old mid is same can = subst (λ (x : Arrivals). x.past < most_past) (ap (λ (s : Store). s.arrivals) is ∙ sym same) can
 
 -- what comes when it was noted: one fact more, or all are forgotten
 arrivals_noted : (cell : ℕ) (fact : Fact) (old mid new : Store) → mid.arrivals ≡ old.arrivals → Notes cell fact mid new

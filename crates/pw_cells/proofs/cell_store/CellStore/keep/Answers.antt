@@ -1,7 +1,7 @@
-use Rattle.std.proofs.Common.{◌≡◌, List, sym, ◌∙◌, ap, subst}
+use Rattle.std.proofs.Common.{◌≡◌, List, inr, sym, ◌∙◌, ap, subst}
 use Rattle.pw_kinds.proofs.Order.{not_both}
 use Rattle.pw_cells.specs.Cells.{Cell, Store, told_at, told_in}
-use Rattle.pw_cells.proofs.Continuing.{Gains, assimilates_noted, continues_noted, continues_same, gains_noted, remembers_noted, remembers_same, told_unchanged}
+use Rattle.pw_cells.proofs.Continuing.{Gains, assimilates_noted, continues_noted, continues_same, gains_noted, remembers_noted, remembers_same, still_counts, told_unchanged}
 use Rattle.pw_cells.proofs.cell_store.CellStore.keep.Given as given
 use Rattle.pw_cells.proofs.cell_store.CellStore.keep.Goals as goal
 
@@ -105,3 +105,19 @@ returns-then-is_news-clause-assimilates g c =
 
 pub returns-in_err-is_news-clause-told : goal.returns-in_err-is_news-clause-told
 returns-in_err-is_news-clause-told g c = c.take_in.ensures.told
+
+pub note-requires : goal.note-requires
+note-requires g c =
+    still_counts _ c.args.self.now c.take_in.new.self c.self.view_is c.take_in.ensures.arrivals (c.can_count.ensures c.if-not-can_count.false)
+
+pub returns-then-not-can_count-clause-remembers : goal.returns-then-not-can_count-clause-remembers
+returns-then-not-can_count-clause-remembers g c = λ a has. inr has
+
+pub returns-then-not-can_count-clause-continues : goal.returns-then-not-can_count-clause-continues
+returns-then-not-can_count-clause-continues g c = λ mark w count known was. was
+
+pub take_in-requires-clause-there : goal.take_in-requires-clause-there
+take_in-requires-clause-there g c = c.requires.there
+
+pub take_in-requires-clause-kind : goal.take_in-requires-clause-kind
+take_in-requires-clause-kind g c = c.requires.kind

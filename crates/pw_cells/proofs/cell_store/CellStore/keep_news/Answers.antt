@@ -1,6 +1,6 @@
-use Rattle.std.proofs.Common.{◌≡◌, List, sym, ◌∙◌, ap, subst}
+use Rattle.std.proofs.Common.{◌≡◌, List, inr, sym, ◌∙◌, ap, subst}
 use Rattle.pw_cells.specs.Cells.{Cell, Store, fact_on, told_at, told_in}
-use Rattle.pw_cells.proofs.Continuing.{Gains, assimilates_noted, continues_noted, continues_same, gains_noted, remembers_noted, remembers_same, told_unchanged}
+use Rattle.pw_cells.proofs.Continuing.{Gains, assimilates_noted, continues_noted, continues_same, gains_noted, remembers_noted, remembers_same, still_counts, told_unchanged}
 use Rattle.pw_cells.proofs.cell_store.CellStore.keep_news.Given as given
 use Rattle.pw_cells.proofs.cell_store.CellStore.keep_news.Goals as goal
 
@@ -71,3 +71,22 @@ returns-clause-kinds g c = (gains_still g c).kinds
 
 pub returns-clause-room : goal.returns-clause-room
 returns-clause-room g c = c.note_narrow.ensures.room ∙ c.take_in_news.ensures.room
+
+pub note_narrow-requires : goal.note_narrow-requires
+note_narrow-requires g c =
+    still_counts _ c.args.self.now c.take_in_news.new.self c.self.view_is c.take_in_news.ensures.arrivals (c.can_count.ensures c.if-not-can_count.false)
+
+pub returns-then-not-can_count-clause-remembers : goal.returns-then-not-can_count-clause-remembers
+returns-then-not-can_count-clause-remembers g c = λ a has. inr has
+
+pub returns-then-not-can_count-clause-continues : goal.returns-then-not-can_count-clause-continues
+returns-then-not-can_count-clause-continues g c = λ mark w count known was. was
+
+pub take_in_news-requires-clause-there : goal.take_in_news-requires-clause-there
+take_in_news-requires-clause-there g c = c.requires.there
+
+pub take_in_news-requires-clause-kind : goal.take_in_news-requires-clause-kind
+take_in_news-requires-clause-kind g c = c.requires.kind
+
+pub take_in_news-requires-clause-news : goal.take_in_news-requires-clause-news
+take_in_news-requires-clause-news g c = c.requires.news

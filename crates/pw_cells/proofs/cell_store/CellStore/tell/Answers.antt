@@ -1,7 +1,7 @@
-use Rattle.std.proofs.Common.{List, sym, ◌∙◌, ap, subst}
+use Rattle.std.proofs.Common.{List, inr, sym, ◌∙◌, ap, subst}
 use Rattle.pw_cells.specs.Cells.{Cell, Store, told_at, told_in}
 use Rattle.pw_cells.specs.Changes.{GainsFact}
-use Rattle.pw_cells.proofs.Continuing.{Gains, assimilates_noted, continues_noted, continues_same, gains_noted, remembers_noted, remembers_same, told_gained}
+use Rattle.pw_cells.proofs.Continuing.{Gains, assimilates_noted, continues_noted, continues_same, gains_noted, remembers_noted, remembers_same, still_counts, told_gained}
 use Rattle.pw_cells.proofs.cell_store.CellStore.tell.Given as given
 use Rattle.pw_cells.proofs.cell_store.CellStore.tell.Goals as goal
 
@@ -64,3 +64,19 @@ returns-clause-kinds g c = (gains_still g c).kinds
 
 pub returns-clause-room : goal.returns-clause-room
 returns-clause-room g c = c.note.ensures.room ∙ c.take_told.ensures.room
+
+pub note-requires : goal.note-requires
+note-requires g c =
+    still_counts _ c.args.self.now c.take_told.new.self c.self.view_is c.take_told.ensures.arrivals (c.can_count.ensures c.if-not-can_count.false)
+
+pub returns-then-not-can_count-clause-remembers : goal.returns-then-not-can_count-clause-remembers
+returns-then-not-can_count-clause-remembers g c = λ a has. inr has
+
+pub returns-then-not-can_count-clause-continues : goal.returns-then-not-can_count-clause-continues
+returns-then-not-can_count-clause-continues g c = λ mark w count known was. was
+
+pub take_told-requires-clause-there : goal.take_told-requires-clause-there
+take_told-requires-clause-there g c = c.requires.there
+
+pub take_told-requires-clause-kind : goal.take_told-requires-clause-kind
+take_told-requires-clause-kind g c = c.requires.kind
