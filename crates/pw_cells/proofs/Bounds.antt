@@ -24,6 +24,14 @@ use Rattle.pw_cells.proofs.Together.{all_reversed, kind-shown_by, meet_first}
 use Rattle.pw_cells.proofs.MergesTogether.{merge_none, merge_hidden, merge_visible}
 use Rattle.pw_cells.proofs.LastFirst.{stands_reversed}
 
+-- ---- the older and the newer facts are of the kind of all
+
+pub kinds_older : (k : Kind) (n : ℕ) (xs ys : List Fact) → AreOfKind k xs → ys ≡ take n xs → AreOfKind k ys
+kinds_older k n xs ys kinds is = subst (AreOfKind k) (sym {A = List Fact} is) (All-take (λ f. kind_of f.info ≡ k) n xs kinds)
+
+pub kinds_newer : (k : Kind) (n : ℕ) (xs ys : List Fact) → AreOfKind k xs → ys ≡ drop n xs → AreOfKind k ys
+kinds_newer k n xs ys kinds is = subst (AreOfKind k) (sym {A = List Fact} is) (All-drop (λ f. kind_of f.info ≡ k) n xs kinds)
+
 -- ---- a search
 
 -- what one of the first facts subsumes, or one of the others, one of all subsumes
@@ -199,6 +207,12 @@ bounds_push k xs b f bounds = record {
   within = omega (arith, length-append xs (f ∷ []), bounds.within);
   says = subst (All (λ x. Implies b.info x.info)) (sym (take-append-le b.count xs (f ∷ []) bounds.within)) bounds.says;
 }
+
+pub bounds_pushed : (k : Kind) (xs ys : List Fact) (b : Bound) (f : Fact) → Bounds k xs b → ys ≡ xs ++ f ∷ [] → Bounds k ys b
+bounds_pushed k xs ys b f bounds is = subst (λ (l : List Fact). Bounds k l b) (sym {A = List Fact} is) (bounds_push k xs b f bounds)
+
+pub kinds_pushed : (k : Kind) (xs ys : List Fact) (f : Fact) → AreOfKind k xs → kind_of f.info ≡ k → ys ≡ xs ++ f ∷ [] → AreOfKind k ys
+kinds_pushed k xs ys f kinds kind is = subst (AreOfKind k) (sym {A = List Fact} is) (All-push (λ x. kind_of x.info ≡ k) xs f kinds kind)
 
 meet_second : (i j : Info) → kind_of i ≡ kind_of j → Implies (meet i j) j
 meet_second i j k v h = (true_both (allows i v) (allows j v) (sym (allows-meet i j k v) ∙ h)).1

@@ -1,9 +1,9 @@
-use Rattle.std.proofs.Common.{List, inl, inr, refl, sym, subst}
+use Rattle.std.proofs.Common.{List, inl, inr, refl, sym, ◌∙◌, ap, subst}
 use Rattle.pw_kinds.proofs.Order.{not_both}
 use Rattle.pw_info.specs.Information.{kind_of, Implies}
 use Rattle.pw_facts.specs.declared.fact.Fact.{Fact}
 use Rattle.pw_cells.specs.Cells.{IsSubsumedBy}
-use Rattle.pw_cells.proofs.Bounds.{subsumed_first, subsumed_last, subsumed_apart, none_older}
+use Rattle.pw_cells.proofs.Bounds.{kinds_newer, kinds_older, subsumed_first, subsumed_last, subsumed_apart, none_older}
 use Rattle.pw_cells.proofs.assimilating.is_subsumed.Goals as goal
 
 pub returns-then-is_subsumed_by : goal.returns-then-is_subsumed_by
@@ -39,3 +39,15 @@ returns-else-implies g c =
             absurd (not_both _ (c.is_subsumed_by.ensures.1 (subst (λ (l : List Fact). IsSubsumedBy l f) (sym {A = List Fact} c.split_at.ensures.back) newer)) c.if-is_subsumed_by.false)
       ],
     )
+
+pub split_at-requires : goal.split_at-requires
+split_at-requires g c = c.requires.bounds.within
+
+pub is_subsumed_by-requires : goal.is_subsumed_by-requires
+is_subsumed_by-requires g c = kinds_newer _ _ _ _ c.requires.kinds c.split_at.ensures.back
+
+pub implies-requires : goal.implies-requires
+implies-requires g c = c.requires.bounds.of_kind ∙ sym (ap kind_of c.info.ensures)
+
+pub is_subsumed_by-requires-then-implies : goal.is_subsumed_by-requires-then-implies
+is_subsumed_by-requires-then-implies g c = kinds_older _ _ _ _ c.requires.kinds c.split_at.ensures.front

@@ -1,6 +1,9 @@
-use Rattle.std.proofs.Common.{drop, reverse, take, subst}
-use Rattle.pw_info.specs.Information.{Implies}
+use Rattle.std.proofs.Common.{List, drop, reverse, take, sym, ◌∙◌, ap, subst}
+use Rattle.pw_info.specs.declared.kind.Kind.{Kind}
+use Rattle.pw_info.specs.Information.{kind_of, Implies}
 use Rattle.pw_facts.specs.Facts.{MergesTo, nothing_known, visible_facts}
+use Rattle.pw_cells.specs.inside.OneCell.{AreOfKind}
+use Rattle.pw_cells.proofs.Bounds.{kinds_newer, kinds_older}
 use Rattle.pw_cells.proofs.CurrentMerges.{merged_current, merged_later_current}
 use Rattle.pw_cells.proofs.merged_facts.merged.Given as given
 use Rattle.pw_cells.proofs.merged_facts.merged.Goals as goal
@@ -24,3 +27,23 @@ returns-then-implies g c =
 pub returns : goal.returns
 returns g c =
     merged_current _ _ _ _ _ _ c.requires.kinds (newer g (goal.at.returns g c).After-merge_all_in) (older g c)
+
+pub split_at-requires : goal.split_at-requires
+split_at-requires g c = c.requires.bounds.within
+
+pub nothing-merge-requires : goal.nothing-merge-requires
+nothing-merge-requires g c = c.requires.fits
+
+pub merge_all_in-requires : goal.merge_all_in-requires
+merge_all_in-requires g c =
+    subst (λ (k : Kind). AreOfKind k c.split_at.result.1.now) (sym {A = Kind} c.nothing-merge.ensures.kind)
+    (kinds_newer _ _ _ _ c.requires.kinds c.split_at.ensures.back)
+
+pub implies-requires : goal.implies-requires
+implies-requires g c =
+    ap kind_of c.info.ensures ∙ c.merge_all_in.ensures.kind ∙ c.nothing-merge.ensures.kind ∙ sym c.requires.bounds.of_kind
+
+pub merge_all_in-requires-2 : goal.merge_all_in-requires-2
+merge_all_in-requires-2 g c =
+    subst (λ (k : Kind). AreOfKind k c.split_at.result.0.now) (sym {A = Kind} (c.merge_all_in.ensures.kind ∙ c.nothing-merge.ensures.kind))
+    (kinds_older _ _ _ _ c.requires.kinds c.split_at.ensures.front)

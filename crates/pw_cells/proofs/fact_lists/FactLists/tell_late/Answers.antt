@@ -5,8 +5,11 @@ use Rattle.pw_info.specs.declared.kind.Kind.{Kind}
 use Rattle.pw_facts.specs.declared.fact.Fact.{Fact}
 use Rattle.pw_cells.specs.Cells.{all_assimilated}
 use Rattle.pw_cells.specs.inside.OneCell.{Bounds}
-use Rattle.pw_cells.specs.Cells.{Cell, IsSubsumedBy}
+use Rattle.pw_facts.specs.Facts.{shows}
+use Rattle.pw_info.specs.Information.{meet}
+use Rattle.pw_cells.specs.Cells.{Cell, IsSubsumedBy, shown_by, told_of}
 use Rattle.pw_cells.specs.inside.OneCell.{AreOfKind, current}
+use Rattle.pw_cells.proofs.Stores.{OnErr_always}
 use Rattle.pw_cells.proofs.Tells.{KeepsMore, keeps_more, whole_told, late_more}
 use Rattle.pw_cells.proofs.fact_lists.FactLists.tell_late.Given as given
 use Rattle.pw_cells.proofs.fact_lists.FactLists.tell_late.Goals as goal
@@ -53,3 +56,65 @@ returns-clause-kept g c = (kept_then g c).gains
 
 pub returns-clause-assimilates : goal.returns-clause-assimilates
 returns-clause-assimilates g c = (kept_then g c).assimilates
+
+pub reserve_late-requires : goal.reserve_late-requires
+reserve_late-requires g c = c.self.invariant.1
+
+pub invariant_of-self : goal.invariant_of-self
+invariant_of-self g c = (
+  rw (c.reserve_late.ensures.kept, c.reserve_late.ensures.late) c.self.invariant.0,
+  c.reserve_late.ensures.room,
+  subst (λ (l : List Fact). Bounds c.self.inside.kind l c.self.inside.bound) (sym {A = List Fact} c.reserve_late.ensures.kept) c.self.invariant.2,
+  c.self.invariant.3,
+  subst (AreOfKind c.self.inside.kind) (sym {A = List Fact} c.reserve_late.ensures.kept) c.self.invariant.4,
+)
+
+pub returns-in_err-reserve_late-clause-kind : goal.returns-in_err-reserve_late-clause-kind
+returns-in_err-reserve_late-clause-kind g c = ap (λ (cell : Cell). cell.kind) c.self.view_is
+
+pub returns-in_err-reserve_late-clause-err : goal.returns-in_err-reserve_late-clause-err
+returns-in_err-reserve_late-clause-err g c =
+    OnErr_always c.from_residual.result
+    ((λ j. record {
+      kind = c.self.inside.kind;
+      told = c.self.inside.told;
+      kept = all_assimilated (current (c.reserve_late.ensures.kept j)) (c.reserve_late.ensures.late j);
+    }) ∙ c.self.view_is)
+
+pub add-requires : goal.add-requires
+add-requires g c =
+    let is : kind_of c.args.fact.now.info ≡ c.self.inside.kind = c.requires ∙ sym (ap (λ (cell : Cell). cell.kind) c.self.view_is) in
+    subst (λ (k : Kind). AreOfKind k c.self.inside.told) (sym {A = Kind} is) c.self.invariant.0.told_kinds
+
+pub invariant_of-self-in_err-add : goal.invariant_of-self-in_err-add
+invariant_of-self-in_err-add g c = (
+  rw (c.in_err-add.ensures.err, c.reserve_late.ensures.kept, c.reserve_late.ensures.late) c.self.invariant.0,
+  c.reserve_late.ensures.room,
+  subst (λ (l : List Fact). Bounds c.self.inside.kind l c.self.inside.bound) (sym {A = List Fact} c.reserve_late.ensures.kept) c.self.invariant.2,
+  c.self.invariant.3,
+  subst (AreOfKind c.self.inside.kind) (sym {A = List Fact} c.reserve_late.ensures.kept) c.self.invariant.4,
+)
+
+pub returns-in_err-add-clause-kind : goal.returns-in_err-add-clause-kind
+returns-in_err-add-clause-kind g c = ap (λ (cell : Cell). cell.kind) c.self.view_is
+
+pub returns-in_err-add-clause-err : goal.returns-in_err-add-clause-err
+returns-in_err-add-clause-err g c =
+    OnErr_always c.from_residual-in_err-add.result
+    ((λ j. record {
+      kind = c.self.inside.kind;
+      told = c.in_err-add.ensures.err j;
+      kept = all_assimilated (current (c.reserve_late.ensures.kept j)) (c.reserve_late.ensures.late j);
+    }) ∙ c.self.view_is)
+
+pub add_late-requires : goal.add_late-requires
+add_late-requires g c = c.in_ok-reserve_late.ensures.late_room
+
+pub returns-clause-told : goal.returns-clause-told
+returns-clause-told g c = λ w.
+    let f = c.args.fact.now in
+    subst (λ (cell : Cell). shown_by c.self.inside.kind w c.add.new.self ≡ meet (told_of cell w) (shows w f)) c.self.view_is
+    (subst (λ (k : Kind). shown_by k w c.add.new.self ≡ meet (shown_by k w c.self.inside.told) (shows w f)) (of_kind g c) (c.in_ok-add.ensures.shown w))
+
+pub returns-clause-kind : goal.returns-clause-kind
+returns-clause-kind g c = ap (λ (cell : Cell). cell.kind) c.self.view_is
