@@ -1,4 +1,4 @@
-use Rattle.std.proofs.Common.{List, drop, reverse, take, sym, ◌∙◌, ap, subst}
+use Rattle.std.proofs.Common.{drop, reverse, take, sym, ◌∙◌, ap, subst}
 use Rattle.pw_info.specs.declared.kind.Kind.{Kind}
 use Rattle.pw_info.specs.Information.{kind_of, Implies}
 use Rattle.pw_facts.specs.Facts.{MergesTo, nothing_known, visible_facts}
