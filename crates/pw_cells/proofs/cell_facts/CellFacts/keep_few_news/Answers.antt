@@ -7,6 +7,7 @@ use Rattle.pw_facts.specs.declared.fact.Fact.{Fact}
 use Rattle.pw_cells.specs.Cells.{Cell, IsUnsaid, fact_on, kept_of}
 use Rattle.pw_cells.specs.Changes.{Assimilates, GainsFact}
 use Rattle.pw_cells.specs.inside.Widths.{cell_of}
+use Rattle.pw_cells.proofs.Stores.{OnErr_always}
 use Rattle.pw_cells.proofs.One.{first_assimilates}
 use Rattle.pw_cells.proofs.cell_facts.CellFacts.keep_few_news.Goals as goal
 
@@ -271,3 +272,98 @@ pub returns-in-Many-clause-err : goal.returns-in-Many-clause-err
 returns-in-Many-clause-err g c =
     let same : c.deref_mut.result.now ≡ c.args.self.now = c.deref_mut.ensures.value ∙ ap cell_of (sym c.in-Many.is) ∙ c.self.view_is in
     subst (λ (x : Cell). OnErr c.keep_news-in-Many.result (c.keep_news-in-Many.new.self ≡ x)) same c.keep_news-in-Many.ensures.err
+
+pub returns-in_err-listed_with-in-One-clause-told : goal.returns-in_err-listed_with-in-One-clause-told
+returns-in_err-listed_with-in-One-clause-told g c =
+    let same : c.replace.new.self ≡ c.args.self.now = c.replace.ensures.none c.if-replace.false ∙ ap cell_of (sym c.in-One.is) ∙ c.self.view_is in
+    ap (λ (x : Cell). x.told) same
+
+pub returns-in_err-listed_with-in-One-clause-kind : goal.returns-in_err-listed_with-in-One-clause-kind
+returns-in_err-listed_with-in-One-clause-kind g c =
+    let same : c.replace.new.self ≡ c.args.self.now = c.replace.ensures.none c.if-replace.false ∙ ap cell_of (sym c.in-One.is) ∙ c.self.view_is in
+    ap (λ (x : Cell). x.kind) same
+
+pub returns-in_err-listed_with-in-One-clause-err : goal.returns-in_err-listed_with-in-One-clause-err
+returns-in_err-listed_with-in-One-clause-err g c =
+    let same : c.replace.new.self ≡ c.args.self.now = c.replace.ensures.none c.if-replace.false ∙ ap cell_of (sym c.in-One.is) ∙ c.self.view_is in
+    OnErr_always c.from_residual.result same
+
+pub returns-in_err-boxed_intervals-in-FewIntervals-clause-told : goal.returns-in_err-boxed_intervals-in-FewIntervals-clause-told
+returns-in_err-boxed_intervals-in-FewIntervals-clause-told g c =
+    let same : c.in-FewIntervals.few ≡ c.args.self.now = ap cell_of (sym c.in-FewIntervals.is) ∙ c.self.view_is in
+    ap (λ (x : Cell). x.told) same
+
+pub returns-in_err-boxed_intervals-in-FewIntervals-clause-kind : goal.returns-in_err-boxed_intervals-in-FewIntervals-clause-kind
+returns-in_err-boxed_intervals-in-FewIntervals-clause-kind g c =
+    let same : c.in-FewIntervals.few ≡ c.args.self.now = ap cell_of (sym c.in-FewIntervals.is) ∙ c.self.view_is in
+    ap (λ (x : Cell). x.kind) same
+
+pub returns-in_err-boxed_intervals-in-FewIntervals-clause-err : goal.returns-in_err-boxed_intervals-in-FewIntervals-clause-err
+returns-in_err-boxed_intervals-in-FewIntervals-clause-err g c =
+    let same : c.in-FewIntervals.few ≡ c.args.self.now = ap cell_of (sym c.in-FewIntervals.is) ∙ c.self.view_is in
+    OnErr_always c.from_residual-in_err-boxed_intervals-in-FewIntervals.result same
+
+pub returns-in_err-with_news-in-FewIntervals-clause-told : goal.returns-in_err-with_news-in-FewIntervals-clause-told
+returns-in_err-with_news-in-FewIntervals-clause-told g c =
+    let same : c.in-FewIntervals.few ≡ c.args.self.now = ap cell_of (sym c.in-FewIntervals.is) ∙ c.self.view_is in
+    ap (λ (x : Cell). x.told) same
+
+pub returns-in_err-with_news-in-FewIntervals-clause-kind : goal.returns-in_err-with_news-in-FewIntervals-clause-kind
+returns-in_err-with_news-in-FewIntervals-clause-kind g c =
+    let same : c.in-FewIntervals.few ≡ c.args.self.now = ap cell_of (sym c.in-FewIntervals.is) ∙ c.self.view_is in
+    ap (λ (x : Cell). x.kind) same
+
+pub returns-in_err-with_news-in-FewIntervals-clause-err : goal.returns-in_err-with_news-in-FewIntervals-clause-err
+returns-in_err-with_news-in-FewIntervals-clause-err g c =
+    let same : c.in-FewIntervals.few ≡ c.args.self.now = ap cell_of (sym c.in-FewIntervals.is) ∙ c.self.view_is in
+    OnErr_always c.from_residual-in_err-with_news-in-FewIntervals.result same
+
+pub returns-in_err-boxed-in-Few-clause-told : goal.returns-in_err-boxed-in-Few-clause-told
+returns-in_err-boxed-in-Few-clause-told g c =
+    let same : c.in-Few.few ≡ c.args.self.now = ap cell_of (sym c.in-Few.is) ∙ c.self.view_is in
+    ap (λ (x : Cell). x.told) same
+
+pub returns-in_err-boxed-in-Few-clause-kind : goal.returns-in_err-boxed-in-Few-clause-kind
+returns-in_err-boxed-in-Few-clause-kind g c =
+    let same : c.in-Few.few ≡ c.args.self.now = ap cell_of (sym c.in-Few.is) ∙ c.self.view_is in
+    ap (λ (x : Cell). x.kind) same
+
+pub returns-in_err-boxed-in-Few-clause-err : goal.returns-in_err-boxed-in-Few-clause-err
+returns-in_err-boxed-in-Few-clause-err g c =
+    let same : c.in-Few.few ≡ c.args.self.now = ap cell_of (sym c.in-Few.is) ∙ c.self.view_is in
+    OnErr_always c.from_residual-in_err-boxed-in-Few.result same
+
+pub returns-in_err-with_news-in-Few-clause-told : goal.returns-in_err-with_news-in-Few-clause-told
+returns-in_err-with_news-in-Few-clause-told g c =
+    let same : c.in-Few.few ≡ c.args.self.now = ap cell_of (sym c.in-Few.is) ∙ c.self.view_is in
+    ap (λ (x : Cell). x.told) same
+
+pub returns-in_err-with_news-in-Few-clause-kind : goal.returns-in_err-with_news-in-Few-clause-kind
+returns-in_err-with_news-in-Few-clause-kind g c =
+    let same : c.in-Few.few ≡ c.args.self.now = ap cell_of (sym c.in-Few.is) ∙ c.self.view_is in
+    ap (λ (x : Cell). x.kind) same
+
+pub returns-in_err-with_news-in-Few-clause-err : goal.returns-in_err-with_news-in-Few-clause-err
+returns-in_err-with_news-in-Few-clause-err g c =
+    let same : c.in-Few.few ≡ c.args.self.now = ap cell_of (sym c.in-Few.is) ∙ c.self.view_is in
+    OnErr_always c.from_residual-in_err-with_news-in-Few.result same
+
+pub held-requires : goal.held-requires
+held-requires g c =
+    let same : c.in-FewIntervals.few ≡ c.args.self.now = ap cell_of (sym c.in-FewIntervals.is) ∙ c.self.view_is in
+    c.requires.kind ∙ sym (ap (λ (x : Cell). x.kind) same)
+
+pub held-requires-then-has_room : goal.held-requires-then-has_room
+held-requires-then-has_room g c =
+    let same : c.in-FewIntervals.few ≡ c.args.self.now = ap cell_of (sym c.in-FewIntervals.is) ∙ c.self.view_is in
+    c.requires.kind ∙ sym (ap (λ (x : Cell). x.kind) same)
+
+pub held-requires-then-has_room-2 : goal.held-requires-then-has_room-2
+held-requires-then-has_room-2 g c =
+    let same : c.in-Few.few ≡ c.args.self.now = ap cell_of (sym c.in-Few.is) ∙ c.self.view_is in
+    c.requires.kind ∙ sym (ap (λ (x : Cell). x.kind) same)
+
+pub held-fact-requires : goal.held-fact-requires
+held-fact-requires g c =
+    let same : c.in-One.one ≡ c.args.self.now = ap cell_of (sym c.in-One.is) ∙ c.self.view_is in
+    c.requires.kind ∙ sym (ap (λ (x : Cell). x.kind) same)
