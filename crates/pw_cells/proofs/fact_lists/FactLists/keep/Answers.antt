@@ -9,6 +9,7 @@ use Rattle.pw_cells.specs.Cells.{Cell, IsSubsumedBy}
 use Rattle.pw_cells.specs.inside.OneCell.{AreOfKind, current}
 use Rattle.pw_cells.proofs.Current.{subsumed_by_current, subsumed_by_some}
 use Rattle.pw_cells.proofs.Late.{any_subsumes, assimilated_known}
+use Rattle.pw_cells.proofs.Stores.{OnErr_always}
 use Rattle.pw_cells.proofs.Tells.{KeepsMore, keeps_more, whole_caught_up, whole_kept}
 use Rattle.pw_cells.proofs.fact_lists.FactLists.keep.Given as given
 use Rattle.pw_cells.proofs.fact_lists.FactLists.keep.Goals as goal
@@ -107,3 +108,39 @@ returns-clause-kept g c = (kept_then g c).gains
 
 pub returns-clause-assimilates : goal.returns-clause-assimilates
 returns-clause-assimilates g c = (kept_then g c).assimilates
+
+pub assimilate_late-requires-clause-kinds : goal.assimilate_late-requires-clause-kinds
+assimilate_late-requires-clause-kinds g c = c.self.invariant.4
+
+pub assimilate_late-requires-clause-late_kinds : goal.assimilate_late-requires-clause-late_kinds
+assimilate_late-requires-clause-late_kinds g c = c.self.invariant.0.late_kinds
+
+pub assimilate_late-requires-clause-bounds : goal.assimilate_late-requires-clause-bounds
+assimilate_late-requires-clause-bounds g c = c.self.invariant.2
+
+pub assimilate_late-requires-clause-room : goal.assimilate_late-requires-clause-room
+assimilate_late-requires-clause-room g c = c.self.invariant.1
+
+pub returns-in_err-reserve_unless-clause-told : goal.returns-in_err-reserve_unless-clause-told
+returns-in_err-reserve_unless-clause-told g c = ap (λ (cell : Cell). cell.told) c.self.view_is
+
+pub returns-in_err-reserve_unless-clause-kind : goal.returns-in_err-reserve_unless-clause-kind
+returns-in_err-reserve_unless-clause-kind g c = ap (λ (cell : Cell). cell.kind) c.self.view_is
+
+pub returns-in_err-reserve_unless-clause-err : goal.returns-in_err-reserve_unless-clause-err
+returns-in_err-reserve_unless-clause-err g c =
+    OnErr_always c.from_residual.result
+    ((λ j. record {
+      kind = c.self.inside.kind;
+      told = c.self.inside.told;
+      kept = all_assimilated ((ap current c.reserve_unless.ensures.items ∙ c.assimilate_late.ensures.kept) j) (c.assimilate_late.ensures.late j);
+    }) ∙ c.self.view_is)
+
+pub assimilate-requires-clause-room : goal.assimilate-requires-clause-room
+assimilate-requires-clause-room g c = c.in_ok-reserve_unless.ensures.room
+
+pub returns-clause-told : goal.returns-clause-told
+returns-clause-told g c = ap (λ (cell : Cell). cell.told) c.self.view_is
+
+pub returns-clause-kind : goal.returns-clause-kind
+returns-clause-kind g c = ap (λ (cell : Cell). cell.kind) c.self.view_is

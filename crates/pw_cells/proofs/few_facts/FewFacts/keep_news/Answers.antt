@@ -1,10 +1,11 @@
-use Rattle.std.proofs.Common.{◌≡◌, List, [], ◌∷◌, ◌++◌, refl, sym, ◌∙◌, ap, subst}
+use Rattle.std.proofs.Common.{◌≡◌, List, [], ◌∷◌, ◌++◌, refl, sym, ◌∙◌, ap, subst, arith}
 use Rattle.pw_info.specs.Information.{kind_of}
 use Rattle.pw_info.specs.declared.kind.Kind.{Kind}
 use Rattle.pw_info.specs.declared.info.Info.{Info}
 use Rattle.pw_facts.specs.declared.fact.Fact.{Fact}
 use Rattle.pw_cells.specs.Cells.{Cell, IsSubsumedBy, IsUnsaid, assimilated, kept_of, shown_by, unsubsumed}
 use Rattle.pw_cells.specs.inside.OneCell.{AreOfKind, IsCellWhole}
+use Rattle.pw_cells.proofs.Stores.{OnErr_always}
 use Rattle.pw_cells.proofs.Together.{unsaid_unsubsumed}
 use Rattle.pw_cells.proofs.Late.{assimilated_news, none_subsume}
 use Rattle.pw_cells.proofs.Tells.{KeepsMore, keeps_more, whole_kept}
@@ -49,3 +50,35 @@ returns-clause-kept g c = (kept_then g c).gains
 
 pub returns-clause-assimilates : goal.returns-clause-assimilates
 returns-clause-assimilates g c = (kept_then g c).assimilates
+
+pub drop_subsumed-requires : goal.drop_subsumed-requires
+drop_subsumed-requires g c =
+    let is : kind_of c.args.fact.now.info ≡ c.self.inside.kind = c.requires.kind ∙ sym (ap (λ (cell : Cell). cell.kind) c.self.view_is) in
+    subst (AreOfKind (kind_of c.args.fact.now.info)) (sym {A = List Fact} c.reserve_unless.ensures.items)
+    (subst (λ (k : Kind). AreOfKind k c.self.inside.kept.items) (sym {A = Kind} is) c.self.invariant.0.kept_kinds)
+
+pub append-requires : goal.append-requires
+append-requires g c = omega (arith, c.in_ok-reserve_unless.ensures.room refl, c.drop_subsumed.ensures.len, c.drop_subsumed.ensures.capacity)
+
+pub invariant_of-self : goal.invariant_of-self
+invariant_of-self g c = (
+  subst (λ (l : List Fact). IsCellWhole c.self.inside.kind [] l []) (sym {A = List Fact} c.reserve_unless.ensures.items) c.self.invariant.0,
+  c.self.invariant.1,
+)
+
+pub returns-in_err-reserve_unless-clause-told : goal.returns-in_err-reserve_unless-clause-told
+returns-in_err-reserve_unless-clause-told g c = ap (λ (cell : Cell). cell.told) c.self.view_is
+
+pub returns-in_err-reserve_unless-clause-kind : goal.returns-in_err-reserve_unless-clause-kind
+returns-in_err-reserve_unless-clause-kind g c = ap (λ (cell : Cell). cell.kind) c.self.view_is
+
+pub returns-in_err-reserve_unless-clause-err : goal.returns-in_err-reserve_unless-clause-err
+returns-in_err-reserve_unless-clause-err g c =
+    OnErr_always c.from_residual.result
+    (ap (λ (l : List Fact). record { kind = c.self.inside.kind; told = []; kept = l }) c.reserve_unless.ensures.items ∙ c.self.view_is)
+
+pub returns-clause-told : goal.returns-clause-told
+returns-clause-told g c = ap (λ (cell : Cell). cell.told) c.self.view_is
+
+pub returns-clause-kind : goal.returns-clause-kind
+returns-clause-kind g c = ap (λ (cell : Cell). cell.kind) c.self.view_is
