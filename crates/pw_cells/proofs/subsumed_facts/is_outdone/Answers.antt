@@ -22,3 +22,11 @@ returns-then-not-subsumes g c = λ _.
     list_any_at (λ f. outdoes f fact) later place held c.loop-held-test.true
     (ap (λ (y : Fact). outdoes y fact) (sym is)
     ∙ both_not (does_subsume held fact) (does_subsume fact held) (subsume_test held fact one (c.subsumes.ensures.answer.0 c.if-subsumes.true)) less)
+
+pub subsumes-requires : goal.subsumes-requires
+subsumes-requires g c =
+    ap (λ (y : Fact). kind_of y.info) c.held-item.is ∙ c.requires c.loop-held.held-index c.held-item.result c.loop-held-test.true
+
+pub subsumes-requires-then-subsumes : goal.subsumes-requires-then-subsumes
+subsumes-requires-then-subsumes g c =
+    sym (ap (λ (y : Fact). kind_of y.info) c.held-item.is ∙ c.requires c.loop-held.held-index c.held-item.result c.loop-held-test.true)

@@ -3,6 +3,7 @@ use Rattle.std.specs.Prelude.{OnOk, OnErr}
 use Rattle.pw_cells.specs.Cells.{Cell, kept_of, told_of}
 use Rattle.pw_cells.specs.Changes.{Assimilates, GainsFact}
 use Rattle.pw_cells.specs.inside.Widths.{cell_of}
+use Rattle.pw_cells.proofs.Stores.{OnErr_always}
 use Rattle.pw_cells.proofs.cell_facts.CellFacts.tell.Given.{Over}
 use Rattle.pw_cells.proofs.cell_facts.CellFacts.tell.Goals as goal
 use Rattle.pw_cells.proofs.cell_facts.CellFacts.tell.Goals.{in-One+in_ok-listed-in-One+in_ok-many-in-One, in-FewIntervals+in_ok-many-in-FewIntervals, in-Few+in_ok-many-in-Few}
@@ -81,3 +82,43 @@ pub tell-requires-2 : goal.tell-requires-2
 tell-requires-2 g c =
     let same : c.deref_mut-2.result.now ≡ c.args.self.now = c.deref_mut-2.ensures.value ∙ boxed_before g c in
     c.requires ∙ sym (ap (λ (x : Cell). x.kind) same)
+
+pub returns-in_err-listed-in-One-clause-kind : goal.returns-in_err-listed-in-One-clause-kind
+returns-in_err-listed-in-One-clause-kind g c =
+    let same : c.in-One.one ≡ c.args.self.now = ap cell_of (sym c.in-One.is) ∙ c.self.view_is in
+    ap (λ (x : Cell). x.kind) same
+
+pub returns-in_err-listed-in-One-clause-err : goal.returns-in_err-listed-in-One-clause-err
+returns-in_err-listed-in-One-clause-err g c =
+    let same : c.in-One.one ≡ c.args.self.now = ap cell_of (sym c.in-One.is) ∙ c.self.view_is in
+    OnErr_always c.from_residual.result same
+
+pub returns-in_err-many-in-One-clause-kind : goal.returns-in_err-many-in-One-clause-kind
+returns-in_err-many-in-One-clause-kind g c =
+    let same : c.in-One.one ≡ c.args.self.now = ap cell_of (sym c.in-One.is) ∙ c.self.view_is in
+    ap (λ (x : Cell). x.kind) same
+
+pub returns-in_err-many-in-One-clause-err : goal.returns-in_err-many-in-One-clause-err
+returns-in_err-many-in-One-clause-err g c =
+    let same : c.in-One.one ≡ c.args.self.now = ap cell_of (sym c.in-One.is) ∙ c.self.view_is in
+    OnErr_always c.from_residual-in_err-many-in-One.result same
+
+pub returns-in_err-many-in-FewIntervals-clause-kind : goal.returns-in_err-many-in-FewIntervals-clause-kind
+returns-in_err-many-in-FewIntervals-clause-kind g c =
+    let same : c.in-FewIntervals.few ≡ c.args.self.now = ap cell_of (sym c.in-FewIntervals.is) ∙ c.self.view_is in
+    ap (λ (x : Cell). x.kind) same
+
+pub returns-in_err-many-in-FewIntervals-clause-err : goal.returns-in_err-many-in-FewIntervals-clause-err
+returns-in_err-many-in-FewIntervals-clause-err g c =
+    let same : c.in-FewIntervals.few ≡ c.args.self.now = ap cell_of (sym c.in-FewIntervals.is) ∙ c.self.view_is in
+    OnErr_always c.from_residual-in_err-many-in-FewIntervals.result same
+
+pub returns-in_err-many-in-Few-clause-kind : goal.returns-in_err-many-in-Few-clause-kind
+returns-in_err-many-in-Few-clause-kind g c =
+    let same : c.in-Few.few ≡ c.args.self.now = ap cell_of (sym c.in-Few.is) ∙ c.self.view_is in
+    ap (λ (x : Cell). x.kind) same
+
+pub returns-in_err-many-in-Few-clause-err : goal.returns-in_err-many-in-Few-clause-err
+returns-in_err-many-in-Few-clause-err g c =
+    let same : c.in-Few.few ≡ c.args.self.now = ap cell_of (sym c.in-Few.is) ∙ c.self.view_is in
+    OnErr_always c.from_residual-in_err-many-in-Few.result same

@@ -2,7 +2,7 @@ use Rattle.std.proofs.Common.{◌≡◌, List, true, subst}
 use Rattle.std.specs.FinSet.{is_subset}
 use Rattle.pw_info.specs.Information.{Implies}
 use Rattle.pw_facts.specs.declared.fact.Fact.{Fact}
-use Rattle.pw_cells.specs.Cells.{Cell, kept_of, all_assimilated}
+use Rattle.pw_cells.specs.Cells.{Cell, kept_of, told_of, all_assimilated}
 use Rattle.pw_cells.specs.inside.OneCell.{AreShownBefore, current}
 use Rattle.pw_cells.proofs.Current.{all_current}
 use Rattle.pw_cells.proofs.Visible.{shown_before, all_in_the_end}
@@ -22,3 +22,13 @@ returns-clause-less g c = λ none.
   where
     is_shown_before : Fact → Type 0
     is_shown_before f = is_subset f.support c.args.worldview.now ≡ true → is_subset f.support c.args.before.now ≡ true
+
+pub returns-then-any_comes_in-clause-told : goal.returns-then-any_comes_in-clause-told
+returns-then-any_comes_in-clause-told g c =
+    subst (λ (cell : Cell). Implies (kept_of cell c.args.worldview.now) (told_of cell c.args.worldview.now)) c.self.view_is
+    (c.self.invariant.0.says c.args.worldview.now)
+
+pub returns-clause-told : goal.returns-clause-told
+returns-clause-told g c =
+    subst (λ (cell : Cell). Implies (kept_of cell c.args.worldview.now) (told_of cell c.args.worldview.now)) c.self.view_is
+    (c.self.invariant.0.says c.args.worldview.now)
