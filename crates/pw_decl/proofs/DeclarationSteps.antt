@@ -1,6 +1,7 @@
 -- Going over the lines of a declaration.
 use Rattle.std.proofs.Common.{◌≡◌, ℕ, ◌+◌, ◌≤◌, eqb, List, [], ◌∷◌, ◌++◌, length, ◌⊎◌, inl, inr, sym, refl, ap, subst, ◌∙◌, arith, append_assoc, append-nil, length-append, Result, Ok, Err, IfOk, IfErr}
 use Rattle.std.specs.Prelude.{OnOk, IsErrAnd}
+use Rattle.std.specs.Result.{result_and}
 use Rattle.std.specs.List.{onto_first}
 use Rattle.std.proofs.lemmas.Bool.{cases_Bool}
 use Rattle.pw_info.specs.Lines.{lines_of}
@@ -129,10 +130,28 @@ pub err_to : {D E : Type 0} (P Q : E → Type 0) → ((e : E) → P e → Q e) �
 err_to P Q more (Ok d) h = tt
 err_to P Q more (Err e) h = more e h
 
+pub ok_to : {D E : Type 0} (P Q : D → Type 0) → ((d : D) → P d → Q d) → (r : Result D E) → IfOk r P → IfOk r Q
+ok_to P Q more (Ok d) h = more d h
+ok_to P Q more (Err e) h = tt
+
 -- what holds of an error holds of what `?` gives back
 pub given_back : {D E : Type 0} (P : Result D E → Type 0) (r : Result D E) (why : E) → IsErrAnd r (λ given. given ≡ why) → P (Err why) → P r
 given_back P (Ok d) why is h = absurd is
 given_back P (Err given) why is h = subst (λ e. P (Err e)) (sym is) h
+
+-- what holds of what `and` gives back
+module _ {D E F : Type 0} (read : Result D E) (d : F) (r : Result F E) (both : r ≡ result_and read (Ok d)) where
+  pub and_ok : (P : F → Type 0) → OnOk read (P d) → IfOk r P
+  and_ok P h = subst (λ r. IfOk r P) (sym both) (by_cases read h) where
+    by_cases : (read : Result D E) → OnOk read (P d) → IfOk (result_and read (Ok d)) P
+    by_cases (Ok x) h = h
+    by_cases (Err why) h = tt
+
+  pub and_err : (P : E → Type 0) → IfErr read P → IfErr r P
+  and_err P h = subst (λ r. IfErr r P) (sym both) (by_cases read h) where
+    by_cases : (read : Result D E) → IfErr read P → IfErr (result_and read (Ok d)) P
+    by_cases (Ok x) h = tt
+    by_cases (Err why) h = h
 
 -- the fault reported after the last line
 pub told_at_end : (start : SoFar) (lines left : List (List ℕ)) (count : ℕ) (s : SoFar) (r : IsReadUpTo start lines left count s) (fault : DeclFault) →

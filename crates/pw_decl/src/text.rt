@@ -150,6 +150,5 @@ pub fn read_declaration<'r, A: Allocator + Copy>(
         });
     }
     let mut declaration = Declaration::new(alloc, registry);
-    read_text(alloc, &mut declaration, text)?;
-    Ok(declaration)
+    read_text(alloc, &mut declaration, text).and(Ok(declaration))
 }
