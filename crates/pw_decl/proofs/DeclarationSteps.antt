@@ -126,6 +126,10 @@ pub done_to : {D E : Type 0} (P Q : Type 0) → (P → Q) → (r : Result D E) �
 done_to P Q more (Ok d) h = more h
 done_to P Q more (Err e) h = tt
 
+pub always_done : {D E P : Type 0} → P → (r : Result D E) → OnOk r P
+always_done h (Ok d) = h
+always_done h (Err e) = tt
+
 pub err_to : {D E : Type 0} (P Q : E → Type 0) → ((e : E) → P e → Q e) → (r : Result D E) → IfErr r P → IfErr r Q
 err_to P Q more (Ok d) h = tt
 err_to P Q more (Err e) h = more e h

@@ -181,8 +181,7 @@ fn declare_inside<A: Allocator + Copy>(
             };
         }
     };
-    done?;
-    Ok(Place::Inside(opened))
+    done.and(Ok(Place::Inside(opened)))
 }
 
 // Declares what a line says that is not idle, and answers the place of the next line.
