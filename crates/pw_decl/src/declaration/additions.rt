@@ -136,6 +136,24 @@ fn add_set_name<A: Allocator + Copy>(
     Ok(())
 }
 
+// Adds the name of a set kind, and the names of its members. If it fails, nothing is added.
+fn add_named_set<A: Allocator + Copy>(
+    names: &mut NameTable<A>,
+    name: &str,
+    sets: &mut Vec<NameTable<A>, A>,
+    members: NameTable<A>,
+) -> Result<(), AllocError>
+    requires { place_of_name names.old name.now ≡ None }
+    ensures name { OnOk result (names.new ≡ names.old ++ name.now ∷ []) }
+    ensures set { OnOk result (sets.new.items ≡ sets.old.items ++ members ∷ []) }
+    ensures no_name { OnErr result (names.new ≡ names.old) }
+    ensures no_set { OnErr result (sets.new.items ≡ sets.old.items) }
+{
+    add_set_name(names, name, sets)?;
+    sets.push(members).unwrap();
+    Ok(())
+}
+
 impl<A: Allocator + Copy> Declaration<'_, A> {
     ghost use Rattle.pw_decl.specs.inside.Fields.{declared};
 
@@ -252,8 +270,7 @@ impl<A: Allocator + Copy> Declaration<'_, A> {
             (declared self.old) name.now members) }
         ensures err { OnErr result ((declared self.new) ≡ (declared self.old)) }
     {
-        add_set_name(&mut self.set_names, name, &mut self.sets)?;
-        self.sets.push(members).unwrap();
+        add_named_set(&mut self.set_names, name, &mut self.sets, members)?;
         Ok(())
     }
 
