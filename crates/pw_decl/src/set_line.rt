@@ -1,14 +1,16 @@
 //! The line of a declaration that declares a set kind.
-ghost use Rattle.std.specs.Prelude.{◌≡◌, ◌↔◌, ◌+◌, true, length, min, IsTrue, IfOk, IfErr, OnOk};
-ghost use Rattle.std.specs.Prelude.{OnErr};
+ghost use Rattle.std.specs.Prelude.{◌≡◌, ◌↔◌, ◌+◌, ◌<◌, None, true, length, min, IsTrue};
+ghost use Rattle.std.specs.Prelude.{IfSome, IfNone, IfOk, IfErr, OnOk, OnErr};
 ghost use Rattle.std.specs.List.{list_all, list_any, IsDistinct};
 ghost use Rattle.std.specs.Str.{bytes_eq};
 ghost use Rattle.pw_info.specs.Name.{is_name};
-ghost use Rattle.pw_kinds.specs.Places.{most_members};
-ghost use Rattle.pw_decl.specs.Declaration.{Set};
+ghost use Rattle.pw_kinds.specs.Places.{most_members, IsSize};
+ghost use Rattle.pw_procs.specs.Registering.{place_of_name};
+ghost use Rattle.pw_decl.specs.Declaration.{Set, kind_names};
+ghost use Rattle.pw_decl.specs.Limits.{most_sets};
 ghost use Rattle.pw_decl.specs.inside.Fields.{declared};
 ghost use Rattle.pw_decl.specs.inside.Fields.{outside};
-ghost use Rattle.pw_decl.specs.inside.SentenceFaults.{DeclaresSentence, IsToldOf};
+ghost use Rattle.pw_decl.specs.inside.SentenceFaults.{DeclaresSentence, IsFaultless, IsToldOf};
 
 use crate::decl_fault::DeclFaultKind;
 use crate::declaration::Declaration;
@@ -76,6 +78,35 @@ fn name_members<A: Allocator + Copy>(
     Ok(table)
 }
 
+// The first fault of a line that declares a set kind of this name with these members.
+fn set_fault<A: Allocator + Copy>(
+    declaration: &Declaration<'_, A>,
+    name: &str,
+    members: Words<'_>,
+) -> Option<DeclFaultKind>
+    ensures some { IfSome result (IsToldOf (outside declaration.now)
+        (Set name.now members.entry)) }
+    ensures none { IfNone result (IsFaultless (outside declaration.now)
+        (Set name.now members.entry)) }
+    ensures fresh { IfNone result (place_of_name (kind_names (declared declaration.now)) name.now
+        ≡ None) }
+    ensures distinct { IfNone result (IsDistinct bytes_eq members.entry) }
+    ensures room { IfNone result (length (declared declaration.now).sets < most_sets) }
+    ensures size { IfNone result (IsSize (length members.entry)) }
+{
+    if declaration.has_kind(name.as_bytes()) || !are_distinct(members.again()) {
+        return Some(DeclFaultKind::DuplicateName);
+    }
+    let size = count(members.again());
+    if size < FEWEST_MEMBERS {
+        return Some(DeclFaultKind::WrongArguments);
+    }
+    if declaration.sets() >= MOST_SETS || size > declaration.version().most_members() {
+        return Some(DeclFaultKind::Limit);
+    }
+    None
+}
+
 /// Declares a set kind of this name with these members, which are names.
 pub(crate) fn declare_set<A: Allocator + Copy>(
     alloc: A,
@@ -90,15 +121,8 @@ pub(crate) fn declare_set<A: Allocator + Copy>(
     ensures unchanged { OnErr result ((declared declaration.new) ≡
         (declared declaration.old)) }
 {
-    if declaration.has_kind(name.as_bytes()) || !are_distinct(members.again()) {
-        return Err(DeclFaultKind::DuplicateName);
-    }
-    let size = count(members.again());
-    if size < FEWEST_MEMBERS {
-        return Err(DeclFaultKind::WrongArguments);
-    }
-    if declaration.sets() >= MOST_SETS || size > declaration.version().most_members() {
-        return Err(DeclFaultKind::Limit);
+    if let Some(why) = set_fault(declaration, name, members.again()) {
+        return Err(why);
     }
     let Ok(table) = name_members(alloc, members) else {
         return Err(DeclFaultKind::Memory);
