@@ -1,6 +1,6 @@
 //! Reading one line of a declaration: what it declares, or its first fault.
-ghost use Rattle.std.specs.Prelude.{◌≡◌, ◌≤◌, true, false, length, IfOk, IfErr, OnOk, OnErr};
-ghost use Rattle.pw_decl.specs.Declaration.{User, Premise, PremiseOf, Cell};
+ghost use Rattle.std.specs.Prelude.{◌≡◌, ◌≤◌, true, false, not, length, IfOk, IfErr, OnOk, OnErr};
+ghost use Rattle.pw_decl.specs.Declaration.{SoFar, User, Premise, PremiseOf, Cell};
 ghost use Rattle.std.specs.List.{list_all};
 ghost use Rattle.pw_info.specs.Words.{is_idle, is_allowed};
 ghost use Rattle.pw_decl.specs.Faults.{Declares};
@@ -223,6 +223,25 @@ fn declare_line<A: Allocator + Copy>(
     }
 }
 
+// Whether the line says something, or the fault that it has whatever it says.
+fn speaks(line: &[u8]) -> Result<bool, DeclFaultKind>
+    ensures ok { IfOk result (λ speaks. is_idle line.now ≡ not speaks) }
+    ensures allowed { IfOk result (λ speaks. speaks ≡ true → list_all is_allowed line.now ≡ true) }
+    ensures short { OnOk result (length line.now ≤ most_line_bytes) }
+    ensures err { (so_far : SoFar) → IfErr result (IsToldOfLine so_far line.now) }
+{
+    if line.len() > MOST_LINE_BYTES {
+        return Err(DeclFaultKind::Limit);
+    }
+    if idles(line) {
+        return Ok(false);
+    }
+    if !allows_all(line) {
+        return Err(DeclFaultKind::Syntax);
+    }
+    Ok(true)
+}
+
 /// Reads one line of a declaration, adds what it declares, and answers the place of the next line.
 ///
 /// An error is the first fault of the line, or out of memory.
@@ -238,14 +257,9 @@ pub(crate) fn read_declaration_line<A: Allocator + Copy>(
     ensures kept { IfOk result (λ next. IsWellPlaced (declared declaration.new) next) }
     ensures err { IfErr result (IsToldOfLine (placed (declared declaration.old) place) line.now) }
 {
-    if line.len() > MOST_LINE_BYTES {
-        return Err(DeclFaultKind::Limit);
+    match speaks(line) {
+        Ok(true) => declare_line(alloc, declaration, place, line),
+        Ok(false) => Ok(place),
+        Err(why) => Err(why),
     }
-    if idles(line) {
-        return Ok(place);
-    }
-    if !allows_all(line) {
-        return Err(DeclFaultKind::Syntax);
-    }
-    declare_line(alloc, declaration, place, line)
 }
