@@ -167,12 +167,35 @@ fn next_parameter<'a, A: Allocator + Copy>(
     Some((name, kind))
 }
 
+// Adds the parameters to a compound that has none yet. Their names differ, and their kinds are
+// declared.
+fn add_parameters<A: Allocator + Copy>(
+    declaration: &Declaration<'_, A>,
+    opened: &mut OpenCompound<A>,
+    mut parameters: Words<'_>,
+) -> Result<(), AllocError>
+    requires begun { open_of opened.old ≡ begun (open_of opened.old).name [] [] }
+    requires kinds { opened.old.kinds.items ≡ [] }
+    requires size { size_of opened.old.compound.size ≡ no_size }
+    requires named { are_parameters parameters ≡ true }
+    requires distinct { IsDistinct bytes_eq (parameter_names parameters) }
+    requires known { (kinds : List KindOfCell)
+        × NameKinds (declared declaration.now) (parameter_kinds parameters) kinds }
+    ensures begun { OnOk result (IsBegun (declared declaration.now) (open_of opened.old).name
+        parameters.entry opened.new) }
+{
+    while let Some((name, kind)) = next_parameter(declaration, &mut parameters) {
+        add_parameter(opened, name, kind)?;
+    }
+    Ok(())
+}
+
 // Begins a compound. The names of its parameters differ, and their kinds are declared.
 fn begun_with<A: Allocator + Copy>(
     alloc: A,
     declaration: &Declaration<'_, A>,
     name: &str,
-    mut parameters: Words<'_>,
+    parameters: Words<'_>,
 ) -> Result<OpenCompound<A>, AllocError>
     requires named { are_parameters parameters ≡ true }
     requires distinct { IsDistinct bytes_eq (parameter_names parameters) }
@@ -182,10 +205,7 @@ fn begun_with<A: Allocator + Copy>(
         IsBegun (declared declaration.now) name.now parameters.entry opened) }
 {
     let mut opened = begun_without(alloc, name)?;
-    while let Some((name, kind)) = next_parameter(declaration, &mut parameters) {
-        add_parameter(&mut opened, name, kind)?;
-    }
-    Ok(opened)
+    add_parameters(declaration, &mut opened, parameters).and(Ok(opened))
 }
 
 // The first fault of a line that begins a compound of this name with these parameters.

@@ -6,7 +6,7 @@ use Rattle.pw_decl.specs.Declaration.{NameKinds, parameter_kinds, parameter_name
 use Rattle.pw_decl.specs.inside.Fields.{declared}
 use Rattle.pw_decl.specs.inside.Held.{size_of, steps_of}
 use Rattle.pw_decl.specs.inside.Forms.{are_parameters}
-use Rattle.pw_decl.proofs.compound_line.begun_with.Given as goal
+use Rattle.pw_decl.proofs.compound_line.add_parameters.Given as goal
 
 -- those that were added and the remaining ones are all, in order
 abbrev pub invariant-loop-name : goal.invariant-loop-name
@@ -17,7 +17,7 @@ invariant-loop-name g l = record {
   chosen : (rest : List Kind) → NameKinds (declared l.declaration) (parameter_kinds l.parameters) rest
       → NameKinds (declared l.declaration) (parameter_kinds l.fn.parameters) (l.opened.compound.parameters.items ++ rest);
   kinds : l.opened.kinds.items ≡ l.opened.compound.parameters.items;
-  name : string_bytes l.opened.name ≡ l.name;
+  name : string_bytes l.opened.name ≡ string_bytes l.fn.opened.name;
   steps : steps_of l.opened.compound.steps.items ≡ [];
   size : size_of l.opened.compound.size ≡ no_size;
 }
