@@ -149,8 +149,7 @@ fn declare_outside<A: Allocator + Copy>(
             return Ok(Place::Inside(begin_compound(alloc, declaration, name, parameters)?));
         }
     };
-    done?;
-    Ok(Place::Outside)
+    done.and(Ok(Place::Outside))
 }
 
 // Declares what a sentence inside a compound says, and answers the place of the next line.
