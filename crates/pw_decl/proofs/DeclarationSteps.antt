@@ -1,6 +1,6 @@
 -- Going over the lines of a declaration.
 use Rattle.std.proofs.Common.{◌≡◌, ℕ, ◌+◌, ◌≤◌, eqb, List, [], ◌∷◌, ◌++◌, length, ◌⊎◌, inl, inr, sym, refl, ap, subst, ◌∙◌, arith, append_assoc, append-nil, length-append, Result, Ok, Err, IfOk, IfErr}
-use Rattle.std.specs.Prelude.{OnOk, IsErrAnd}
+use Rattle.std.specs.Prelude.{OnOk}
 use Rattle.std.specs.Result.{result_and}
 use Rattle.std.specs.List.{onto_first}
 use Rattle.std.proofs.lemmas.Bool.{cases_Bool}
@@ -137,11 +137,6 @@ err_to P Q more (Err e) h = more e h
 pub ok_to : {D E : Type 0} (P Q : D → Type 0) → ((d : D) → P d → Q d) → (r : Result D E) → IfOk r P → IfOk r Q
 ok_to P Q more (Ok d) h = more d h
 ok_to P Q more (Err e) h = tt
-
--- what holds of an error holds of what `?` gives back
-pub given_back : {D E : Type 0} (P : Result D E → Type 0) (r : Result D E) (why : E) → IsErrAnd r (λ given. given ≡ why) → P (Err why) → P r
-given_back P (Ok d) why is h = absurd is
-given_back P (Err given) why is h = subst (λ e. P (Err e)) (sym is) h
 
 -- what holds of what `and` gives back
 module _ {D E F : Type 0} (read : Result D E) (d : F) (r : Result F E) (both : r ≡ result_and read (Ok d)) where
