@@ -45,7 +45,7 @@ both_more olds twins news others kind same more more' = more ∙ ap (λ (kinds :
 
 -- ---- words that are alternating names and kinds
 
-and_right : (a b : Bool) → (a && b) ≡ true → b ≡ true
+pub and_right : (a b : Bool) → (a && b) ≡ true → b ≡ true
 and_right true b both = both
 and_right false b both = absurd (false≢true both)
 
