@@ -1,4 +1,4 @@
-use Rattle.std.proofs.Common.{◌≡◌, true, length, inl, refl, sym, ap, ◌∙◌}
+use Rattle.std.proofs.Common.{◌≡◌, true, length, inl, refl, sym, subst, ap, ◌∙◌}
 use Rattle.std.specs.List.{list_all}
 use Rattle.std.proofs.lemmas.Bool.{false≢true}
 use Rattle.pw_procs.specs.Registry.{cells_of}
@@ -8,7 +8,8 @@ use Rattle.pw_decl.specs.Faults.{is_cell_of}
 use Rattle.pw_decl.specs.inside.Fields.{declared}
 use Rattle.pw_decl.specs.inside.Held.{size_of}
 use Rattle.pw_decl.specs.inside.Opened.{open_of}
-use Rattle.pw_decl.proofs.CompoundLemmas.{few_names, places_there, accepts_same, large_same, too_many, faultless_call, call_unknown, call_wrong, call_limit, grown_open_call}
+use Rattle.pw_decl.specs.WellDeclared.{IsSmall}
+use Rattle.pw_decl.proofs.CompoundLemmas.{few_names, places_there, accepts_same, large_same, too_many, faultless_call, call_unknown, call_wrong, call_limit, grown_open_call, stays_open}
 use Rattle.pw_decl.proofs.compound_line.declare_call.Goals as goal
 
 pub returns-then-not-are_cells-clause-err : goal.returns-then-not-are_cells-clause-err
@@ -88,3 +89,24 @@ returns-in-Err-clause-err g c =
           (λ much. false≢true (c.if-outgrows.ensures.1 (large.1 much))),
       refl,
     )
+
+pub place_arguments-requires-clause-some : goal.place_arguments-requires-clause-some
+place_arguments-requires-clause-some g c = c.requires.some
+
+pub place_arguments-requires-clause-known : goal.place_arguments-requires-clause-known
+place_arguments-requires-clause-known g c = sym (rw c.again.ensures at c.if-not-are_cells.ensures)
+
+pub accepts_at-requires-clause-there : goal.accepts_at-requires-clause-there
+accepts_at-requires-clause-there g c = c.in-Some.ensures.there
+
+pub size-size-requires : goal.size-size-requires
+size-size-requires g c = c.in-Some.ensures.there
+
+pub outgrows-requires : goal.outgrows-requires
+outgrows-requires g c = record { small = (subst IsSmall (sym c.requires.kept.size) c.requires.kept.well.small, c.size-size.ensures.small) }
+
+pub add_call-requires : goal.add_call-requires
+add_call-requires g c = record { small = (subst IsSmall (sym c.requires.kept.size) c.requires.kept.well.small, c.size-size.ensures.small) }
+
+pub returns-in-Err-clause-kept : goal.returns-in-Err-clause-kept
+returns-in-Err-clause-kept g c = stays_open (declared c.args.declaration.now) c.args.opened.now c.add_call.new.opened c.requires.kept c.in-Err.ensures.err
