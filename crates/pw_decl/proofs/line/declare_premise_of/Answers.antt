@@ -43,10 +43,6 @@ pub add_premise-requires-clause-room : goal.add_premise-requires-clause-room
 add_premise-requires-clause-room g c =
     omega (arith, c.premises.ensures.count, c.most_premises.ensures.latest, c.if-premises-most_premises.false)
 
-pub add_premise-requires-clause-user : goal.add_premise-requires-clause-user
-add_premise-requires-clause-user g c =
-    c.in-Some.ensures.within
-
 pub returns-in-Ok-clause-ok : goal.returns-in-Ok-clause-ok
 returns-in-Ok-clause-ok g c =
     let d = declared c.args.declaration.now in
