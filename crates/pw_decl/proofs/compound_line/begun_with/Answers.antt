@@ -17,5 +17,5 @@ returns g c =
     let name = ap (λ (o : OpenCompound). o.name) c.in_ok-opened.ensures.begun in
     record {
       begun = and_ok c.add_parameters.result opened c.and.result c.and.ensures (IsBegun d c.args.name.now c.args.parameters)
-      (done_to _ _ (λ is. subst (λ (name : List ℕ). IsBegun d name c.args.parameters opened) name is) c.add_parameters.result c.add_parameters.ensures.begun);
+          (done_to _ _ (λ is. subst (λ (name : List ℕ). IsBegun d name c.args.parameters opened) name is) c.add_parameters.result c.add_parameters.ensures.begun);
     }
