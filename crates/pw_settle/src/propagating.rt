@@ -64,7 +64,7 @@ fn answer_on_many(
     procedure_value(registry, instance, known, &inputs[..cells.len()], calls)
 }
 
-// The same for any kinds of inputs, of which two are mostly all. Never inlined, for the same reason.
+// The same for inputs of any kinds. Most procedures have two. Never inlined, for the same reason.
 #[inline(never)]
 fn answer_on_any(registry: &Registry, instance: &Instance, known: &[Info], calls: &mut u128) -> Info
     requires room { calls.old < most_calls }
