@@ -133,6 +133,19 @@ pub fn tell_each(
     Ok(())
 }
 
+/// A store of the network's cells, in which these facts were told.
+pub fn store_told(
+    alloc: Global,
+    network: &Network<'_, '_>,
+    tells: &[Tell<'_>],
+) -> Result<CellStore, Fail>
+    ensures { IfOk result (λ store. IsReady (wiring network.now) store) }
+{
+    let mut store = store_of(alloc, network)?;
+    tell_each(network, &mut store, tells)?;
+    Ok(store)
+}
+
 /// What the store is told of each cell, in one worldview after another.
 pub fn all_told(
     alloc: Global,
@@ -146,6 +159,17 @@ pub fn all_told(
         }
     }
     Ok(list)
+}
+
+/// Whether the store is told what it was told before, in these worldviews.
+pub fn is_told(
+    alloc: Global,
+    store: &CellStore,
+    worldviews: &[PremiseSet],
+    before: &[Info],
+) -> Result<bool, AllocError> {
+    let told = all_told(alloc, store, worldviews)?;
+    Ok(told.as_slice() == before)
 }
 
 // The values of all cells of the network that was settled.
@@ -194,6 +218,20 @@ fn answer_of(
     })
 }
 
+// Settles a worldview. Answers what the values show.
+fn settle_and_show(
+    alloc: Global,
+    network: &Network<'_, '_>,
+    store: &mut CellStore,
+    worldview: &PremiseSet,
+) -> Result<Answer, AllocError>
+    requires { IsReady (wiring network.now) store.old }
+    ensures { OnOk result (IsReady (wiring network.now) store.new) }
+{
+    let settled = settle_once(alloc, network, store, worldview)?;
+    answer_of(alloc, network, &settled)
+}
+
 // What the store keeps of these cells in these worldviews.
 fn kept_of(
     alloc: Global,
@@ -222,26 +260,35 @@ struct Settling<'a> {
 }
 
 impl Settling<'_> {
-    // Settles the worldviews one after another, over a store in which the facts were told.
-    fn settle_all(&self, network: &Network<'_, '_>) -> Result<Shown, Fail> {
-        let mut store = store_of(self.alloc, network)?;
-        tell_each(network, &mut store, self.matter.tells)?;
-        let before = all_told(self.alloc, &store, self.worldviews)?;
-        let mut shown = Shown {
-            answers: Vec::new(self.alloc),
-            kept: Vec::new(self.alloc),
-            is_told_the_same: true,
-        };
+    // Settles the worldviews one after another, and says whether the told facts stayed as they were.
+    fn answers(
+        &self,
+        network: &Network<'_, '_>,
+        store: &mut CellStore,
+    ) -> Result<(Vec<Answer>, bool), AllocError>
+        requires { IsReady (wiring network.now) store.old }
+    {
+        let before = all_told(self.alloc, store, self.worldviews)?;
+        let mut is_told_the_same = true;
+        let mut answers = Vec::new(self.alloc);
         for worldview in self.worldviews {
-            let settled = settle_once(self.alloc, network, &mut store, worldview)?;
-            let answer = answer_of(self.alloc, network, &settled)?;
-            shown.answers.push(answer)?;
-            if all_told(self.alloc, &store, self.worldviews)? != before {
-                shown.is_told_the_same = false;
+            answers.push(settle_and_show(self.alloc, network, store, worldview)?)?;
+            if !is_told(self.alloc, store, self.worldviews, &before)? {
+                is_told_the_same = false;
             }
         }
-        shown.kept = kept_of(self.alloc, network, &mut store, self.asked)?;
-        Ok(shown)
+        Ok((answers, is_told_the_same))
+    }
+
+    // Settles the worldviews, over a store in which the facts were told.
+    fn settle_all(&self, network: &Network<'_, '_>) -> Result<Shown, Fail> {
+        let mut store = store_told(self.alloc, network, self.matter.tells)?;
+        let (answers, is_told_the_same) = self.answers(network, &mut store)?;
+        Ok(Shown {
+            answers,
+            kept: kept_of(self.alloc, network, &mut store, self.asked)?,
+            is_told_the_same,
+        })
     }
 }
 

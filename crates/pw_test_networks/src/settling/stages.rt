@@ -12,7 +12,7 @@ ghost use Rattle.pw_network.specs.Network.{cells_in};
 ghost use Rattle.pw_settle.specs.Growth.{IsFitting};
 ghost use Rattle.pw_test_networks.specs.Settling.{IsReady, LeavesFitting};
 
-use super::{Matter, Shown, all_told, answer_of, settle_once, store_of, tell_each};
+use super::{Matter, Shown, all_told, answer_of, is_told, settle_once, store_of, tell_each};
 use crate::networks::{Attachment, named_in};
 use pw_cells::CellStore;
 use pw_decl::{Callable, Declaration};
@@ -197,7 +197,7 @@ impl Staged<'_> {
         store: &mut CellStore,
         worldview: &PremiseSet,
         shown: &mut Shown,
-    ) -> Result<Settled, Fail>
+    ) -> Result<Settled, AllocError>
         requires ready { IsReady (wiring network.now) store.old }
         requires fits { IfSome last (IsFitting (wiring network.now) store.old) }
         ensures ready { OnOk result (IsReady (wiring network.now) store.new) }
@@ -206,11 +206,11 @@ impl Staged<'_> {
         let seen = [*worldview, PremiseSet::empty(), PremiseSet::first(5)];
         let before = all_told(self.alloc, store, &seen)?;
         let settled = settle_next(self.alloc, last, network, store, worldview)?;
-        let answer = answer_of(self.alloc, network, &settled)?;
-        shown.answers.push(answer)?;
-        if all_told(self.alloc, store, &seen)? != before {
+        if !is_told(self.alloc, store, &seen, &before)? {
             shown.is_told_the_same = false;
         }
+        let answer = answer_of(self.alloc, network, &settled)?;
+        shown.answers.push(answer)?;
         Ok(settled)
     }
 
