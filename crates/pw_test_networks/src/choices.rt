@@ -4,7 +4,7 @@
 mod groups;
 mod rows;
 
-ghost use Rattle.std.specs.Prelude.{◌<◌, All, IfOk, IsTrue};
+ghost use Rattle.std.specs.Prelude.{◌<◌, All, IsTrue};
 ghost use Rattle.pw_network.specs.Wiring.{wiring};
 ghost use Rattle.pw_premises.specs.Premises.{most_premises};
 ghost use Rattle.pw_reasons.specs.Combinations.{groups_of};
@@ -13,14 +13,14 @@ ghost use Rattle.pw_test_networks.specs.Settling.{IsReady};
 
 use crate::networks::attach_named;
 use crate::reasons::all_covered;
-use crate::settling::{Matter, all_told, store_of, tell_each};
+use crate::settling::{Matter, all_told, is_told, store_told};
 use pw_cells::CellStore;
 use pw_decl::Declaration;
 use pw_network::Network;
 use pw_premises::PremiseSet;
 use pw_reasons::{Groups, Nogoods, Picks, choose};
 use pw_testing::worlds::{OverDeclaration, over_text};
-use std::alloc::{AllocError, Global};
+use std::alloc::Global;
 use std::test::Fail;
 
 /// What a choice came to.
@@ -76,7 +76,7 @@ fn are_premises(groups: &Groups) -> bool
     true
 }
 
-// Chooses in a network that the store is ready for.
+// Chooses in a network that the store is ready for, if the groups are of premises.
 fn choose_once(
     alloc: Global,
     network: &Network<'_, '_>,
@@ -84,12 +84,14 @@ fn choose_once(
     nogoods: &mut Nogoods,
     worldview: &PremiseSet,
     groups: &Groups,
-) -> Result<Option<Picks>, AllocError>
+) -> Result<Option<Picks>, Fail>
     requires ready { IsReady (wiring network.now) store.old }
     requires nogoods { AreNogoods (wiring network.now) store.old nogoods.old }
-    requires premises { All (All (λ premise. premise < most_premises)) (groups_of groups.now) }
 {
-    choose(alloc, network, store, nogoods, worldview, groups)
+    if !are_premises(groups) {
+        return Err("no premises".into());
+    }
+    Ok(choose(alloc, network, store, nogoods, worldview, groups)?)
 }
 
 // A choice in a worldview, and the sets asked for afterwards.
@@ -103,36 +105,39 @@ struct Choosing<'a> {
 }
 
 impl Choosing<'_> {
-    // Tells the facts, over a new store.
-    fn store(&self, network: &Network<'_, '_>) -> Result<CellStore, Fail>
-        ensures { IfOk result (λ store. IsReady (wiring network.now) store) }
+    // Chooses, and says whether the told facts stayed as they were.
+    fn choose(
+        &self,
+        network: &Network<'_, '_>,
+        store: &mut CellStore,
+        nogoods: &mut Nogoods,
+    ) -> Result<(Option<Picks>, bool), Fail>
+        requires ready { IsReady (wiring network.now) store.old }
+        requires nogoods { AreNogoods (wiring network.now) store.old nogoods.old }
     {
-        let mut store = store_of(self.alloc, network)?;
-        tell_each(network, &mut store, self.matter.tells)?;
-        Ok(store)
+        let (alloc, worldview) = (self.alloc, self.worldview);
+        let before = all_told(alloc, store, &[*worldview])?;
+        let chosen = choose_once(alloc, network, store, nogoods, worldview, self.groups)?;
+        Ok((chosen, is_told(alloc, store, &[*worldview], &before)?))
+    }
+
+    // Chooses over this store, and sees what was noted.
+    fn answer(&self, network: &Network<'_, '_>, store: &mut CellStore) -> Result<Choice, Fail>
+        requires { IsReady (wiring network.now) store.old }
+    {
+        let mut nogoods = Nogoods::new(self.alloc);
+        let (chosen, is_told_the_same) = self.choose(network, store, &mut nogoods)?;
+        Ok(Choice {
+            chosen,
+            covered: all_covered(self.alloc, &nogoods, self.asked)?,
+            is_told_the_same,
+        })
     }
 
     // Tells the facts, and chooses.
     fn ask(&self, network: &Network<'_, '_>) -> Result<Choice, Fail> {
-        if !are_premises(self.groups) {
-            return Err("no premises".into());
-        }
-        let mut store = self.store(network)?;
-        let before = all_told(self.alloc, &store, &[*self.worldview])?;
-        let mut nogoods = Nogoods::new(self.alloc);
-        let chosen = choose_once(
-            self.alloc,
-            network,
-            &mut store,
-            &mut nogoods,
-            self.worldview,
-            self.groups,
-        )?;
-        Ok(Choice {
-            chosen,
-            covered: all_covered(self.alloc, &nogoods, self.asked)?,
-            is_told_the_same: all_told(self.alloc, &store, &[*self.worldview])? == before,
-        })
+        let mut store = store_told(self.alloc, network, self.matter.tells)?;
+        self.answer(network, &mut store)
     }
 }
 

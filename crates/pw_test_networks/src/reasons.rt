@@ -11,7 +11,7 @@ ghost use Rattle.pw_reasons.specs.Nogood.{AreNogoods};
 ghost use Rattle.pw_test_networks.specs.Settling.{IsReady};
 
 use crate::networks::{attach_named, cell_of};
-use crate::settling::{Matter, all_told, store_of, tell_each};
+use crate::settling::{Matter, all_told, is_told, store_told};
 use pw_cells::CellStore;
 use pw_decl::Declaration;
 use pw_network::Network;
@@ -73,26 +73,48 @@ struct Asking<'a> {
 }
 
 impl Asking<'_> {
-    // Finds the reason, over a store in which the facts were told.
-    fn ask(&self, network: &Network<'_, '_>) -> Result<Answer, Fail> {
-        let cell = cell_of(network, self.cell)?;
-        let mut store = store_of(self.alloc, network)?;
-        tell_each(network, &mut store, self.matter.tells)?;
-        let before = all_told(self.alloc, &store, &[*self.worldview])?;
+    // Finds the reason, and says whether the told facts stayed as they were.
+    fn reason(
+        &self,
+        network: &Network<'_, '_>,
+        store: &mut CellStore,
+        nogoods: &mut Nogoods,
+        cell: u32,
+    ) -> Result<(PremiseSet, bool), AllocError>
+        requires ready { IsReady (wiring network.now) store.old }
+        requires nogoods { AreNogoods (wiring network.now) store.old nogoods.old }
+        requires cell { cell < cells_in (wiring network.now) }
+    {
+        let (alloc, worldview) = (self.alloc, self.worldview);
+        let before = all_told(alloc, store, &[*worldview])?;
+        let reason = reason_once(alloc, network, store, nogoods, worldview, cell)?;
+        Ok((reason, is_told(alloc, store, &[*worldview], &before)?))
+    }
+
+    // Finds the reason over this store, and sees what was noted.
+    fn answer(
+        &self,
+        network: &Network<'_, '_>,
+        store: &mut CellStore,
+        cell: u32,
+    ) -> Result<Answer, AllocError>
+        requires ready { IsReady (wiring network.now) store.old }
+        requires cell { cell < cells_in (wiring network.now) }
+    {
         let mut nogoods = Nogoods::new(self.alloc);
-        let reason = reason_once(
-            self.alloc,
-            network,
-            &mut store,
-            &mut nogoods,
-            self.worldview,
-            cell,
-        )?;
+        let (reason, is_told_the_same) = self.reason(network, store, &mut nogoods, cell)?;
         Ok(Answer {
             reason,
             covered: all_covered(self.alloc, &nogoods, self.asked)?,
-            is_told_the_same: all_told(self.alloc, &store, &[*self.worldview])? == before,
+            is_told_the_same,
         })
+    }
+
+    // Tells the facts, and finds the reason.
+    fn ask(&self, network: &Network<'_, '_>) -> Result<Answer, Fail> {
+        let cell = cell_of(network, self.cell)?;
+        let mut store = store_told(self.alloc, network, self.matter.tells)?;
+        Ok(self.answer(network, &mut store, cell)?)
     }
 }
 
