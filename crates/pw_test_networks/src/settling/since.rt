@@ -4,7 +4,7 @@ ghost use Rattle.pw_network.specs.Wiring.{wiring};
 ghost use Rattle.pw_network.specs.Network.{cells_in};
 ghost use Rattle.pw_test_networks.specs.Settling.{IsReady};
 
-use super::{Answer, Matter, answer_of, store_of, tell_each, told};
+use super::{Answer, Matter, answer_of, store_told, told};
 use crate::networks::{at_line, attach_named};
 use pw_cells::CellStore;
 use pw_decl::Declaration;
@@ -39,16 +39,22 @@ struct Twice<'a> {
     matter: Matter<'a>,
 }
 
+impl Twice<'_> {
+    // Tells the facts, and settles twice.
+    fn answer(&self, network: &Network<'_, '_>) -> Result<Answer, Fail> {
+        let mut store = store_told(self.alloc, network, self.matter.tells)?;
+        let settled = settle_twice(self.alloc, network, &mut store, &PremiseSet::first(2))?;
+        Ok(answer_of(self.alloc, network, &settled)?)
+    }
+}
+
 impl OverDeclaration<Global> for Twice<'_> {
     type Answer = Result<Answer, Fail>;
 
     fn over(self, declaration: &Declaration<'_>) -> Result<Answer, Fail> {
         let mut network = Network::new(self.alloc, declaration)?;
         attach_named(&mut network, self.matter.attachments)?;
-        let mut store = store_of(self.alloc, &network)?;
-        tell_each(&network, &mut store, self.matter.tells)?;
-        let settled = settle_twice(self.alloc, &network, &mut store, &PremiseSet::first(2))?;
-        Ok(answer_of(self.alloc, &network, &settled)?)
+        self.answer(&network)
     }
 }
 
