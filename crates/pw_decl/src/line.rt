@@ -222,7 +222,7 @@ fn declare_line<A: Allocator + Copy>(
     }
 }
 
-// Whether the line says something, or the fault that it has whatever it says.
+// Whether the line says something. Fails if it is too long, or if a byte of it is not allowed.
 fn speaks(line: &[u8]) -> Result<bool, DeclFaultKind>
     ensures ok { IfOk result (λ speaks. is_idle line.now ≡ not speaks) }
     ensures allowed { IfOk result (λ speaks. speaks ≡ true → list_all is_allowed line.now ≡ true) }

@@ -20,7 +20,7 @@ ghost use Rattle.pw_network.specs.Writers.{writers_of};
 ghost use Rattle.std.proofs.Props.{props};
 ghost use Rattle.std.specs.Prelude.{◌*◌, vec_capacity, vec_len, IsTrue};
 ghost use Rattle.pw_decl.specs.inside.Held.{named_prop};
-ghost use Rattle.pw_network.specs.inside.CompoundLists.{AreOwnLists, AreReadAs, HasLists};
+ghost use Rattle.pw_network.specs.inside.CompoundLists.{HasLists, HaveOwnLists, HaveReaders};
 ghost use Rattle.pw_network.specs.inside.Held.{support_code, wiring_from};
 ghost use Rattle.pw_network.specs.Network.{IsWellNetwork};
 ghost use Rattle.pw_network.specs.Readers.{AreReaders};
@@ -84,8 +84,8 @@ pub struct Network<'d, 'r, A: Allocator = Global> {
     ghost read_cells: { length (declared declaration.now).cells ≤ vec_len readers.ends },
     ghost declared_cells: { vec_len writers.ends ≡ length (declared declaration.now).cells },
     ghost read: { AreReaders (vec_len writers.ends) (map listed_by readers.links.items) (map attachment instances.items) } by { Prim.hlevel props },
-    ghost calls: { AreOwnLists (declared declaration.now).compounds (vec_len writers.ends) compounds (vec_len readers.ends) (map listed_by readers.links.items) } by { Prim.hlevel props },
-    ghost inner_read: { AreReadAs (vec_len writers.ends) (vec_len readers.ends) (map listed_by readers.links.items) (map attachment instances.items) inner.items } by { Prim.hlevel props },
+    ghost calls: { HaveOwnLists (declared declaration.now).compounds (vec_len writers.ends) compounds readers } by { Prim.hlevel props },
+    ghost inner_read: { HaveReaders (vec_len writers.ends) readers (map attachment instances.items) inner.items } by { Prim.hlevel props },
     ghost written: { AreWriters (vec_len writers.ends) (map listed_by writers.links.items) (map attachment instances.items) } by { Prim.hlevel props },
     ghost visible: { ArePremisesOf (map attachment instances.items) premises },
 }

@@ -161,7 +161,7 @@ pub fn all_told(
     Ok(list)
 }
 
-/// Whether the store is told what it was told before, in these worldviews.
+/// Whether the told facts show the same as before, in these worldviews.
 pub fn is_told(
     alloc: Global,
     store: &CellStore,

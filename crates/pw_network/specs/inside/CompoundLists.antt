@@ -1,5 +1,5 @@
 -- Which list has the calls of a compound that read one of its places, and which the readers of an inner cell.
-use Rattle.std.specs.Prelude.{◌≡◌, ℕ, ◌+◌, ◌<◌, ◌≤◌, List, [], ◌∷◌, length, map, slice_index_or}
+use Rattle.std.specs.Prelude.{◌≡◌, ℕ, ◌+◌, ◌<◌, ◌≤◌, List, [], ◌∷◌, length, map, slice_index_or, vec_len}
 use Rattle.std.specs.FinSet as set
 use Rattle.pw_info.specs.declared.kind.Kind.{Kind}
 use Rattle.pw_decl.specs.Compound.{Compound}
@@ -8,8 +8,9 @@ use Rattle.pw_decl.specs.declared.flat_call.FlatCall.{FlatCall}
 use Rattle.pw_decl.specs.declared.step.Callable.TheVariants as callables
 use Rattle.pw_decl.specs.inside.Held.{AreCallsOf, instances_of}
 use Rattle.pw_network.specs.declared.compound_lists.CompoundLists.{CompoundLists}
+use Rattle.pw_network.specs.declared.instance_lists.InstanceLists.{InstanceLists}
 use Rattle.pw_network.specs.declared.network.InnerCell.{InnerCell as InnerType}
-use Rattle.pw_network.specs.inside.Lists.{Listed, no_place, numbers_for}
+use Rattle.pw_network.specs.inside.Lists.{Listed, listed_by, no_place, numbers_for}
 use Rattle.pw_network.specs.Network.{Attached, attached_at}
 use Rattle.pw_network.specs.Readers.{readers_from}
 
@@ -21,12 +22,12 @@ first_list held compound = slice_index_or held.firsts.items compound no_place
 abbrev pub attached_calls : List FlatCall → List Attached
 attached_calls calls = map (attached_at 0 set.empty) (instances_of calls)
 
--- from this list on, each place of so many has the list of the calls that read it
+-- the lists from this number on, one for each place, have the calls that read the place
 abbrev pub ListsCalls : List Listed → ℕ → ℕ → List FlatCall → Type 0
 ListsCalls listed first places calls =
     (place : ℕ) → place < places → numbers_for (first + place) listed ≡ readers_from (attached_calls calls) place 0
 
--- the same, where so many lists are there and none of these is below the least number
+-- the same, and these lists are not below `least`, and below `count`
 pub record HasLists (least places : ℕ) (calls : List FlatCall) (first count : ℕ) (listed : List Listed) : Type 0 where
   pub from : least ≤ first
   pub within : first + places ≤ count
@@ -44,16 +45,23 @@ AreOwnLists compounds least held count listed =
     (first_list held number) count listed
 
 -- the instances that read this cell are those that the list of the inner cell has, counted from the first instance of
--- its attachment. So many lists are there, and its list is not below the least number
+-- its attachment. Its list is not below `least`, and below `count`
 pub record IsReadAs (least count : ℕ) (listed : List Listed) (attached : List Attached) (cell : ℕ) (inner : InnerType) : Type 0 where
   pub from : least ≤ inner.list
   pub within : inner.list < count
   pub readers : readers_from attached cell 0 ≡ map (λ n. inner.first + n) (numbers_for inner.list listed)
 
--- so it is for all inner cells. They are numbered after the declared cells, as many as the least number says
+-- so it is for all inner cells. The first of them has the number `least`
 abbrev pub AreReadAs : ℕ → ℕ → List Listed → List Attached → List InnerType → Type 0
 AreReadAs least count listed attached inner =
     (i : ℕ) (d : InnerType) → i < length inner → IsReadAs least count listed attached (least + i) (slice_index_or inner i d)
+
+-- the same of lists as the code holds them
+abbrev pub HaveOwnLists : {A B : Type 0} → List Compound → ℕ → CompoundLists A → InstanceLists B → Type 0
+HaveOwnLists compounds least held lists = AreOwnLists compounds least held (vec_len lists.ends) (map listed_by lists.links.items)
+
+abbrev pub HaveReaders : {A : Type 0} → ℕ → InstanceLists A → List Attached → List InnerType → Type 0
+HaveReaders least lists attached inner = AreReadAs least (vec_len lists.ends) (map listed_by lists.links.items) attached inner
 
 -- the inner cells of an attachment at this line, whose first instance has this number, from an inner number on. The
 -- first of them has this list
