@@ -12,6 +12,7 @@ pub mod Current
 pub mod CurrentMerges
 pub mod Tells
 pub mod RightAnswers
+mod CellChanges
 mod One
 mod Shown
 mod Visible

@@ -7,10 +7,10 @@ use Rattle.pw_facts.specs.declared.fact.Fact.{Fact}
 use Rattle.pw_info.specs.declared.info.Info.{Info}
 use Rattle.pw_premises.specs.Premises.{Premises}
 use Rattle.pw_facts.specs.Facts.{IsLeastAbove, IsMostBelow}
-use Rattle.pw_cells.specs.Cells.{Cell, IsSubsumedBy, assimilated, does_subsume, kept_of, shown_by, unsubsumed}
-use Rattle.pw_cells.specs.inside.OneCell.{AreOfKind, IsCellWhole, StandsFor}
+use Rattle.pw_cells.specs.Cells.{Cell, IsSubsumedBy, assimilated, does_subsume, kept_of, new_cell, shown_by, unsubsumed}
+use Rattle.pw_cells.specs.inside.OneCell.{AreOfKind, IsCellWhole, StandsFor, cell_keeping}
 use Rattle.pw_cells.proofs.Late.{assimilated_news, none_subsume}
-use Rattle.pw_cells.specs.Changes.{Assimilates}
+use Rattle.pw_cells.specs.inside.CellChanges.{KeepsFact}
 use Rattle.pw_cells.proofs.Tells.{kept_more, whole_kept}
 use Rattle.pw_cells.proofs.Together.{larger_shown}
 
@@ -29,9 +29,12 @@ pub one_whole : (k : Kind) (f : Fact) → kind_of f.info ≡ k → IsCellWhole k
 unfolding assimilated
 one_whole k f is = whole_kept k f [] [] is (empty_whole k)
 
-pub first_assimilates : (f : Fact) → Assimilates f [] (f ∷ [])
+-- a cell of which nothing is kept keeps one fact of its kind
+pub first_kept : (k : Kind) (f : Fact) → kind_of f.info ≡ k → KeepsFact f (new_cell k) (cell_keeping k (f ∷ []))
 unfolding assimilated
-first_assimilates f = (kept_more (kind_of f.info) f [] [] [] refl (empty_whole (kind_of f.info))).assimilates
+first_kept k f is =
+    let more = kept_more k f [] [] [] is (empty_whole k) in
+    record { kept = more.shown; assimilates = more.assimilates; told = refl; kind = refl }
 
 pub kind_of_one : (k : Kind) (f : Fact) → AreOfKind k (f ∷ []) → kind_of f.info ≡ k
 kind_of_one k f kinds = All-head (λ (x : Fact). kind_of x.info ≡ k) f [] kinds

@@ -3,9 +3,10 @@
 ghost use Rattle.std.specs.Prelude.{◌≡◌, false, IfOk, IfSome, OnOk, OnErr};
 ghost use Rattle.pw_info.specs.Information.{kind_of, Implies};
 ghost use Rattle.pw_facts.specs.Facts.{IsLeastAbove, IsMostBelow};
-ghost use Rattle.pw_cells.specs.Cells.{IsUnsaid, fact_on, new_cell, told_of, kept_of};
-ghost use Rattle.pw_cells.specs.Changes.{GainsFact, Assimilates, TellsNews};
+ghost use Rattle.pw_cells.specs.Cells.{fact_on, new_cell, told_of, kept_of};
+ghost use Rattle.pw_cells.specs.Changes.{TellsNews};
 ghost use Rattle.pw_cells.specs.Shown.{IsKeptOf};
+ghost use Rattle.pw_cells.specs.inside.CellChanges.{IsNews, KeepsFact, TellsFact};
 ghost use Rattle.pw_cells.specs.inside.OneCell.{StandsFor};
 
 use crate::few_facts::FewFacts;
@@ -77,10 +78,7 @@ impl<A: Allocator + Copy> CellFacts<A> {
     // Records that a fact was told, and keeps it. If memory is refused, nothing changes.
     pub(crate) fn tell(&mut self, fact: &Fact) -> Result<(), AllocError>
         requires { kind_of fact.now.info ≡ self.old.kind }
-        ensures told { OnOk result (GainsFact fact.now (told_of self.old) (told_of self.new)) }
-        ensures kept { OnOk result (GainsFact fact.now (kept_of self.old) (kept_of self.new)) }
-        ensures assimilates { OnOk result (Assimilates fact.now self.old.kept self.new.kept) }
-        ensures kind { self.new.kind ≡ self.old.kind }
+        ensures told { OnOk result (TellsFact fact.now self.old self.new) }
         ensures err { OnErr result (self.new ≡ self.old) }
     {
         let mut many = match &mut self.all {
@@ -99,10 +97,7 @@ impl<A: Allocator + Copy> CellFacts<A> {
         requires { kind_of fact.now.info ≡ self.old.kind }
         ensures answer { IfOk result (λ news. TellsNews self.old.kept fact.now news) }
         ensures known { IfOk result (λ news. news ≡ false → self.new ≡ self.old) }
-        ensures kept { OnOk result (GainsFact fact.now (kept_of self.old) (kept_of self.new)) }
-        ensures assimilates { OnOk result (Assimilates fact.now self.old.kept self.new.kept) }
-        ensures told { self.new.told ≡ self.old.told }
-        ensures kind { self.new.kind ≡ self.old.kind }
+        ensures kept { OnOk result (KeepsFact fact.now self.old self.new) }
         ensures err { OnErr result (self.new ≡ self.old) }
     {
         let mut many = match &mut self.all {
@@ -120,14 +115,8 @@ impl<A: Allocator + Copy> CellFacts<A> {
     // nothing changes.
     #[inline(always)]
     pub(crate) fn keep_news(&mut self, info: &Info, support: NarrowSet) -> Result<(), AllocError>
-        requires kind { kind_of info.now ≡ self.old.kind }
-        requires news { IsUnsaid (kept_of self.old support) info.now }
-        ensures kept { OnOk result (GainsFact (fact_on info.now support) (kept_of self.old)
-            (kept_of self.new)) }
-        ensures assimilates { OnOk result (Assimilates (fact_on info.now support) self.old.kept
-            self.new.kept) }
-        ensures told { self.new.told ≡ self.old.told }
-        ensures kind { self.new.kind ≡ self.old.kind }
+        requires { IsNews (fact_on info.now support) self.old }
+        ensures kept { OnOk result (KeepsFact (fact_on info.now support) self.old self.new) }
         ensures err { OnErr result (self.new ≡ self.old) }
     {
         if let Facts::Many(many) = &mut self.all {
@@ -139,14 +128,8 @@ impl<A: Allocator + Copy> CellFacts<A> {
     // The same, where few facts are kept. Never inlined: news of many facts are the ones in a hurry.
     #[inline(never)]
     fn keep_few_news(&mut self, info: &Info, support: NarrowSet) -> Result<(), AllocError>
-        requires kind { kind_of info.now ≡ self.old.kind }
-        requires news { IsUnsaid (kept_of self.old support) info.now }
-        ensures kept { OnOk result (GainsFact (fact_on info.now support) (kept_of self.old)
-            (kept_of self.new)) }
-        ensures assimilates { OnOk result (Assimilates (fact_on info.now support) self.old.kept
-            self.new.kept) }
-        ensures told { self.new.told ≡ self.old.told }
-        ensures kind { self.new.kind ≡ self.old.kind }
+        requires { IsNews (fact_on info.now support) self.old }
+        ensures kept { OnOk result (KeepsFact (fact_on info.now support) self.old self.new) }
         ensures err { OnErr result (self.new ≡ self.old) }
     {
         match &mut self.all {
@@ -278,12 +261,8 @@ fn listed_with<A: Allocator + Copy>(
     one: &OneFact<A>,
     fact: &Held<Interval, NarrowSet>,
 ) -> Result<FewFacts<Interval, A>, AllocError>
-    requires kind { kind_of fact.now.info ≡ one.now.kind }
-    requires news { IsUnsaid (kept_of one.now fact.now.support) fact.now.info }
-    ensures kept { IfOk result (λ few. GainsFact fact.now (kept_of one.now) (kept_of few)) }
-    ensures assimilates { IfOk result (λ few. Assimilates fact.now one.now.kept few.kept) }
-    ensures told { IfOk result (λ few. few.told ≡ one.now.told) }
-    ensures kind { IfOk result (λ few. few.kind ≡ one.now.kind) }
+    requires { IsNews fact.now one.now }
+    ensures { IfOk result (λ few. KeepsFact fact.now one.now few) }
 {
     let mut few = one.listed()?;
     few.keep_news(fact)?;
@@ -297,14 +276,8 @@ fn with_news<A: Allocator + Copy>(
     info: &Info,
     support: NarrowSet,
 ) -> Result<Box<ManyFacts<A>, A>, AllocError>
-    requires kind { kind_of info.now ≡ many.value.kind }
-    requires news { IsUnsaid (kept_of many.value support) info.now }
-    ensures kept { IfOk result (λ new. GainsFact (fact_on info.now support) (kept_of many.value)
-        (kept_of new.value)) }
-    ensures assimilates { IfOk result (λ new. Assimilates (fact_on info.now support)
-        many.value.kept new.value.kept) }
-    ensures told { IfOk result (λ new. new.value.told ≡ many.value.told) }
-    ensures kind { IfOk result (λ new. new.value.kind ≡ many.value.kind) }
+    requires { IsNews (fact_on info.now support) many.value }
+    ensures { IfOk result (λ new. KeepsFact (fact_on info.now support) many.value new.value) }
 {
     many.keep_news(info, support)?;
     Ok(many)

@@ -6,8 +6,9 @@ ghost use Rattle.std.specs.Prelude.{length, vec_len, vec_capacity, IsTrue, IfOk,
 ghost use Rattle.pw_info.specs.Information.{kind_of, Implies};
 ghost use Rattle.pw_facts.specs.Facts.{IsLeastAbove, IsMostBelow};
 ghost use Rattle.pw_cells.specs.inside.OneCell.{Bounds};
-ghost use Rattle.pw_cells.specs.Cells.{fact_on, told_of, kept_of, IsSubsumedBy, IsUnsaid};
-ghost use Rattle.pw_cells.specs.Changes.{GainsFact, Assimilates, TellsNews};
+ghost use Rattle.pw_cells.specs.Cells.{fact_on, told_of, kept_of, IsSubsumedBy};
+ghost use Rattle.pw_cells.specs.Changes.{TellsNews};
+ghost use Rattle.pw_cells.specs.inside.CellChanges.{IsNews, KeepsFact, TellsFact};
 ghost use Rattle.pw_cells.specs.Cells.{all_assimilated};
 ghost use Rattle.pw_cells.specs.inside.OneCell.{AreOfKind, IsCellWhole, StandsFor, current};
 ghost use Rattle.pw_cells.specs.inside.OneCell.{cell_keeping};
@@ -118,10 +119,7 @@ impl<C: Content, S: Support, A: Allocator + Copy> FactLists<C, S, A> {
     // Records that a fact was told, and keeps it. If memory is refused, nothing changes.
     pub(crate) fn tell(&mut self, fact: &Held<C, S>) -> Result<(), AllocError>
         requires { kind_of fact.now.info ≡ self.old.kind }
-        ensures told { OnOk result (GainsFact fact.now (told_of self.old) (told_of self.new)) }
-        ensures kept { OnOk result (GainsFact fact.now (kept_of self.old) (kept_of self.new)) }
-        ensures assimilates { OnOk result (Assimilates fact.now self.old.kept self.new.kept) }
-        ensures kind { self.new.kind ≡ self.old.kind }
+        ensures told { OnOk result (TellsFact fact.now self.old self.new) }
         ensures err { OnErr result (self.new ≡ self.old) }
     {
         self.shorten_late();
@@ -150,10 +148,7 @@ impl<C: Content, S: Support, A: Allocator + Copy> FactLists<C, S, A> {
     #[inline(always)]
     fn tell_late(&mut self, fact: &Held<C, S>) -> Result<(), AllocError>
         requires { kind_of fact.now.info ≡ self.old.kind }
-        ensures told { OnOk result (GainsFact fact.now (told_of self.old) (told_of self.new)) }
-        ensures kept { OnOk result (GainsFact fact.now (kept_of self.old) (kept_of self.new)) }
-        ensures assimilates { OnOk result (Assimilates fact.now self.old.kept self.new.kept) }
-        ensures kind { self.new.kind ≡ self.old.kind }
+        ensures told { OnOk result (TellsFact fact.now self.old self.new) }
         ensures err { OnErr result (self.new ≡ self.old) }
     {
         let known = is_lately_subsumed(self.late.as_slice(), fact);
@@ -169,10 +164,7 @@ impl<C: Content, S: Support, A: Allocator + Copy> FactLists<C, S, A> {
         requires { kind_of fact.now.info ≡ self.old.kind }
         ensures answer { IfOk result (λ news. TellsNews self.old.kept fact.now news) }
         ensures known { IfOk result (λ news. news ≡ false → self.new ≡ self.old) }
-        ensures kept { OnOk result (GainsFact fact.now (kept_of self.old) (kept_of self.new)) }
-        ensures assimilates { OnOk result (Assimilates fact.now self.old.kept self.new.kept) }
-        ensures told { self.new.told ≡ self.old.told }
-        ensures kind { self.new.kind ≡ self.old.kind }
+        ensures kept { OnOk result (KeepsFact fact.now self.old self.new) }
         ensures err { OnErr result (self.new ≡ self.old) }
     {
         assimilate_late(
@@ -198,12 +190,8 @@ impl<C: Content, S: Support, A: Allocator + Copy> FactLists<C, S, A> {
     // memory is refused, nothing changes.
     #[inline(always)]
     pub(crate) fn keep_news(&mut self, fact: &Held<C, S>) -> Result<(), AllocError>
-        requires kind { kind_of fact.now.info ≡ self.old.kind }
-        requires news { IsUnsaid (kept_of self.old fact.now.support) fact.now.info }
-        ensures kept { OnOk result (GainsFact fact.now (kept_of self.old) (kept_of self.new)) }
-        ensures assimilates { OnOk result (Assimilates fact.now self.old.kept self.new.kept) }
-        ensures told { self.new.told ≡ self.old.told }
-        ensures kind { self.new.kind ≡ self.old.kind }
+        requires { IsNews fact.now self.old }
+        ensures kept { OnOk result (KeepsFact fact.now self.old self.new) }
         ensures err { OnErr result (self.new ≡ self.old) }
     {
         assimilate_late(

@@ -3,9 +3,9 @@
 ghost use Rattle.std.specs.Prelude.{◌≡◌, ◌∷◌, [], true, false, IfOk, OnOk, OnErr};
 ghost use Rattle.pw_info.specs.Information.{kind_of, nothing, Implies};
 ghost use Rattle.pw_facts.specs.Facts.{IsLeastAbove, IsMostBelow};
-ghost use Rattle.pw_cells.specs.Cells.{IsUnsaid, fact_on, new_cell, told_of, kept_of};
-ghost use Rattle.pw_cells.specs.Changes.{GainsFact, Assimilates};
+ghost use Rattle.pw_cells.specs.Cells.{fact_on, new_cell, told_of, kept_of};
 ghost use Rattle.pw_cells.specs.Shown.{IsKeptOf};
+ghost use Rattle.pw_cells.specs.inside.CellChanges.{IsNews, KeepsFact};
 ghost use Rattle.pw_cells.specs.inside.OneCell.{StandsFor, cell_keeping};
 
 use crate::content::Content;
@@ -117,12 +117,8 @@ impl<C: Content, A: Allocator + Copy> FewFacts<C, A> {
     // changes.
     #[inline(always)]
     pub(crate) fn keep_news(&mut self, fact: &Held<C, NarrowSet>) -> Result<(), AllocError>
-        requires kind { kind_of fact.now.info ≡ self.old.kind }
-        requires news { IsUnsaid (kept_of self.old fact.now.support) fact.now.info }
-        ensures kept { OnOk result (GainsFact fact.now (kept_of self.old) (kept_of self.new)) }
-        ensures assimilates { OnOk result (Assimilates fact.now self.old.kept self.new.kept) }
-        ensures told { self.new.told ≡ self.old.told }
-        ensures kind { self.new.kind ≡ self.old.kind }
+        requires { IsNews fact.now self.old }
+        ensures kept { OnOk result (KeepsFact fact.now self.old self.new) }
         ensures err { OnErr result (self.new ≡ self.old) }
     {
         reserve_unless(&mut self.kept, false)?;

@@ -3,9 +3,10 @@
 ghost use Rattle.std.specs.Prelude.{◌≡◌, false, IfOk, IfSome, OnOk, OnErr};
 ghost use Rattle.pw_info.specs.Information.{kind_of, Implies};
 ghost use Rattle.pw_facts.specs.Facts.{IsLeastAbove, IsMostBelow};
-ghost use Rattle.pw_cells.specs.Cells.{IsUnsaid, fact_on, told_of, kept_of};
-ghost use Rattle.pw_cells.specs.Changes.{GainsFact, Assimilates, TellsNews};
+ghost use Rattle.pw_cells.specs.Cells.{fact_on, told_of, kept_of};
+ghost use Rattle.pw_cells.specs.Changes.{TellsNews};
 ghost use Rattle.pw_cells.specs.Shown.{IsKeptOf};
+ghost use Rattle.pw_cells.specs.inside.CellChanges.{IsNews, KeepsFact, TellsFact};
 ghost use Rattle.pw_cells.specs.inside.OneCell.{StandsFor};
 
 use crate::fact_lists::FactLists;
@@ -79,10 +80,7 @@ impl<A: Allocator + Copy> ManyFacts<A> {
     // Records that a fact was told, and keeps it. If memory is refused, nothing changes.
     pub(crate) fn tell(&mut self, fact: &Fact) -> Result<(), AllocError>
         requires { kind_of fact.now.info ≡ self.old.kind }
-        ensures told { OnOk result (GainsFact fact.now (told_of self.old) (told_of self.new)) }
-        ensures kept { OnOk result (GainsFact fact.now (kept_of self.old) (kept_of self.new)) }
-        ensures assimilates { OnOk result (Assimilates fact.now self.old.kept self.new.kept) }
-        ensures kind { self.new.kind ≡ self.old.kind }
+        ensures told { OnOk result (TellsFact fact.now self.old self.new) }
         ensures err { OnErr result (self.new ≡ self.old) }
     {
         if let Some(support) = NarrowSet::of(&fact.support) {
@@ -100,10 +98,7 @@ impl<A: Allocator + Copy> ManyFacts<A> {
     #[inline(never)]
     fn tell_wide(&mut self, fact: &Fact) -> Result<(), AllocError>
         requires { kind_of fact.now.info ≡ self.old.kind }
-        ensures told { OnOk result (GainsFact fact.now (told_of self.old) (told_of self.new)) }
-        ensures kept { OnOk result (GainsFact fact.now (kept_of self.old) (kept_of self.new)) }
-        ensures assimilates { OnOk result (Assimilates fact.now self.old.kept self.new.kept) }
-        ensures kind { self.new.kind ≡ self.old.kind }
+        ensures told { OnOk result (TellsFact fact.now self.old self.new) }
         ensures err { OnErr result (self.new ≡ self.old) }
     {
         let held = Held::on(&fact.info, fact.support);
@@ -121,10 +116,7 @@ impl<A: Allocator + Copy> ManyFacts<A> {
         requires { kind_of fact.now.info ≡ self.old.kind }
         ensures answer { IfOk result (λ news. TellsNews self.old.kept fact.now news) }
         ensures known { IfOk result (λ news. news ≡ false → self.new ≡ self.old) }
-        ensures kept { OnOk result (GainsFact fact.now (kept_of self.old) (kept_of self.new)) }
-        ensures assimilates { OnOk result (Assimilates fact.now self.old.kept self.new.kept) }
-        ensures told { self.new.told ≡ self.old.told }
-        ensures kind { self.new.kind ≡ self.old.kind }
+        ensures kept { OnOk result (KeepsFact fact.now self.old self.new) }
         ensures err { OnErr result (self.new ≡ self.old) }
     {
         if let Some(support) = NarrowSet::of(&fact.support) {
@@ -141,14 +133,8 @@ impl<A: Allocator + Copy> ManyFacts<A> {
     // nothing changes.
     #[inline(always)]
     pub(crate) fn keep_news(&mut self, info: &Info, support: NarrowSet) -> Result<(), AllocError>
-        requires kind { kind_of info.now ≡ self.old.kind }
-        requires news { IsUnsaid (kept_of self.old support) info.now }
-        ensures kept { OnOk result (GainsFact (fact_on info.now support) (kept_of self.old)
-            (kept_of self.new)) }
-        ensures assimilates { OnOk result (Assimilates (fact_on info.now support) self.old.kept
-            self.new.kept) }
-        ensures told { self.new.told ≡ self.old.told }
-        ensures kind { self.new.kind ≡ self.old.kind }
+        requires { IsNews (fact_on info.now support) self.old }
+        ensures kept { OnOk result (KeepsFact (fact_on info.now support) self.old self.new) }
         ensures err { OnErr result (self.new ≡ self.old) }
     {
         match &mut self.lists {
@@ -162,14 +148,8 @@ impl<A: Allocator + Copy> ManyFacts<A> {
     // for a wide fact.
     #[inline(never)]
     fn keep_wide_news(&mut self, info: &Info, support: NarrowSet) -> Result<(), AllocError>
-        requires kind { kind_of info.now ≡ self.old.kind }
-        requires news { IsUnsaid (kept_of self.old support) info.now }
-        ensures kept { OnOk result (GainsFact (fact_on info.now support) (kept_of self.old)
-            (kept_of self.new)) }
-        ensures assimilates { OnOk result (Assimilates (fact_on info.now support) self.old.kept
-            self.new.kept) }
-        ensures told { self.new.told ≡ self.old.told }
-        ensures kind { self.new.kind ≡ self.old.kind }
+        requires { IsNews (fact_on info.now support) self.old }
+        ensures kept { OnOk result (KeepsFact (fact_on info.now support) self.old self.new) }
         ensures err { OnErr result (self.new ≡ self.old) }
     {
         let fact = Fact {
@@ -186,10 +166,7 @@ impl<A: Allocator + Copy> ManyFacts<A> {
         requires { kind_of fact.now.info ≡ self.old.kind }
         ensures answer { IfOk result (λ news. TellsNews self.old.kept fact.now news) }
         ensures known { IfOk result (λ news. news ≡ false → self.new ≡ self.old) }
-        ensures kept { OnOk result (GainsFact fact.now (kept_of self.old) (kept_of self.new)) }
-        ensures assimilates { OnOk result (Assimilates fact.now self.old.kept self.new.kept) }
-        ensures told { self.new.told ≡ self.old.told }
-        ensures kind { self.new.kind ≡ self.old.kind }
+        ensures kept { OnOk result (KeepsFact fact.now self.old self.new) }
         ensures err { OnErr result (self.new ≡ self.old) }
     {
         let held = Held::on(&fact.info, fact.support);

@@ -4,9 +4,9 @@ ghost use Rattle.std.specs.Prelude.{◌≡◌, ◌∷◌, [], false, IfOk, IsTru
 ghost use Rattle.pw_info.specs.declared.kind.Kind.TheVariants as kinds;
 ghost use Rattle.pw_info.specs.Information.{kind_of, Implies};
 ghost use Rattle.pw_facts.specs.Facts.{IsLeastAbove, IsMostBelow};
-ghost use Rattle.pw_cells.specs.Cells.{IsUnsaid, fact_on, told_of, kept_of};
-ghost use Rattle.pw_cells.specs.Changes.{GainsFact, Assimilates};
+ghost use Rattle.pw_cells.specs.Cells.{fact_on, told_of, kept_of};
 ghost use Rattle.pw_cells.specs.Shown.{IsKeptOf};
+ghost use Rattle.pw_cells.specs.inside.CellChanges.{IsNews, KeepsFact};
 ghost use Rattle.pw_cells.specs.inside.OneCell.{StandsFor, cell_keeping};
 
 use crate::few_facts::FewFacts;
@@ -80,12 +80,8 @@ impl<A: Allocator + Copy> OneFact<A> {
     // answers whether it did. Otherwise nothing changes.
     #[inline(always)]
     pub(crate) fn replace(&mut self, fact: &Held<Interval, NarrowSet>) -> bool
-        requires kind { kind_of fact.now.info ≡ self.old.kind }
-        requires news { IsUnsaid (kept_of self.old fact.now.support) fact.now.info }
-        ensures kept { IsTrue result → GainsFact fact.now (kept_of self.old) (kept_of self.new) }
-        ensures assimilates { IsTrue result → Assimilates fact.now self.old.kept self.new.kept }
-        ensures told { self.new.told ≡ self.old.told }
-        ensures kind { self.new.kind ≡ self.old.kind }
+        requires { IsNews fact.now self.old }
+        ensures kept { IsTrue result → KeepsFact fact.now self.old self.new }
         ensures none { result ≡ false → self.new ≡ self.old }
     {
         let is_subsumed = fact.subsumes(&self.kept);

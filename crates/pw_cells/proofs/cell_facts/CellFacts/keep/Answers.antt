@@ -1,8 +1,9 @@
-use Rattle.std.proofs.Common.{◌≡◌, false, sym, ◌∙◌, ap, subst}
-use Rattle.std.specs.Prelude.{IfOk, OnOk, OnErr}
-use Rattle.pw_cells.specs.Cells.{Cell, kept_of}
-use Rattle.pw_cells.specs.Changes.{Assimilates, GainsFact, TellsNews}
+use Rattle.std.proofs.Common.{◌≡◌, false, refl, sym, ◌∙◌, ap, subst}
+use Rattle.std.specs.Prelude.{IfOk}
+use Rattle.pw_cells.specs.Cells.{Cell}
+use Rattle.pw_cells.specs.Changes.{TellsNews}
 use Rattle.pw_cells.specs.inside.Widths.{cell_of}
+use Rattle.pw_cells.proofs.CellChanges.{keeps_so, keeps_then, still_then}
 use Rattle.pw_cells.proofs.Stores.{OnErr_always}
 use Rattle.pw_cells.proofs.cell_facts.CellFacts.keep.Given.{Over}
 use Rattle.pw_cells.proofs.cell_facts.CellFacts.keep.Goals as goal
@@ -41,22 +42,16 @@ pub returns-clause-known : goal.returns-clause-known
 returns-clause-known g c = λ old. c.in_ok-news.ensures.known old ∙ many_same g c
 
 pub returns-clause-kept : goal.returns-clause-kept
-returns-clause-kept g c =
-    subst (λ (cell : Cell). GainsFact c.args.fact.now (kept_of cell) (kept_of c.keep-2.new.self)) (many_same g c) c.in_ok-news.ensures.kept
-
-pub returns-clause-assimilates : goal.returns-clause-assimilates
-returns-clause-assimilates g c =
-    subst (λ (cell : Cell). Assimilates c.args.fact.now cell.kept c.keep-2.new.self.kept) (many_same g c) c.in_ok-news.ensures.assimilates
-
-pub returns-clause-told : goal.returns-clause-told
-returns-clause-told g c = c.in_ok-news.ensures.told ∙ ap (λ (cell : Cell). cell.told) (many_same g c)
-
-pub returns-clause-kind : goal.returns-clause-kind
-returns-clause-kind g c = c.in_ok-news.ensures.kind ∙ ap (λ (cell : Cell). cell.kind) (many_same g c)
+returns-clause-kept g c = keeps_so c.args.fact.now c.args.fact.now _ _ c.keep-2.new.self (many_same g c) refl c.in_ok-news.ensures.kept
 
 pub keep-requires : goal.keep-requires
 keep-requires g c =
     let same : c.deref_mut.result.now ≡ c.args.self.now = c.deref_mut.ensures.value ∙ ap cell_of (sym c.in-Many.is) ∙ c.self.view_is in
+    c.requires ∙ sym (ap (λ (x : Cell). x.kind) same)
+
+pub keep-requires-2 : goal.keep-requires-2
+keep-requires-2 g c =
+    let same : c.deref_mut-2.result.now ≡ c.args.self.now = c.deref_mut-2.ensures.value ∙ boxed_before g c in
     c.requires ∙ sym (ap (λ (x : Cell). x.kind) same)
 
 pub returns-in-Many-clause-answer : goal.returns-in-Many-clause-answer
@@ -72,87 +67,27 @@ returns-in-Many-clause-known g c =
 pub returns-in-Many-clause-kept : goal.returns-in-Many-clause-kept
 returns-in-Many-clause-kept g c =
     let same : c.deref_mut.result.now ≡ c.args.self.now = c.deref_mut.ensures.value ∙ ap cell_of (sym c.in-Many.is) ∙ c.self.view_is in
-    subst (λ (x : Cell). OnOk c.keep.result (GainsFact c.args.fact.now (kept_of x) (kept_of c.keep.new.self))) same c.keep.ensures.kept
-
-pub returns-in-Many-clause-assimilates : goal.returns-in-Many-clause-assimilates
-returns-in-Many-clause-assimilates g c =
-    let same : c.deref_mut.result.now ≡ c.args.self.now = c.deref_mut.ensures.value ∙ ap cell_of (sym c.in-Many.is) ∙ c.self.view_is in
-    subst (λ (x : Cell). OnOk c.keep.result (Assimilates c.args.fact.now x.kept c.keep.new.self.kept)) same c.keep.ensures.assimilates
-
-pub returns-in-Many-clause-told : goal.returns-in-Many-clause-told
-returns-in-Many-clause-told g c =
-    let same : c.deref_mut.result.now ≡ c.args.self.now = c.deref_mut.ensures.value ∙ ap cell_of (sym c.in-Many.is) ∙ c.self.view_is in
-    c.keep.ensures.told ∙ ap (λ (x : Cell). x.told) same
-
-pub returns-in-Many-clause-kind : goal.returns-in-Many-clause-kind
-returns-in-Many-clause-kind g c =
-    let same : c.deref_mut.result.now ≡ c.args.self.now = c.deref_mut.ensures.value ∙ ap cell_of (sym c.in-Many.is) ∙ c.self.view_is in
-    c.keep.ensures.kind ∙ ap (λ (x : Cell). x.kind) same
+    keeps_then c.keep.result c.args.fact.now c.args.fact.now _ _ c.keep.new.self same refl c.keep.ensures.kept
 
 pub returns-in-Many-clause-err : goal.returns-in-Many-clause-err
 returns-in-Many-clause-err g c =
     let same : c.deref_mut.result.now ≡ c.args.self.now = c.deref_mut.ensures.value ∙ ap cell_of (sym c.in-Many.is) ∙ c.self.view_is in
-    subst (λ (x : Cell). OnErr c.keep.result (c.keep.new.self ≡ x)) same c.keep.ensures.err
-
-pub keep-requires-2 : goal.keep-requires-2
-keep-requires-2 g c =
-    let same : c.deref_mut-2.result.now ≡ c.args.self.now = c.deref_mut-2.ensures.value ∙ boxed_before g c in
-    c.requires ∙ sym (ap (λ (x : Cell). x.kind) same)
-
-pub returns-in_err-listed-in-One-clause-told : goal.returns-in_err-listed-in-One-clause-told
-returns-in_err-listed-in-One-clause-told g c =
-    let same : c.in-One.one ≡ c.args.self.now = ap cell_of (sym c.in-One.is) ∙ c.self.view_is in
-    ap (λ (x : Cell). x.told) same
-
-pub returns-in_err-listed-in-One-clause-kind : goal.returns-in_err-listed-in-One-clause-kind
-returns-in_err-listed-in-One-clause-kind g c =
-    let same : c.in-One.one ≡ c.args.self.now = ap cell_of (sym c.in-One.is) ∙ c.self.view_is in
-    ap (λ (x : Cell). x.kind) same
+    still_then c.keep.result _ _ c.keep.new.self same c.keep.ensures.err
 
 pub returns-in_err-listed-in-One-clause-err : goal.returns-in_err-listed-in-One-clause-err
 returns-in_err-listed-in-One-clause-err g c =
     let same : c.in-One.one ≡ c.args.self.now = ap cell_of (sym c.in-One.is) ∙ c.self.view_is in
     OnErr_always c.from_residual.result same
 
-pub returns-in_err-many-in-One-clause-told : goal.returns-in_err-many-in-One-clause-told
-returns-in_err-many-in-One-clause-told g c =
-    let same : c.in-One.one ≡ c.args.self.now = ap cell_of (sym c.in-One.is) ∙ c.self.view_is in
-    ap (λ (x : Cell). x.told) same
-
-pub returns-in_err-many-in-One-clause-kind : goal.returns-in_err-many-in-One-clause-kind
-returns-in_err-many-in-One-clause-kind g c =
-    let same : c.in-One.one ≡ c.args.self.now = ap cell_of (sym c.in-One.is) ∙ c.self.view_is in
-    ap (λ (x : Cell). x.kind) same
-
 pub returns-in_err-many-in-One-clause-err : goal.returns-in_err-many-in-One-clause-err
 returns-in_err-many-in-One-clause-err g c =
     let same : c.in-One.one ≡ c.args.self.now = ap cell_of (sym c.in-One.is) ∙ c.self.view_is in
     OnErr_always c.from_residual-in_err-many-in-One.result same
 
-pub returns-in_err-many-in-FewIntervals-clause-told : goal.returns-in_err-many-in-FewIntervals-clause-told
-returns-in_err-many-in-FewIntervals-clause-told g c =
-    let same : c.in-FewIntervals.few ≡ c.args.self.now = ap cell_of (sym c.in-FewIntervals.is) ∙ c.self.view_is in
-    ap (λ (x : Cell). x.told) same
-
-pub returns-in_err-many-in-FewIntervals-clause-kind : goal.returns-in_err-many-in-FewIntervals-clause-kind
-returns-in_err-many-in-FewIntervals-clause-kind g c =
-    let same : c.in-FewIntervals.few ≡ c.args.self.now = ap cell_of (sym c.in-FewIntervals.is) ∙ c.self.view_is in
-    ap (λ (x : Cell). x.kind) same
-
 pub returns-in_err-many-in-FewIntervals-clause-err : goal.returns-in_err-many-in-FewIntervals-clause-err
 returns-in_err-many-in-FewIntervals-clause-err g c =
     let same : c.in-FewIntervals.few ≡ c.args.self.now = ap cell_of (sym c.in-FewIntervals.is) ∙ c.self.view_is in
     OnErr_always c.from_residual-in_err-many-in-FewIntervals.result same
-
-pub returns-in_err-many-in-Few-clause-told : goal.returns-in_err-many-in-Few-clause-told
-returns-in_err-many-in-Few-clause-told g c =
-    let same : c.in-Few.few ≡ c.args.self.now = ap cell_of (sym c.in-Few.is) ∙ c.self.view_is in
-    ap (λ (x : Cell). x.told) same
-
-pub returns-in_err-many-in-Few-clause-kind : goal.returns-in_err-many-in-Few-clause-kind
-returns-in_err-many-in-Few-clause-kind g c =
-    let same : c.in-Few.few ≡ c.args.self.now = ap cell_of (sym c.in-Few.is) ∙ c.self.view_is in
-    ap (λ (x : Cell). x.kind) same
 
 pub returns-in_err-many-in-Few-clause-err : goal.returns-in_err-many-in-Few-clause-err
 returns-in_err-many-in-Few-clause-err g c =

@@ -1,8 +1,7 @@
-use Rattle.std.proofs.Common.{◌≡◌, sym, ◌∙◌, ap, subst}
-use Rattle.std.specs.Prelude.{OnOk, OnErr}
-use Rattle.pw_cells.specs.Cells.{Cell, kept_of, told_of}
-use Rattle.pw_cells.specs.Changes.{Assimilates, GainsFact}
+use Rattle.std.proofs.Common.{◌≡◌, refl, sym, ◌∙◌, ap}
+use Rattle.pw_cells.specs.Cells.{Cell}
 use Rattle.pw_cells.specs.inside.Widths.{cell_of}
+use Rattle.pw_cells.proofs.CellChanges.{tells_so, tells_then, still_then}
 use Rattle.pw_cells.proofs.Stores.{OnErr_always}
 use Rattle.pw_cells.proofs.cell_facts.CellFacts.tell.Given.{Over}
 use Rattle.pw_cells.proofs.cell_facts.CellFacts.tell.Goals as goal
@@ -34,89 +33,42 @@ many_same : (g : Over) (c : goal.Joined-self-2 g) → c.deref_mut-2.result.now �
 many_same g c = c.deref_mut-2.ensures.value ∙ boxed_same g c
 
 pub returns-clause-told : goal.returns-clause-told
-returns-clause-told g c =
-    subst (λ (cell : Cell). GainsFact c.args.fact.now (told_of cell) (told_of c.tell-2.new.self)) (many_same g c) c.in_ok-tell.ensures.told
-
-pub returns-clause-kept : goal.returns-clause-kept
-returns-clause-kept g c =
-    subst (λ (cell : Cell). GainsFact c.args.fact.now (kept_of cell) (kept_of c.tell-2.new.self)) (many_same g c) c.in_ok-tell.ensures.kept
-
-pub returns-clause-assimilates : goal.returns-clause-assimilates
-returns-clause-assimilates g c =
-    subst (λ (cell : Cell). Assimilates c.args.fact.now cell.kept c.tell-2.new.self.kept) (many_same g c) c.in_ok-tell.ensures.assimilates
-
-pub returns-clause-kind : goal.returns-clause-kind
-returns-clause-kind g c = c.in_ok-tell.ensures.kind ∙ ap (λ (cell : Cell). cell.kind) (many_same g c)
+returns-clause-told g c = tells_so c.args.fact.now c.args.fact.now _ _ c.tell-2.new.self (many_same g c) refl c.in_ok-tell.ensures.told
 
 pub tell-requires : goal.tell-requires
 tell-requires g c =
     let same : c.deref_mut.result.now ≡ c.args.self.now = c.deref_mut.ensures.value ∙ ap cell_of (sym c.in-Many.is) ∙ c.self.view_is in
     c.requires ∙ sym (ap (λ (x : Cell). x.kind) same)
 
-pub returns-in-Many-clause-told : goal.returns-in-Many-clause-told
-returns-in-Many-clause-told g c =
-    let same : c.deref_mut.result.now ≡ c.args.self.now = c.deref_mut.ensures.value ∙ ap cell_of (sym c.in-Many.is) ∙ c.self.view_is in
-    subst (λ (x : Cell). OnOk c.tell.result (GainsFact c.args.fact.now (told_of x) (told_of c.tell.new.self))) same c.tell.ensures.told
-
-pub returns-in-Many-clause-kept : goal.returns-in-Many-clause-kept
-returns-in-Many-clause-kept g c =
-    let same : c.deref_mut.result.now ≡ c.args.self.now = c.deref_mut.ensures.value ∙ ap cell_of (sym c.in-Many.is) ∙ c.self.view_is in
-    subst (λ (x : Cell). OnOk c.tell.result (GainsFact c.args.fact.now (kept_of x) (kept_of c.tell.new.self))) same c.tell.ensures.kept
-
-pub returns-in-Many-clause-assimilates : goal.returns-in-Many-clause-assimilates
-returns-in-Many-clause-assimilates g c =
-    let same : c.deref_mut.result.now ≡ c.args.self.now = c.deref_mut.ensures.value ∙ ap cell_of (sym c.in-Many.is) ∙ c.self.view_is in
-    subst (λ (x : Cell). OnOk c.tell.result (Assimilates c.args.fact.now x.kept c.tell.new.self.kept)) same c.tell.ensures.assimilates
-
-pub returns-in-Many-clause-kind : goal.returns-in-Many-clause-kind
-returns-in-Many-clause-kind g c =
-    let same : c.deref_mut.result.now ≡ c.args.self.now = c.deref_mut.ensures.value ∙ ap cell_of (sym c.in-Many.is) ∙ c.self.view_is in
-    c.tell.ensures.kind ∙ ap (λ (x : Cell). x.kind) same
-
-pub returns-in-Many-clause-err : goal.returns-in-Many-clause-err
-returns-in-Many-clause-err g c =
-    let same : c.deref_mut.result.now ≡ c.args.self.now = c.deref_mut.ensures.value ∙ ap cell_of (sym c.in-Many.is) ∙ c.self.view_is in
-    subst (λ (x : Cell). OnErr c.tell.result (c.tell.new.self ≡ x)) same c.tell.ensures.err
-
 pub tell-requires-2 : goal.tell-requires-2
 tell-requires-2 g c =
     let same : c.deref_mut-2.result.now ≡ c.args.self.now = c.deref_mut-2.ensures.value ∙ boxed_before g c in
     c.requires ∙ sym (ap (λ (x : Cell). x.kind) same)
 
-pub returns-in_err-listed-in-One-clause-kind : goal.returns-in_err-listed-in-One-clause-kind
-returns-in_err-listed-in-One-clause-kind g c =
-    let same : c.in-One.one ≡ c.args.self.now = ap cell_of (sym c.in-One.is) ∙ c.self.view_is in
-    ap (λ (x : Cell). x.kind) same
+pub returns-in-Many-clause-told : goal.returns-in-Many-clause-told
+returns-in-Many-clause-told g c =
+    let same : c.deref_mut.result.now ≡ c.args.self.now = c.deref_mut.ensures.value ∙ ap cell_of (sym c.in-Many.is) ∙ c.self.view_is in
+    tells_then c.tell.result c.args.fact.now c.args.fact.now _ _ c.tell.new.self same refl c.tell.ensures.told
+
+pub returns-in-Many-clause-err : goal.returns-in-Many-clause-err
+returns-in-Many-clause-err g c =
+    let same : c.deref_mut.result.now ≡ c.args.self.now = c.deref_mut.ensures.value ∙ ap cell_of (sym c.in-Many.is) ∙ c.self.view_is in
+    still_then c.tell.result _ _ c.tell.new.self same c.tell.ensures.err
 
 pub returns-in_err-listed-in-One-clause-err : goal.returns-in_err-listed-in-One-clause-err
 returns-in_err-listed-in-One-clause-err g c =
     let same : c.in-One.one ≡ c.args.self.now = ap cell_of (sym c.in-One.is) ∙ c.self.view_is in
     OnErr_always c.from_residual.result same
 
-pub returns-in_err-many-in-One-clause-kind : goal.returns-in_err-many-in-One-clause-kind
-returns-in_err-many-in-One-clause-kind g c =
-    let same : c.in-One.one ≡ c.args.self.now = ap cell_of (sym c.in-One.is) ∙ c.self.view_is in
-    ap (λ (x : Cell). x.kind) same
-
 pub returns-in_err-many-in-One-clause-err : goal.returns-in_err-many-in-One-clause-err
 returns-in_err-many-in-One-clause-err g c =
     let same : c.in-One.one ≡ c.args.self.now = ap cell_of (sym c.in-One.is) ∙ c.self.view_is in
     OnErr_always c.from_residual-in_err-many-in-One.result same
 
-pub returns-in_err-many-in-FewIntervals-clause-kind : goal.returns-in_err-many-in-FewIntervals-clause-kind
-returns-in_err-many-in-FewIntervals-clause-kind g c =
-    let same : c.in-FewIntervals.few ≡ c.args.self.now = ap cell_of (sym c.in-FewIntervals.is) ∙ c.self.view_is in
-    ap (λ (x : Cell). x.kind) same
-
 pub returns-in_err-many-in-FewIntervals-clause-err : goal.returns-in_err-many-in-FewIntervals-clause-err
 returns-in_err-many-in-FewIntervals-clause-err g c =
     let same : c.in-FewIntervals.few ≡ c.args.self.now = ap cell_of (sym c.in-FewIntervals.is) ∙ c.self.view_is in
     OnErr_always c.from_residual-in_err-many-in-FewIntervals.result same
-
-pub returns-in_err-many-in-Few-clause-kind : goal.returns-in_err-many-in-Few-clause-kind
-returns-in_err-many-in-Few-clause-kind g c =
-    let same : c.in-Few.few ≡ c.args.self.now = ap cell_of (sym c.in-Few.is) ∙ c.self.view_is in
-    ap (λ (x : Cell). x.kind) same
 
 pub returns-in_err-many-in-Few-clause-err : goal.returns-in_err-many-in-Few-clause-err
 returns-in_err-many-in-Few-clause-err g c =

@@ -2,20 +2,21 @@ use Rattle.std.proofs.Common.{◌≡◌, length-set, sym, ap, subst, arith}
 use Rattle.std.specs.Prelude.{OnOk}
 use Rattle.pw_cells.specs.Cells.{Cell, Store, IsUnsaid, fact_on, shown_by, told_of, kept_of}
 use Rattle.pw_cells.specs.Changes.{GainsFact, Assimilates}
+use Rattle.pw_cells.proofs.CellChanges.{on_ok, still_kind, still_told}
 use Rattle.pw_cells.proofs.RightAnswers.{slots_told_the_same}
 use Rattle.pw_cells.proofs.Stores.{there, cell_read, cell_changed, of_kind_read, others_same, same_kinds, same_store, OnErr_then}
 use Rattle.pw_cells.proofs.cell_store.CellStore.take_in_news.Goals as goal
 
 pub returns-clause-kept : goal.returns-clause-kept
 returns-clause-kept g c =
-    cell_changed (λ old new. OnOk c.keep_news.result (GainsFact (fact_on c.args.info.now c.args.support) (kept_of old) (kept_of new))) _ _ _ _ _ _ c.index_mut.ensures.value c.self.view_is c.requires.there c.keep_news.ensures.kept
+    cell_changed (λ old new. OnOk c.keep_news.result (GainsFact (fact_on c.args.info.now c.args.support) (kept_of old) (kept_of new))) _ _ _ _ _ _ c.index_mut.ensures.value c.self.view_is c.requires.there (on_ok c.keep_news.result (λ keeps. keeps.kept) c.keep_news.ensures.kept)
 
 pub returns-clause-assimilates : goal.returns-clause-assimilates
 returns-clause-assimilates g c =
-    cell_changed (λ old new. OnOk c.keep_news.result (Assimilates (fact_on c.args.info.now c.args.support) old.kept new.kept)) _ _ _ _ _ _ c.index_mut.ensures.value c.self.view_is c.requires.there c.keep_news.ensures.assimilates
+    cell_changed (λ old new. OnOk c.keep_news.result (Assimilates (fact_on c.args.info.now c.args.support) old.kept new.kept)) _ _ _ _ _ _ c.index_mut.ensures.value c.self.view_is c.requires.there (on_ok c.keep_news.result (λ keeps. keeps.assimilates) c.keep_news.ensures.kept)
 
 pub returns-clause-kinds : goal.returns-clause-kinds
-returns-clause-kinds g c = same_kinds _ _ _ _ _ c.index_mut.ensures.value c.self.view_is c.keep_news.ensures.kind
+returns-clause-kinds g c = same_kinds _ _ _ _ _ c.index_mut.ensures.value c.self.view_is (still_kind c.keep_news.result (fact_on c.args.info.now c.args.support) c.index_mut.result.now c.keep_news.new.self c.keep_news.ensures.kept c.keep_news.ensures.err)
 
 pub returns-clause-err : goal.returns-clause-err
 returns-clause-err g c =
@@ -23,26 +24,25 @@ returns-clause-err g c =
 
 pub returns-clause-told : goal.returns-clause-told
 returns-clause-told g c = λ w.
-    cell_changed (λ old new. told_of new w ≡ told_of old w) _ _ _ _ _ _ c.index_mut.ensures.value c.self.view_is c.requires.there (λ i. shown_by (c.keep_news.ensures.kind i) w (c.keep_news.ensures.told i))
+    cell_changed (λ old new. told_of new w ≡ told_of old w) _ _ _ _ _ _ c.index_mut.ensures.value c.self.view_is c.requires.there (λ i. shown_by (still_kind c.keep_news.result (fact_on c.args.info.now c.args.support) c.index_mut.result.now c.keep_news.new.self c.keep_news.ensures.kept c.keep_news.ensures.err i) w (still_told c.keep_news.result (fact_on c.args.info.now c.args.support) c.index_mut.result.now c.keep_news.new.self c.keep_news.ensures.kept c.keep_news.ensures.err i))
 
 pub invariant_of-self : goal.invariant_of-self
 invariant_of-self g c =
     let within = there _ _ _ c.self.view_is c.requires.there in (
       omega (arith, c.self.invariant.0, length-set c.self.inside.cells.items c.args.cell c.keep_news.new.self),
       slots_told_the_same _ _ _ _ _ c.index_mut.ensures.value within
-          (λ w i. shown_by (c.keep_news.ensures.kind i) w (c.keep_news.ensures.told i)) c.self.invariant.1,
+          (λ w i. shown_by (still_kind c.keep_news.result (fact_on c.args.info.now c.args.support) c.index_mut.result.now c.keep_news.new.self c.keep_news.ensures.kept c.keep_news.ensures.err i) w (still_told c.keep_news.result (fact_on c.args.info.now c.args.support) c.index_mut.result.now c.keep_news.new.self c.keep_news.ensures.kept c.keep_news.ensures.err i)) c.self.invariant.1,
     )
 
 pub index_mut-requires : goal.index_mut-requires
 index_mut-requires g c = omega (arith, there _ _ _ c.self.view_is c.requires.there)
 
-pub keep_news-requires-clause-kind : goal.keep_news-requires-clause-kind
-keep_news-requires-clause-kind g c = of_kind_read _ _ _ _ _ c.index_mut.ensures.value c.self.view_is c.requires.there c.requires.kind
-
-pub keep_news-requires-clause-news : goal.keep_news-requires-clause-news
-keep_news-requires-clause-news g c =
-    subst (λ (cell : Cell). IsUnsaid (kept_of cell c.args.support) c.args.info.now)
-    (sym {A = Cell} (cell_read _ _ _ _ c.index_mut.ensures.value c.self.view_is c.requires.there)) c.requires.news
+pub keep_news-requires : goal.keep_news-requires
+keep_news-requires g c = record {
+  kind = of_kind_read _ _ _ _ _ c.index_mut.ensures.value c.self.view_is c.requires.there c.requires.kind;
+  news = subst (λ (cell : Cell). IsUnsaid (kept_of cell c.args.support) c.args.info.now)
+      (sym {A = Cell} (cell_read _ _ _ _ c.index_mut.ensures.value c.self.view_is c.requires.there)) c.requires.news;
+}
 
 pub returns-clause-others : goal.returns-clause-others
 returns-clause-others g c = others_same _ _ _ _ c.self.view_is

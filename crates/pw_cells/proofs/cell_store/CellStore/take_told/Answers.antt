@@ -11,18 +11,18 @@ use Rattle.pw_cells.proofs.cell_store.CellStore.take_told.Goals as goal
 
 pub returns-clause-told : goal.returns-clause-told
 returns-clause-told g c =
-    cell_changed (λ old new. GainsFact c.args.fact.now (told_of old) (told_of new)) _ _ _ _ _ _ c.index_mut.ensures.value c.self.view_is c.requires.there c.in_ok-tell.ensures.told
+    cell_changed (λ old new. GainsFact c.args.fact.now (told_of old) (told_of new)) _ _ _ _ _ _ c.index_mut.ensures.value c.self.view_is c.requires.there c.in_ok-tell.ensures.told.told
 
 pub returns-clause-kept : goal.returns-clause-kept
 returns-clause-kept g c =
-    cell_changed (λ old new. GainsFact c.args.fact.now (kept_of old) (kept_of new)) _ _ _ _ _ _ c.index_mut.ensures.value c.self.view_is c.requires.there c.in_ok-tell.ensures.kept
+    cell_changed (λ old new. GainsFact c.args.fact.now (kept_of old) (kept_of new)) _ _ _ _ _ _ c.index_mut.ensures.value c.self.view_is c.requires.there c.in_ok-tell.ensures.told.kept
 
 pub returns-clause-assimilates : goal.returns-clause-assimilates
 returns-clause-assimilates g c =
-    cell_changed (λ old new. Assimilates c.args.fact.now old.kept new.kept) _ _ _ _ _ _ c.index_mut.ensures.value c.self.view_is c.requires.there c.in_ok-tell.ensures.assimilates
+    cell_changed (λ old new. Assimilates c.args.fact.now old.kept new.kept) _ _ _ _ _ _ c.index_mut.ensures.value c.self.view_is c.requires.there c.in_ok-tell.ensures.told.assimilates
 
 pub returns-clause-kinds : goal.returns-clause-kinds
-returns-clause-kinds g c = same_kinds _ _ _ _ _ c.index_mut.ensures.value c.self.view_is c.tell.ensures.kind
+returns-clause-kinds g c = same_kinds _ _ _ _ _ c.index_mut.ensures.value c.self.view_is c.in_ok-tell.ensures.told.kind
 
 pub invariant_of-self : goal.invariant_of-self
 invariant_of-self g c =
@@ -56,7 +56,7 @@ invariant_of-self-2 g c =
           (slots_then (AreRight c.self.inside.cells.items) (AreRight (set c.self.inside.cells.items c.args.cell c.tell.new.self)) c.self.inside.recalled.slots
           (map (after_tell c.args.cell c.args.fact.now))
           (λ answers. answers_after c.self.inside.cells.items c.args.cell c.index_mut.result.now c.tell.new.self c.args.fact.now answers c.index_mut.ensures.value within kind
-          c.in_ok-tell.ensures.told) c.self.invariant.1),
+          c.in_ok-tell.ensures.told.told) c.self.invariant.1),
     )
 
 pub index_mut-requires : goal.index_mut-requires
@@ -69,7 +69,7 @@ pub returns-in_err-tell-clause-others : goal.returns-in_err-tell-clause-others
 returns-in_err-tell-clause-others g c = others_same _ _ _ _ c.self.view_is
 
 pub returns-in_err-tell-clause-kinds : goal.returns-in_err-tell-clause-kinds
-returns-in_err-tell-clause-kinds g c = same_kinds _ _ _ _ _ c.index_mut.ensures.value c.self.view_is c.tell.ensures.kind
+returns-in_err-tell-clause-kinds g c = same_kinds _ _ _ _ _ c.index_mut.ensures.value c.self.view_is (ap (λ (cell : Cell). cell.kind) c.in_err-tell.ensures.err)
 
 pub returns-in_err-tell-clause-room : goal.returns-in_err-tell-clause-room
 returns-in_err-tell-clause-room g c = ap (λ (s : Store). s.room) c.self.view_is

@@ -104,10 +104,12 @@ returns-clause-known g c = λ old.
     ∙ c.self.view_is
 
 pub returns-clause-kept : goal.returns-clause-kept
-returns-clause-kept g c = (kept_then g c).gains
-
-pub returns-clause-assimilates : goal.returns-clause-assimilates
-returns-clause-assimilates g c = (kept_then g c).assimilates
+returns-clause-kept g c = record {
+  kept = (kept_then g c).gains;
+  assimilates = (kept_then g c).assimilates;
+  told = ap (λ (cell : Cell). cell.told) c.self.view_is;
+  kind = ap (λ (cell : Cell). cell.kind) c.self.view_is;
+}
 
 pub assimilate_late-requires-clause-kinds : goal.assimilate_late-requires-clause-kinds
 assimilate_late-requires-clause-kinds g c = c.self.invariant.4
@@ -121,12 +123,6 @@ assimilate_late-requires-clause-bounds g c = c.self.invariant.2
 pub assimilate_late-requires-clause-room : goal.assimilate_late-requires-clause-room
 assimilate_late-requires-clause-room g c = c.self.invariant.1
 
-pub returns-in_err-reserve_unless-clause-told : goal.returns-in_err-reserve_unless-clause-told
-returns-in_err-reserve_unless-clause-told g c = ap (λ (cell : Cell). cell.told) c.self.view_is
-
-pub returns-in_err-reserve_unless-clause-kind : goal.returns-in_err-reserve_unless-clause-kind
-returns-in_err-reserve_unless-clause-kind g c = ap (λ (cell : Cell). cell.kind) c.self.view_is
-
 pub returns-in_err-reserve_unless-clause-err : goal.returns-in_err-reserve_unless-clause-err
 returns-in_err-reserve_unless-clause-err g c =
     OnErr_always c.from_residual.result
@@ -138,9 +134,3 @@ returns-in_err-reserve_unless-clause-err g c =
 
 pub assimilate-requires-clause-room : goal.assimilate-requires-clause-room
 assimilate-requires-clause-room g c = c.in_ok-reserve_unless.ensures.room
-
-pub returns-clause-told : goal.returns-clause-told
-returns-clause-told g c = ap (λ (cell : Cell). cell.told) c.self.view_is
-
-pub returns-clause-kind : goal.returns-clause-kind
-returns-clause-kind g c = ap (λ (cell : Cell). cell.kind) c.self.view_is

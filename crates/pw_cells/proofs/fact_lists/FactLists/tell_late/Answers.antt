@@ -51,12 +51,6 @@ kept_then g c =
     (rw (c.reserve_late.ensures.kept, c.add_late.ensures.items, c.reserve_late.ensures.late)
     (late_more _ _ _ _ _ _ (of_kind g c) c.self.invariant.0 (by_late g c)))
 
-pub returns-clause-kept : goal.returns-clause-kept
-returns-clause-kept g c = (kept_then g c).gains
-
-pub returns-clause-assimilates : goal.returns-clause-assimilates
-returns-clause-assimilates g c = (kept_then g c).assimilates
-
 pub reserve_late-requires : goal.reserve_late-requires
 reserve_late-requires g c = c.self.invariant.1
 
@@ -68,9 +62,6 @@ invariant_of-self g c = (
   c.self.invariant.3,
   subst (AreOfKind c.self.inside.kind) (sym {A = List Fact} c.reserve_late.ensures.kept) c.self.invariant.4,
 )
-
-pub returns-in_err-reserve_late-clause-kind : goal.returns-in_err-reserve_late-clause-kind
-returns-in_err-reserve_late-clause-kind g c = ap (λ (cell : Cell). cell.kind) c.self.view_is
 
 pub returns-in_err-reserve_late-clause-err : goal.returns-in_err-reserve_late-clause-err
 returns-in_err-reserve_late-clause-err g c =
@@ -95,9 +86,6 @@ invariant_of-self-in_err-add g c = (
   subst (AreOfKind c.self.inside.kind) (sym {A = List Fact} c.reserve_late.ensures.kept) c.self.invariant.4,
 )
 
-pub returns-in_err-add-clause-kind : goal.returns-in_err-add-clause-kind
-returns-in_err-add-clause-kind g c = ap (λ (cell : Cell). cell.kind) c.self.view_is
-
 pub returns-in_err-add-clause-err : goal.returns-in_err-add-clause-err
 returns-in_err-add-clause-err g c =
     OnErr_always c.from_residual-in_err-add.result
@@ -111,10 +99,13 @@ pub add_late-requires : goal.add_late-requires
 add_late-requires g c = c.in_ok-reserve_late.ensures.late_room
 
 pub returns-clause-told : goal.returns-clause-told
-returns-clause-told g c = λ w.
+returns-clause-told g c =
     let f = c.args.fact.now in
-    subst (λ (cell : Cell). shown_by c.self.inside.kind w c.add.new.self ≡ meet (told_of cell w) (shows w f)) c.self.view_is
-    (subst (λ (k : Kind). shown_by k w c.add.new.self ≡ meet (shown_by k w c.self.inside.told) (shows w f)) (of_kind g c) (c.in_ok-add.ensures.shown w))
-
-pub returns-clause-kind : goal.returns-clause-kind
-returns-clause-kind g c = ap (λ (cell : Cell). cell.kind) c.self.view_is
+    record {
+      told = λ w.
+          subst (λ (cell : Cell). shown_by c.self.inside.kind w c.add.new.self ≡ meet (told_of cell w) (shows w f)) c.self.view_is
+          (subst (λ (k : Kind). shown_by k w c.add.new.self ≡ meet (shown_by k w c.self.inside.told) (shows w f)) (of_kind g c) (c.in_ok-add.ensures.shown w));
+      kept = (kept_then g c).gains;
+      assimilates = (kept_then g c).assimilates;
+      kind = ap (λ (cell : Cell). cell.kind) c.self.view_is;
+    }

@@ -46,10 +46,12 @@ invariant_of-self-2 g c = (
 )
 
 pub returns-clause-kept : goal.returns-clause-kept
-returns-clause-kept g c = (kept_then g c).gains
-
-pub returns-clause-assimilates : goal.returns-clause-assimilates
-returns-clause-assimilates g c = (kept_then g c).assimilates
+returns-clause-kept g c = record {
+  kept = (kept_then g c).gains;
+  assimilates = (kept_then g c).assimilates;
+  told = ap (λ (cell : Cell). cell.told) c.self.view_is;
+  kind = ap (λ (cell : Cell). cell.kind) c.self.view_is;
+}
 
 pub drop_subsumed-requires : goal.drop_subsumed-requires
 drop_subsumed-requires g c =
@@ -66,19 +68,7 @@ invariant_of-self g c = (
   c.self.invariant.1,
 )
 
-pub returns-in_err-reserve_unless-clause-told : goal.returns-in_err-reserve_unless-clause-told
-returns-in_err-reserve_unless-clause-told g c = ap (λ (cell : Cell). cell.told) c.self.view_is
-
-pub returns-in_err-reserve_unless-clause-kind : goal.returns-in_err-reserve_unless-clause-kind
-returns-in_err-reserve_unless-clause-kind g c = ap (λ (cell : Cell). cell.kind) c.self.view_is
-
 pub returns-in_err-reserve_unless-clause-err : goal.returns-in_err-reserve_unless-clause-err
 returns-in_err-reserve_unless-clause-err g c =
     OnErr_always c.from_residual.result
     (ap (λ (l : List Fact). record { kind = c.self.inside.kind; told = []; kept = l }) c.reserve_unless.ensures.items ∙ c.self.view_is)
-
-pub returns-clause-told : goal.returns-clause-told
-returns-clause-told g c = ap (λ (cell : Cell). cell.told) c.self.view_is
-
-pub returns-clause-kind : goal.returns-clause-kind
-returns-clause-kind g c = ap (λ (cell : Cell). cell.kind) c.self.view_is

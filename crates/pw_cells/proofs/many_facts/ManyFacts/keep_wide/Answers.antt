@@ -1,10 +1,12 @@
 use Rattle.std.proofs.Common.{◌≡◌, false, sym, ◌∙◌, ap, subst}
-use Rattle.std.specs.Prelude.{IfOk, OnOk, OnErr}
+use Rattle.std.specs.Prelude.{IfOk}
 use Rattle.pw_info.specs.Information.{kind_of}
 use Rattle.pw_facts.specs.declared.fact.Fact.{Fact}
-use Rattle.pw_cells.specs.Cells.{Cell, kept_of}
-use Rattle.pw_cells.specs.Changes.{Assimilates, GainsFact, TellsNews}
+use Rattle.pw_cells.specs.Cells.{Cell}
+use Rattle.pw_cells.specs.Changes.{TellsNews}
+use Rattle.pw_cells.specs.inside.CellChanges.{KeepsFact}
 use Rattle.pw_cells.specs.inside.Widths.{cell_in}
+use Rattle.pw_cells.proofs.CellChanges.{still_then, keeps_so, keeps_then}
 use Rattle.pw_cells.proofs.many_facts.ManyFacts.keep_wide.Goals as goal
 
 -- facts with the same information and the same support are the same
@@ -37,30 +39,12 @@ pub returns-in-Wide-clause-kept : goal.returns-in-Wide-clause-kept
 returns-in-Wide-clause-kept g c =
     let same : c.in-Wide.lists ≡ c.args.self.now = ap cell_in (sym c.in-Wide.is) ∙ c.self.view_is in
     let held : c.on-held.result ≡ c.args.fact.now = fact_same c.on-held.result c.args.fact.now c.on-held.ensures.info c.on-held.ensures.support in
-    subst (λ (x : Cell). OnOk c.keep.result (GainsFact c.args.fact.now (kept_of x) (kept_of c.keep.new.self))) same
-    (subst (λ (x : Fact). OnOk c.keep.result (GainsFact x (kept_of c.in-Wide.lists) (kept_of c.keep.new.self))) held c.keep.ensures.kept)
-
-pub returns-in-Wide-clause-assimilates : goal.returns-in-Wide-clause-assimilates
-returns-in-Wide-clause-assimilates g c =
-    let same : c.in-Wide.lists ≡ c.args.self.now = ap cell_in (sym c.in-Wide.is) ∙ c.self.view_is in
-    let held : c.on-held.result ≡ c.args.fact.now = fact_same c.on-held.result c.args.fact.now c.on-held.ensures.info c.on-held.ensures.support in
-    subst (λ (x : Cell). OnOk c.keep.result (Assimilates c.args.fact.now x.kept c.keep.new.self.kept)) same
-    (subst (λ (x : Fact). OnOk c.keep.result (Assimilates x c.in-Wide.lists.kept c.keep.new.self.kept)) held c.keep.ensures.assimilates)
-
-pub returns-in-Wide-clause-told : goal.returns-in-Wide-clause-told
-returns-in-Wide-clause-told g c =
-    let same : c.in-Wide.lists ≡ c.args.self.now = ap cell_in (sym c.in-Wide.is) ∙ c.self.view_is in
-    c.keep.ensures.told ∙ ap (λ (x : Cell). x.told) same
-
-pub returns-in-Wide-clause-kind : goal.returns-in-Wide-clause-kind
-returns-in-Wide-clause-kind g c =
-    let same : c.in-Wide.lists ≡ c.args.self.now = ap cell_in (sym c.in-Wide.is) ∙ c.self.view_is in
-    c.keep.ensures.kind ∙ ap (λ (x : Cell). x.kind) same
+    keeps_then c.keep.result c.args.fact.now c.on-held.result _ _ c.keep.new.self same held c.keep.ensures.kept
 
 pub returns-in-Wide-clause-err : goal.returns-in-Wide-clause-err
 returns-in-Wide-clause-err g c =
     let same : c.in-Wide.lists ≡ c.args.self.now = ap cell_in (sym c.in-Wide.is) ∙ c.self.view_is in
-    subst (λ (x : Cell). OnErr c.keep.result (c.keep.new.self ≡ x)) same c.keep.ensures.err
+    still_then c.keep.result _ _ c.keep.new.self same c.keep.ensures.err
 
 pub returns-clause-answer : goal.returns-clause-answer
 returns-clause-answer g c =
@@ -78,24 +62,5 @@ pub returns-clause-kept : goal.returns-clause-kept
 returns-clause-kept g c =
     let same : c.in_ok-wide.wide ≡ c.args.self.now = c.in_ok-wide.ensures ∙ c.self.view_is in
     let held : c.on-held.result ≡ c.args.fact.now = fact_same c.on-held.result c.args.fact.now c.on-held.ensures.info c.on-held.ensures.support in
-    subst (λ (x : Cell). GainsFact c.args.fact.now (kept_of c.args.self.now) (kept_of x)) (sym c.hold_wide.ensures)
-    (subst (λ (x : Cell). GainsFact c.args.fact.now (kept_of x) (kept_of c.keep-2.new.self)) same
-    (subst (λ (x : Fact). GainsFact x (kept_of c.in_ok-wide.wide) (kept_of c.keep-2.new.self)) held c.in_ok-news.ensures.kept))
-
-pub returns-clause-assimilates : goal.returns-clause-assimilates
-returns-clause-assimilates g c =
-    let same : c.in_ok-wide.wide ≡ c.args.self.now = c.in_ok-wide.ensures ∙ c.self.view_is in
-    let held : c.on-held.result ≡ c.args.fact.now = fact_same c.on-held.result c.args.fact.now c.on-held.ensures.info c.on-held.ensures.support in
-    subst (λ (x : Cell). Assimilates c.args.fact.now c.args.self.now.kept x.kept) (sym c.hold_wide.ensures)
-    (subst (λ (x : Cell). Assimilates c.args.fact.now x.kept c.keep-2.new.self.kept) same
-    (subst (λ (x : Fact). Assimilates x c.in_ok-wide.wide.kept c.keep-2.new.self.kept) held c.in_ok-news.ensures.assimilates))
-
-pub returns-clause-told : goal.returns-clause-told
-returns-clause-told g c =
-    let same : c.in_ok-wide.wide ≡ c.args.self.now = c.in_ok-wide.ensures ∙ c.self.view_is in
-    ap (λ (x : Cell). x.told) c.hold_wide.ensures ∙ c.in_ok-news.ensures.told ∙ ap (λ (x : Cell). x.told) same
-
-pub returns-clause-kind : goal.returns-clause-kind
-returns-clause-kind g c =
-    let same : c.in_ok-wide.wide ≡ c.args.self.now = c.in_ok-wide.ensures ∙ c.self.view_is in
-    ap (λ (x : Cell). x.kind) c.hold_wide.ensures ∙ c.in_ok-news.ensures.kind ∙ ap (λ (x : Cell). x.kind) same
+    subst (λ (x : Cell). KeepsFact c.args.fact.now c.args.self.now x) (sym c.hold_wide.ensures)
+    (keeps_so c.args.fact.now c.on-held.result _ _ c.keep-2.new.self same held c.in_ok-news.ensures.kept)

@@ -43,7 +43,9 @@ pub invariant_of-self : goal.invariant_of-self
 invariant_of-self g c = one_whole _ _ (of_kind g (goal.at.invariant_of-self g c).After-self-then-is_subsumed-1)
 
 pub returns-then-is_subsumed-clause-kept : goal.returns-then-is_subsumed-clause-kept
-returns-then-is_subsumed-clause-kept g c = λ _. (kept_then g c).gains
-
-pub returns-then-is_subsumed-clause-assimilates : goal.returns-then-is_subsumed-clause-assimilates
-returns-then-is_subsumed-clause-assimilates g c = λ _. (kept_then g c).assimilates
+returns-then-is_subsumed-clause-kept g c = λ _. record {
+  kept = (kept_then g c).gains;
+  assimilates = (kept_then g c).assimilates;
+  told = ap (λ (cell : Cell). cell.told) c.self.view_is;
+  kind = ap (λ (cell : Cell). cell.kind) c.self.view_is;
+}
