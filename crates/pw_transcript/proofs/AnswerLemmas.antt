@@ -40,7 +40,7 @@ use Rattle.pw_transcript.specs.Reading.{Reads}
 use Rattle.pw_info.specs.declared.output.Failed.{Failed}
 use Rattle.pw_info.specs.Passing.{IsBrokenOff, IsPassed, PassesPart}
 use Rattle.pw_transcript.specs.ReplyText.{IsReplyNamed, text_of_reply, text_if_any}
-use Rattle.pw_transcript.specs.inside.Answering.{AnswersLine, held_line, IsLeft, IsReplied, ReadsHeld, RepliesToLine, PassesReply, FailsInReply}
+use Rattle.pw_transcript.specs.inside.Answering.{AnswersLine, held_line, IsLeft, IsNextLine, IsReplied, ReadsHeld, RepliesToLine, PassesReply, FailsInReply}
 use Rattle.pw_transcript.proofs.ReplyLemmas.{IsDeclared-from_Reads}
 
 pub held_none : (line : List ℕ) → None ≡ held_line line → 1024 < length line
@@ -290,6 +290,15 @@ module _ {O : Type 0} {passes : O → List ℕ → O → Type 0} {d : Declared} 
     works = tt;
     left = left;
   }
+
+-- a line that is held in one way comes next if it does in a narrower one
+pub next_if : {d : Declared} {number : ℕ} {workbench : Workbench} {IsHeld Others : Option (List ℕ) → Type 0} →
+    ((held : Option (List ℕ)) → IsHeld held → Others held) → IsNextLine d number IsHeld workbench → IsNextLine d number Others workbench
+next_if others next = record {
+  left = next.left;
+  most = next.most;
+  reads = (next.reads.0, others next.reads.0 next.reads.1);
+}
 
 -- what is answered of lines that are held in one way is answered of those held in a narrower one
 pub answers_if : {O : Type 0} {passes : O → List ℕ → O → Type 0} {d : Declared} {has_failed : O → Bool} {number : ℕ} {old new : Workbench} {o o' : O} {result : Result Bool Failed}

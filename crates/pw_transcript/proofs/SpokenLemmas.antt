@@ -1,6 +1,6 @@
 -- What is read of the words of a line, by the form of the command and by the user.
 use Rattle.std.proofs.Common.{◌≡◌, ℕ, List, [], ◌∷◌, Option, None, Some, true, false, ◌≤◌, length, refl, sym, ap, ◌∙◌, subst, inl}
-use Rattle.std.specs.Prelude.{Result, Ok, Err, IfOk, IfErr, OnOk, codes, option_map}
+use Rattle.std.specs.Prelude.{Result, Ok, Err, codes, option_map}
 use Rattle.std.specs.Str.{bytes_eq}
 use Rattle.std.proofs.lemmas.Slice.Eq.{bytes_eq-Decides}
 use Rattle.pw_decl.specs.Declaration.{Declared}
@@ -12,9 +12,9 @@ use Rattle.pw_transcript.specs.Sentence.{Said, Ask, Sentence}
 use Rattle.std.specs.List.{list_all}
 use Rattle.pw_info.specs.Words.{words_of, is_idle, is_allowed}
 use Rattle.pw_sessions.specs.Reply.{Refused, Says}
-use Rattle.pw_transcript.specs.Reading.{MeansFor, Reads}
+use Rattle.pw_transcript.specs.Reading.{Reads}
 use Rattle.pw_transcript.specs.inside.Forms.{cell_form, said_form, sentence_by, sentence_form, tell_form}
-use Rattle.pw_transcript.specs.inside.Resolving.{IsFree, IsRefusedFor, IsReadOf, IsReadAs, IsSpoken}
+use Rattle.pw_transcript.specs.inside.Resolving.{IsReadFor, IsReadOf, IsReadAs, IsSpoken}
 use Rattle.pw_transcript.specs.inside.Answering.{ReadsAs, ReadsHeld}
 use Rattle.pw_transcript.proofs.ReadingLemmas.{first_of_line, first_of_sentence, free_sentence, no_form, says_found, says_of_line}
 
@@ -30,16 +30,15 @@ spoken_unknown d user form said is none =
     (record { ok = tt; none = tt; err = inl (refl, sym none) })
 
 known : (d : Declared) (user : List ℕ) (said : Said) (u : ℕ) (read : Result Command Refusal) → Some u ≡ place_of_name d.users user →
-    IfOk read (MeansFor d u said) → OnOk read (IsFree d u said) → IfErr read (IsRefusedFor d u said) → IsReadOf d (sentence_by user said) read
-known d user said u (Ok command) at ok none err = record { ok = (u, sym at, ok); none = free_sentence d (sentence_by user said) u (sym at) none; err = tt }
-known d user said u (Err r) at ok none err = record { ok = tt; none = tt; err = first_of_sentence d (sentence_by user said) u (sym at) r err }
+    IsReadFor d u said read → IsReadOf d (sentence_by user said) read
+known d user said u (Ok command) at own = record { ok = (u, sym at, own.ok); none = free_sentence d (sentence_by user said) u (sym at) own.none; err = tt }
+known d user said u (Err r) at own = record { ok = tt; none = tt; err = first_of_sentence d (sentence_by user said) u (sym at) r own.err }
 
 -- for a known user it is what the words of this user mean, or their first refusal
 pub spoken_known : (d : Declared) (user : List ℕ) (form : Option Said) (said : Said) (u : ℕ) (read : Result Command Refusal) → Some said ≡ form →
-    Some u ≡ place_of_name d.users user → IfOk read (MeansFor d u said) → OnOk read (IsFree d u said) → IfErr read (IsRefusedFor d u said) →
-    IsReadAs d (option_map (sentence_by user) form) read
-spoken_known d user form said u read is at ok none err =
-    subst (λ (f : Option Said). IsReadAs d (option_map (sentence_by user) f) read) is (known d user said u read at ok none err)
+    Some u ≡ place_of_name d.users user → IsReadFor d u said read → IsReadAs d (option_map (sentence_by user) form) read
+spoken_known d user form said u read is at own =
+    subst (λ (f : Option Said). IsReadAs d (option_map (sentence_by user) f) read) is (known d user said u read at own)
 
 -- ---- from the words of a line to the line
 

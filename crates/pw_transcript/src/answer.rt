@@ -1,6 +1,6 @@
 //! The answer to one line.
 
-ghost use Rattle.std.specs.Prelude.{◌≡◌, ◌+◌, ◌≤◌, ℕ, List, Option, true, false, codes, IfOk};
+ghost use Rattle.std.specs.Prelude.{◌≡◌, ◌+◌, ◌≤◌, true, false, codes, IfOk};
 ghost use Rattle.std.specs.Prelude.{OnOk, OnErr, option_map};
 ghost use Rattle.std.specs.Option.{option_copied};
 ghost use Rattle.std.specs.Str.{bytes_eq};
@@ -10,7 +10,7 @@ ghost use Rattle.pw_sessions.specs.Workbench.{Workbench as Workbenches};
 ghost use Rattle.pw_sessions.specs.inside.Fields.{state};
 ghost use Rattle.pw_transcript.specs.Limits.{most_lines};
 ghost use Rattle.pw_transcript.specs.Sentence.{Ask};
-ghost use Rattle.pw_transcript.specs.inside.Answering.{AnswersLine, IsLeft, ReadsAs, ReadsHeld};
+ghost use Rattle.pw_transcript.specs.inside.Answering.{AnswersLine, IsLeft, IsNextLine, ReadsAs, ReadsHeld};
 ghost use Rattle.pw_transcript.specs.inside.Answering.{FailsInHeldReply, PassesHeldReply};
 ghost use Rattle.pw_transcript.specs.inside.Forms.{cell_form, said_form, sentence_by, tell_form};
 ghost use Rattle.pw_transcript.specs.inside.Forms.{sentence_form};
@@ -34,10 +34,8 @@ fn answer_command<A: Allocator + Copy, O: Output>(
     workbench: &mut Workbench<'_, '_, A>,
     output: &mut O,
 ) -> Result<bool, Failed>
-    requires left { IsLeft (declared d.now) number (state workbench.old) }
-    requires most { number ≤ most_lines }
-    requires reads { (held : Option (List ℕ)) × ReadsHeld (declared d.now) held
-        (Says command.now) }
+    requires { IsNextLine (declared d.now) number
+        (λ held. ReadsHeld (declared d.now) held (Says command.now)) (state workbench.old) }
     ensures { AnswersLine O.passes (declared d.now) O.has_failed number
         (λ held. ReadsHeld (declared d.now) held (Says command.now))
         (state workbench.old) (state workbench.new) output.old output.new result }
@@ -86,10 +84,9 @@ fn answer_tell<A: Allocator + Copy, O: Output>(
     workbench: &mut Workbench<'_, '_, A>,
     output: &mut O,
 ) -> Result<bool, Failed>
-    requires left { IsLeft (declared d.now) number (state workbench.old) }
-    requires most { number ≤ most_lines }
-    requires reads { (held : Option (List ℕ)) × ReadsAs (declared d.now)
-        (option_map (sentence_by user.now) (tell_form rest)) held }
+    requires { IsNextLine (declared d.now) number
+        (ReadsAs (declared d.now) (option_map (sentence_by user.now) (tell_form rest)))
+        (state workbench.old) }
     ensures { AnswersLine O.passes (declared d.now) O.has_failed number
         (ReadsAs (declared d.now) (option_map (sentence_by user.now) (tell_form rest.entry)))
         (state workbench.old) (state workbench.new) output.old output.new result }
@@ -110,10 +107,9 @@ fn answer_ask<A: Allocator + Copy, O: Output>(
     workbench: &mut Workbench<'_, '_, A>,
     output: &mut O,
 ) -> Result<bool, Failed>
-    requires left { IsLeft (declared d.now) number (state workbench.old) }
-    requires most { number ≤ most_lines }
-    requires reads { (held : Option (List ℕ)) × ReadsAs (declared d.now)
-        (option_map (sentence_by user.now) (cell_form Ask rest)) held }
+    requires { IsNextLine (declared d.now) number
+        (ReadsAs (declared d.now) (option_map (sentence_by user.now) (cell_form Ask rest)))
+        (state workbench.old) }
     ensures { AnswersLine O.passes (declared d.now) O.has_failed number
         (ReadsAs (declared d.now) (option_map (sentence_by user.now) (cell_form Ask rest.entry)))
         (state workbench.old) (state workbench.new) output.old output.new result }
@@ -137,10 +133,9 @@ fn answer_other<A: Allocator + Copy, O: Output>(
 ) -> Result<bool, Failed>
     requires tell { bytes_eq name.now (codes "tell") ≡ false }
     requires ask { bytes_eq name.now (codes "ask") ≡ false }
-    requires left { IsLeft (declared d.now) number (state workbench.old) }
-    requires most { number ≤ most_lines }
-    requires reads { (held : Option (List ℕ)) × ReadsAs (declared d.now)
-        (option_map (sentence_by user.now) (said_form name.now rest)) held }
+    requires next { IsNextLine (declared d.now) number
+        (ReadsAs (declared d.now) (option_map (sentence_by user.now) (said_form name.now rest)))
+        (state workbench.old) }
     ensures { AnswersLine O.passes (declared d.now) O.has_failed number
         (ReadsAs (declared d.now)
         (option_map (sentence_by user.now) (said_form name.now rest.entry)))
@@ -163,10 +158,9 @@ fn answer_named<A: Allocator + Copy, O: Output>(
     workbench: &mut Workbench<'_, '_, A>,
     output: &mut O,
 ) -> Result<bool, Failed>
-    requires left { IsLeft (declared d.now) number (state workbench.old) }
-    requires most { number ≤ most_lines }
-    requires reads { (held : Option (List ℕ)) × ReadsAs (declared d.now)
-        (option_map (sentence_by user.now) (said_form name.now rest)) held }
+    requires { IsNextLine (declared d.now) number
+        (ReadsAs (declared d.now) (option_map (sentence_by user.now) (said_form name.now rest)))
+        (state workbench.old) }
     ensures { AnswersLine O.passes (declared d.now) O.has_failed number
         (ReadsAs (declared d.now)
         (option_map (sentence_by user.now) (said_form name.now rest.entry)))
@@ -190,10 +184,8 @@ fn answer_words<A: Allocator + Copy, O: Output>(
     workbench: &mut Workbench<'_, '_, A>,
     output: &mut O,
 ) -> Result<bool, Failed>
-    requires left { IsLeft (declared d.now) number (state workbench.old) }
-    requires most { number ≤ most_lines }
-    requires reads { (held : Option (List ℕ)) × ReadsAs (declared d.now) (sentence_form words)
-        held }
+    requires { IsNextLine (declared d.now) number
+        (ReadsAs (declared d.now) (sentence_form words)) (state workbench.old) }
     ensures { AnswersLine O.passes (declared d.now) O.has_failed number
         (ReadsAs (declared d.now) (sentence_form words.entry))
         (state workbench.old) (state workbench.new) output.old output.new result }

@@ -1,14 +1,13 @@
 //! Reading a choice: its groups of names first, then their premises.
 
-ghost use Rattle.std.specs.Prelude.{◌≡◌, ◌∷◌, ◌++◌, [], true, map, IfErr, IfNone, IfOk, IfSome, OnOk};
+ghost use Rattle.std.specs.Prelude.{◌≡◌, ◌∷◌, ◌++◌, [], true, map, IfNone, IfSome};
 ghost use Rattle.pw_decl.specs.inside.Fields.{declared};
 ghost use Rattle.pw_reasons.specs.Combinations.{groups_of};
 ghost use Rattle.pw_reasons.specs.Groups.{AreGroups};
-ghost use Rattle.pw_transcript.specs.Reading.{MeansFor};
 ghost use Rattle.pw_transcript.specs.Reading as spec;
 ghost use Rattle.pw_transcript.specs.Sentence.{Choose};
 ghost use Rattle.pw_transcript.specs.inside.Grouping.{all_names, held_groups, names_in};
-ghost use Rattle.pw_transcript.specs.inside.Resolving.{IsFree, IsRefusedFor};
+ghost use Rattle.pw_transcript.specs.inside.Resolving.{IsReadFor};
 
 use crate::group_names::{AllNames, GroupNames, are_groups};
 use pw_decl::Declaration;
@@ -95,12 +94,7 @@ pub(crate) fn resolve_choose<A: Allocator + Copy>(
     user: u8,
     words: Words<'_>,
 ) -> Result<Command, Refusal>
-    ensures ok { IfOk result (λ command. MeansFor (declared declaration.now) user
-        (Choose (map names_in words.entry)) command) }
-    ensures none { OnOk result (IsFree (declared declaration.now) user
-        (Choose (map names_in words.entry))) }
-    ensures err { IfErr result (λ refusal. IsRefusedFor (declared declaration.now) user
-        (Choose (map names_in words.entry)) refusal) }
+    ensures { IsReadFor (declared declaration.now) user (Choose (map names_in words.entry)) result }
 {
     if !are_groups(words.again()) {
         return Err(Refusal::WrongArguments);

@@ -12,8 +12,7 @@ ghost use Rattle.pw_sessions.specs.Reply.{LineReading, Refused};
 ghost use Rattle.pw_transcript.specs.Limits.{most_command_bytes};
 ghost use Rattle.pw_transcript.specs.Sentence.{Tell, Attach, Believe, Doubt, Ask, Why};
 ghost use Rattle.pw_transcript.specs.inside.Forms.{before_under};
-ghost use Rattle.pw_transcript.specs.inside.Resolving.{IsFree, IsRefusedFor, IsSpoken};
-ghost use Rattle.pw_transcript.specs.Reading.{MeansFor};
+ghost use Rattle.pw_transcript.specs.inside.Resolving.{IsReadFor, IsSpoken};
 ghost use Rattle.pw_transcript.specs.Reading as spec;
 
 use crate::sentence::next_cell;
@@ -103,12 +102,7 @@ pub(crate) fn resolve_tell<A: Allocator + Copy>(
     info: &[u8],
     premises: Words<'_>,
 ) -> Result<Command, Refusal>
-    ensures ok { IfOk result (λ command.
-        MeansFor (declared declaration.now) user (Tell cell.now info.now premises.entry) command) }
-    ensures none { OnOk result (IsFree (declared declaration.now) user
-        (Tell cell.now info.now premises.entry)) }
-    ensures err { IfErr result (λ refusal. IsRefusedFor (declared declaration.now) user (Tell
-        cell.now info.now premises.entry) refusal) }
+    ensures { IsReadFor (declared declaration.now) user (Tell cell.now info.now premises.entry) result }
 {
     let Some(cell) = declaration.cell(cell) else {
         return Err(Refusal::UnknownCell);
@@ -177,12 +171,7 @@ pub(crate) fn resolve_attach<A: Allocator + Copy>(
     under: Words<'_>,
 ) -> Result<Command, Refusal>
     requires some { 0 < length (before_under cells) }
-    ensures ok { IfOk result (λ command. MeansFor (declared declaration.now) user
-        (Attach callable.now (before_under cells.entry) under.entry) command) }
-    ensures none { OnOk result (IsFree (declared declaration.now) user
-        (Attach callable.now (before_under cells.entry) under.entry)) }
-    ensures err { IfErr result (λ refusal. IsRefusedFor (declared declaration.now) user
-        (Attach callable.now (before_under cells.entry) under.entry) refusal) }
+    ensures { IsReadFor (declared declaration.now) user (Attach callable.now (before_under cells.entry) under.entry) result }
 {
     // A callable takes at most nine cells.
     declaration.limits();
@@ -235,11 +224,7 @@ pub(crate) fn resolve_believe<A: Allocator + Copy>(
     user: u8,
     premises: Words<'_>,
 ) -> Result<Command, Refusal>
-    ensures ok { IfOk result (λ command.
-        MeansFor (declared declaration.now) user (Believe premises.entry) command) }
-    ensures none { OnOk result (IsFree (declared declaration.now) user (Believe premises.entry)) }
-    ensures err { IfErr result (λ refusal.
-        IsRefusedFor (declared declaration.now) user (Believe premises.entry) refusal) }
+    ensures { IsReadFor (declared declaration.now) user (Believe premises.entry) result }
 {
     match premise_set(declaration, premises) {
         Ok(premises) => Ok(Command::Believe { user, premises }),
@@ -253,11 +238,7 @@ pub(crate) fn resolve_doubt<A: Allocator + Copy>(
     user: u8,
     premises: Words<'_>,
 ) -> Result<Command, Refusal>
-    ensures ok { IfOk result (λ command.
-        MeansFor (declared declaration.now) user (Doubt premises.entry) command) }
-    ensures none { OnOk result (IsFree (declared declaration.now) user (Doubt premises.entry)) }
-    ensures err { IfErr result (λ refusal.
-        IsRefusedFor (declared declaration.now) user (Doubt premises.entry) refusal) }
+    ensures { IsReadFor (declared declaration.now) user (Doubt premises.entry) result }
 {
     match premise_set(declaration, premises) {
         Ok(premises) => Ok(Command::Doubt { user, premises }),
@@ -271,11 +252,7 @@ pub(crate) fn resolve_ask<A: Allocator + Copy>(
     user: u8,
     cell: &[u8],
 ) -> Result<Command, Refusal>
-    ensures ok { IfOk result (λ command.
-        MeansFor (declared declaration.now) user (Ask cell.now) command) }
-    ensures none { OnOk result (IsFree (declared declaration.now) user (Ask cell.now)) }
-    ensures err { IfErr result (λ refusal.
-        IsRefusedFor (declared declaration.now) user (Ask cell.now) refusal) }
+    ensures { IsReadFor (declared declaration.now) user (Ask cell.now) result }
 {
     match asked_cell(declaration, cell) {
         Ok(cell) => Ok(Command::Ask { user, cell }),
@@ -289,11 +266,7 @@ pub(crate) fn resolve_why<A: Allocator + Copy>(
     user: u8,
     cell: &[u8],
 ) -> Result<Command, Refusal>
-    ensures ok { IfOk result (λ command.
-        MeansFor (declared declaration.now) user (Why cell.now) command) }
-    ensures none { OnOk result (IsFree (declared declaration.now) user (Why cell.now)) }
-    ensures err { IfErr result (λ refusal.
-        IsRefusedFor (declared declaration.now) user (Why cell.now) refusal) }
+    ensures { IsReadFor (declared declaration.now) user (Why cell.now) result }
 {
     match asked_cell(declaration, cell) {
         Ok(cell) => Ok(Command::Why { user, cell }),

@@ -1,5 +1,5 @@
 -- The answer to one line, as a step from what the lines before it left to what they leave with it.
-use Rattle.std.specs.Prelude.{◌≡◌, ℕ, ◌+◌, nat_le, List, [], ◌∷◌, ◌++◌, length, Option, Some, None, Result}
+use Rattle.std.specs.Prelude.{◌≡◌, ℕ, ◌+◌, ◌≤◌, nat_le, List, [], ◌∷◌, ◌++◌, length, Option, Some, None, Result}
 use Rattle.std.specs.Prelude.{is_some, Bool, true, false, IfOk, OnOk, OnErr, if◌then◌else◌}
 use Rattle.pw_info.specs.declared.output.Failed.{Failed}
 use Rattle.pw_info.specs.Passing.{PassesPart}
@@ -12,7 +12,7 @@ use Rattle.pw_sessions.specs.declared.reply.Refusal.{Refusal}
 use Rattle.pw_transcript.specs.Sentence.{Sentence}
 use Rattle.pw_transcript.specs.inside.Resolving.{IsReadAs, reading_by}
 use Rattle.pw_transcript.specs.Reading.{Reads}
-use Rattle.pw_transcript.specs.Limits.{most_command_bytes}
+use Rattle.pw_transcript.specs.Limits.{most_command_bytes, most_lines}
 use Rattle.pw_sessions.specs.Answer.{reply_to}
 use Rattle.pw_sessions.specs.Workbench.{Workbench, IsLeftBy}
 use Rattle.pw_transcript.specs.ReplyText.{IsReplyNamed, text_if_any}
@@ -36,6 +36,12 @@ ReadsAs d form held = (read : Result Command Refusal) → IsReadAs d form read
 abbrev pub IsLeft : Declared → ℕ → Workbench → Type 0
 IsLeft d number workbench = (before : List LineReading) × (length before + 1 ≡ number)
     × IsLeftBy d before workbench
+
+-- the line of this number is to be answered: the lines before it left the workbench, and it is held in one of these ways
+pub record IsNextLine (d : Declared) (number : ℕ) (IsHeld : Option (List ℕ) → Type 0) (workbench : Workbench) : Type 0 where
+  pub left : IsLeft d number workbench
+  pub most : number ≤ most_lines
+  pub reads : (held : Option (List ℕ)) × IsHeld held
 
 -- After lines that got these readings, this line got a reading, this is its reply if it gets one,
 -- and the new workbench is what the lines leave with it.

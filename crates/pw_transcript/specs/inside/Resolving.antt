@@ -11,7 +11,7 @@ use Rattle.pw_sessions.specs.declared.reply.Refusal.{Refusal}
 use Rattle.pw_sessions.specs.declared.reply.Refusal.TheVariants as refusal
 use Rattle.pw_sessions.specs.declared.command.Command.{Command}
 use Rattle.pw_transcript.specs.Sentence.{Said, Sentence}
-use Rattle.pw_transcript.specs.Reading.{Means, IsUnrefused, IsRefusedWith}
+use Rattle.pw_transcript.specs.Reading.{Means, MeansFor, IsUnrefused, IsRefusedWith}
 use Rattle.pw_transcript.specs.Reading.{HasUnknownCommand, HasUnknownCell, HasUnknownProcedure}
 use Rattle.pw_transcript.specs.Reading.{HasWrongInformation, HasWrongArguments, HasUnknownPremise}
 use Rattle.pw_transcript.specs.Reading.{HasAnothersPremise}
@@ -42,6 +42,12 @@ IsFree d user said = HoldsOfNone (RefusalAppliesToSaid d user said) said_refusal
 abbrev pub IsRefusedFor : Declared → ℕ → Said → Refusal → Type 0
 IsRefusedFor d user said refusal = IsFirstIn (RefusalAppliesToSaid d user said) said_refusals
     refusal
+
+-- of this user's words this is read: the command that they mean, or the first refusal that applies to them
+pub record IsReadFor (d : Declared) (user : ℕ) (said : Said) (read : Result Command Refusal) : Type 0 where
+  pub ok : IfOk read (MeansFor d user said)
+  pub none : OnOk read (IsFree d user said)
+  pub err : IfErr read (IsRefusedFor d user said)
 
 -- these are the words of a line that says something: it is short enough, and each byte may stand in
 -- it

@@ -21,10 +21,14 @@ returns-in_default-clause-works g c = (c.answer_refused.ensures (state c.args.wo
 pub returns-in_default-clause-left : goal.returns-in_default-clause-left
 returns-in_default-clause-left g c = (c.answer_refused.ensures (state c.args.workbench.now) c.requires.left).left
 
-pub answer_words-requires-clause-reads : goal.answer_words-requires-clause-reads
-answer_words-requires-clause-reads g c =
+pub answer_words-requires : goal.answer_words-requires
+answer_words-requires g c =
     let spoken : IsSpoken c.in-Some.line.now c.in-Ok-Some.words = rw c.in-Ok-Some.field-0-is at c.in-Ok-Some.ensures.some in
-    (Some c.in-Some.line.now, held_reads (declared c.args.d.now) c.in-Some.line.now c.in-Ok-Some.words spoken)
+    record {
+      left = c.requires.left;
+      most = c.requires.most;
+      reads = (Some c.in-Some.line.now, held_reads (declared c.args.d.now) c.in-Some.line.now c.in-Ok-Some.words spoken);
+    }
 
 pub returns-in-Ok-Some-clause-ok : goal.returns-in-Ok-Some-clause-ok
 returns-in-Ok-Some-clause-ok g c =

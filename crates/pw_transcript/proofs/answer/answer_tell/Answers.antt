@@ -1,10 +1,10 @@
 use Rattle.std.proofs.Common.{Err, Ok}
 use Rattle.pw_sessions.specs.inside.Fields.{state}
-use Rattle.pw_transcript.proofs.AnswerLemmas.{answers_if}
+use Rattle.pw_transcript.proofs.AnswerLemmas.{answers_if, next_if}
 use Rattle.pw_transcript.proofs.answer.answer_tell.Goals as goal
 
-pub answer_command-requires-clause-reads : goal.answer_command-requires-clause-reads
-answer_command-requires-clause-reads g c = (c.requires.reads.0, c.requires.reads.1 (Ok c.in-Ok.command) c.in-Ok.ensures)
+pub answer_command-requires : goal.answer_command-requires
+answer_command-requires g c = next_if (λ held reads. reads (Ok c.in-Ok.command) c.in-Ok.ensures) c.requires
 
 pub returns-in-Ok : goal.returns-in-Ok
 returns-in-Ok g c = answers_if (λ held reads. reads (Ok c.in-Ok.command) c.in-Ok.ensures) c.answer_command.ensures

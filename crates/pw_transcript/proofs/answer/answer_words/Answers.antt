@@ -1,6 +1,6 @@
 use Rattle.pw_decl.specs.inside.Fields.{declared}
 use Rattle.pw_sessions.specs.inside.Fields.{state}
-use Rattle.pw_transcript.proofs.AnswerLemmas.{answers_if}
+use Rattle.pw_transcript.proofs.AnswerLemmas.{answers_if, next_if}
 use Rattle.pw_transcript.proofs.SpokenLemmas.{named_words, no_words, one_word}
 use Rattle.pw_transcript.proofs.answer.answer_words.Goals as goal
 
@@ -14,12 +14,11 @@ returns-in_default-next g c =
     answers_if (λ held. one_word (declared c.args.d.now) c.args.words c.next.new.self c.in-Some.user.now held c.in-Some.ensures c.in_default-next.ensures.0)
     (c.answer_refused-in_default-next.ensures (state c.args.workbench.now) c.requires.left)
 
-pub answer_named-requires-clause-reads : goal.answer_named-requires-clause-reads
-answer_named-requires-clause-reads g c = (
-  c.requires.reads.0,
-  named_words (declared c.args.d.now) c.args.words c.next.new.self c.next-2.new.self c.in-Some.user.now c.in-Some-next.name.now c.requires.reads.0 c.in-Some.ensures
-      c.in-Some-next.ensures c.requires.reads.1,
-)
+pub answer_named-requires : goal.answer_named-requires
+answer_named-requires g c =
+    next_if (λ held. named_words (declared c.args.d.now) c.args.words c.next.new.self c.next-2.new.self c.in-Some.user.now c.in-Some-next.name.now held
+    c.in-Some.ensures c.in-Some-next.ensures)
+    c.requires
 
 pub returns : goal.returns
 returns g c =

@@ -7,4 +7,4 @@ use Rattle.pw_transcript.proofs.spoken.read_ask.Goals as goal
 pub returns-in-Some-user : goal.returns-in-Some-user
 returns-in-Some-user g c =
     spoken_known (declared c.args.declaration.now) c.args.user.now (cell_form Ask c.args.rest) (Ask c.in-Some.cell.now) c.in-Some-user.user c.resolve_ask.result
-    (c.in-Some.ensures Ask) c.in-Some-user.ensures.number c.resolve_ask.ensures.ok c.resolve_ask.ensures.none c.resolve_ask.ensures.err
+    (c.in-Some.ensures Ask) c.in-Some-user.ensures.number c.resolve_ask.ensures

@@ -6,4 +6,4 @@ use Rattle.pw_transcript.proofs.spoken.read_tell.Goals as goal
 pub returns-in-Some-user : goal.returns-in-Some-user
 returns-in-Some-user g c =
     spoken_known (declared c.args.declaration.now) c.args.user.now (tell_form c.args.rest) (told_in c.in-Some.words) c.in-Some-user.user c.resolve_tell.result
-    c.in-Some.ensures c.in-Some-user.ensures.number c.resolve_tell.ensures.ok c.resolve_tell.ensures.none c.resolve_tell.ensures.err
+    c.in-Some.ensures c.in-Some-user.ensures.number c.resolve_tell.ensures

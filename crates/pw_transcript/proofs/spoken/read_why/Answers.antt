@@ -7,4 +7,4 @@ use Rattle.pw_transcript.proofs.spoken.read_why.Goals as goal
 pub returns-in-Some-user : goal.returns-in-Some-user
 returns-in-Some-user g c =
     spoken_known (declared c.args.declaration.now) c.args.user.now (cell_form Why c.args.rest) (Why c.in-Some.cell.now) c.in-Some-user.user c.resolve_why.result
-    (c.in-Some.ensures Why) c.in-Some-user.ensures.number c.resolve_why.ensures.ok c.resolve_why.ensures.none c.resolve_why.ensures.err
+    (c.in-Some.ensures Why) c.in-Some-user.ensures.number c.resolve_why.ensures
