@@ -187,29 +187,17 @@ fn search<A: Allocator + Copy>(
             note_alike(nogoods, &mut alike, groups, place, index)?;
             continue;
         }
+        let is_last = place + 1 == groups.len();
+        let last = nearer(above, &tried.last);
         keep_values(
-            alloc,
-            network,
-            store,
-            nearer(above, &tried.last),
-            worldview,
-            &alike,
-            place + 1 == groups.len(),
-            &mut own,
+            alloc, network, store, last, worldview, &alike, is_last, &mut own,
         )?;
         let mut more = *worldview;
         more.insert(premise);
+        let picked = picks.with(premise);
+        let nearest = nearer(&own, above);
         let found = search(
-            alloc,
-            network,
-            store,
-            nogoods,
-            groups,
-            nearer(&own, above),
-            worldview,
-            &more,
-            &picks.with(premise),
-            tried,
+            alloc, network, store, nogoods, groups, nearest, worldview, &more, &picked, tried,
         )?;
         if found.ends(&tried.nogood, worldview) {
             note_alike(nogoods, &mut alike, groups, place, index)?;

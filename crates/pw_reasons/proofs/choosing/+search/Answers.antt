@@ -82,7 +82,7 @@ pub keep_values-requires-clause-values : goal.keep_values-requires-clause-values
 keep_values-requires-clause-values g t c =
     let network : Network = wiring c.args.network.now in
     let leaves = c.loop-index.invariant.leaves in
-    either_settled network c.loop-index.store c.nearer.result.now c.args.above.now c.loop-index.tried.last c.nearer.ensures
+    either_settled network c.loop-index.store c.nearer-last.result.now c.args.above.now c.loop-index.tried.last c.nearer-last.ensures
     (last_now network c.args.store.now c.loop-index.store leaves.grows c.args.above.now c.requires.above)
     (last_now network c.args.store.now c.loop-index.store leaves.grows c.loop-index.tried.last leaves.last_are)
 
@@ -104,10 +104,10 @@ search-requires g t c = λ lives out.
     let here : length picked < length groups = grind (arith, nat_tests, c.requires.few, c.if-place-len.false, c.len.ensures.len, ap length c.premises-place.ensures.premises) in
     let left = group_left groups picked seen group c.premises-place.ensures.premises here c.group-group.ensures in
     let more : Premises = c.insert.new.self in
-    let with : List ℕ = picked_in c.with.result in
+    let with : List ℕ = picked_in c.with-picked.result in
     let store : Store = c.keep_values.new.store in
     let grows : KeepsMore network old store = subst (KeepsMore network old) (sym {A = Store} c.keep_values.ensures.unchanged) c.loop-index.invariant.leaves.grows in
-    let longer : length with ≡ length picked + 1 = ap length c.with.ensures ∙ length-append picked (slice_index_or group i 0 ∷ []) in
+    let longer : length with ≡ length picked + 1 = ap length c.with-picked.ensures ∙ length-append picked (slice_index_or group i 0 ∷ []) in
     let few : length with ≤ length groups = omega (arith, longer, here) in
     let shorter : length groups - length with < length groups - length picked = omega (arith, longer, here) in
     let uncovered : covers c.loop-index.nogoods more ≡ false =
@@ -125,10 +125,10 @@ search-requires g t c = λ lives out.
               (
                 c.requires.premises,
                 (
-                  either_settled network store c.nearer-in-loop-index.result.now c.keep_values.new.own c.args.above.now c.nearer-in-loop-index.ensures own
+                  either_settled network store c.nearer-nearest.result.now c.keep_values.new.own c.args.above.now c.nearer-nearest.ensures own
                       (last_now network old store grows c.args.above.now c.requires.above),
                   (
-                    part_of_more w more groups picked with group i left inside c.insert.ensures.inserted c.with.ensures,
+                    part_of_more w more groups picked with group i left inside c.insert.ensures.inserted c.with-picked.ensures,
                     (
                       uncovered,
                       (
@@ -157,8 +157,8 @@ returns-in_err-found-clause-known g t c = λ all.
     let here : length picked < length groups = grind (arith, nat_tests, c.requires.few, c.if-place-len.false, c.len.ensures.len, ap length c.premises-place.ensures.premises) in
     let left = group_left groups picked seen group c.premises-place.ensures.premises here c.group-group.ensures in
     let more : Premises = c.insert.new.self in
-    let with : List ℕ = picked_in c.with.result in
-    let nothing = c.search.ensures.known (covered_then w more groups picked with group i left inside c.insert.ensures.inserted c.with.ensures c.args.nogoods.now
+    let with : List ℕ = picked_in c.with-picked.result in
+    let nothing = c.search.ensures.known (covered_then w more groups picked with group i left inside c.insert.ensures.inserted c.with-picked.ensures c.args.nogoods.now
     c.loop-index.nogoods c.loop-index.invariant.leaves.covers_more all) in
     absurd (not_refused c.search.result _ c.in_err-found.field-0.0 nothing.0 c.in_err-found.was)
 
@@ -208,10 +208,10 @@ returns-then-ends-clause-found g t c =
     let left = group_left groups picked seen group c.premises-place.ensures.premises here c.group-group.ensures in
     let same = waiting_is groups picked seen group c.premises-place.ensures.premises c.group-group.ensures in
     let more : Premises = c.insert.new.self in
-    let with : List ℕ = picked_in c.with.result in
+    let with : List ℕ = picked_in c.with-picked.result in
     let store : Store = c.keep_values.new.store in
     let grows : KeepsMore network old store = subst (KeepsMore network old) (sym {A = Store} c.keep_values.ensures.unchanged) c.loop-index.invariant.leaves.grows in
-    found_then w more groups picked with group i left inside c.insert.ensures.inserted c.with.ensures network old store grows
+    found_then w more groups picked with group i left inside c.insert.ensures.inserted c.with-picked.ensures network old store grows
     c.loop-index.alike c.loop-index.nogoods c.search.new.nogoods c.search.new.tried.nogood c.search.new.tried.place
     c.in_ok-found.found c.note_alike-then-ends.new.nogoods c.args.network.now.well c.requires.kinds c.loop-index.invariant.leaves.are c.loop-index.invariant.passed
     (subst (HasMore c.search.new.nogoods c.note_alike-then-ends.new.nogoods) (same c.loop-index.alike i) c.in_ok-note_alike-2.ensures.noted)
@@ -229,8 +229,8 @@ returns-then-ends-clause-known g t c = λ all.
     let here : length picked < length groups = grind (arith, nat_tests, c.requires.few, c.if-place-len.false, c.len.ensures.len, ap length c.premises-place.ensures.premises) in
     let left = group_left groups picked seen group c.premises-place.ensures.premises here c.group-group.ensures in
     let more : Premises = c.insert.new.self in
-    let with : List ℕ = picked_in c.with.result in
-    let nothing = c.search.ensures.known (covered_then w more groups picked with group i left inside c.insert.ensures.inserted c.with.ensures c.args.nogoods.now
+    let with : List ℕ = picked_in c.with-picked.result in
+    let nothing = c.search.ensures.known (covered_then w more groups picked with group i left inside c.insert.ensures.inserted c.with-picked.ensures c.args.nogoods.now
     c.loop-index.nogoods c.loop-index.invariant.leaves.covers_more all) in
     absurd (goes_on c.search.result c.in_ok-found.found c.search.new.tried.nogood w nothing.0 c.in_ok-found.was (sym c.ends.ensures ∙ c.if-ends.true))
 
@@ -266,8 +266,8 @@ returns-in_err-take_in-clause-known g t c = λ all.
     let here : length picked < length groups = grind (arith, nat_tests, c.requires.few, c.if-place-len.false, c.len.ensures.len, ap length c.premises-place.ensures.premises) in
     let left = group_left groups picked seen group c.premises-place.ensures.premises here c.group-group.ensures in
     let more : Premises = c.insert.new.self in
-    let with : List ℕ = picked_in c.with.result in
-    let nothing = c.search.ensures.known (covered_then w more groups picked with group i left inside c.insert.ensures.inserted c.with.ensures c.args.nogoods.now
+    let with : List ℕ = picked_in c.with-picked.result in
+    let nothing = c.search.ensures.known (covered_then w more groups picked with group i left inside c.insert.ensures.inserted c.with-picked.ensures c.args.nogoods.now
     c.loop-index.nogoods c.loop-index.invariant.leaves.covers_more all) in
     let is = found_nothing c.search.result c.in_ok-found.found nothing.0 c.in_ok-found.was in
     absurd (not_refused c.take_in.result _ c.in_err-take_in.field-0.0 (c.take_in.ensures.same is (c.loop-index.invariant.known all).0).0 c.in_err-take_in.was)
@@ -289,7 +289,7 @@ returns-in_err-take_in-clause-leaves g t c =
     let wait : List Premises = pending c.loop-index.alike (drop (length seen + 1) groups) (take i (slice_index_or groups (length seen) [])) in
     let waits : AreNogoods network old wait = subst (AreNogoods network old) (sym (same c.loop-index.alike i)) c.loop-index.invariant.passed.are in
     let more : Premises = c.insert.new.self in
-    let with : List ℕ = picked_in c.with.result in
+    let with : List ℕ = picked_in c.with-picked.result in
     let store : Store = c.keep_values.new.store in
     let grows : KeepsMore network old store = subst (KeepsMore network old) (sym {A = Store} c.keep_values.ensures.unchanged) c.loop-index.invariant.leaves.grows in
     let leaves : LeavesSound network old c.args.nogoods.now c.search.new.store c.search.new.nogoods c.search.new.tried.last =
@@ -297,7 +297,7 @@ returns-in_err-take_in-clause-leaves g t c =
     (subst (λ (s : Store). LeavesSound network old c.args.nogoods.now s c.loop-index.nogoods c.loop-index.tried.last) (sym {A = Store} c.keep_values.ensures.unchanged)
     c.loop-index.invariant.leaves) c.search.ensures.leaves in
     let others : List Premises = refuting c.in_ok-found.found c.search.new.tried.nogood (drop c.search.new.tried.place groups) in
-    let refuted : AreNogoods network old others = refuting_are w more groups picked with group i left inside c.insert.ensures.inserted c.with.ensures network old store grows
+    let refuted : AreNogoods network old others = refuting_are w more groups picked with group i left inside c.insert.ensures.inserted c.with-picked.ensures network old store grows
     c.loop-index.alike c.loop-index.nogoods c.search.new.nogoods c.search.new.tried.nogood c.search.new.tried.place
     c.in_ok-found.found c.in_ok-found.ensures.found in
     leaves_noted network old c.search.new.store c.args.nogoods.now c.search.new.nogoods c.take_in.new.nogoods (others ++ wait) c.search.new.tried.last leaves
@@ -320,7 +320,7 @@ loop-index-preserved g t c =
     let wait : List Premises = pending c.loop-index.alike (drop (length seen + 1) groups) (take i (slice_index_or groups (length seen) [])) in
     let waits : AreNogoods network old wait = subst (AreNogoods network old) (sym (same c.loop-index.alike i)) c.loop-index.invariant.passed.are in
     let more : Premises = c.insert.new.self in
-    let with : List ℕ = picked_in c.with.result in
+    let with : List ℕ = picked_in c.with-picked.result in
     let store : Store = c.keep_values.new.store in
     let grows : KeepsMore network old store = subst (KeepsMore network old) (sym {A = Store} c.keep_values.ensures.unchanged) c.loop-index.invariant.leaves.grows in
     let leaves : LeavesSound network old c.args.nogoods.now c.search.new.store c.search.new.nogoods c.search.new.tried.last =
@@ -328,11 +328,11 @@ loop-index-preserved g t c =
     (subst (λ (s : Store). LeavesSound network old c.args.nogoods.now s c.loop-index.nogoods c.loop-index.tried.last) (sym {A = Store} c.keep_values.ensures.unchanged)
     c.loop-index.invariant.leaves) c.search.ensures.leaves in
     let others : List Premises = refuting c.in_ok-found.found c.search.new.tried.nogood (drop c.search.new.tried.place groups) in
-    let refuted : AreNogoods network old others = refuting_are w more groups picked with group i left inside c.insert.ensures.inserted c.with.ensures network old store grows
+    let refuted : AreNogoods network old others = refuting_are w more groups picked with group i left inside c.insert.ensures.inserted c.with-picked.ensures network old store grows
     c.loop-index.alike c.loop-index.nogoods c.search.new.nogoods c.search.new.tried.nogood c.search.new.tried.place
     c.in_ok-found.found c.in_ok-found.ensures.found in
     record {
-      passed = one_passed w more groups picked with group i left inside c.insert.ensures.inserted c.with.ensures network old store grows
+      passed = one_passed w more groups picked with group i left inside c.insert.ensures.inserted c.with-picked.ensures network old store grows
           c.loop-index.alike c.loop-index.nogoods c.search.new.nogoods c.search.new.tried.nogood c.search.new.tried.place
           c.in_ok-found.found c.take_in.new.alike c.take_in.new.nogoods (sym c.ends.ensures ∙ c.if-ends.false) c.in_ok-found.ensures.found
           c.search.ensures.leaves.covers_more leaves.are c.loop-index.invariant.passed
@@ -341,7 +341,7 @@ loop-index-preserved g t c =
           (more_is groups picked seen group c.premises-place.ensures.premises c.group-group.ensures c.loop-index.alike c.take_in.new.alike i
           c.search.new.nogoods c.take_in.new.nogoods others c.in_ok-take_in.ensures.more);
       known = λ all.
-          let nothing = c.search.ensures.known (covered_then w more groups picked with group i left inside c.insert.ensures.inserted c.with.ensures c.args.nogoods.now
+          let nothing = c.search.ensures.known (covered_then w more groups picked with group i left inside c.insert.ensures.inserted c.with-picked.ensures c.args.nogoods.now
           c.loop-index.nogoods c.loop-index.invariant.leaves.covers_more all) in
           let is = found_nothing c.search.result c.in_ok-found.found nothing.0 c.in_ok-found.was in
           let before = c.loop-index.invariant.known all in
@@ -422,8 +422,8 @@ returns-in_err-note_alike-2-clause-known g t c = λ all.
     let here : length picked < length groups = grind (arith, nat_tests, c.requires.few, c.if-place-len.false, c.len.ensures.len, ap length c.premises-place.ensures.premises) in
     let left = group_left groups picked seen group c.premises-place.ensures.premises here c.group-group.ensures in
     let more : Premises = c.insert.new.self in
-    let with : List ℕ = picked_in c.with.result in
-    let nothing = c.search.ensures.known (covered_then w more groups picked with group i left inside c.insert.ensures.inserted c.with.ensures c.args.nogoods.now
+    let with : List ℕ = picked_in c.with-picked.result in
+    let nothing = c.search.ensures.known (covered_then w more groups picked with group i left inside c.insert.ensures.inserted c.with-picked.ensures c.args.nogoods.now
     c.loop-index.nogoods c.loop-index.invariant.leaves.covers_more all) in
     absurd (goes_on c.search.result c.in_ok-found.found c.search.new.tried.nogood w nothing.0 c.in_ok-found.was (sym c.ends.ensures ∙ c.if-ends.true))
 
