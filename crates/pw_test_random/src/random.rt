@@ -11,7 +11,6 @@
 
 mod alternatives;
 mod answers;
-mod chance;
 mod choices;
 mod counts;
 mod cutting;
@@ -25,11 +24,11 @@ mod refusing;
 mod rounds;
 mod showing;
 
-use chance::Random;
 use counts::Counts;
 use cutting::{cut_short, lines_given};
 use drawing::COMMANDS;
 use playing::{Outcome, Play, played};
+use pw_testing::random::Random;
 use refusing::Refused;
 use std::process::Abort;
 use std::test::Fail;

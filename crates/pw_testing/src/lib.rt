@@ -1,5 +1,6 @@
 //! For tests alone: an allocator that refuses the growths that a test chooses, and helpers that the
-//! test crates share. They lend registries and declarations, and make facts and texts.
+//! test crates share. They lend registries and declarations, make facts and texts, and draw random
+//! numbers.
 #![tactic(auto)]
 
 ghost use Rattle.std.specs.Prelude.{◌≡◌, ℕ, ◌<◌, ◌≤◌, ◌^◌, ◌↔◌, IsTrue};
@@ -9,6 +10,7 @@ use std::cell::Cell;
 
 pub mod facts;
 pub mod procedures;
+pub mod random;
 pub mod texts;
 pub mod worlds;
 

@@ -8,6 +8,7 @@ use pw_kinds::Exact;
 use pw_premises::PremiseSet;
 use pw_procs::members_of_mask;
 use pw_testing::facts::fact;
+use pw_testing::random::Random;
 
 /// The declaration that networks are drawn over, with cells of each kind.
 pub const WORLD: &str = "workbench 1
@@ -43,76 +44,35 @@ const TRUTHS: [&str; 2] = ["e", "n"];
 
 const COLORS: [&str; 2] = ["g", "w"];
 
-/// A linear congruential generator.
-#[derive(Clone, Copy)]
-pub struct Random {
-    state: u64,
+// One of the names.
+fn name(random: &mut Random, names: &[&'static str]) -> &'static str {
+    random.one_of(names, "")
 }
 
-impl Random {
-    /// A generator that begins with this seed.
-    pub fn new(seed: u64) -> Random {
-        Random { state: seed }
+// The names of the cells of some kind.
+fn alike(random: &mut Random) -> &'static [&'static str] {
+    match random.below(5) {
+        0 => &EXACTS,
+        1 => &TRUTHS,
+        2 => &COLORS,
+        _ => &INTERVALS,
     }
+}
 
-    /// The next number below `bound`; 0 if `bound` is 0.
-    pub fn below(&mut self, bound: u64) -> u64 {
-        self.state = self
-            .state
-            .wrapping_mul(6_364_136_223_846_793_005)
-            .wrapping_add(1_442_695_040_888_963_407);
-        if bound == 0 {
-            return 0;
-        }
-        (self.state >> 33) % bound
-    }
+/// A random set of the five premises: each is in it with one chance in `chance`.
+pub fn draw_premises(random: &mut Random, chance: u64) -> PremiseSet {
+    random.premises(5, chance)
+}
 
-    // The next number from `lo` on, below `lo + bound`.
-    fn number(&mut self, lo: i64, bound: u32) -> i64 {
-        lo.saturating_add(i64::try_from(self.below(u64::from(bound))).unwrap_or(0))
-    }
-
-    // One of the names.
-    fn name(&mut self, names: &[&'static str]) -> &'static str {
-        let place = self.below(names.len() as u64) as usize;
-        match names.get(place) {
-            Some(name) => *name,
-            None => "",
-        }
-    }
-
-    // The names of the cells of some kind.
-    fn alike(&mut self) -> &'static [&'static str] {
-        match self.below(5) {
-            0 => &EXACTS,
-            1 => &TRUTHS,
-            2 => &COLORS,
-            _ => &INTERVALS,
-        }
-    }
-
-    /// A random set of the five premises: each is in it with one chance in `chance`.
-    pub fn premises(&mut self, chance: u64) -> PremiseSet {
-        let mut premises = PremiseSet::empty();
-        for premise in 0..5u16 {
-            if self.below(chance) == 0 {
-                premises = premises.join(PremiseSet::one(premise));
-            }
-        }
-        premises
-    }
-
-    /// A worldview, and three to go on to: the same, a larger one, and one that does not include
-    /// it.
-    pub fn worldviews(&mut self) -> (PremiseSet, [PremiseSet; 3]) {
-        let number = self.below(5).min(4);
-        let next = number.saturating_add(self.below(4)).saturating_add(1) % 5;
-        let (one, other) = (PremiseSet::one(number as u16), PremiseSet::one(next as u16));
-        let first = self.premises(2).join(one).difference(other);
-        let larger = first.join(other).join(self.premises(2));
-        let apart = self.premises(2).difference(one);
-        (first, [first, larger, apart])
-    }
+/// A worldview, and three to go on to: the same, a larger one, and one that does not include it.
+pub fn draw_worldviews(random: &mut Random) -> (PremiseSet, [PremiseSet; 3]) {
+    let number = random.below(5).min(4);
+    let next = number.saturating_add(random.below(4)).saturating_add(1) % 5;
+    let (one, other) = (PremiseSet::one(number as u16), PremiseSet::one(next as u16));
+    let first = draw_premises(random, 2).join(one).difference(other);
+    let larger = first.join(other).join(draw_premises(random, 2));
+    let apart = draw_premises(random, 2).difference(one);
+    (first, [first, larger, apart])
 }
 
 /// A callable and the cells to which it is attached, under premises.
@@ -146,11 +106,11 @@ fn draw_arithmetic(random: &mut Random) -> (&'static str, [&'static str; 4], usi
         "sum",
         "product",
     ];
-    let callable = random.name(&callables);
+    let callable = name(random, &callables);
     let cells = [
-        random.name(&INTERVALS),
-        random.name(&INTERVALS),
-        random.name(&INTERVALS),
+        name(random, &INTERVALS),
+        name(random, &INTERVALS),
+        name(random, &INTERVALS),
         "",
     ];
     (callable, cells, 3)
@@ -158,16 +118,20 @@ fn draw_arithmetic(random: &mut Random) -> (&'static str, [&'static str; 4], usi
 
 // A callable and its cells.
 fn draw_callable(random: &mut Random) -> (&'static str, [&'static str; 4], usize) {
-    let alike = random.alike();
-    let (truth, one, two) = (random.name(&TRUTHS), random.name(alike), random.name(alike));
+    let kind = alike(random);
+    let (truth, one, two) = (
+        name(random, &TRUTHS),
+        name(random, kind),
+        name(random, kind),
+    );
     let (number, other, third) = (
-        random.name(&INTERVALS),
-        random.name(&INTERVALS),
-        random.name(&INTERVALS),
+        name(random, &INTERVALS),
+        name(random, &INTERVALS),
+        name(random, &INTERVALS),
     );
     match random.below(11) {
-        0 => ("light", [number, random.name(&COLORS), "", ""], 2),
-        1 => ("inverter", [truth, random.name(&TRUTHS), "", ""], 2),
+        0 => ("light", [number, name(random, &COLORS), "", ""], 2),
+        1 => ("inverter", [truth, name(random, &TRUTHS), "", ""], 2),
         2 => ("at_most", [number, other, truth, ""], 3),
         3 => ("switch", [truth, one, two, ""], 3),
         4 => ("copy", [one, two, "", ""], 2),
@@ -180,7 +144,7 @@ fn draw_callable(random: &mut Random) -> (&'static str, [&'static str; 4], usize
 // An attachment.
 fn draw(random: &mut Random) -> Drawn {
     let (callable, cells, count) = draw_callable(random);
-    let support = random.premises(4);
+    let support = draw_premises(random, 4);
     Drawn {
         callable,
         cells,
@@ -208,19 +172,19 @@ fn draw_info(random: &mut Random) -> (&'static str, Info) {
     match random.below(9) {
         0 => {
             let number = Exact::one(random.number(-2, 3)).unwrap_or(Exact::none());
-            (random.name(&EXACTS), Info::of_exact(number))
+            (name(random, &EXACTS), Info::of_exact(number))
         }
         1 => {
             let set = SetKind { number: 0, size: 2 };
             (
-                random.name(&TRUTHS),
+                name(random, &TRUTHS),
                 members_of_mask(set, u128::from(random.below(2).saturating_add(1))),
             )
         }
         2 => {
             let set = SetKind { number: 2, size: 3 };
             (
-                random.name(&COLORS),
+                name(random, &COLORS),
                 members_of_mask(set, u128::from(random.below(7).saturating_add(1))),
             )
         }
@@ -228,7 +192,7 @@ fn draw_info(random: &mut Random) -> (&'static str, Info) {
             let lo = random.number(-30, 50);
             let hi = lo.saturating_add(random.number(0, 60));
             let number = fact(lo, hi, PremiseSet::empty());
-            (random.name(&INTERVALS), number.info)
+            (name(random, &INTERVALS), number.info)
         }
     }
 }
@@ -236,7 +200,7 @@ fn draw_info(random: &mut Random) -> (&'static str, Info) {
 // A fact.
 fn draw_tell(random: &mut Random) -> Tell<'static> {
     let (cell, info) = draw_info(random);
-    let support = random.premises(3);
+    let support = draw_premises(random, 3);
     let fact = Fact { info, support };
     Tell { cell, fact }
 }

@@ -4,11 +4,12 @@
 //! the premises that it rests on. A stage that adds nothing calls nothing.
 
 use super::Matter;
-use super::drawing::{Random, WORLD, draw_attachments, draw_tells};
+use super::drawing::{WORLD, draw_attachments, draw_tells, draw_worldviews};
 use super::growing::{in_lines, is_by_rounds};
 use super::rounds::{by_rounds_at, took_too_long};
 use super::stages::{Stage, settled_in_stages};
 use pw_premises::PremiseSet;
+use pw_testing::random::Random;
 use std::process::Abort;
 use std::test::Fail;
 
@@ -81,7 +82,7 @@ fn compare_all<R: Abort + AllocGlobal>(
     matter: Matter<'_>,
 ) -> Result<(u32, u32), Fail> {
     let parts = draw_parts(random, matter.attachments.len() as u64);
-    let (first, worldviews) = random.worldviews();
+    let (first, worldviews) = draw_worldviews(random);
     let (mut compared, mut telling) = (0u32, 0u32);
     for further in worldviews {
         let stages = stages_of(first, further, &parts);
@@ -95,7 +96,7 @@ fn compare_all<R: Abort + AllocGlobal>(
 
 // Draws a network, and compares its walks through stages.
 fn compare_drawn<R: Abort + AllocGlobal>(rt: &R, seed: u64) -> Result<(u32, u32), Fail> {
-    let mut random = Random::new(seed);
+    let mut random = Random::at(seed, 0);
     let drawn = draw_attachments(&mut random);
     let attachments = in_lines(&drawn);
     let tells = draw_tells(&mut random);

@@ -2,13 +2,14 @@
 //! values are those by rounds. Each is also the value by rounds under just the premises that it
 //! rests on.
 
-use super::drawing::{Drawn, Random, WORLD, draw_attachments, draw_tells};
+use super::drawing::{Drawn, WORLD, draw_attachments, draw_premises, draw_tells};
 use super::rounds::{by_rounds, took_too_long};
 use super::{Answer, Matter, settled};
 use crate::networks::Attachment;
 use pw_facts::Fact;
 use pw_info::Info;
 use pw_premises::PremiseSet;
+use pw_testing::random::Random;
 use std::alloc::{AllocError, Global};
 use std::process::Abort;
 use std::test::Fail;
@@ -111,7 +112,7 @@ fn compare<R: Abort + AllocGlobal>(
 
 // Draws a network, and compares its values in five worldviews.
 fn compare_drawn<R: Abort + AllocGlobal>(rt: &R, seed: u64) -> Result<Option<u32>, Fail> {
-    let mut random = Random::new(seed);
+    let mut random = Random::at(seed, 0);
     let drawn = draw_attachments(&mut random);
     let attachments = in_lines(&drawn);
     let tells = draw_tells(&mut random);
@@ -122,10 +123,10 @@ fn compare_drawn<R: Abort + AllocGlobal>(rt: &R, seed: u64) -> Result<Option<u32
         tells: &tells,
     };
     let worldviews = [
-        random.premises(2),
-        random.premises(3),
+        draw_premises(&mut random, 2),
+        draw_premises(&mut random, 3),
         PremiseSet::first(5),
-        random.premises(2),
+        draw_premises(&mut random, 2),
         PremiseSet::empty(),
     ];
     compare(rt, seed, matter, &worldviews)

@@ -1,9 +1,9 @@
 //! Groups of premises to choose from, drawn at random.
 
-use super::chance::Random;
 use super::declared::PREMISE_COUNT;
 use pw_premises::PremiseSet;
 use pw_reasons::Groups;
+use pw_testing::random::Random;
 
 /// A group of premises, of which one is taken.
 #[derive(Clone, Copy)]

@@ -1,12 +1,12 @@
 //! Commands of several users, drawn from a seed.
 
 use super::alternatives::{Alternatives, draw_alternatives};
-use super::chance::Random;
 use super::declared::{BOB, Callable, GENERAL, PREMISE_COUNT, Sort, USERS};
 use pw_info::{Info, SetKind};
 use pw_kinds::{Exact, Interval};
 use pw_premises::PremiseSet;
 use pw_procs::members_of_mask;
+use pw_testing::random::Random;
 
 /// How many commands a sequence has.
 pub const COMMANDS: usize = 32;
@@ -110,7 +110,7 @@ fn draw_sort(random: &mut Random) -> Sort {
 
 // A cell of this sort.
 fn draw_cell(random: &mut Random, sort: Sort) -> usize {
-    random.one_of(sort.cells())
+    random.one_of(sort.cells(), 0)
 }
 
 // Two cells of one sort.

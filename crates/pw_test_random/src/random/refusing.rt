@@ -1,7 +1,7 @@
 //! Growths that are refused in a run: one or two of them, or one and then all from another on.
 
-use super::chance::Random;
 use pw_testing::Refusing;
+use pw_testing::random::Random;
 use std::alloc::Global;
 
 /// Which growths of a run are refused, by their numbers from 1; at 0 none. The second number counts
