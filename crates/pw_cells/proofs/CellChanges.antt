@@ -34,7 +34,7 @@ tells_then r fact held old cell new same is = on_ok r (tells_so fact held old ce
 pub still_then : {T E : Type 0} (r : Result T E) (old cell new : Cell) → cell ≡ old → OnErr r (new ≡ cell) → OnErr r (new ≡ old)
 still_then r old cell new same = subst (λ (x : Cell). OnErr r (new ≡ cell) → OnErr r (new ≡ x)) same (λ e. e)
 
--- whatever the result, what was told is unchanged, and so is the kind
+-- a success and a failure both leave what was told, and the kind
 pub still_told : {T E : Type 0} (r : Result T E) (fact : Fact) (old new : Cell) → OnOk r (KeepsFact fact old new) → OnErr r (new ≡ old) → new.told ≡ old.told
 still_told (Ok x) fact old new keeps same = keeps.told
 still_told (Err e) fact old new keeps same = ap (λ (x : Cell). x.told) same

@@ -17,7 +17,7 @@ pub record KeepsFact (fact : Fact) (old new : Cell) : Type 0 where
   pub told : new.told ≡ old.told
   pub kind : new.kind ≡ old.kind
 
--- the cell is told the fact, and keeps it; its kind is unchanged
+-- the fact was told about the cell, and the cell keeps it; its kind is unchanged
 pub record TellsFact (fact : Fact) (old new : Cell) : Type 0 where
   pub told : GainsFact fact (told_of old) (told_of new)
   pub kept : GainsFact fact (kept_of old) (kept_of new)
