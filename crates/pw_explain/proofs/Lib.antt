@@ -1,1 +1,3 @@
 pub mod CutLemmas
+pub mod WordPlaces
+pub mod WrittenBytes

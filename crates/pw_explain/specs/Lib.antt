@@ -1,3 +1,4 @@
 pub mod Cut
+pub mod Explanation
 pub mod Spot
 pub mod Wanted

@@ -1,6 +1,6 @@
 //! A text, cut at one of its lines.
-ghost use Rattle.std.specs.Prelude.{◌≡◌, ◌≤◌, ◌++◌, length, IfSome};
-ghost use Rattle.pw_explain.specs.Cut.{IsCutOf};
+ghost use Rattle.std.specs.Prelude.{◌≡◌, ◌≤◌, ◌↔◌, [], length, IfNone, IfSome, IsTrue};
+ghost use Rattle.pw_explain.specs.Cut.{BeginsWithWord, HasNoLine, IsCutAt, IsCutOf};
 
 use crate::before::Before;
 use crate::sort::Stand;
@@ -66,7 +66,8 @@ fn after_end(text: &[u8]) -> &[u8]
 
 // A text whose first line is the one at which it is cut, after the bytes before it.
 fn cut_at_first<'a>(before: &'a [u8], rest: &'a [u8]) -> Option<Cut<'a>>
-    ensures { IfSome result (IsCutOf (before.now ++ rest.now)) }
+    ensures some { IfSome result (λ cut. (cut.before.now ≡ before.now) × IsCutOf rest.now cut) }
+    ensures none { IfNone result (rest.now ≡ []) }
 {
     if rest.is_empty() {
         return None;
@@ -84,7 +85,8 @@ fn cut_at_first<'a>(before: &'a [u8], rest: &'a [u8]) -> Option<Cut<'a>>
 
 /// The text, cut at the line of this number, from 1. None if it has no such line.
 pub fn cut_at(text: &[u8], number: u32) -> Option<Cut<'_>>
-    ensures { IfSome result (IsCutOf text.now) }
+    ensures some { IfSome result (IsCutAt text.now number) }
+    ensures none { IfNone result (HasNoLine text.now number) }
 {
     if number == 0 {
         return None;
@@ -99,7 +101,9 @@ pub fn cut_at(text: &[u8], number: u32) -> Option<Cut<'_>>
 }
 
 /// Whether the first word of the line is this one.
-pub fn begins_with(word: &[u8], line: &[u8]) -> bool {
+pub(crate) fn begins_with(word: &[u8], line: &[u8]) -> bool
+    ensures { IsTrue result ↔ BeginsWithWord word.now line.now }
+{
     match Words::new(line).next() {
         Some(first) => first == word,
         None => false,

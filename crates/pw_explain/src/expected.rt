@@ -1,4 +1,6 @@
 //! What was expected in place of the word at fault.
+ghost use Rattle.std.specs.Prelude.{OnOk};
+ghost use Rattle.pw_explain.specs.Explanation.{GoesOn};
 
 use crate::sort::Sort;
 use std::alloc::{AllocError, Allocator};
@@ -96,7 +98,9 @@ fn add_quoted<A: Allocator>(
     before: &str,
     word: &[u8],
     after: &str,
-) -> Result<(), AllocError> {
+) -> Result<(), AllocError>
+    ensures { OnOk result (GoesOn text.old.items text.new.items) }
+{
     text.extend_from_slice(before.as_bytes())?;
     text.extend_from_slice(word)?;
     text.extend_from_slice(after.as_bytes())
@@ -139,7 +143,9 @@ impl<'a> Expected<'a> {
     }
 
     // Adds the text with a word of it.
-    fn add_with_word<A: Allocator>(&self, text: &mut Vec<u8, A>) -> Result<(), AllocError> {
+    fn add_with_word<A: Allocator>(&self, text: &mut Vec<u8, A>) -> Result<(), AllocError>
+        ensures { OnOk result (GoesOn text.old.items text.new.items) }
+    {
         match *self {
             Expected::NewThanBuiltIn(what) => add_quoted(
                 text,
@@ -173,7 +179,9 @@ impl<'a> Expected<'a> {
         &self,
         alloc: A,
         text: &mut Vec<u8, A>,
-    ) -> Result<(), AllocError> {
+    ) -> Result<(), AllocError>
+        ensures { OnOk result (GoesOn text.old.items text.new.items) }
+    {
         if let Expected::NewThanLine(line, what) = *self {
             let told = format!(in alloc; "a new name; line {line} declares this {what}")?;
             return text.extend_from_slice(told.as_bytes());
@@ -184,7 +192,9 @@ impl<'a> Expected<'a> {
 }
 
 // Adds what spells an information of this kind.
-fn add_information<A: Allocator>(text: &mut Vec<u8, A>, kind: &[u8]) -> Result<(), AllocError> {
+fn add_information<A: Allocator>(text: &mut Vec<u8, A>, kind: &[u8]) -> Result<(), AllocError>
+    ensures { OnOk result (GoesOn text.old.items text.new.items) }
+{
     let forms = if kind == b"interval".as_slice() {
         "`: N or LO..HI from -1000000 to 1000000, nothing or contradiction"
     } else if kind == b"exact".as_slice() {

@@ -1,5 +1,6 @@
 //! The explanation of a faulty line, and the lines in which it is written.
-ghost use Rattle.std.specs.Prelude.{◌≡◌, None};
+ghost use Rattle.std.specs.Prelude.{◌≡◌, ◌++◌, None, OnOk, replicate};
+ghost use Rattle.pw_explain.specs.Explanation as spec;
 
 use crate::expected::Expected;
 use crate::spot::{Place, Spot, is_blank, is_visible, place_of};
@@ -68,11 +69,9 @@ impl<'a> Explanation<'a> {
 }
 
 // Adds a byte `count` times.
-fn add_times<A: Allocator>(
-    text: &mut Vec<u8, A>,
-    byte: u8,
-    count: usize,
-) -> Result<(), AllocError> {
+fn add_times<A: Allocator>(text: &mut Vec<u8, A>, byte: u8, count: usize) -> Result<(), AllocError>
+    ensures { OnOk result (text.new.items ≡ text.old.items ++ replicate count byte) }
+{
     for _ in 0..count {
         text.push(byte)?;
     }
@@ -80,7 +79,9 @@ fn add_times<A: Allocator>(
 }
 
 // The byte as it is shown: a blank as a space, what is not visible as a question mark.
-fn shown_byte(byte: u8) -> u8 {
+fn shown_byte(byte: u8) -> u8
+    ensures { result ≡ spec.shown_byte byte }
+{
     if is_blank(byte) {
         b' '
     } else if is_visible(byte) {
@@ -91,10 +92,13 @@ fn shown_byte(byte: u8) -> u8 {
 }
 
 // The number of the first byte that is shown.
-fn shown_from(line: &[u8], place: Option<Place>) -> usize {
-    match place {
-        Some(place) if line.len() > SHOWN && place.to > SHOWN => place.from,
-        _ => 0,
+fn shown_from(line: &[u8], place: Place) -> usize
+    ensures { result ≡ spec.shown_from line.now place }
+{
+    if line.len() > SHOWN && place.to > SHOWN {
+        place.from
+    } else {
+        0
     }
 }
 
@@ -103,9 +107,12 @@ fn add_shown<A: Allocator>(
     text: &mut Vec<u8, A>,
     line: &[u8],
     from: usize,
-) -> Result<(), AllocError> {
+) -> Result<(), AllocError>
+    ensures { OnOk result (text.new.items ≡ text.old.items ++ spec.shown_part line.now from) }
+{
     text.extend_from_slice(b"    ")?;
-    for byte in line.iter().skip(from).take(SHOWN) {
+    let rest = &line[from.min(line.len())..];
+    for byte in &rest[..rest.len().min(SHOWN)] {
         text.push(shown_byte(*byte))?;
     }
     text.push(b'\n')?;
@@ -117,7 +124,9 @@ fn add_marks<A: Allocator>(
     text: &mut Vec<u8, A>,
     place: Place,
     from: usize,
-) -> Result<(), AllocError> {
+) -> Result<(), AllocError>
+    ensures { OnOk result (text.new.items ≡ text.old.items ++ spec.marks place from) }
+{
     let start = place.from.saturating_sub(from);
     let end = place.to.saturating_sub(from).min(SHOWN);
     text.extend_from_slice(b"    ")?;
@@ -127,34 +136,50 @@ fn add_marks<A: Allocator>(
     Ok(())
 }
 
-/// Writes the faulty line, and under it marks for what is at fault.
+/// Adds the faulty line to a text, and under it marks for what is at fault. At most 100 bytes are
+/// shown: the first ones, or, where what is at fault ends past them, those from there on. A blank is
+/// shown as a space, and a byte that is not visible as a question mark. Fails only when out of memory;
+/// then the text may have a part of it.
 pub fn write_line<A: Allocator>(
     text: &mut Vec<u8, A>,
     line: &[u8],
     spot: Spot,
-) -> Result<(), AllocError> {
-    let place = place_of(line, spot);
+) -> Result<(), AllocError>
+    ensures { OnOk result (spec.ShowsLine line.now spot text.old.items text.new.items) }
+{
+    let Some(place) = place_of(line, spot) else {
+        return add_shown(text, line, 0);
+    };
     let from = shown_from(line, place);
     add_shown(text, line, from)?;
-    match place {
-        Some(place) => add_marks(text, place, from),
-        None => Ok(()),
-    }
+    add_marks(text, place, from)
 }
 
-/// Writes the line that says what was expected, and what is near.
+// Adds the nearest name, if there is one.
+fn add_near<A: Allocator>(text: &mut Vec<u8, A>, near: Option<&[u8]>) -> Result<(), AllocError>
+    ensures { OnOk result (text.new.items ≡ text.old.items ++ spec.said_near near.entry) }
+{
+    let Some(name) = near else {
+        return Ok(());
+    };
+    text.extend_from_slice(b"; perhaps `")?;
+    text.extend_from_slice(name)?;
+    text.push(b'`')?;
+    Ok(())
+}
+
+/// Adds the line that says what was expected, and the nearest name if one is near. Fails only when
+/// out of memory; then the text may have a part of it.
 pub fn write_explanation<A: Allocator + Copy>(
     alloc: A,
     text: &mut Vec<u8, A>,
     explanation: &Explanation<'_>,
-) -> Result<(), AllocError> {
+) -> Result<(), AllocError>
+    ensures { OnOk result (spec.SaysExpected explanation.now.near text.old.items text.new.items) }
+{
     text.extend_from_slice(b"    expected ")?;
     explanation.expected.add(alloc, text)?;
-    if let Some(name) = explanation.near {
-        text.extend_from_slice(b"; perhaps `")?;
-        text.extend_from_slice(name)?;
-        text.push(b'`')?;
-    }
+    add_near(text, explanation.near)?;
     text.push(b'\n')?;
     Ok(())
 }

@@ -20,7 +20,7 @@ mod spot;
 mod unread;
 
 pub use command::explain_refusal;
-pub use cut::{Cut, begins_with, cut_at};
+pub use cut::{Cut, cut_at};
 pub use declaration::{explain_fault, explain_text_fault};
 pub use expected::Expected;
 pub use explanation::{Explanation, write_explanation, write_line};

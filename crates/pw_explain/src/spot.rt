@@ -1,6 +1,11 @@
 //! Where in a line a fault is.
-ghost use Rattle.std.specs.Prelude.{◌≤◌, length, IfSome, IfOk, IfErr};
-ghost use Rattle.pw_explain.specs.Spot.{LiesIn, LiesAfter, IsPlaceIn};
+ghost use Rattle.std.specs.Prelude.{◌≡◌, ◌≤◌, ◌+◌, ◌⊎◌, ◌||◌, [], drop, length, true};
+ghost use Rattle.std.specs.Prelude.{IfErr, IfNone, IfOk, IfSome};
+ghost use Rattle.std.specs.List.{list_all, prefix_len};
+ghost use Rattle.pw_info.specs.Words as spec;
+ghost use Rattle.pw_explain.specs.Spot.{EndsBefore, IsFirstBadByte, IsInWordAt, IsMissingAt};
+ghost use Rattle.pw_explain.specs.Spot.{IsNextWord, IsPlaceOf, IsWordAt, LiesIn};
+ghost use Rattle.pw_explain.specs.Spot.{LiesWithin, next_place, used_len};
 
 /// What is at fault in a line.
 #[derive(Clone, Copy, Debug, PartialEq, Eq)]
@@ -28,21 +33,39 @@ pub struct Place {
 }
 
 // A space, a tab or a carriage return.
-pub(crate) fn is_blank(byte: u8) -> bool {
+pub(crate) fn is_blank(byte: u8) -> bool
+    ensures { result ≡ spec.is_blank byte }
+{
     byte == b' ' || byte == b'\t' || byte == b'\r'
 }
 
 /// Whether the byte is visible ASCII.
-pub(crate) fn is_visible(byte: u8) -> bool {
+pub(crate) fn is_visible(byte: u8) -> bool
+    ensures { spec.is_allowed byte ≡ (spec.is_blank byte || result) }
+{
     0x21 <= byte && byte <= 0x7E
 }
 
-// The number of bytes at the front that are blanks, or that are none.
-fn run_len(bytes: &[u8], blank: bool) -> usize
-    ensures { result ≤ length bytes.now }
+// The number of blanks at the front of the bytes.
+fn blank_len(bytes: &[u8]) -> usize
+    ensures value { result ≡ prefix_len spec.is_blank bytes.now }
+    ensures within { result ≤ length bytes.now }
 {
     for (i, byte) in bytes.iter().enumerate() {
-        if is_blank(*byte) != blank {
+        if !is_blank(*byte) {
+            return i;
+        }
+    }
+    bytes.len()
+}
+
+// The number of bytes before the first blank.
+fn word_len(bytes: &[u8]) -> usize
+    ensures value { result ≡ prefix_len spec.is_plain bytes.now }
+    ensures within { result ≤ length bytes.now }
+{
+    for (i, byte) in bytes.iter().enumerate() {
+        if is_blank(*byte) {
             return i;
         }
     }
@@ -52,23 +75,21 @@ fn run_len(bytes: &[u8], blank: bool) -> usize
 // The place of the first word from this byte on.
 fn next_word(line: &[u8], at: usize) -> Option<Place>
     requires { at ≤ length line.now }
-    ensures { IfSome result (LiesIn line.now) }
+    ensures some { IfSome result (IsNextWord line.now at) }
+    ensures none { IfNone result (spec.words_of (drop at line.now) ≡ []) }
 {
-    let rest = &line[at..];
-    let gap = run_len(rest, true);
-    let word = &rest[gap..];
-    if word.is_empty() {
+    let from = at + blank_len(&line[at..]);
+    let to = from + word_len(&line[from..]);
+    if from == to {
         return None;
     }
-    let from = at + gap;
-    let to = from + run_len(word, false);
     Some(Place { from, to })
 }
 
 // The place of the word of this number, or where the last word ends if there are fewer.
 fn find_word(line: &[u8], number: usize) -> Result<Place, usize>
-    ensures ok { IfOk result (LiesIn line.now) }
-    ensures err { IfErr result (λ end. end ≤ length line.now) }
+    ensures ok { IfOk result (IsWordAt line.now number) }
+    ensures err { IfErr result (EndsBefore line.now number) }
 {
     let mut end = 0;
     for _ in 0..number {
@@ -83,10 +104,12 @@ fn find_word(line: &[u8], number: usize) -> Result<Place, usize>
     }
 }
 
-// The place of a word that is missing, where the last word ends at this byte.
+// The place of the word that is missing, where the last word ends at this byte.
 fn missing_after(line: &[u8], end: usize) -> Place
-    requires { end ≤ length line.now }
-    ensures { LiesAfter line.now result }
+    requires within { end ≤ length line.now }
+    requires last { end ≡ used_len line.now }
+    ensures from { result.from ≡ next_place line.now }
+    ensures to { result.to ≡ result.from + 1 }
 {
     let from = if end == 0 { 0 } else { end + 1 };
     Place { from, to: from + 1 }
@@ -94,7 +117,7 @@ fn missing_after(line: &[u8], end: usize) -> Place
 
 // The place of the word of this number, or of the word that is missing after the last.
 fn place_of_word(line: &[u8], number: usize) -> Place
-    ensures { IsPlaceIn line.now result }
+    ensures { IsWordAt line.now number result ⊎ IsMissingAt line.now number result }
 {
     match find_word(line, number) {
         Ok(word) => word,
@@ -105,7 +128,7 @@ fn place_of_word(line: &[u8], number: usize) -> Place
 // The place of the name of this number in the word at this place.
 fn name_in(line: &[u8], word: Place, number: usize) -> Place
     requires { LiesIn line.now word }
-    ensures { LiesIn line.now result }
+    ensures { LiesWithin word result }
 {
     let mut from = word.from;
     let mut left = number;
@@ -123,7 +146,7 @@ fn name_in(line: &[u8], word: Place, number: usize) -> Place
 
 // The place of the name of this number in the word of that number, or of the word if it is missing.
 fn place_of_name(line: &[u8], word: usize, number: usize) -> Place
-    ensures { IsPlaceIn line.now result }
+    ensures { IsInWordAt line.now word result }
 {
     match find_word(line, word) {
         Ok(place) => name_in(line, place, number),
@@ -133,7 +156,8 @@ fn place_of_name(line: &[u8], word: usize, number: usize) -> Place
 
 // The place of the first byte that no line may have.
 fn place_of_byte(line: &[u8]) -> Option<Place>
-    ensures { IfSome result (LiesIn line.now) }
+    ensures some { IfSome result (IsFirstBadByte line.now) }
+    ensures none { IfNone result (list_all spec.is_allowed line.now ≡ true) }
 {
     for (i, byte) in line.iter().enumerate() {
         if !is_blank(*byte) && !is_visible(*byte) {
@@ -143,9 +167,10 @@ fn place_of_byte(line: &[u8]) -> Option<Place>
     None
 }
 
-/// The place in the line of what is at fault. None for the line as a whole.
+/// The place in the line of what is at fault. None for the line as a whole, and for a byte that no
+/// line may have if there is none.
 pub fn place_of(line: &[u8], spot: Spot) -> Option<Place>
-    ensures { IfSome result (IsPlaceIn line.now) }
+    ensures { IsPlaceOf line.now spot result }
 {
     match spot {
         Spot::Word(number) => Some(place_of_word(line, number)),

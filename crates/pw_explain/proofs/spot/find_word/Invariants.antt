@@ -1,6 +1,6 @@
-use Rattle.std.proofs.Common.{◌≤◌, length}
+use Rattle.pw_explain.specs.Spot.{PassesWords}
 use Rattle.pw_explain.proofs.spot.find_word.Given as goal
 
--- the last word ends in the line
+-- as many words as passes so far come before the end of the last one
 abbrev pub invariant-loop : goal.invariant-loop
-invariant-loop l = l.end ≤ length l.line
+invariant-loop l = PassesWords l.line l.counter l.end
