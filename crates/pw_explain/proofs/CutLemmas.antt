@@ -1,9 +1,9 @@
 -- Lines before a line.
-use Rattle.std.proofs.Common.{◌≡◌, ℕ, ◌+◌, ◌≤◌, ◌<◌, ◌-◌, List, [], ◌∷◌, ◌++◌, length, length-append, take, refl, sym, ap, subst, ◌∙◌, append-nil, inr, arith}
+use Rattle.std.proofs.Common.{append_assoc, inl, ◌≡◌, ℕ, ◌+◌, ◌≤◌, ◌<◌, ◌-◌, List, [], ◌∷◌, ◌++◌, length, length-append, take, refl, sym, ap, subst, ◌∙◌, append-nil, inr, arith}
 use Rattle.std.proofs.Math.Seq.{take-append-add}
 use Rattle.pw_info.specs.Lines.{HasNoEnd, last_line, lines_of, text_of_lines}
 use Rattle.pw_info.proofs.LineLemmas.{ended_more, lines_of_ended_lines, lines_of_held, text_ended, text_held}
-use Rattle.pw_explain.specs.Cut.{AreWholeLines, HasNoLine}
+use Rattle.pw_explain.specs.Cut.{AreWholeLines, HasNoLine, IsRestOf}
 
 -- this many lines come before the rest of the text
 pub record Precede (text rest : List ℕ) (number : ℕ) : Type 0 where
@@ -56,3 +56,20 @@ no_line_further text rest passed number held none more =
 pub no_line_left : (text rest : List ℕ) (passed number : ℕ) → Precede text rest passed → rest ≡ [] → passed < number → HasNoLine text number
 no_line_left text rest passed number held none more =
     inr (omega (arith, lines_of_all text rest passed held, ap (λ (t : List ℕ). length (lines_of t)) none))
+
+-- What comes after a line feed.
+pub rest_after : (text front rest line after : List ℕ) → text ≡ front ++ rest → rest ≡ line ++ 10 ∷ after → IsRestOf text after
+rest_after text front rest line after is line_is = record {
+  before = (front ++ line) ++ 10 ∷ [];
+  is = is ∙ ap (λ (end : List ℕ). front ++ end) (line_is ∙ sym (append_assoc line (10 ∷ []) after)) ∙ sym (append_assoc front (line ++ 10 ∷ []) after)
+      ∙ ap (λ (l : List ℕ). l ++ after) (sym (append_assoc front line (10 ∷ [])));
+  ends = inr (front ++ line, refl);
+}
+
+-- Nothing comes after all.
+pub none_after : (text : List ℕ) → IsRestOf text []
+none_after text = record { before = text; is = sym (append-nil text); ends = inl refl }
+
+-- One line further, the rest is still an end of the text.
+pub end_after : (text front rest line after : List ℕ) → text ≡ front ++ rest → rest ≡ line ++ 10 ∷ after → (before : List ℕ) × (text ≡ before ++ after)
+end_after text front rest line after is line_is = let found = rest_after text front rest line after is line_is in (found.before, found.is)

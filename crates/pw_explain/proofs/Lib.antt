@@ -1,3 +1,6 @@
 pub mod CutLemmas
+pub mod DroppedLines
+pub mod KeptLines
+pub mod LineEnds
 pub mod WordPlaces
 pub mod WrittenBytes

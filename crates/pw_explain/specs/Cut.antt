@@ -35,3 +35,9 @@ HasNoLine text number = (number ≡ 0) ⊎ (length (lines_of text) < number)
 -- the word is the first one of the line
 abbrev pub BeginsWithWord : List ℕ → List ℕ → Type 0
 BeginsWithWord word line = (words : List (List ℕ)) × (words_of line ≡ word ∷ words)
+
+-- the rest of the bytes begins after one of their line feeds, or there is no rest
+pub record IsRestOf (bytes rest : List ℕ) : Type 0 where
+  pub before : List ℕ
+  pub is : bytes ≡ before ++ rest
+  pub ends : (rest ≡ []) ⊎ ((front : List ℕ) × (before ≡ front ++ line_feed ∷ []))

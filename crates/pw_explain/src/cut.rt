@@ -1,6 +1,6 @@
 //! A text, cut at one of its lines.
-ghost use Rattle.std.specs.Prelude.{◌≡◌, ◌≤◌, ◌↔◌, [], length, IfNone, IfSome, IsTrue};
-ghost use Rattle.pw_explain.specs.Cut.{BeginsWithWord, HasNoLine, IsCutAt, IsCutOf};
+ghost use Rattle.std.specs.Prelude.{◌≡◌, ◌↔◌, [], IfNone, IfSome, IsTrue};
+ghost use Rattle.pw_explain.specs.Cut.{BeginsWithWord, HasNoLine, IsCutAt, IsCutOf, IsRestOf};
 
 use crate::before::Before;
 use crate::sort::Stand;
@@ -28,11 +28,16 @@ impl<'a> Cut<'a> {
         !idles(self.line) && self.stand() == Stand::BeforeHeader
     }
 
+    // Whether the line begins a compound.
+    fn opens_compound(&self) -> bool {
+        begins_with(b"compound", self.line) && self.stand() == Stand::Outside
+    }
+
     /// The lines after the line; if it begins a compound, those after the end of the compound.
     pub(crate) fn rest(&self) -> &'a [u8]
-        ensures { length result.now ≤ length self.now.after.now }
+        ensures { IsRestOf self.now.after.now result.now }
     {
-        if begins_with(b"compound", self.line) && self.stand() == Stand::Outside {
+        if self.opens_compound() {
             after_end(self.after)
         } else {
             after_line(self.after)
@@ -42,7 +47,7 @@ impl<'a> Cut<'a> {
 
 // The lines after the first.
 fn after_line(text: &[u8]) -> &[u8]
-    ensures { length result.now ≤ length text.now }
+    ensures { IsRestOf text.now result.now }
 {
     match next_line(text) {
         Some((_, rest)) => rest,
@@ -52,7 +57,7 @@ fn after_line(text: &[u8]) -> &[u8]
 
 // The lines after the one that ends the open compound.
 fn after_end(text: &[u8]) -> &[u8]
-    ensures { length result.now ≤ length text.now }
+    ensures { IsRestOf text.now result.now }
 {
     let mut rest = text;
     while let Some((line, after)) = next_line(rest) {

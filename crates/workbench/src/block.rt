@@ -1,10 +1,10 @@
 //! What `explain` prints of one line of a transcript.
-ghost use Rattle.std.specs.Prelude.{◌≡◌, ◌++◌, IfOk, IfSome, IfNone, codes};
+ghost use Rattle.std.specs.Prelude.{◌≡◌, ◌++◌, IfOk, IfSome, IfNone};
 ghost use Rattle.pw_info.specs.Passing.{Writes};
 ghost use Rattle.pw_decl.specs.inside.Fields.{declared};
 ghost use Rattle.pw_sessions.specs.Reply as replies;
 ghost use Rattle.pw_transcript.specs.ReplyText.{text_of_reply};
-ghost use Rattle.workbench.specs.Explaining.{IsBlockOf, IsNotRefused, title_of};
+ghost use Rattle.workbench.specs.Explaining.{IsBlockOf, IsNotRefused, IsToldOf, title_of};
 
 use pw_decl::Declaration;
 use pw_explain::{explain_refusal, write_explanation, write_line};
@@ -66,7 +66,10 @@ fn told<A: Allocator + Copy>(
     declaration: &Declaration<'_, A>,
     line: &[u8],
     refusal: Refusal,
-) -> Result<Vec<u8, A>, AllocError> {
+) -> Result<Vec<u8, A>, AllocError>
+    ensures { IfOk result (λ told.
+        IsToldOf (declared declaration.now) refusal line.now told.items) }
+{
     let explanation = explain_refusal(table, text, declaration, line, refusal);
     let mut told = Vec::new(alloc);
     write_line(&mut told, line, explanation.spot)?;
