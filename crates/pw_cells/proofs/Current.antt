@@ -67,6 +67,13 @@ unsubsumed_gone f x xs e = ap (λ b. cond (not b) (x ∷ unsubsumed f xs) (unsub
 unsubsumed_there : (f x : Fact) (xs : List Fact) → does_subsume f x ≡ false → unsubsumed f (x ∷ xs) ≡ x ∷ unsubsumed f xs
 unsubsumed_there f x xs e = ap (λ b. cond (not b) (x ∷ unsubsumed f xs) (unsubsumed f xs)) e
 
+-- of an only fact that another subsumes, none stays
+pub only_gone : (f held : Fact) (xs : List Fact) → length xs ≡ 1 → held ≡ get_or xs 0 held → does_subsume f held ≡ true → unsubsumed f (current xs) ≡ []
+only_gone f held [] one is test = absurd (cc)
+only_gone f held (x ∷ []) one is test =
+    ap (unsubsumed f) (current_stays x [] refl) ∙ unsubsumed_gone f x [] (ap (λ (y : Fact). does_subsume f y) (sym is) ∙ test)
+only_gone f held (x ∷ y ∷ xs) one is test = absurd (cc)
+
 -- ---- one more comes at the end, which none subsumes
 
 -- none of more facts, so none of fewer

@@ -1,6 +1,6 @@
 //! Keeping a fact in a list, where the facts that it subsumes are kept no longer.
 
-ghost use Rattle.std.specs.Prelude.{◌≡◌, ◌+◌, ◌<◌, ◌≤◌, ◌↔◌, ◌++◌, ◌∷◌, [], false};
+ghost use Rattle.std.specs.Prelude.{◌≡◌, ◌+◌, ◌<◌, ◌≤◌, ◌↔◌, ◌++◌, ◌∷◌, [], false, length};
 ghost use Rattle.std.specs.Prelude.{vec_len, vec_capacity, IsTrue};
 ghost use Rattle.pw_info.specs.Information.{kind_of};
 ghost use Rattle.pw_cells.specs.Cells.{IsSubsumedBy, assimilated, all_assimilated, unsubsumed};
@@ -125,11 +125,78 @@ pub(crate) fn assimilate<C: Content, S: Support, A: Allocator>(
     ensures capacity { vec_capacity kept.old ≤ vec_capacity kept.new }
 {
     if !known {
-        shorten(kept, bound, limit);
-        make_way(kept, bound, fact);
-        append(kept, fact);
-        bound.raise(kept.as_slice());
+        assimilate_news(kept, bound, limit, fact);
     }
+}
+
+// The same, where no kept fact subsumes this one.
+#[inline(always)]
+fn assimilate_news<C: Content, S: Support, A: Allocator>(
+    kept: &mut Vec<Held<C, S>, A>,
+    bound: &mut Bound,
+    limit: &mut usize,
+    fact: &Held<C, S>,
+)
+    requires kinds { AreOfKind (kind_of fact.now.info) kept.old.items }
+    requires bounds { Bounds (kind_of fact.now.info) kept.old.items bound.old }
+    requires news { IsSubsumedBy kept.old.items fact.now → ⊥ }
+    requires room { vec_len kept.old < vec_capacity kept.old }
+    ensures assimilated { current kept.new.items ≡ unsubsumed fact.now (current kept.old.items)
+        ++ fact.now ∷ [] }
+    ensures kinds { AreOfKind (kind_of fact.now.info) kept.new.items }
+    ensures bounds { Bounds (kind_of fact.now.info) kept.new.items bound.new }
+    ensures len { vec_len kept.new ≤ vec_len kept.old + 1 }
+    ensures capacity { vec_capacity kept.old ≤ vec_capacity kept.new }
+{
+    if kept.len() == 1 && fact.subsumes(&kept[0]) {
+        replace_only(kept, bound, fact);
+        return;
+    }
+    push_news(kept, bound, limit, fact);
+}
+
+// Puts a fact in the place of the only one of the list, which it subsumes. A cell that is narrowed step
+// by step has one fact, and most of its facts take this way.
+#[inline(always)]
+fn replace_only<C: Content, S: Support, A: Allocator>(
+    kept: &mut Vec<Held<C, S>, A>,
+    bound: &mut Bound,
+    fact: &Held<C, S>,
+)
+    requires only { length kept.old.items ≡ 1 }
+    requires bounds { Bounds (kind_of fact.now.info) kept.old.items bound.old }
+    ensures items { kept.new.items ≡ fact.now ∷ [] }
+    ensures bounds { Bounds (kind_of fact.now.info) kept.new.items bound.new }
+    ensures len { vec_len kept.new ≡ vec_len kept.old }
+    ensures capacity { vec_capacity kept.new ≡ vec_capacity kept.old }
+{
+    bound.lower(1);
+    kept[0] = *fact;
+}
+
+// Makes way for a fact that no kept one subsumes, and appends it.
+#[inline(always)]
+fn push_news<C: Content, S: Support, A: Allocator>(
+    kept: &mut Vec<Held<C, S>, A>,
+    bound: &mut Bound,
+    limit: &mut usize,
+    fact: &Held<C, S>,
+)
+    requires kinds { AreOfKind (kind_of fact.now.info) kept.old.items }
+    requires bounds { Bounds (kind_of fact.now.info) kept.old.items bound.old }
+    requires news { IsSubsumedBy kept.old.items fact.now → ⊥ }
+    requires room { vec_len kept.old < vec_capacity kept.old }
+    ensures assimilated { current kept.new.items ≡ unsubsumed fact.now (current kept.old.items)
+        ++ fact.now ∷ [] }
+    ensures kinds { AreOfKind (kind_of fact.now.info) kept.new.items }
+    ensures bounds { Bounds (kind_of fact.now.info) kept.new.items bound.new }
+    ensures len { vec_len kept.new ≤ vec_len kept.old + 1 }
+    ensures capacity { vec_capacity kept.old ≤ vec_capacity kept.new }
+{
+    shorten(kept, bound, limit);
+    make_way(kept, bound, fact);
+    append(kept, fact);
+    bound.raise(kept.as_slice());
 }
 
 // Drops the facts that a later one outdoes, if the list is long. The limit is then four times its

@@ -3,7 +3,8 @@ ghost use Rattle.std.specs.Prelude.{◌≡◌, ◌++◌, None, OnOk, replicate};
 ghost use Rattle.pw_explain.specs.Explanation as spec;
 
 use crate::expected::Expected;
-use crate::spot::{Place, Spot, is_blank, is_visible, place_of};
+use crate::spot::{Place, Spot, is_visible, place_of};
+use pw_info::is_blank;
 use std::alloc::{AllocError, Allocator};
 
 // The greatest number of bytes of a line that are shown.

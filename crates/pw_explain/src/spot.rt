@@ -1,11 +1,13 @@
 //! Where in a line a fault is.
 ghost use Rattle.std.specs.Prelude.{◌≡◌, ◌≤◌, ◌+◌, ◌⊎◌, ◌||◌, [], drop, length, true};
 ghost use Rattle.std.specs.Prelude.{IfErr, IfNone, IfOk, IfSome};
-ghost use Rattle.std.specs.List.{list_all, prefix_len};
+ghost use Rattle.std.specs.List.{list_all};
 ghost use Rattle.pw_info.specs.Words as spec;
 ghost use Rattle.pw_explain.specs.Spot.{EndsBefore, IsFirstBadByte, IsInWordAt, IsMissingAt};
 ghost use Rattle.pw_explain.specs.Spot.{IsNextWord, IsPlaceOf, IsWordAt, LiesIn};
 ghost use Rattle.pw_explain.specs.Spot.{LiesWithin, next_place, used_len};
+
+use pw_info::{blank_len, is_blank, word_len};
 
 /// What is at fault in a line.
 #[derive(Clone, Copy, Debug, PartialEq, Eq)]
@@ -32,44 +34,11 @@ pub struct Place {
     pub to: usize,
 }
 
-// A space, a tab or a carriage return.
-pub(crate) fn is_blank(byte: u8) -> bool
-    ensures { result ≡ spec.is_blank byte }
-{
-    byte == b' ' || byte == b'\t' || byte == b'\r'
-}
-
 /// Whether the byte is visible ASCII.
 pub(crate) fn is_visible(byte: u8) -> bool
     ensures { spec.is_allowed byte ≡ (spec.is_blank byte || result) }
 {
     0x21 <= byte && byte <= 0x7E
-}
-
-// The number of blanks at the front of the bytes.
-fn blank_len(bytes: &[u8]) -> usize
-    ensures value { result ≡ prefix_len spec.is_blank bytes.now }
-    ensures within { result ≤ length bytes.now }
-{
-    for (i, byte) in bytes.iter().enumerate() {
-        if !is_blank(*byte) {
-            return i;
-        }
-    }
-    bytes.len()
-}
-
-// The number of bytes before the first blank.
-fn word_len(bytes: &[u8]) -> usize
-    ensures value { result ≡ prefix_len spec.is_plain bytes.now }
-    ensures within { result ≤ length bytes.now }
-{
-    for (i, byte) in bytes.iter().enumerate() {
-        if is_blank(*byte) {
-            return i;
-        }
-    }
-    bytes.len()
 }
 
 // The place of the first word from this byte on.

@@ -28,4 +28,4 @@ pub use output::{Failed, Output, Writing, put_all};
 pub use text::{read_info, write_info};
 pub use text_lines::TextLines;
 pub use word_names::{are_names, read_name};
-pub use words::{Words, allows_all, idles};
+pub use words::{Words, allows_all, blank_len, idles, is_blank, word_len};

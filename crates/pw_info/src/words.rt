@@ -8,8 +8,8 @@ ghost use Rattle.pw_info.specs.Words as spec;
 use crate::lanes::{LANES, before_blank};
 use std::marker::Model;
 
-// A space, a tab or a carriage return.
-fn is_blank(byte: u8) -> bool
+/// Whether the byte is a blank: a space, a tab or a carriage return.
+pub fn is_blank(byte: u8) -> bool
     ensures { result ≡ spec.is_blank byte }
 {
     byte == b' ' || byte == b'\t' || byte == b'\r'
@@ -82,8 +82,8 @@ fn without_last_spaces(line: &[u8]) -> &[u8]
     }
 }
 
-// The number of blanks at the front of the bytes.
-fn blank_len(bytes: &[u8]) -> usize
+/// The number of blanks at the front of the bytes.
+pub fn blank_len(bytes: &[u8]) -> usize
     ensures value { result ≡ prefix_len spec.is_blank bytes.now }
     ensures within { result ≤ length bytes.now }
 {
@@ -102,8 +102,8 @@ fn after_blanks(bytes: &[u8]) -> &[u8]
     &bytes[blank_len(bytes)..]
 }
 
-// The number of bytes of the first word, if no blank comes before it.
-fn word_len(bytes: &[u8]) -> usize
+/// The number of bytes before the first blank.
+pub fn word_len(bytes: &[u8]) -> usize
     ensures value { result ≡ prefix_len spec.is_plain bytes.now }
     ensures within { result ≤ length bytes.now }
 {

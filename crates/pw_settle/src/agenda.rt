@@ -7,12 +7,15 @@ ghost use Rattle.pw_settle.specs.inside.Progress.{IsIdle, is_set};
 use std::alloc::{AllocError, Allocator, Global};
 use std::marker::Model;
 
+// The list of a small network has room for so many. With less it would be full again and again.
+const LEAST_ROOM: usize = 64;
+
 // Numbers of instances, each at most once, in the order in which they came. Which one is taken next
 // is free: no contract depends on it. (First in, first out calls an instance once for the news of
 // several of its inputs.)
 //
 // Those that were taken stay in the list until it is full, which is faster than a ring. It has room
-// for twice as many as there are instances, so it is seldom full.
+// for twice as many as there are instances, and for some in a small network too, so it is seldom full.
 #[derive(Drop)]
 pub(crate) struct Agenda<A: Allocator = Global> {
     queued: Vec<bool, A>,
@@ -46,7 +49,7 @@ impl<A: Allocator + Copy> Agenda<A> {
         }
         Ok(Agenda {
             queued: vec![in alloc; false; count]?,
-            listed: Vec::with_capacity(alloc, 2 * count)?,
+            listed: Vec::with_capacity(alloc, room_for(count))?,
             taken: 0,
         })
     }
@@ -72,7 +75,7 @@ impl<A: Allocator + Copy> Agenda<A> {
             return Err(AllocError);
         }
         self.clear();
-        self.listed.reserve(2 * count)?;
+        self.listed.reserve(room_for(count))?;
         self.queued.resize(count, false)
     }
 
@@ -124,6 +127,14 @@ impl<A: Allocator + Copy> Agenda<A> {
         self.listed.clear();
         self.taken = 0;
     }
+}
+
+// The room of the list for so many instances.
+fn room_for(count: usize) -> usize
+    requires { count ≤ 4294967295 }
+    ensures { count ≤ result }
+{
+    (2 * count).max(LEAST_ROOM)
 }
 
 // Makes room for one more to wait: if the list is full, it forgets those that were taken.

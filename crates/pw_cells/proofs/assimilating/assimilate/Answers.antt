@@ -11,13 +11,8 @@ use Rattle.pw_cells.proofs.Current.{kinds_current, subsumed_by_current, subsumed
 use Rattle.pw_cells.proofs.Late.{any_subsumes, none_subsume, assimilated_known, assimilated_news}
 use Rattle.pw_cells.proofs.assimilating.assimilate.Goals as goal
 
-pub make_way-requires-clause-news : goal.make_way-requires-clause-news
-make_way-requires-clause-news g c = λ held.
-    let f = c.args.fact.now in
-    let now : IsSubsumedBy (current c.shorten.new.kept.items) f =
-    subsumed_by_current (kind_of c.args.bound.now.info) c.shorten.new.kept.items f c.shorten.ensures.kinds held in
-    let before : IsSubsumedBy (current c.args.kept.now.items) f = subst (λ (l : List Fact). IsSubsumedBy l f) c.shorten.ensures.current now in
-    not_both _ (c.requires.known.1 (subsumed_by_some c.args.kept.now.items f before)) c.if-not-known.true
+pub assimilate_news-requires-clause-news : goal.assimilate_news-requires-clause-news
+assimilate_news-requires-clause-news g c = λ held. not_both _ (c.requires.known.1 held) c.if-not-known.true
 
 pub returns-then-not-known-clause-assimilated : goal.returns-then-not-known-clause-assimilated
 returns-then-not-known-clause-assimilated g c =
@@ -26,8 +21,7 @@ returns-then-not-known-clause-assimilated g c =
     let kinds : AreOfKind (kind_of f.info) (current kept) = kinds_current (kind_of f.info) kept c.requires.kinds in
     let none : list_any (λ x. does_subsume x f) (current kept) ≡ false =
     none_subsume (kind_of f.info) f (current kept) refl kinds (λ held. not_both _ (c.requires.known.1 (subsumed_by_some kept f held)) c.if-not-known.true) in
-    ap current c.append.ensures.items ∙ c.make_way.ensures.current ∙ ap (λ l. unsubsumed f l ++ f ∷ []) c.shorten.ensures.current
-    ∙ sym (assimilated_news f (current kept) none)
+    c.assimilate_news.ensures.assimilated ∙ sym (assimilated_news f (current kept) none)
 
 pub returns-else-not-known-clause-assimilated : goal.returns-else-not-known-clause-assimilated
 returns-else-not-known-clause-assimilated g c =
@@ -36,51 +30,6 @@ returns-else-not-known-clause-assimilated g c =
     sym (assimilated_known f (current kept)
     (any_subsumes (kind_of f.info) f (current kept) refl (kinds_current (kind_of f.info) kept c.requires.kinds)
     (subsumed_by_current (kind_of f.info) kept f c.requires.kinds (c.requires.known.0 c.if-not-known.false))))
-
-pub shorten-requires-clause-kinds : goal.shorten-requires-clause-kinds
-shorten-requires-clause-kinds g c =
-    subst (λ (k : Kind). AreOfKind k c.args.kept.now.items) (sym {A = Kind} c.requires.bounds.of_kind) c.requires.kinds
-
-pub shorten-requires-clause-bounds : goal.shorten-requires-clause-bounds
-shorten-requires-clause-bounds g c =
-    subst (λ (k : Kind). Bounds k c.args.kept.now.items c.args.bound.now) (sym {A = Kind} c.requires.bounds.of_kind) c.requires.bounds
-
-pub make_way-requires-clause-kinds : goal.make_way-requires-clause-kinds
-make_way-requires-clause-kinds g c =
-    subst (λ (k : Kind). AreOfKind k c.shorten.new.kept.items) c.requires.bounds.of_kind c.shorten.ensures.kinds
-
-pub make_way-requires-clause-bounds : goal.make_way-requires-clause-bounds
-make_way-requires-clause-bounds g c =
-    subst (λ (k : Kind). Bounds k c.shorten.new.kept.items c.shorten.new.bound) c.requires.bounds.of_kind c.shorten.ensures.bounds
-
-pub append-requires : goal.append-requires
-append-requires g c =
-    omega (arith, c.requires.room c.if-not-known.true, c.shorten.ensures.len, c.shorten.ensures.capacity, c.make_way.ensures.len, c.make_way.ensures.capacity)
-
-pub raise-requires-clause-kinds : goal.raise-requires-clause-kinds
-raise-requires-clause-kinds g c =
-    subst (λ (k : Kind). AreOfKind k c.as_slice.result.now) (sym {A = Kind} c.make_way.ensures.bounds.of_kind)
-    (kinds_pushed _ _ _ _ c.make_way.ensures.kinds refl (c.as_slice.ensures.value ∙ c.append.ensures.items))
-
-pub raise-requires-clause-bounds : goal.raise-requires-clause-bounds
-raise-requires-clause-bounds g c =
-    subst (λ (k : Kind). Bounds k c.as_slice.result.now c.make_way.new.bound) (sym {A = Kind} c.make_way.ensures.bounds.of_kind)
-    (bounds_pushed _ _ _ _ _ c.make_way.ensures.bounds (c.as_slice.ensures.value ∙ c.append.ensures.items))
-
-pub returns-then-not-known-clause-kinds : goal.returns-then-not-known-clause-kinds
-returns-then-not-known-clause-kinds g c = kinds_pushed _ _ _ _ c.make_way.ensures.kinds refl c.append.ensures.items
-
-pub returns-then-not-known-clause-bounds : goal.returns-then-not-known-clause-bounds
-returns-then-not-known-clause-bounds g c =
-    subst (λ (k : Kind). Bounds k c.append.new.facts.items c.raise.new.self) c.make_way.ensures.bounds.of_kind
-    (subst (λ (l : List Fact). Bounds (kind_of c.make_way.new.bound.info) l c.raise.new.self) c.as_slice.ensures.value c.raise.ensures)
-
-pub returns-then-not-known-clause-len : goal.returns-then-not-known-clause-len
-returns-then-not-known-clause-len g c =
-    omega (arith, c.shorten.ensures.len, c.make_way.ensures.len, ap length c.append.ensures.items, length-append c.make_way.new.kept.items (c.args.fact.now ∷ []))
-
-pub returns-then-not-known-clause-capacity : goal.returns-then-not-known-clause-capacity
-returns-then-not-known-clause-capacity g c = omega (arith, c.append.ensures.capacity, c.shorten.ensures.capacity, c.make_way.ensures.capacity)
 
 pub returns-else-not-known-clause-kinds : goal.returns-else-not-known-clause-kinds
 returns-else-not-known-clause-kinds g c = c.requires.kinds

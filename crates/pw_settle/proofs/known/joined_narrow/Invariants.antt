@@ -5,4 +5,4 @@ use Rattle.pw_settle.proofs.known.joined_narrow.Given as goal
 
 -- the rest, joined to what is joined so far, is all
 abbrev pub invariant-loop-input : goal.invariant-loop-input
-invariant-loop-input g l = joined l.supports l.joined (drop l.input-index l.input-items) ≡ joined l.supports (attachment l.instance).support l.input-items
+invariant-loop-input g l = joined l.supports l.joined (drop l.input-index l.inputs) ≡ joined l.supports (attachment l.instance).support l.inputs
