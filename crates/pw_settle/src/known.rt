@@ -171,7 +171,11 @@ pub(crate) fn joined_narrow<A: Allocator>(
     let mut joined = NarrowSet::of(&instance.support().widen())?;
     let inputs = instance.inputs();
     if let [one, another] = inputs {
-        return Some(joined.join(narrow[*one as usize]).join(narrow[*another as usize]));
+        return Some(
+            joined
+                .join(narrow[*one as usize])
+                .join(narrow[*another as usize]),
+        );
     }
     for input in inputs {
         joined = joined.join(narrow[*input as usize]);
