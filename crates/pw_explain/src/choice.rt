@@ -1,15 +1,18 @@
 //! What is wrong with the groups of a choice.
-ghost use Rattle.std.specs.Prelude.{◌≡◌, IfSome};
+ghost use Rattle.std.specs.Prelude.{◌≡◌, ◌++◌, ◌∷◌, [], IfNone, IfSome, MatchOption, codes};
 ghost use Rattle.pw_decl.specs.inside.Fields.{declared};
-ghost use Rattle.pw_explain.specs.Wanted.{IsOneOf};
+ghost use Rattle.pw_explain.specs.Wanted.{IsNameAt, IsNearestAtSpot, names_in};
+ghost use Rattle.pw_explain.specs.inside.Bars.{HasNoBar};
+ghost use Rattle.pw_explain.specs.declared.spot.Spot.TheVariants as spots;
 
-use crate::command::nearest_premise;
+use crate::command::{nearest_premise, words_from};
 use crate::expected::Expected;
 use crate::explanation::Explanation;
 use crate::spot::Spot;
 use pw_decl::Declaration;
 use pw_info::Words;
 use std::alloc::Allocator;
+use std::marker::Model;
 
 // The number of the words before the first group.
 const FRONT: usize = 2;
@@ -19,45 +22,65 @@ const MOST_GROUPS: usize = 6;
 
 const MOST_NAMES: usize = 4;
 
+// The parts before and after the first `|` of a word; the whole word and None if it has no `|`.
+fn cut_at_bar(word: &[u8]) -> (&[u8], Option<&[u8]>)
+    ensures first { HasNoBar result.0.now }
+    ensures some { IfSome result.1 (λ rest. word.now ≡ result.0.now ++ (codes "|" ++ rest.now)) }
+    ensures none { IfNone result.1 (word.now ≡ result.0.now) }
+{
+    match word.iter().position(|byte| *byte == b'|') {
+        Some(at) => (&word[..at], Some(&word[at + 1..])),
+        None => (word, None),
+    }
+}
+
 /// The names of a group, one after another.
 #[derive(Drop)]
 pub(crate) struct Names<'a> {
     rest: Option<&'a [u8]>,
 }
 
+impl<'a> Model for Names<'a> {
+    ghost use Rattle.std.specs.Prelude.{List, ℕ};
+    ghost use Rattle.pw_explain.specs.Wanted.{names_left};
+
+    ghost Value = { List (List ℕ) };
+
+    ghost view = { λ names. names_left names.rest };
+}
+
 impl<'a> Names<'a> {
     /// All names of the group.
-    pub(crate) fn of(word: &'a [u8]) -> Names<'a> {
+    pub(crate) fn of(word: &'a [u8]) -> Names<'a>
+        ensures { result ≡ names_in word.now }
+    {
         Names { rest: Some(word) }
     }
 
     /// The next name.
-    pub(crate) fn next(&mut self) -> Option<&'a [u8]> {
+    pub(crate) fn next(&mut self) -> Option<&'a [u8]>
+        ensures { MatchOption result ((self.old ≡ []) × (self.new ≡ []))
+            (λ name. self.old ≡ name.now ∷ self.new) }
+    {
         let word = self.rest?;
-        match word.iter().position(|byte| *byte == b'|') {
-            Some(at) => {
-                self.rest = Some(&word[at + 1..]);
-                Some(&word[..at])
-            }
-            None => {
-                self.rest = None;
-                Some(word)
-            }
-        }
+        let (name, rest) = cut_at_bar(word);
+        self.rest = rest;
+        Some(name)
     }
 }
 
-// A name in a group, by the number of the group, from 0, and that of the name in it.
+// A name in a group, by the number of the word and that of the name in it, from 0.
 fn name_at<'a>(
-    group: usize,
+    word: usize,
     name: usize,
     expected: Expected<'a>,
     near: Option<&'a [u8]>,
 ) -> Explanation<'a>
-    ensures { result.near ≡ near.entry }
+    ensures spot { result.spot ≡ spots.Name word name }
+    ensures near { result.near ≡ near.entry }
 {
     Explanation {
-        spot: Spot::Name(group.saturating_add(FRONT), name),
+        spot: Spot::Name(word, name),
         expected,
         near,
     }
@@ -67,7 +90,9 @@ fn name_at<'a>(
 fn unknown_in_group<'a, A: Allocator + Copy>(
     declaration: &Declaration<'_, A>,
     word: &'a [u8],
-) -> Option<(usize, &'a [u8])> {
+) -> Option<(usize, &'a [u8])>
+    ensures { IfSome result (λ it. IsNameAt word.now it.0 it.1.now) }
+{
     let mut names = Names::of(word);
     // A word has no more names than bytes, and one.
     for number in 0..=word.len() {
@@ -82,17 +107,20 @@ fn unknown_in_group<'a, A: Allocator + Copy>(
 /// The first name in the groups that names no premise.
 pub(crate) fn unknown_premise_in_groups<'a, A: Allocator + Copy>(
     declaration: &'a Declaration<'_, A>,
-    mut words: Words<'a>,
+    line: &'a [u8],
 ) -> Explanation<'a>
-    ensures { IfSome result.near (λ name. IsOneOf (declared declaration.now).premises name.now) }
+    ensures { IsNearestAtSpot (declared declaration.now).premises line.now result.spot result.near }
 {
-    let mut group = 0usize;
-    while let Some(word) = words.next() {
-        if let Some((number, name)) = unknown_in_group(declaration, word) {
+    let mut words = words_from(line, FRONT);
+    // A line has no more words than bytes.
+    for number in FRONT..line.len() {
+        let Some(word) = words.next() else {
+            break;
+        };
+        if let Some((name_number, name)) = unknown_in_group(declaration, word) {
             let near = nearest_premise(declaration, name);
-            return name_at(group, number, Expected::Premise, near);
+            return name_at(number, name_number, Expected::Premise, near);
         }
-        group = group.saturating_add(1);
     }
     Explanation::line(Expected::Premise)
 }
@@ -124,16 +152,17 @@ fn is_in_groups(name: &[u8], mut words: Words<'_>, most: usize) -> bool {
 
 // The first name in the group, which has this number, that is one too many, or stands before.
 fn wrong_in_group<'a>(words: Words<'a>, word: &'a [u8], group: usize) -> Option<Explanation<'a>> {
+    let place = group.saturating_add(FRONT);
     let mut names = Names::of(word);
     for number in 0..MOST_NAMES {
         let name = names.next()?;
         if is_among(name, word, number) || is_in_groups(name, words.again(), group) {
-            return Some(name_at(group, number, Expected::Once, None));
+            return Some(name_at(place, number, Expected::Once, None));
         }
     }
     names.next()?;
     let expected = Expected::NoMore("4 names in a group");
-    Some(name_at(group, MOST_NAMES, expected, None))
+    Some(name_at(place, MOST_NAMES, expected, None))
 }
 
 /// The first group, or name in a group, that may not stand there.

@@ -1,7 +1,10 @@
 //! The refusals of a line of a transcript.
-ghost use Rattle.std.specs.Prelude.{IfSome};
+ghost use Rattle.std.specs.Prelude.{◌≡◌, [], drop};
+ghost use Rattle.pw_info.specs.Words.{words_of};
 ghost use Rattle.pw_decl.specs.inside.Fields.{declared};
-ghost use Rattle.pw_explain.specs.Wanted.{IsOneOf, IsWanted};
+ghost use Rattle.pw_explain.specs.Near.{IsNearest};
+ghost use Rattle.pw_explain.specs.Wanted.{IsNearestAtSpot, IsWanted, commands};
+ghost use Rattle.pw_explain.specs.inside.Kept.{KeepsNearest};
 
 use crate::before::{Before, third_word};
 use crate::call::{explain_cells, next_cell};
@@ -16,7 +19,10 @@ use pw_sessions::Refusal;
 use std::alloc::Allocator;
 
 // Offers the words that name commands.
-fn offer_commands<'a>(nearest: &mut Nearest<'a>) {
+fn offer_commands<'a>(nearest: &mut Nearest<'a>)
+    ensures word { nearest.new.word ≡ nearest.old.word }
+    ensures nearest { KeepsNearest nearest.old [] → KeepsNearest nearest.new commands }
+{
     nearest.offer(b"tell");
     nearest.offer(b"attach");
     nearest.offer(b"believe");
@@ -33,7 +39,7 @@ fn nearest_user<'a, A: Allocator + Copy>(
     declaration: &'a Declaration<'_, A>,
     word: &'a [u8],
 ) -> Option<&'a [u8]>
-    ensures { IfSome result (λ name. IsOneOf (declared declaration.now).users name.now) }
+    ensures { IsNearest word.now (declared declaration.now).users result }
 {
     let mut nearest = Nearest::to(word);
     for user in 0..declaration.users() {
@@ -47,7 +53,7 @@ fn nearest_cell<'a, A: Allocator + Copy>(
     declaration: &'a Declaration<'_, A>,
     word: &'a [u8],
 ) -> Option<&'a [u8]>
-    ensures { IfSome result (λ name. IsOneOf (declared declaration.now).cells name.now) }
+    ensures { IsNearest word.now (declared declaration.now).cells result }
 {
     let mut nearest = Nearest::to(word);
     for cell in 0..declaration.cells() {
@@ -61,7 +67,7 @@ pub(crate) fn nearest_premise<'a, A: Allocator + Copy>(
     declaration: &'a Declaration<'_, A>,
     word: &'a [u8],
 ) -> Option<&'a [u8]>
-    ensures { IfSome result (λ name. IsOneOf (declared declaration.now).premises name.now) }
+    ensures { IsNearest word.now (declared declaration.now).premises result }
 {
     let mut nearest = Nearest::to(word);
     for premise in 0..declaration.premises() {
@@ -70,8 +76,10 @@ pub(crate) fn nearest_premise<'a, A: Allocator + Copy>(
     nearest.name()
 }
 
-// The words of a line from the word of this number on.
-fn words_from(line: &[u8], number: usize) -> Words<'_> {
+/// The words of a line from the word of this number on.
+pub(crate) fn words_from(line: &[u8], number: usize) -> Words<'_>
+    ensures { result ≡ drop number (words_of line.now) }
+{
     let mut words = Words::new(line);
     for _ in 0..number {
         words.next();
@@ -89,7 +97,7 @@ fn explain_user<'a, A: Allocator + Copy>(
     declaration: &'a Declaration<'_, A>,
     line: &'a [u8],
 ) -> Explanation<'a>
-    ensures { IfSome result.near (λ name. IsOneOf (declared declaration.now).users name.now) }
+    ensures { IsNearestAtSpot (declared declaration.now).users line.now result.spot result.near }
 {
     let near = match Words::new(line).next() {
         Some(word) => nearest_user(declaration, word),
@@ -99,7 +107,9 @@ fn explain_user<'a, A: Allocator + Copy>(
 }
 
 // The second word names no command.
-fn explain_command<'a>(line: &'a [u8]) -> Explanation<'a> {
+fn explain_command<'a>(line: &'a [u8]) -> Explanation<'a>
+    ensures { IsNearestAtSpot commands line.now result.spot result.near }
+{
     let Some(word) = words_from(line, 1).next() else {
         return Explanation::word(1, Expected::Command);
     };
@@ -129,7 +139,7 @@ fn explain_cell<'a, A: Allocator + Copy>(
     declaration: &'a Declaration<'_, A>,
     line: &'a [u8],
 ) -> Explanation<'a>
-    ensures { IfSome result.near (λ name. IsOneOf (declared declaration.now).cells name.now) }
+    ensures { IsNearestAtSpot (declared declaration.now).cells line.now result.spot result.near }
 {
     let number = if is_command(line, b"attach") {
         unknown_cell_number(declaration, line).unwrap_or(3)
@@ -201,19 +211,22 @@ fn explain_premise<'a, A: Allocator + Copy>(
     declaration: &'a Declaration<'_, A>,
     line: &'a [u8],
 ) -> Explanation<'a>
-    ensures { IfSome result.near (λ name. IsOneOf (declared declaration.now).premises name.now) }
+    ensures { IsNearestAtSpot (declared declaration.now).premises line.now result.spot result.near }
 {
     if is_command(line, b"choose") {
-        return unknown_premise_in_groups(declaration, words_from(line, 2));
+        return unknown_premise_in_groups(declaration, line);
     }
-    let mut number = first_premise_number(line);
-    let mut words = words_from(line, number);
-    while let Some(word) = words.next() {
+    let first = first_premise_number(line);
+    let mut words = words_from(line, first);
+    // A line has no more words than bytes.
+    for number in first..line.len() {
+        let Some(word) = words.next() else {
+            break;
+        };
         if declaration.premise(word).is_none() {
             let near = nearest_premise(declaration, word);
             return Explanation::word_near(number, Expected::Premise, near);
         }
-        number = number.saturating_add(1);
     }
     Explanation::line(Expected::Premise)
 }
@@ -264,7 +277,7 @@ pub fn explain_refusal<'a, A: Allocator + Copy>(
     line: &'a [u8],
     refusal: Refusal,
 ) -> Explanation<'a>
-    ensures near { IfSome result.near (λ name. IsWanted (declared declaration.now) refusal name.now) }
+    ensures near { IsWanted (declared declaration.now) refusal line.now result.spot result.near }
 {
     let before = Before::whole(table, text);
     match refusal {

@@ -1,6 +1,7 @@
 //! The explanation of a faulty line, and the lines in which it is written.
 ghost use Rattle.std.specs.Prelude.{◌≡◌, ◌++◌, None, OnOk, replicate};
 ghost use Rattle.pw_explain.specs.Explanation as spec;
+ghost use Rattle.pw_explain.specs.declared.spot.Spot.TheVariants as spots;
 
 use crate::expected::Expected;
 use crate::spot::{Place, Spot, is_visible, place_of};
@@ -24,7 +25,8 @@ pub struct Explanation<'a> {
 impl<'a> Explanation<'a> {
     /// A word at fault, with no name near.
     pub(crate) fn word(number: usize, expected: Expected<'a>) -> Explanation<'a>
-        ensures { result.near ≡ None }
+        ensures spot { result.spot ≡ spots.Word number }
+        ensures near { result.near ≡ None }
     {
         Explanation {
             spot: Spot::Word(number),
@@ -39,7 +41,8 @@ impl<'a> Explanation<'a> {
         expected: Expected<'a>,
         near: Option<&'a [u8]>,
     ) -> Explanation<'a>
-        ensures { result.near ≡ near.entry }
+        ensures spot { result.spot ≡ spots.Word number }
+        ensures near { result.near ≡ near.entry }
     {
         Explanation {
             spot: Spot::Word(number),
@@ -50,7 +53,8 @@ impl<'a> Explanation<'a> {
 
     /// The line as a whole.
     pub(crate) fn line(expected: Expected<'a>) -> Explanation<'a>
-        ensures { result.near ≡ None }
+        ensures spot { result.spot ≡ spots.Line }
+        ensures near { result.near ≡ None }
     {
         Explanation {
             spot: Spot::Line,

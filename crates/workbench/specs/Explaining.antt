@@ -1,5 +1,5 @@
 -- What `explain` prints of a line of a transcript.
-use Rattle.std.specs.Prelude.{◌≡◌, ℕ, List, [], ◌++◌, IfSome, Option, codes}
+use Rattle.std.specs.Prelude.{◌≡◌, ℕ, List, [], ◌++◌, Option, codes}
 use Rattle.std.specs.Borrow.{Bor}
 use Rattle.pw_decl.specs.Declaration.{Declared}
 use Rattle.pw_sessions.specs.declared.reply.Refusal.{Refusal}
@@ -24,7 +24,7 @@ pub record IsToldOf (d : Declared) (refusal : Refusal) (line told : List ℕ) : 
   pub shows : ShowsLine line spot [] shown
   pub near : Option (Bor (List ℕ))
   pub says : SaysExpected near shown told
-  pub wanted : IfSome near (λ name. IsWanted d refusal name.now)
+  pub wanted : IsWanted d refusal line spot near
 
 -- the block of a line: its first line is `transcript line ` and the reply of `run`, which refuses
 -- the line

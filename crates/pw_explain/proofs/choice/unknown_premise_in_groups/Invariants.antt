@@ -1,5 +1,7 @@
-use Rattle.std.proofs.Common.{length}
+use Rattle.std.proofs.Common.{◌≡◌, drop}
+use Rattle.pw_info.specs.Words.{words_of}
 use Rattle.pw_explain.proofs.choice.unknown_premise_in_groups.Given as goal
 
-abbrev pub decreases-loop-word : goal.decreases-loop-word
-decreases-loop-word g l = length l.words
+-- the words that are left are those from the number on
+abbrev pub invariant-loop-number : goal.invariant-loop-number
+invariant-loop-number g l = l.words ≡ drop l.number (words_of l.line)

@@ -1,8 +1,8 @@
-use Rattle.std.specs.Prelude.{IfSome}
+use Rattle.std.specs.Prelude.{◌≡◌, take}
 use Rattle.pw_decl.specs.inside.Fields.{declared}
-use Rattle.pw_explain.specs.Wanted.{IsOneOf}
+use Rattle.pw_explain.specs.inside.Kept.{KeepsNearest}
 use Rattle.pw_explain.proofs.command.nearest_cell.Given as goal
 
--- the nearest so far is one of them
+-- what is found is the nearest of those so far
 abbrev pub invariant-loop-cell : goal.invariant-loop-cell
-invariant-loop-cell g l = IfSome l.nearest.name (λ name. IsOneOf (declared l.declaration).cells name.now)
+invariant-loop-cell g l = (l.nearest.word.now ≡ l.word) × KeepsNearest l.nearest (take l.cell (declared l.declaration).cells)

@@ -1,8 +1,8 @@
-use Rattle.std.specs.Prelude.{IfSome}
+use Rattle.std.specs.Prelude.{◌≡◌, take}
 use Rattle.pw_decl.specs.inside.Fields.{declared}
-use Rattle.pw_explain.specs.Wanted.{IsOneOf}
+use Rattle.pw_explain.specs.inside.Kept.{KeepsNearest}
 use Rattle.pw_explain.proofs.command.nearest_user.Given as goal
 
--- the nearest so far is one of them
+-- what is found is the nearest of those so far
 abbrev pub invariant-loop-user : goal.invariant-loop-user
-invariant-loop-user g l = IfSome l.nearest.name (λ name. IsOneOf (declared l.declaration).users name.now)
+invariant-loop-user g l = (l.nearest.word.now ≡ l.word) × KeepsNearest l.nearest (take l.user (declared l.declaration).users)

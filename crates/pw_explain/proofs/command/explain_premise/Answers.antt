@@ -1,0 +1,6 @@
+use Rattle.pw_info.specs.Words.{words_of}
+use Rattle.pw_explain.proofs.NearestNames.{next_words}
+use Rattle.pw_explain.proofs.command.explain_premise.Goals as goal
+
+pub loop-number-preserved : goal.loop-number-preserved
+loop-number-preserved g c = next_words (words_of c.args.line.now) _ _ c.loop-number.number _ c.next.ensures c.loop-number.invariant
