@@ -5,6 +5,8 @@ use Rattle.std.specs.Coded.{Coded, code_by, coded×, coded_list, coded_ℕ}
 use Rattle.pw_info.specs.Bytes.{line_feed}
 use Rattle.pw_info.specs.Lines.{HasNoEnd, lines_of, text_of_lines}
 use Rattle.pw_info.specs.Words.{is_idle}
+use Rattle.pw_explain.specs.declared.expected.Expected.{Expected}
+use Rattle.pw_explain.specs.declared.expected.Expected.TheVariants as expected
 use Rattle.pw_explain.specs.declared.spot.Place.{Place}
 use Rattle.pw_explain.specs.Cut.{AreWholeLines, HasNoLine}
 use Rattle.pw_explain.specs.Spot.{LiesIn, bytes_at}
@@ -30,6 +32,12 @@ number_at numbers passed line =
 -- the line of this number in a text, from 1
 abbrev pub line_of : List ℕ → ℕ → List ℕ
 line_of text number = slice_index_or (lines_of text) (number - 1) []
+
+-- what was expected is the same, but for the number of a line, which is that in the whole text
+abbrev pub IsRenumbered : Left → Expected → Expected → Type 0
+IsRenumbered left (expected.NewThanLine line what) new =
+    1 ≤ line → new ≡ expected.NewThanLine (number_at left.numbers left.passed line) what
+IsRenumbered left old new = new ≡ old
 
 -- it is what is left of the whole text: the lines at the front are those of their numbers, and the
 -- others are those that come after the lines that were passed

@@ -3,7 +3,7 @@ ghost use Rattle.std.specs.Prelude.{◌≡◌, ◌≤◌, ◌+◌, ◌-◌, ◌+
 ghost use Rattle.std.specs.Prelude.{IfNone, IfOk, IfSome, OnOk};
 ghost use Rattle.pw_explain.specs.Cut.{HasNoLine};
 ghost use Rattle.pw_explain.specs.Unread.{DropsLine, EndsInFeed, IsLeftOf, IsPartOf, KeepsLines};
-ghost use Rattle.pw_explain.specs.Unread.{StaysLeft, number_at};
+ghost use Rattle.pw_explain.specs.Unread.{IsRenumbered, StaysLeft, number_at};
 
 use crate::cut::cut_at;
 use crate::expected::Expected;
@@ -156,7 +156,11 @@ impl<A: Allocator + Copy> Unread<A> {
     }
 
     /// The explanation of a line of what is left, with the numbers of the whole text.
-    pub fn renumbered<'a>(&self, explanation: Explanation<'a>) -> Explanation<'a> {
+    pub fn renumbered<'a>(&self, explanation: Explanation<'a>) -> Explanation<'a>
+        ensures spot { result.spot ≡ explanation.entry.spot }
+        ensures near { result.near ≡ explanation.entry.near }
+        ensures expected { IsRenumbered self.now explanation.entry.expected result.expected }
+    {
         match explanation.expected {
             Expected::NewThanLine(line, what) => Explanation {
                 expected: Expected::NewThanLine(self.number(line), what),
