@@ -1,3 +1,4 @@
 pub mod Ending
 pub mod Explaining
+pub mod FaultBlocks
 pub mod Listing

@@ -1,7 +1,10 @@
 //! What `explain` prints of the faulty lines of a declaration.
-ghost use Rattle.std.specs.Prelude.{IfSome, IfNone};
+ghost use Rattle.std.specs.Prelude.{◌≡◌, [], List, ℕ, IfSome, IfNone, IfOk, OnOk, OnErr};
 ghost use Rattle.pw_procs.specs.Registry.{procedures_in};
+ghost use Rattle.pw_decl.specs.Faults.{IsReported};
 ghost use Rattle.workbench.specs.Ending.{IsDeclaration, IsToldOfText};
+ghost use Rattle.workbench.specs.FaultBlocks.{AddsBlock, AreBlocks, Explains, IsBlockAt, ShowsFault};
+ghost use Rattle.workbench.specs.FaultBlocks.{text_left};
 
 use crate::fault::Fault;
 use pw_decl::{DeclFault, DeclFaultKind, read_declaration};
@@ -40,7 +43,9 @@ fn add_line<A: Allocator + Copy>(
     unread: &Unread<A>,
     cut: &Cut<'_>,
     why: DeclFaultKind,
-) -> Result<(), AllocError> {
+) -> Result<(), AllocError>
+    ensures { OnOk result (ShowsFault cut.now.line.now block.old.items block.new.items) }
+{
     let explanation = unread.renumbered(explain_fault(table, cut, why));
     write_line(block, cut.line, explanation.spot)?;
     write_explanation(alloc, block, &explanation)
@@ -54,7 +59,9 @@ fn fill_block<A: Allocator + Copy>(
     table: &[u8],
     unread: &Unread<A>,
     fault: DeclFault,
-) -> Result<bool, AllocError> {
+) -> Result<bool, AllocError>
+    ensures { OnOk result (IsBlockAt (text_left unread.now) fault.line block.new.items) }
+{
     let numbered = DeclFault {
         line: unread.number(fault.line),
         why: fault.why,
@@ -76,7 +83,11 @@ fn add_block<A: Allocator + Copy>(
     table: &[u8],
     unread: &Unread<A>,
     fault: DeclFault,
-) -> Result<bool, AllocError> {
+) -> Result<bool, AllocError>
+    ensures ok { OnOk result (AddsBlock (text_left unread.now) fault.line blocks.old.items
+        blocks.new.items) }
+    ensures err { OnErr result (blocks.new.items ≡ blocks.old.items) }
+{
     let mut block = Vec::new(alloc);
     if !blocks.is_empty() {
         block.push(b'\n')?;
@@ -108,7 +119,18 @@ fn pass_fault<A: Allocator + Copy>(
     registry: &Registry,
     unread: &mut Unread<A>,
     fault: DeclFault,
-) -> Result<Option<DeclFault>, AllocError> {
+) -> Result<Option<DeclFault>, AllocError>
+    requires { IsReported (procedures_in registry.now) (text_left unread.old) fault }
+    ensures told { (whole : List ℕ)
+        → AreBlocks (procedures_in registry.now) whole blocks.old.items unread.old
+        → Explains (procedures_in registry.now) whole blocks.new.items }
+    ensures next { IfOk result (λ next. IfSome next (λ fault.
+        IsReported (procedures_in registry.now) (text_left unread.new) fault)) }
+    ensures blocks { (whole : List ℕ)
+        → AreBlocks (procedures_in registry.now) whole blocks.old.items unread.old
+        → IfOk result (λ next. IfSome next (λ _.
+        AreBlocks (procedures_in registry.now) whole blocks.new.items unread.new)) }
+{
     if fault.why == DeclFaultKind::Memory {
         return Err(AllocError);
     }
@@ -128,7 +150,11 @@ fn add_blocks<A: Allocator + Copy>(
     registry: &Registry,
     text: &[u8],
     first: DeclFault,
-) -> Result<(), AllocError> {
+) -> Result<(), AllocError>
+    requires none { blocks.old.items ≡ [] }
+    requires first { IsReported (procedures_in registry.now) text.now first }
+    ensures { Explains (procedures_in registry.now) text.now blocks.new.items }
+{
     let mut unread = Unread::new(alloc, text)?;
     let mut fault = first;
     // A text has no more lines than bytes, and one fault may be past its last line.
@@ -152,6 +178,8 @@ pub fn explain_text<A: Allocator + Copy>(
     ensures none { IfNone result (IsDeclaration (procedures_in registry.now) text.now) }
     ensures some { IfSome result (λ told.
         IsToldOfText (procedures_in registry.now) text.now told.1) }
+    ensures blocks { IfSome result (λ told.
+        Explains (procedures_in registry.now) text.now told.0.text.items) }
 {
     let fault = fault_of(alloc, text, registry)?;
     let mut blocks = Vec::new(alloc);
