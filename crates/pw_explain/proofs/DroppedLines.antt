@@ -3,7 +3,7 @@ use Rattle.std.proofs.Common.{◌≡◌, ℕ, ◌+◌, ◌-◌, ◌≤◌, ◌<�
 use Rattle.pw_info.specs.Bytes.{line_feed}
 use Rattle.pw_info.specs.Lines.{lines_of, text_of_lines}
 use Rattle.std.proofs.Math.Seq.{drop-append_seam, drop-length, take-add, take-append-add, take-length}
-use Rattle.std.proofs.lemmas.List.{drop-drop, drop-take, length-drop, map-append, length-take-le, nil_from_length, take-append-drop}
+use Rattle.std.proofs.lemmas.List.{drop-drop, drop-take, length-drop, length-take, map-append, length-take-le, nil_from_length, take-append-drop}
 use borrow.Rule.Slice.PartMut.{put_mid}
 use Rattle.std.proofs.lemmas.Slice.{drop-put_mid, take-put_mid}
 use Rattle.pw_explain.specs.Cut.{AreWholeLines, IsRestOf}
@@ -255,3 +255,13 @@ pub part_within : (bytes text : List ℕ) (start rest number : ℕ) (part : Plac
     IsPartOf text number part → start + part.to ≤ length bytes
 part_within bytes text start rest number part order within is of =
     omega (arith, order, within, of.lies.within, ap length (is ∙ text_at bytes start rest order), length-drop start bytes)
+
+-- what is left is shorter
+pub drops_shorter : (old new : Left) (bytes mid last text : List ℕ) (start rest end begins number now : ℕ) (part : Place) → Drops old new bytes mid last text start rest end begins number now part →
+    end ≤ start + part.from → length (new.front ++ new.rest) < length (old.front ++ old.rest)
+drops_shorter old new bytes mid last text start rest end begins number now part drops within =
+    let front : length new.front ≤ end - start =
+    omega (arith, ap length drops.new_front, ap length drops.steps.moved, length-take (end - start) (drop start mid)) in
+    let behind : length new.rest ≡ length text - part.to =
+    ap length (rest_of_drop old new bytes mid last text start rest end begins number now part drops) ∙ length-drop part.to text in
+    omega (arith, front, behind, length-append new.front new.rest, ap length drops.text_is, within, drops.of.some, drops.of.lies.within)

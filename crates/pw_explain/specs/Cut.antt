@@ -1,9 +1,9 @@
 -- A text, cut at a line.
-use Rattle.std.specs.Prelude.{◌≡◌, ◌≤◌, ◌<◌, ◌-◌, ◌⊎◌, ◌++◌, ◌∷◌, [], List, ℕ, length}
-use Rattle.std.specs.List.{AllByRecursion}
+use Rattle.std.specs.Prelude.{◌≡◌, ◌≤◌, ◌<◌, ◌-◌, ◌⊎◌, ◌++◌, ◌∷◌, [], List, ℕ, Bool, ◌&&◌, length, not}
+use Rattle.std.specs.List.{AllByRecursion, list_all}
 use Rattle.pw_info.specs.Bytes.{line_feed}
 use Rattle.pw_info.specs.Lines.{HasNoEnd, lines_of, text_of_lines}
-use Rattle.pw_info.specs.Words.{words_of}
+use Rattle.pw_info.specs.Words.{is_idle, words_of}
 use Rattle.pw_explain.specs.declared.cut.Cut.{Cut}
 
 -- the bytes are this many lines, each with its line feed
@@ -31,6 +31,10 @@ pub record IsCutAt (text : List ℕ) (number : ℕ) (cut : Cut) : Type 0 where
 -- the text has no line of this number, from 1
 abbrev pub HasNoLine : List ℕ → ℕ → Type 0
 HasNoLine text number = (number ≡ 0) ⊎ (length (lines_of text) < number)
+
+-- the line is neither blank nor a comment, and the lines before it are all
+abbrev pub is_header : List (List ℕ) → List ℕ → Bool
+is_header before line = not (is_idle line) && list_all is_idle before
 
 -- the word is the first one of the line
 abbrev pub BeginsWithWord : List ℕ → List ℕ → Type 0

@@ -80,6 +80,11 @@ abbrev pub DropsLine : ℕ → Left → Left → Type 0
 DropsLine number old new = IsDropped number old new
     ⊎ ((new ≡ old) × (HasNoLine (old.front ++ old.rest) number ⊎ WasKept number old))
 
+-- nothing was dropped, or the text that is left is shorter
+abbrev pub IsShorter : Left → Left → Type 0
+IsShorter old new =
+    (new ≡ old) ⊎ (length (new.front ++ new.rest) < length (old.front ++ old.rest))
+
 -- ---- for the code that drops lines
 
 -- the bytes are none, or end in a line feed

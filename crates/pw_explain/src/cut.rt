@@ -1,10 +1,26 @@
 //! A text, cut at one of its lines.
 ghost use Rattle.std.specs.Prelude.{◌≡◌, ◌↔◌, [], IfNone, IfSome, IsTrue};
-ghost use Rattle.pw_explain.specs.Cut.{BeginsWithWord, HasNoLine, IsCutAt, IsCutOf, IsRestOf};
+ghost use Rattle.std.specs.List.{list_all};
+ghost use Rattle.pw_info.specs.Lines.{lines_of};
+ghost use Rattle.pw_info.specs.Words.{is_idle};
+ghost use Rattle.pw_explain.specs.Cut.{BeginsWithWord, HasNoLine, IsCutAt, IsCutOf, IsRestOf, is_header};
 
 use crate::before::Before;
 use crate::sort::Stand;
-use pw_info::{Words, idles, next_line};
+use pw_info::{TextLines, Words, idles, next_line};
+
+// Whether each line of the text is blank or a comment.
+fn all_idle(text: &[u8]) -> bool
+    ensures { result ≡ list_all is_idle (lines_of text.now) }
+{
+    let mut lines = TextLines::new(text);
+    while let Some(line) = lines.next() {
+        if !idles(line) {
+            return false;
+        }
+    }
+    true
+}
 
 /// The parts of a text before a line, that line, and what comes after it.
 #[derive(Clone, Copy)]
@@ -23,9 +39,11 @@ impl<'a> Cut<'a> {
         Before::of(b"", self.before).stand
     }
 
-    /// Whether the line is the header.
-    pub fn is_header(&self) -> bool {
-        !idles(self.line) && self.stand() == Stand::BeforeHeader
+    /// Whether the line is the header: the first one that is neither blank nor a comment.
+    pub fn is_header(&self) -> bool
+        ensures { result ≡ is_header (lines_of self.now.before.now) self.now.line.now }
+    {
+        !idles(self.line) && all_idle(self.before)
     }
 
     // Whether the line begins a compound.

@@ -3,7 +3,7 @@ ghost use Rattle.std.specs.Prelude.{◌≡◌, ◌≤◌, ◌+◌, ◌-◌, ◌+
 ghost use Rattle.std.specs.Prelude.{IfNone, IfOk, IfSome, OnOk};
 ghost use Rattle.pw_explain.specs.Cut.{HasNoLine};
 ghost use Rattle.pw_explain.specs.Unread.{DropsLine, EndsInFeed, IsLeftOf, IsPartOf, KeepsLines};
-ghost use Rattle.pw_explain.specs.Unread.{IsRenumbered, StaysLeft, number_at};
+ghost use Rattle.pw_explain.specs.Unread.{IsRenumbered, IsShorter, StaysLeft, number_at};
 
 use crate::cut::cut_at;
 use crate::expected::Expected;
@@ -174,6 +174,7 @@ impl<A: Allocator + Copy> Unread<A> {
     /// the lines to the end of that are dropped too. Fails only when out of memory.
     pub fn drop_line(&mut self, line: u32) -> Result<(), AllocError>
         ensures dropped { OnOk result (DropsLine line self.old self.new) }
+        ensures shorter { OnOk result (IsShorter self.old self.new) }
         ensures left { OnOk result (StaysLeft self.old self.new) }
     {
         let Some(part) = faulty_part(self.text(), line) else {

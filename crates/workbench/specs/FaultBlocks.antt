@@ -1,14 +1,16 @@
 -- What `explain` prints of the faulty lines of a declaration: a block for each.
-use Rattle.std.specs.Prelude.{◌≡◌, ◌⊎◌, ◌++◌, [], List, ℕ, Option}
+use Rattle.std.specs.Prelude.{◌≡◌, ◌⊎◌, ◌++◌, [], List, ℕ, Bool, Option, false, true}
 use Rattle.std.specs.Borrow.{Bor}
+use Rattle.pw_info.specs.Lines.{lines_of}
 use Rattle.pw_procs.specs.Procedure.{Procedure}
 use Rattle.pw_decl.specs.declared.decl_fault.DeclFault.{DeclFault}
 use Rattle.pw_decl.specs.Faults.{IsReported}
 use Rattle.pw_explain.specs.declared.cut.Cut.{Cut}
 use Rattle.pw_explain.specs.declared.spot.Spot.{Spot}
-use Rattle.pw_explain.specs.Cut.{HasNoLine, IsCutAt}
+use Rattle.pw_explain.specs.Cut.{HasNoLine, IsCutAt, is_header}
 use Rattle.pw_explain.specs.Explanation.{SaysExpected, ShowsLine}
-use Rattle.pw_explain.specs.Unread.{DropsLine, IsLeftOf, Left}
+use Rattle.pw_explain.specs.Unread.{DropsLine, IsLeftOf, Left, WasKept}
+use Rattle.workbench.specs.Ending.{IsDeclaration}
 
 -- the text goes on with the line as it is shown, and marks under what is at fault in it; and what was
 -- expected there, with the nearest name if one is near
@@ -42,6 +44,12 @@ pub record AddsBlock (text : List ℕ) (number : ℕ) (old new : List ℕ) : Typ
   pub is : IsBlockAt text number block
   pub joined : new ≡ old ++ block
 
+-- the line of this number is the header, or it is not
+pub record HasLineAt (text : List ℕ) (number : ℕ) (header : Bool) : Type 0 where
+  pub cut : Cut
+  pub at : IsCutAt text number cut
+  pub is : is_header (lines_of cut.before.now) cut.line.now ≡ header
+
 abbrev pub text_left : Left → List ℕ
 text_left left = left.front ++ left.rest
 
@@ -52,13 +60,30 @@ pub data AreBlocks (procedures : List Procedure) (whole : List ℕ) : List ℕ �
       → AreBlocks procedures whole [] left
   OneMore : {old new : List ℕ} {left next : Left} (fault : DeclFault)
       → AreBlocks procedures whole old left → IsReported procedures (text_left left) fault
-      → AddsBlock (text_left left) fault.line old new → DropsLine fault.line left next
+      → AddsBlock (text_left left) fault.line old new
+      → HasLineAt (text_left left) fault.line false → DropsLine fault.line left next
       → AreBlocks procedures whole new next
 
--- what is printed of a text: such blocks, and perhaps that of one more fault
+-- no line after that of this number is read: it is the header, the text has no such line, or the line was
+-- kept when others were dropped
+abbrev pub EndsAt : Left → ℕ → Type 0
+EndsAt left number = HasLineAt (text_left left) number true
+    ⊎ (HasNoLine (text_left left) number ⊎ WasKept number left)
+
+-- what is printed of a text: such blocks, after which nothing that is left is faulty; or such blocks, and
+-- that of a fault at which reading ends
 pub data Explains (procedures : List Procedure) (whole : List ℕ) : List ℕ → Type 0 where
+  ToTheEnd : {blocks : List ℕ} {left : Left} → AreBlocks procedures whole blocks left
+      → IsDeclaration procedures (text_left left) → Explains procedures whole blocks
+  UpTo : {old new : List ℕ} {left : Left} (fault : DeclFault)
+      → AreBlocks procedures whole old left → IsReported procedures (text_left left) fault
+      → AddsBlock (text_left left) fault.line old new → EndsAt left fault.line
+      → Explains procedures whole new
+
+-- the same, where memory may have run out before
+pub data ExplainsPart (procedures : List Procedure) (whole : List ℕ) : List ℕ → Type 0 where
   AsFar : {blocks : List ℕ} {left : Left} → AreBlocks procedures whole blocks left
-      → Explains procedures whole blocks
+      → ExplainsPart procedures whole blocks
   AndOne : {old new : List ℕ} {left : Left} (fault : DeclFault)
       → AreBlocks procedures whole old left → IsReported procedures (text_left left) fault
-      → AddsBlock (text_left left) fault.line old new → Explains procedures whole new
+      → AddsBlock (text_left left) fault.line old new → ExplainsPart procedures whole new

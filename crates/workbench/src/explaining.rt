@@ -1,10 +1,12 @@
 //! What `explain` prints of the faulty lines of a declaration.
-ghost use Rattle.std.specs.Prelude.{◌≡◌, [], List, ℕ, IfSome, IfNone, IfOk, OnOk, OnErr};
+ghost use Rattle.std.specs.Prelude.{◌≡◌, ◌<◌, ◌⊎◌, [], List, ℕ, IfSome, IfNone, IfOk, IsTrue};
+ghost use Rattle.std.specs.Prelude.{OnOk, OnErr, false, length, true};
 ghost use Rattle.pw_procs.specs.Registry.{procedures_in};
 ghost use Rattle.pw_decl.specs.Faults.{IsReported};
 ghost use Rattle.workbench.specs.Ending.{IsDeclaration, IsToldOfText};
-ghost use Rattle.workbench.specs.FaultBlocks.{AddsBlock, AreBlocks, Explains, IsBlockAt, ShowsFault};
-ghost use Rattle.workbench.specs.FaultBlocks.{text_left};
+ghost use Rattle.pw_explain.specs.Cut.{HasNoLine};
+ghost use Rattle.workbench.specs.FaultBlocks.{AddsBlock, AreBlocks, Explains, ExplainsPart};
+ghost use Rattle.workbench.specs.FaultBlocks.{HasLineAt, IsBlockAt, ShowsFault, text_left};
 
 use crate::fault::Fault;
 use pw_decl::{DeclFault, DeclFaultKind, read_declaration};
@@ -60,7 +62,11 @@ fn fill_block<A: Allocator + Copy>(
     unread: &Unread<A>,
     fault: DeclFault,
 ) -> Result<bool, AllocError>
-    ensures { OnOk result (IsBlockAt (text_left unread.now) fault.line block.new.items) }
+    ensures block { OnOk result (IsBlockAt (text_left unread.now) fault.line block.new.items) }
+    ensures on { IfOk result (λ goes_on. IsTrue goes_on
+        → HasLineAt (text_left unread.now) fault.line false) }
+    ensures end { IfOk result (λ goes_on. goes_on ≡ false
+        → HasLineAt (text_left unread.now) fault.line true ⊎ HasNoLine (text_left unread.now) fault.line) }
 {
     let numbered = DeclFault {
         line: unread.number(fault.line),
@@ -87,6 +93,10 @@ fn add_block<A: Allocator + Copy>(
     ensures ok { OnOk result (AddsBlock (text_left unread.now) fault.line blocks.old.items
         blocks.new.items) }
     ensures err { OnErr result (blocks.new.items ≡ blocks.old.items) }
+    ensures on { IfOk result (λ goes_on. IsTrue goes_on
+        → HasLineAt (text_left unread.now) fault.line false) }
+    ensures end { IfOk result (λ goes_on. goes_on ≡ false
+        → HasLineAt (text_left unread.now) fault.line true ⊎ HasNoLine (text_left unread.now) fault.line) }
 {
     let mut block = Vec::new(alloc);
     if !blocks.is_empty() {
@@ -121,15 +131,21 @@ fn pass_fault<A: Allocator + Copy>(
     fault: DeclFault,
 ) -> Result<Option<DeclFault>, AllocError>
     requires { IsReported (procedures_in registry.now) (text_left unread.old) fault }
-    ensures told { (whole : List ℕ)
-        → AreBlocks (procedures_in registry.now) whole blocks.old.items unread.old
-        → Explains (procedures_in registry.now) whole blocks.new.items }
     ensures next { IfOk result (λ next. IfSome next (λ fault.
         IsReported (procedures_in registry.now) (text_left unread.new) fault)) }
+    ensures shorter { IfOk result (λ next. IfSome next (λ _.
+        length (text_left unread.new) < length (text_left unread.old))) }
     ensures blocks { (whole : List ℕ)
         → AreBlocks (procedures_in registry.now) whole blocks.old.items unread.old
         → IfOk result (λ next. IfSome next (λ _.
         AreBlocks (procedures_in registry.now) whole blocks.new.items unread.new)) }
+    ensures all { (whole : List ℕ)
+        → AreBlocks (procedures_in registry.now) whole blocks.old.items unread.old
+        → IfOk result (λ next. IfNone next
+        (Explains (procedures_in registry.now) whole blocks.new.items)) }
+    ensures part { (whole : List ℕ)
+        → AreBlocks (procedures_in registry.now) whole blocks.old.items unread.old
+        → ExplainsPart (procedures_in registry.now) whole blocks.new.items }
 {
     if fault.why == DeclFaultKind::Memory {
         return Err(AllocError);
@@ -137,7 +153,12 @@ fn pass_fault<A: Allocator + Copy>(
     if !add_block(alloc, blocks, table, unread, fault)? {
         return Ok(None);
     }
+    let len = unread.text().len();
     unread.drop_line(fault.line)?;
+    // Nothing is dropped of the lines that were kept.
+    if unread.text().len() == len {
+        return Ok(None);
+    }
     Ok(fault_of(alloc, unread.text(), registry))
 }
 
@@ -153,16 +174,13 @@ fn add_blocks<A: Allocator + Copy>(
 ) -> Result<(), AllocError>
     requires none { blocks.old.items ≡ [] }
     requires first { IsReported (procedures_in registry.now) text.now first }
-    ensures { Explains (procedures_in registry.now) text.now blocks.new.items }
+    ensures all { OnOk result (Explains (procedures_in registry.now) text.now blocks.new.items) }
+    ensures part { ExplainsPart (procedures_in registry.now) text.now blocks.new.items }
 {
     let mut unread = Unread::new(alloc, text)?;
     let mut fault = first;
-    // A text has no more lines than bytes, and one fault may be past its last line.
-    for _ in 0..=text.len() {
-        match pass_fault(alloc, blocks, table, registry, &mut unread, fault)? {
-            Some(next) => fault = next,
-            None => break,
-        }
+    while let Some(next) = pass_fault(alloc, blocks, table, registry, &mut unread, fault)? {
+        fault = next;
     }
     Ok(())
 }
@@ -178,8 +196,10 @@ pub fn explain_text<A: Allocator + Copy>(
     ensures none { IfNone result (IsDeclaration (procedures_in registry.now) text.now) }
     ensures some { IfSome result (λ told.
         IsToldOfText (procedures_in registry.now) text.now told.1) }
-    ensures blocks { IfSome result (λ told.
-        Explains (procedures_in registry.now) text.now told.0.text.items) }
+    ensures all { IfSome result (λ told. told.0.are_cut ≡ false
+        → Explains (procedures_in registry.now) text.now told.0.text.items) }
+    ensures part { IfSome result (λ told.
+        ExplainsPart (procedures_in registry.now) text.now told.0.text.items) }
 {
     let fault = fault_of(alloc, text, registry)?;
     let mut blocks = Vec::new(alloc);

@@ -1,7 +1,7 @@
 use Rattle.std.proofs.Common.{List, ℕ, ap, arith, drop, inl, inr, length, min, refl, sym, take, ◌+◌, ◌++◌, ◌-◌, ◌∙◌}
 use Rattle.pw_info.specs.Lines.{lines_of}
 use Rattle.pw_explain.specs.Unread.{Left, most_lines}
-use Rattle.pw_explain.proofs.DroppedLines.{Drops, between_ends, drop_leaves, drops_line, part_within, was_kept}
+use Rattle.pw_explain.proofs.DroppedLines.{Drops, between_ends, drop_leaves, drops_line, drops_shorter, part_within, was_kept}
 use Rattle.pw_explain.proofs.KeptLines.{keeps_as}
 use Rattle.pw_explain.proofs.unread.Unread.drop_line.Given as given
 use Rattle.pw_explain.proofs.unread.Unread.drop_line.Goals as goal
@@ -58,3 +58,6 @@ returns-clause-dropped g c = inl (drops_line _ _ _ _ _ _ _ _ _ _ _ _ _ (the_drop
 
 pub returns-clause-left : goal.returns-clause-left
 returns-clause-left g c = drop_leaves _ _ _ _ _ _ _ _ _ _ _ _ _ (the_drop g c)
+
+pub returns-clause-shorter : goal.returns-clause-shorter
+returns-clause-shorter g c = inr (drops_shorter _ _ _ _ _ _ _ _ _ _ _ _ _ (the_drop g c) c.in_ok-end.ensures.end.1)
