@@ -1,7 +1,6 @@
 pub mod CutLemmas
 pub mod DroppedLines
 pub mod Edits
-pub mod GroupParts
 pub mod KeptLines
 pub mod LineEnds
 pub mod NearestNames

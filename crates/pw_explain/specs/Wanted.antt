@@ -1,8 +1,7 @@
 -- Names of the sort that a line of a transcript wanted, and the nearest of them.
-use Rattle.std.specs.Prelude.{◌≡◌, [], ◌∷◌, List, ℕ, Option, None, Some, codes, drop}
+use Rattle.std.specs.Prelude.{◌≡◌, [], ◌∷◌, List, ℕ, Option, None, codes, drop}
 use Rattle.std.specs.Borrow.{Bor}
-use Rattle.std.specs.Bool.{◌==◌}
-use Rattle.std.specs.List.{slice_split}
+use Rattle.pw_info.specs.GroupNames.{names_in}
 use Rattle.pw_info.specs.Words.{words_of}
 use Rattle.pw_decl.specs.Declaration.{Declared}
 use Rattle.pw_sessions.specs.declared.reply.Refusal.{Refusal}
@@ -11,23 +10,10 @@ use Rattle.pw_explain.specs.declared.spot.Spot.{Spot}
 use Rattle.pw_explain.specs.declared.spot.Spot.TheVariants as spots
 use Rattle.pw_explain.specs.Near.{IsNearest}
 
--- '|'
-abbrev pub bar : ℕ
-bar = 124
-
--- the names of a group: the parts of the word between its bars
-abbrev pub names_in : List ℕ → List (List ℕ)
-names_in word = slice_split (λ byte. byte == bar) word
-
 -- the name has this number among those of the group, from 0
 pub record IsNameAt (word : List ℕ) (number : ℕ) (name : List ℕ) : Type 0 where
   pub after : List (List ℕ)
   pub is : drop number (names_in word) ≡ name ∷ after
-
--- the names of what is left of a group, if anything is
-abbrev pub names_left : Option (Bor (List ℕ)) → List (List ℕ)
-names_left None = []
-names_left (Some word) = names_in word.now
 
 -- the nearest of these names to the first of the words; none if there is no word
 abbrev pub IsNearestToFirst : List (List ℕ) → List (List ℕ) → Option (Bor (List ℕ)) → Type 0

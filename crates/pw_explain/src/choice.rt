@@ -1,8 +1,7 @@
 //! What is wrong with the groups of a choice.
-ghost use Rattle.std.specs.Prelude.{◌≡◌, ◌++◌, ◌∷◌, [], IfNone, IfSome, MatchOption, codes};
+ghost use Rattle.std.specs.Prelude.{◌≡◌, IfSome};
 ghost use Rattle.pw_decl.specs.inside.Fields.{declared};
-ghost use Rattle.pw_explain.specs.Wanted.{IsNameAt, IsNearestAtSpot, names_in};
-ghost use Rattle.pw_explain.specs.inside.Bars.{HasNoBar};
+ghost use Rattle.pw_explain.specs.Wanted.{IsNameAt, IsNearestAtSpot};
 ghost use Rattle.pw_explain.specs.declared.spot.Spot.TheVariants as spots;
 
 use crate::command::{nearest_premise, words_from};
@@ -10,9 +9,8 @@ use crate::expected::Expected;
 use crate::explanation::Explanation;
 use crate::spot::Spot;
 use pw_decl::Declaration;
-use pw_info::Words;
+use pw_info::{GroupNames, Words};
 use std::alloc::Allocator;
-use std::marker::Model;
 
 // The number of the words before the first group.
 const FRONT: usize = 2;
@@ -21,53 +19,6 @@ const FRONT: usize = 2;
 const MOST_GROUPS: usize = 6;
 
 const MOST_NAMES: usize = 4;
-
-// The parts before and after the first `|` of a word; the whole word and None if it has no `|`.
-fn cut_at_bar(word: &[u8]) -> (&[u8], Option<&[u8]>)
-    ensures first { HasNoBar result.0.now }
-    ensures some { IfSome result.1 (λ rest. word.now ≡ result.0.now ++ (codes "|" ++ rest.now)) }
-    ensures none { IfNone result.1 (word.now ≡ result.0.now) }
-{
-    match word.iter().position(|byte| *byte == b'|') {
-        Some(at) => (&word[..at], Some(&word[at + 1..])),
-        None => (word, None),
-    }
-}
-
-/// The names of a group, one after another.
-#[derive(Drop)]
-pub(crate) struct Names<'a> {
-    rest: Option<&'a [u8]>,
-}
-
-impl<'a> Model for Names<'a> {
-    ghost use Rattle.std.specs.Prelude.{List, ℕ};
-    ghost use Rattle.pw_explain.specs.Wanted.{names_left};
-
-    ghost Value = { List (List ℕ) };
-
-    ghost view = { λ names. names_left names.rest };
-}
-
-impl<'a> Names<'a> {
-    /// All names of the group.
-    pub(crate) fn of(word: &'a [u8]) -> Names<'a>
-        ensures { result ≡ names_in word.now }
-    {
-        Names { rest: Some(word) }
-    }
-
-    /// The next name.
-    pub(crate) fn next(&mut self) -> Option<&'a [u8]>
-        ensures { MatchOption result ((self.old ≡ []) × (self.new ≡ []))
-            (λ name. self.old ≡ name.now ∷ self.new) }
-    {
-        let word = self.rest?;
-        let (name, rest) = cut_at_bar(word);
-        self.rest = rest;
-        Some(name)
-    }
-}
 
 // A name in a group, by the number of the word and that of the name in it, from 0.
 fn name_at<'a>(
@@ -93,7 +44,7 @@ fn unknown_in_group<'a, A: Allocator + Copy>(
 ) -> Option<(usize, &'a [u8])>
     ensures { IfSome result (λ it. IsNameAt word.now it.0 it.1.now) }
 {
-    let mut names = Names::of(word);
+    let mut names = GroupNames::new(word);
     // A word has no more names than bytes, and one.
     for number in 0..=word.len() {
         let name = names.next()?;
@@ -127,7 +78,7 @@ pub(crate) fn unknown_premise_in_groups<'a, A: Allocator + Copy>(
 
 // Whether the name is among the first `most` names of a group.
 fn is_among(name: &[u8], word: &[u8], most: usize) -> bool {
-    let mut names = Names::of(word);
+    let mut names = GroupNames::new(word);
     for _ in 0..most {
         match names.next() {
             Some(other) if other == name => return true,
@@ -153,7 +104,7 @@ fn is_in_groups(name: &[u8], mut words: Words<'_>, most: usize) -> bool {
 // The first name in the group, which has this number, that is one too many, or stands before.
 fn wrong_in_group<'a>(words: Words<'a>, word: &'a [u8], group: usize) -> Option<Explanation<'a>> {
     let place = group.saturating_add(FRONT);
-    let mut names = Names::of(word);
+    let mut names = GroupNames::new(word);
     for number in 0..MOST_NAMES {
         let name = names.next()?;
         if is_among(name, word, number) || is_in_groups(name, words.again(), group) {

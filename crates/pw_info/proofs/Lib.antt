@@ -2,6 +2,7 @@ pub mod Cuts
 pub mod Digits
 pub mod Dots
 pub mod FirstLemmas
+pub mod GroupParts
 pub mod Informations
 pub mod LaneLemmas
 pub mod LineLemmas

@@ -49,6 +49,10 @@ letter_a = 97
 abbrev pub letter_z : ℕ
 letter_z = 122
 
+-- '|', which stands between the names of a group
+abbrev pub bar : ℕ
+bar = 124
+
 -- '~', the last visible character of ASCII
 abbrev pub last_visible : ℕ
 last_visible = 126

@@ -1,4 +1,5 @@
 pub mod Bytes
+pub mod GroupNames
 pub mod Information
 pub mod Lines
 pub mod Name

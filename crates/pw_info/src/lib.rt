@@ -3,6 +3,7 @@
 #![tactic(auto)]
 
 mod cut;
+mod group_names;
 mod info;
 mod kind;
 mod kind_names;
@@ -19,6 +20,7 @@ mod text_lines;
 mod word_names;
 mod words;
 
+pub use group_names::GroupNames;
 pub use info::Info;
 pub use kind::{Kind, SetKind};
 pub use kind_names::KindNames;

@@ -10,13 +10,14 @@ use Rattle.std.proofs.lemmas.List.Concat.{flat_map-append}
 use Rattle.std.proofs.lemmas.List.Elements.{All-from_recursion, filter_map-append, recursion_from_All}
 use Rattle.std.proofs.lemmas.Map.Made.{AllPairs-from_IsDistinct, IsDistinct-from_AllPairs}
 use Rattle.std.proofs.lemmas.Slice.Eq.{bytes_eq-Decides}
+use Rattle.pw_info.specs.GroupNames.{names_in}
 use Rattle.pw_procs.specs.Registering.{place_of_name}
 use Rattle.pw_decl.specs.Declaration.{Declared}
 use Rattle.pw_reasons.specs.Groups.{AreGroups, IsGroup, all_of, most_in_a_group}
 use Rattle.pw_sessions.specs.declared.reply.Refusal.TheVariants as refusal
 use Rattle.pw_transcript.specs.Reading.{all_known, is_known, premise_groups, premises_named}
 use Rattle.pw_transcript.specs.Sentence.{Choose}
-use Rattle.pw_transcript.specs.inside.Grouping.{all_names, names_in}
+use Rattle.pw_transcript.specs.inside.Grouping.{all_names}
 use Rattle.pw_transcript.specs.inside.Resolving.{IsFree, IsRefusedFor}
 use Rattle.pw_transcript.proofs.GroupWords.{all_names_of}
 

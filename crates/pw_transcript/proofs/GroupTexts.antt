@@ -1,24 +1,21 @@
 -- The names in a word, and the word that they make.
-use Rattle.std.proofs.Common.{◌≡◌, ◌≢◌, ℕ, suc, ◌<◌, true, false, List, [], ◌∷◌, ◌++◌, length, not, Option, Some, None, refl, sym, ap, ◌∙◌, inl, inr, arith}
+use Rattle.std.proofs.Common.{◌≡◌, ◌≢◌, ℕ, ◌<◌, true, false, List, [], ◌∷◌, ◌++◌, length, not, Option, Some, None, refl, sym, ap, ◌∙◌, inl, inr, arith}
 use Rattle.std.specs.Borrow.{Bor}
-use Rattle.std.specs.Prelude.{MatchOption, IfSome, IfNone, ◌==◌}
+use Rattle.std.specs.Prelude.{MatchOption, ◌==◌}
 use Rattle.std.specs.List.{AllByRecursion, list_all, onto_first}
-use Rattle.std.specs.Option.{option_copied}
 use Rattle.std.proofs.lemmas.Bool.{and_from, and_parts, cases_Bool, eq-eqb, false≢true, ne_eqb}
 use Rattle.std.proofs.lemmas.List.Elements.{All-from_recursion}
 use Rattle.std.proofs.lemmas.List.Splits.{join_with_byte-slice_split, slice_split_at, slice_split_none}
-use Rattle.pw_transcript.specs.GroupNames.{IsInGroup, IsNameGroup, bar, text_of_group}
-use Rattle.pw_transcript.specs.inside.Grouping.{HasNoBar, all_names, has_bytes, is_group_word, names_in, names_left}
+use Rattle.pw_info.specs.Bytes.{bar}
+use Rattle.pw_info.specs.GroupNames.{names_in}
+use Rattle.pw_transcript.specs.GroupNames.{IsInGroup, IsNameGroup, text_of_group}
+use Rattle.pw_transcript.specs.inside.Grouping.{all_names, has_bytes, is_group_word}
 
 -- the byte is not '|'
 abbrev IsNoBar : ℕ → Type 0
 IsNoBar byte = (byte == bar) ≡ false
 
 -- ---- a word is cut
-
-no_bars : (text : List ℕ) → HasNoBar text → AllByRecursion IsNoBar text
-no_bars [] clear = tt
-no_bars (byte ∷ text) clear = (ne_eqb byte bar (clear 0 (omega arith)), no_bars text (λ k within. clear (suc k) (omega arith)))
 
 -- a word without '|' is one name
 one_name : (word : List ℕ) → AllByRecursion IsNoBar word → names_in word ≡ word ∷ []
@@ -27,12 +24,6 @@ one_name word clear = slice_split_none (λ byte. byte == bar) word (All-from_rec
 -- a word is a name without '|', and the names after the first '|'
 first_name : (name rest : List ℕ) → AllByRecursion IsNoBar name → names_in (name ++ bar ∷ rest) ≡ name ∷ names_in rest
 first_name name rest clear = slice_split_at (λ byte. byte == bar) name bar rest (All-from_recursion IsNoBar name clear) refl
-
--- a word that is cut is its first name, and the names in what is left
-pub cut_names : (word name : List ℕ) (rest : Option (Bor (List ℕ))) → HasNoBar name → IfSome rest (λ r. word ≡ name ++ (bar ∷ r.now)) →
-    IfNone rest (word ≡ name) → names_in word ≡ name ∷ names_left (option_copied rest)
-cut_names word name (Some rest) clear some none = ap names_in some ∙ first_name name rest.now (no_bars name clear)
-cut_names word name None clear some none = ap names_in none ∙ one_name name (no_bars name clear)
 
 -- ---- names make a word, and the word has these names
 

@@ -8,8 +8,9 @@ use Rattle.std.proofs.lemmas.List.Elements.{All-from_recursion, recursion_from_A
 use Rattle.std.proofs.lemmas.Map.Made.{AllPairs-from_IsDistinct, IsDistinct-from_AllPairs}
 use Rattle.std.proofs.lemmas.Slice.Eq.{bytes_eq-Decides}
 use Rattle.pw_info.specs.Words.{is_nil}
+use Rattle.pw_info.specs.GroupNames.{names_in}
 use Rattle.pw_reasons.specs.Groups.{AreGroups, IsGroup, all_of, most_groups, most_in_a_group}
-use Rattle.pw_transcript.specs.inside.Grouping.{all_names, are_few, has_few_names, names_in, stand_once}
+use Rattle.pw_transcript.specs.inside.Grouping.{all_names, are_few, has_few_names, stand_once}
 use Rattle.pw_transcript.proofs.GroupTexts.{names_some}
 
 -- ---- no name twice

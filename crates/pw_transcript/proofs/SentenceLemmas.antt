@@ -5,9 +5,10 @@ use Rattle.std.proofs.lemmas.Bool.{and_from, and_parts, cases_Bool, false≢true
 use Rattle.std.proofs.lemmas.Slice.Eq.{bytes_eq-Decides}
 use Rattle.std.specs.List.{AllByRecursion, list_all}
 use Rattle.std.specs.Str.{bytes_eq}
+use Rattle.pw_info.specs.GroupNames.{names_in}
 use Rattle.pw_transcript.specs.Sentence.{Said, Tell, Attach, Believe, Doubt, Beliefs, Ask, Why, Choose, Conflicts, Other, Sentence, command_names, NamesNoCommand, IsUnder, AreNoUnder, IsSaid, IsSentence}
 use Rattle.pw_transcript.specs.GroupNames.{IsNameGroup, text_of_group}
-use Rattle.pw_transcript.specs.inside.Grouping.{is_group_word, names_in}
+use Rattle.pw_transcript.specs.inside.Grouping.{is_group_word}
 use Rattle.pw_transcript.proofs.GroupTexts.{names_of_text, text_is_group, text_of_names_in, word_is_group}
 use Rattle.pw_transcript.specs.inside.Forms.{under_form, tell_form, before_under, from_under, attach_form, premises_form, bare_form, cell_form, choose_form, said_form, HasCells, sentence_by, sentence_form}
 

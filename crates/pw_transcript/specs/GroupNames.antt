@@ -1,10 +1,7 @@
 -- How groups of names are written: each group is a word.
 use Rattle.std.specs.Prelude.{◌≢◌, ℕ, ◌<◌, List, length}
 use Rattle.std.specs.List.{AllByRecursion, join_with_byte}
-
--- '|', which stands between the names of a group
-abbrev pub bar : ℕ
-bar = 124
+use Rattle.pw_info.specs.Bytes.{bar}
 
 -- the names of a group with '|' between each two
 abbrev pub text_of_group : List (List ℕ) → List ℕ

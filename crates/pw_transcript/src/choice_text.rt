@@ -1,17 +1,18 @@
 //! Reading a choice: its groups of names first, then their premises.
 
 ghost use Rattle.std.specs.Prelude.{◌≡◌, ◌∷◌, ◌++◌, [], true, map, IfNone, IfSome};
+ghost use Rattle.pw_info.specs.GroupNames.{names_in};
 ghost use Rattle.pw_decl.specs.inside.Fields.{declared};
 ghost use Rattle.pw_reasons.specs.Combinations.{groups_of};
 ghost use Rattle.pw_reasons.specs.Groups.{AreGroups};
 ghost use Rattle.pw_transcript.specs.Reading as spec;
 ghost use Rattle.pw_transcript.specs.Sentence.{Choose};
-ghost use Rattle.pw_transcript.specs.inside.Grouping.{all_names, held_groups, names_in};
+ghost use Rattle.pw_transcript.specs.inside.Grouping.{all_names, held_groups};
 ghost use Rattle.pw_transcript.specs.inside.Resolving.{IsReadFor};
 
-use crate::group_names::{AllNames, GroupNames, are_groups};
+use crate::group_names::{AllNames, are_groups};
 use pw_decl::Declaration;
-use pw_info::Words;
+use pw_info::{GroupNames, Words};
 use pw_reasons::Groups;
 use pw_sessions::{Command, Refusal};
 use std::alloc::Allocator;

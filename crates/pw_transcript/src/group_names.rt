@@ -1,71 +1,20 @@
-//! The names of premises in a group to choose from: a word, cut at each `|`.
+//! The names of premises in the groups to choose from: the words of a line, each cut at each `|`.
 
-ghost use Rattle.std.specs.Prelude.{◌≡◌, ◌↔◌, ◌≤◌, ◌++◌, All, IsTrue, codes, length, map};
-ghost use Rattle.std.specs.Prelude.{IfSome, IfNone};
-ghost use Rattle.std.specs.List.{AllByRecursion, list_all, list_any};
+ghost use Rattle.std.specs.Prelude.{◌≡◌, ◌↔◌, IsTrue, map};
+ghost use Rattle.std.specs.List.{list_all, list_any};
 ghost use Rattle.std.specs.Str.{bytes_eq};
-ghost use Rattle.pw_reasons.specs.Groups.{AreGroups, most_groups, most_in_a_group};
-ghost use Rattle.pw_transcript.specs.inside.Grouping.{HasNoBar, all_names, are_few, has_few_names};
-ghost use Rattle.pw_transcript.specs.inside.Grouping.{is_group_word, names_in, stand_once};
+ghost use Rattle.pw_info.specs.GroupNames.{names_in};
+ghost use Rattle.pw_reasons.specs.Groups.{AreGroups};
+ghost use Rattle.pw_transcript.specs.inside.Grouping.{all_names, are_few, has_few_names};
+ghost use Rattle.pw_transcript.specs.inside.Grouping.{is_group_word, stand_once};
 
-use pw_info::Words;
+use pw_info::{GroupNames, Words};
 use std::marker::Model;
 
 // The greatest number of groups, and of names in a group.
 const MOST_GROUPS: usize = 6;
 
 const MOST_NAMES: usize = 4;
-
-// The parts before and after the first `|` of a word; the whole word and None if it has no `|`.
-fn cut_at_bar(word: &[u8]) -> (&[u8], Option<&[u8]>)
-    ensures first { HasNoBar result.0.now }
-    ensures some { IfSome result.1 (λ rest. word.now ≡ result.0.now ++ (codes "|" ++ rest.now)) }
-    ensures none { IfNone result.1 (word.now ≡ result.0.now) }
-{
-    match word.iter().position(|byte| *byte == b'|') {
-        Some(at) => (&word[..at], Some(&word[at + 1..])),
-        None => (word, None),
-    }
-}
-
-/// The remaining names of a group, as a list of names. A name may be empty.
-#[derive(Drop)]
-pub(crate) struct GroupNames<'a> {
-    // None if no name is left.
-    rest: Option<&'a [u8]>,
-}
-
-impl<'a> Model for GroupNames<'a> {
-    ghost use Rattle.std.specs.Prelude.{List, ℕ};
-    ghost use Rattle.std.specs.Option.{option_copied};
-    ghost use Rattle.pw_transcript.specs.inside.Grouping.{names_left};
-
-    ghost Value = { List (List ℕ) };
-
-    ghost view = { λ names. names_left (option_copied names.rest) };
-}
-
-impl<'a> GroupNames<'a> {
-    ghost use Rattle.std.specs.Prelude.{◌∷◌, [], MatchOption};
-
-    /// All names in the word.
-    pub(crate) fn new(word: &'a [u8]) -> GroupNames<'a>
-        ensures { result ≡ names_in word.now }
-    {
-        GroupNames { rest: Some(word) }
-    }
-
-    /// Takes the next name, or gives `None` if no name is left.
-    pub(crate) fn next(&mut self) -> Option<&'a [u8]>
-        ensures { MatchOption result ((self.old ≡ []) × (self.new ≡ []))
-            (λ name. self.old ≡ name.now ∷ self.new) }
-    {
-        let word = self.rest?;
-        let (name, rest) = cut_at_bar(word);
-        self.rest = rest;
-        Some(name)
-    }
-}
 
 // Whether the word is a group: no name in it is empty.
 fn is_group(word: &[u8]) -> bool
@@ -147,7 +96,7 @@ impl<'a> AllNames<'a> {
         ensures { result ≡ all_names words.entry }
     {
         AllNames {
-            names: GroupNames { rest: None },
+            names: GroupNames::none(),
             words,
         }
     }
@@ -170,9 +119,7 @@ impl<'a> AllNames<'a> {
         ensures { result ≡ self.now }
     {
         AllNames {
-            names: GroupNames {
-                rest: self.names.rest,
-            },
+            names: self.names.again(),
             words: self.words.again(),
         }
     }

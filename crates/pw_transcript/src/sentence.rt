@@ -4,8 +4,8 @@ ghost use Rattle.std.specs.Prelude.{◌≡◌, ℕ, [], List, None, Some, codes,
 ghost use Rattle.std.specs.Prelude.{option_map};
 ghost use Rattle.std.specs.Option.{option_copied};
 ghost use Rattle.std.specs.Str.{bytes_eq};
+ghost use Rattle.pw_info.specs.GroupNames.{names_in};
 ghost use Rattle.pw_transcript.specs.Sentence as spec;
-ghost use Rattle.pw_transcript.specs.inside.Grouping.{names_in};
 ghost use Rattle.pw_transcript.specs.inside.Forms.{TakesCell, before_under, from_under, under_form};
 ghost use Rattle.pw_transcript.specs.inside.Forms.{tell_form, attach_form, cell_form, choose_form};
 ghost use Rattle.pw_transcript.specs.inside.Forms.{premises_form, told_in, attached_in};

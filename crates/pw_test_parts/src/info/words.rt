@@ -5,7 +5,7 @@ ghost use Rattle.pw_info.specs.Information.{kind_of};
 ghost use Rattle.pw_info.specs.SetNames.{IsNamed};
 
 use super::{has_front, trickling};
-use pw_info::{Info, Kind, KindNames, SetKind, read_info, write_info};
+use pw_info::{GroupNames, Info, Kind, KindNames, SetKind, read_info, write_info};
 use pw_kinds::{Exact, Interval, Members};
 use std::process::Abort;
 
@@ -260,4 +260,17 @@ fn parts_are_given_back(rt: HostRuntime) {
     has_parts(&rt, &Info::of_exact(any), None, None, Some(any));
     has_parts(&rt, &Info::of_members(3, full), None, Some(full), None);
     has_parts(&rt, &Info::of_interval(whole), Some(whole), None, None);
+}
+
+#[test]
+fn names_of_a_group(rt: HostRuntime) {
+    let mut names = GroupNames::new(b"red|green||blue");
+    assert!(rt; names.next() == Some(b"red".as_slice()));
+    let mut others = names.again();
+    assert!(rt; names.next() == Some(b"green".as_slice()));
+    assert!(rt; names.next() == Some(b"".as_slice()));
+    assert!(rt; names.next() == Some(b"blue".as_slice()));
+    assert!(rt; names.next() == None);
+    assert!(rt; others.next() == Some(b"green".as_slice()));
+    assert!(rt; GroupNames::none().next() == None);
 }

@@ -3,11 +3,12 @@ use Rattle.std.specs.Prelude.{◌≡◌, ℕ, ◌<◌, List, [], ◌∷◌, leng
 use Rattle.std.specs.Prelude.{codes, if◌then◌else◌, map}
 use Rattle.std.specs.List.{list_all}
 use Rattle.std.specs.Str.{bytes_eq}
+use Rattle.pw_info.specs.GroupNames.{names_in}
 use Rattle.pw_transcript.specs.declared.sentence.TellWords.{TellWords}
 use Rattle.pw_transcript.specs.declared.sentence.AttachWords.{AttachWords}
 use Rattle.pw_transcript.specs.Sentence.{Said, Tell, Attach, Believe, Doubt, Beliefs, Ask, Why}
 use Rattle.pw_transcript.specs.Sentence.{Choose, Conflicts, Other, Sentence}
-use Rattle.pw_transcript.specs.inside.Grouping.{is_group_word, names_in}
+use Rattle.pw_transcript.specs.inside.Grouping.{is_group_word}
 
 -- the premises at the end of a tell or of an attach
 abbrev pub under_form : List (List ℕ) → Option (List (List ℕ))

@@ -1,25 +1,12 @@
 -- The names in the words of groups, as functions.
-use Rattle.std.specs.Prelude.{◌≢◌, ◌==◌, ℕ, Bool, true, not, ◌&&◌, nat_le, List, [], ◌∷◌}
-use Rattle.std.specs.Prelude.{EachIndex, Option, None, Some, length, slice_index}
-use Rattle.std.specs.List.{flat_map, list_all, list_any, slice_split}
+use Rattle.std.specs.Prelude.{◌==◌, ℕ, Bool, true, not, ◌&&◌, nat_le, List, [], ◌∷◌, length}
+use Rattle.std.specs.Prelude.{Option, None, Some}
+use Rattle.std.specs.List.{flat_map, list_all, list_any}
 use Rattle.std.specs.Str.{bytes_eq}
+use Rattle.pw_info.specs.GroupNames.{names_in}
 use Rattle.pw_reasons.specs.Combinations.{groups_of}
 use Rattle.pw_reasons.specs.Groups.{most_groups, most_in_a_group}
 use Rattle.pw_reasons.specs.declared.groups.Groups.{Groups}
-use Rattle.pw_transcript.specs.GroupNames.{bar}
-
--- no byte of a text is '|'
-abbrev pub HasNoBar : List ℕ → Type 0
-HasNoBar text = EachIndex text (λ k. slice_index text k ≢ bar)
-
--- the names in a word, cut at each '|'; some may be empty
-abbrev pub names_in : List ℕ → List (List ℕ)
-names_in word = slice_split (λ byte. byte == bar) word
-
--- the names in what is left of a word, if something is
-abbrev pub names_left : Option (List ℕ) → List (List ℕ)
-names_left None = []
-names_left (Some word) = names_in word
 
 -- the names in all of the words
 abbrev pub all_names : List (List ℕ) → List (List ℕ)

@@ -1,4 +1,4 @@
-use Rattle.pw_explain.specs.Wanted.{names_in}
+use Rattle.pw_info.specs.GroupNames.{names_in}
 use Rattle.pw_explain.proofs.NearestNames.{next_words}
 use Rattle.pw_explain.proofs.choice.unknown_in_group.Goals as goal
 

@@ -1,5 +1,5 @@
 use Rattle.std.proofs.Common.{◌≡◌, drop}
-use Rattle.pw_explain.specs.Wanted.{names_in}
+use Rattle.pw_info.specs.GroupNames.{names_in}
 use Rattle.pw_explain.proofs.choice.unknown_in_group.Given as goal
 
 -- the names that are left are those from the number on

@@ -1,8 +1,9 @@
 use Rattle.std.proofs.Common.{List, ℕ, sym, ap, ◌∙◌}
 use Rattle.pw_info.proofs.Spellings.{IfNone_holds}
+use Rattle.pw_info.specs.GroupNames.{names_in}
 use Rattle.pw_decl.specs.inside.Fields.{declared}
 use Rattle.pw_transcript.specs.Reading.{all_known}
-use Rattle.pw_transcript.specs.inside.Grouping.{all_names, held_groups, names_in}
+use Rattle.pw_transcript.specs.inside.Grouping.{all_names, held_groups}
 use Rattle.pw_transcript.proofs.GroupPremises.{groups_step, known_parts, none_from_first}
 use Rattle.pw_transcript.proofs.choice_text.named_groups.Goals as goal
 

@@ -1,7 +1,8 @@
 use Rattle.std.proofs.Common.{◌≡◌, ◌++◌, true, length, map}
+use Rattle.pw_info.specs.GroupNames.{names_in}
 use Rattle.pw_decl.specs.inside.Fields.{declared}
 use Rattle.pw_transcript.specs.Reading.{all_known, premise_groups}
-use Rattle.pw_transcript.specs.inside.Grouping.{all_names, held_groups, names_in}
+use Rattle.pw_transcript.specs.inside.Grouping.{all_names, held_groups}
 use Rattle.pw_transcript.proofs.choice_text.named_groups.Given as goal
 
 -- the groups so far and those of the remaining words are the groups of all words

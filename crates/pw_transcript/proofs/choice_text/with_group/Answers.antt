@@ -1,6 +1,7 @@
 use Rattle.std.proofs.Common.{length, length-set, sym, ap, ◌∙◌, arith, length-take-le}
+use Rattle.pw_info.specs.GroupNames.{names_in}
 use Rattle.pw_decl.specs.inside.Fields.{declared}
-use Rattle.pw_transcript.specs.inside.Grouping.{held_groups, names_in}
+use Rattle.pw_transcript.specs.inside.Grouping.{held_groups}
 use Rattle.pw_transcript.proofs.GroupPremises.{known_rest, named_step, too_many_named}
 use Rattle.pw_transcript.proofs.choice_text.with_group.Goals as goal
 

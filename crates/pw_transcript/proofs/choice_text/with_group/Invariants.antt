@@ -1,8 +1,8 @@
 use Rattle.std.proofs.Common.{◌≡◌, ◌+◌, ◌≤◌, ◌++◌, true, length, take}
+use Rattle.pw_info.specs.GroupNames.{names_in}
 use Rattle.pw_reasons.specs.Groups.{most_in_a_group}
 use Rattle.pw_decl.specs.inside.Fields.{declared}
 use Rattle.pw_transcript.specs.Reading.{all_known, premises_named}
-use Rattle.pw_transcript.specs.inside.Grouping.{names_in}
 use Rattle.pw_transcript.proofs.choice_text.with_group.Given as goal
 
 -- the premises so far and those of the remaining names are the premises of all names

@@ -1,6 +1,6 @@
 use Rattle.std.proofs.Common.{◌≡◌, ◌+◌, ◌≤◌, length}
+use Rattle.pw_info.specs.GroupNames.{names_in}
 use Rattle.pw_reasons.specs.Groups.{most_in_a_group}
-use Rattle.pw_transcript.specs.inside.Grouping.{names_in}
 use Rattle.pw_transcript.proofs.group_names.names_are_few.Given as goal
 
 -- the names so far and the remaining ones are all names
