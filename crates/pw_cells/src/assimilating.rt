@@ -193,9 +193,11 @@ fn push_news<C: Content, S: Support, A: Allocator>(
     ensures len { vec_len kept.new ≤ vec_len kept.old + 1 }
     ensures capacity { vec_capacity kept.old ≤ vec_capacity kept.new }
 {
+    // Only the copy lies in memory: the caller may hold its own in registers.
+    let copy = *fact;
     shorten(kept, bound, limit);
-    make_way(kept, bound, fact);
-    append(kept, fact);
+    make_way(kept, bound, &copy);
+    append(kept, &copy);
     bound.raise(kept.as_slice());
 }
 

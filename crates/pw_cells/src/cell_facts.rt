@@ -122,10 +122,22 @@ impl<A: Allocator + Copy> CellFacts<A> {
         if let Facts::Many(many) = &mut self.all {
             return many.keep_news(info, support);
         }
-        self.keep_few_news(info, support)
+        self.keep_copied_news(info, support)
     }
 
-    // The same, where few facts are kept. Never inlined: news of many facts are the ones in a hurry.
+    // The same, where few facts are kept. Only the copy lies in memory: the caller may hold its own in
+    // registers.
+    #[inline(always)]
+    fn keep_copied_news(&mut self, info: &Info, support: NarrowSet) -> Result<(), AllocError>
+        requires { IsNews (fact_on info.now support) self.old }
+        ensures kept { OnOk result (KeepsFact (fact_on info.now support) self.old self.new) }
+        ensures err { OnErr result (self.new ≡ self.old) }
+    {
+        let copy = info.copied();
+        self.keep_few_news(&copy, support)
+    }
+
+    // The same. Never inlined: news of many facts are the ones in a hurry.
     #[inline(never)]
     fn keep_few_news(&mut self, info: &Info, support: NarrowSet) -> Result<(), AllocError>
         requires { IsNews (fact_on info.now support) self.old }

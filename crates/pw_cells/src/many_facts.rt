@@ -140,11 +140,22 @@ impl<A: Allocator + Copy> ManyFacts<A> {
         match &mut self.lists {
             Lists::Intervals(lists) => lists.keep_news(&lists.held(info, support)),
             Lists::Narrow(lists) => lists.keep_news(&lists.held(info, support)),
-            Lists::Wide(_) => self.keep_wide_news(info, support),
+            Lists::Wide(_) => self.keep_wide_copy(info, support),
         }
     }
 
-    // The same, in wide lists. Never inlined, like `keep_wide`, so that what is narrow makes no room
+    // The same, in wide lists. Only the copy lies in memory: the caller may hold its own in registers.
+    #[inline(always)]
+    fn keep_wide_copy(&mut self, info: &Info, support: NarrowSet) -> Result<(), AllocError>
+        requires { IsNews (fact_on info.now support) self.old }
+        ensures kept { OnOk result (KeepsFact (fact_on info.now support) self.old self.new) }
+        ensures err { OnErr result (self.new ≡ self.old) }
+    {
+        let copy = info.copied();
+        self.keep_wide_news(&copy, support)
+    }
+
+    // The same. Never inlined, like `keep_wide`, so that what is narrow makes no room
     // for a wide fact.
     #[inline(never)]
     fn keep_wide_news(&mut self, info: &Info, support: NarrowSet) -> Result<(), AllocError>

@@ -4,6 +4,7 @@
 mod agenda;
 mod calling_aside;
 mod growing_aside;
+mod kept_news;
 mod known;
 pub mod laws;
 mod propagating;

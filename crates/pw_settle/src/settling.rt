@@ -2,8 +2,7 @@
 ghost use Rattle.std.specs.Prelude.{◌≡◌, ◌+◌, ◌<◌, ◌≤◌, true, false, All, length, map};
 ghost use Rattle.std.specs.Prelude.{IfOk, IsTrue, OnOk, OnErr, replicate};
 ghost use Rattle.std.specs.List.{count_by};
-ghost use Rattle.pw_info.specs.Information.{kind_of};
-ghost use Rattle.pw_cells.specs.Cells.{IsUnsaid, kept_in, kind_in_store, kinds_of};
+ghost use Rattle.pw_cells.specs.Cells.{kept_in, kinds_of};
 ghost use Rattle.pw_network.specs.Wiring.{wiring};
 ghost use Rattle.pw_procs.specs.Registry.{procedures_in};
 ghost use Rattle.pw_network.specs.inside.Held.{attachment};
@@ -15,8 +14,7 @@ ghost use Rattle.pw_settle.specs.Calls.{AreVisible, visible_at};
 ghost use Rattle.pw_settle.specs.Calls.{visible_count};
 ghost use Rattle.pw_settle.specs.inside.Due.{QueuesReaders};
 ghost use Rattle.pw_settle.specs.Growth.{KeepsMore, RestOnUpstream, StaysUpstream};
-ghost use Rattle.pw_settle.specs.inside.Known.{AreInputsThere, AreKept, IsNewTo, KeepsAndTakesIn};
-ghost use Rattle.pw_settle.specs.inside.Known.{PerhapsKeeps, SaysTold, WereKept, news_on};
+ghost use Rattle.pw_settle.specs.inside.Known.{AreKept, SaysTold, WereKept};
 ghost use Rattle.pw_settle.specs.inside.Progress.{AreOthersSatisfied};
 ghost use Rattle.pw_settle.specs.Values.{kinds_in};
 ghost use Rattle.pw_settle.specs.inside.Progress.{AreMet, AreQueuedVisible, CallsNoMore};
@@ -27,13 +25,12 @@ ghost use Rattle.pw_settle.specs.Calls.{CallsAtMost};
 ghost use Rattle.pw_settle.specs.Growth.{HasValues};
 
 use crate::agenda::Agenda;
-use crate::known::{Known, joined_narrow, joined_support, read_kept, take_in, take_in_narrow};
+use crate::kept_news::keep_news;
+use crate::known::{Known, read_kept};
 use crate::propagating::news_on;
 use crate::settled::Settled;
 use crate::support_list::SupportList;
 use pw_cells::CellStore;
-use pw_facts::Fact;
-use pw_info::Info;
 use pw_network::{Instance, Network};
 use pw_premises::PremiseSet;
 use pw_procs::Registry;
@@ -185,69 +182,6 @@ pub(crate) fn queue_visible_readers<A: Allocator + Copy>(
         return;
     }
     queue_seen_readers(network, worldview, agenda, cell);
-}
-
-// Keeps news of an instance in the store, and merges them into what is known about its output. Fails
-// only when out of memory; then perhaps the store keeps them, but nothing else changes.
-#[inline(always)]
-fn keep_news<A: Allocator + Copy>(
-    store: &mut CellStore<A>,
-    infos: &mut [Info],
-    supports: &mut SupportList<A>,
-    cell: u32,
-    instance: &Instance,
-    info: &Info,
-) -> Result<(), AllocError>
-    requires cell { cell < length store.old.cells }
-    requires kind { kind_of info.now ≡ kind_in_store store.old cell }
-    requires inputs { AreInputsThere supports.old (attachment instance.now) }
-    requires new { IsNewTo infos.old supports.old cell info.now }
-    requires unsaid { IsUnsaid (kept_in store.old cell
-        (news_on supports.old (attachment instance.now) info.now).support) info.now }
-    ensures kept { OnOk result (KeepsAndTakesIn cell
-        (news_on supports.old (attachment instance.now) info.now) store.old store.new infos.old
-        infos.new supports.old supports.new) }
-    ensures refused { OnErr result (PerhapsKeeps cell
-        (news_on supports.old (attachment instance.now) info.now) store.old store.new infos.old
-        infos.new supports.old supports.new) }
-{
-    if let Some(support) = joined_narrow(instance, supports) {
-        store.keep_news(cell, info, support)?;
-        take_in_narrow(infos, supports, cell, info, support);
-        return Ok(());
-    }
-    keep_wide_news(store, infos, supports, cell, instance, info)
-}
-
-// The same, on any premises. Never inlined, so that news on premises below 64 make no room for wide
-// sets.
-#[inline(never)]
-fn keep_wide_news<A: Allocator + Copy>(
-    store: &mut CellStore<A>,
-    infos: &mut [Info],
-    supports: &mut SupportList<A>,
-    cell: u32,
-    instance: &Instance,
-    info: &Info,
-) -> Result<(), AllocError>
-    requires cell { cell < length store.old.cells }
-    requires kind { kind_of info.now ≡ kind_in_store store.old cell }
-    requires inputs { AreInputsThere supports.old (attachment instance.now) }
-    requires new { IsNewTo infos.old supports.old cell info.now }
-    ensures kept { OnOk result (KeepsAndTakesIn cell
-        (news_on supports.old (attachment instance.now) info.now) store.old store.new infos.old
-        infos.new supports.old supports.new) }
-    ensures refused { OnErr result (PerhapsKeeps cell
-        (news_on supports.old (attachment instance.now) info.now) store.old store.new infos.old
-        infos.new supports.old supports.new) }
-{
-    let support = joined_support(instance, supports);
-    let fact = Fact {
-        info: *info,
-        support,
-    };
-    store.keep(cell, fact)?;
-    take_in(infos, supports, cell, info, support)
 }
 
 // Calls the procedure of an instance, which is visible and not queued. If the value is news, the

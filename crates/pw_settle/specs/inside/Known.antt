@@ -114,6 +114,16 @@ pub record StaysAtHand (infos new_infos : List Info) (supports new_supports : Li
 abbrev pub AreInputsThere : List Premises → Attached → Type 0
 AreInputsThere supports a = All (λ input. input < length supports) a.instance.inputs
 
+-- an instance makes this information of what is at hand, and it is news about a cell: it is of the
+-- kind of the cell, and neither said by what is at hand nor kept on these premises
+pub record AreNews (store : Store) (infos : List Info) (supports : List Premises) (cell : ℕ)
+    (a : Attached) (info : Info) : Type 0 where
+  pub there : cell < length store.cells
+  pub kind : kind_of info ≡ kind_in_store store cell
+  pub inputs : AreInputsThere supports a
+  pub new : IsNewTo infos supports cell info
+  pub unsaid : IsUnsaid (kept_in store cell (news_on supports a info).support) info
+
 -- the store keeps a fact about a cell, and it is merged into what is at hand
 pub record KeepsAndTakesIn (cell : ℕ) (fact : Fact) (old new : Store) (infos new_infos : List Info)
     (supports new_supports : List Premises) : Type 0 where

@@ -1,12 +1,9 @@
-use Rattle.std.proofs.Common.{◌≡◌, false, List, [], ◌∷◌, ◌++◌, length, length-append, refl, sym, ◌∙◌, ap, subst, arith}
+use Rattle.std.proofs.Common.{◌≡◌, false, refl, sym, ◌∙◌, arith}
 use Rattle.std.specs.List.{list_any}
 use Rattle.pw_kinds.proofs.Order.{not_both}
-use Rattle.pw_info.specs.declared.kind.Kind.{Kind}
 use Rattle.pw_info.specs.Information.{kind_of}
-use Rattle.pw_facts.specs.declared.fact.Fact.{Fact}
-use Rattle.pw_cells.specs.Cells.{does_subsume, unsubsumed, IsSubsumedBy}
-use Rattle.pw_cells.specs.inside.OneCell.{AreOfKind, Bounds, current}
-use Rattle.pw_cells.proofs.Bounds.{bounds_pushed, kinds_pushed}
+use Rattle.pw_cells.specs.Cells.{does_subsume}
+use Rattle.pw_cells.specs.inside.OneCell.{AreOfKind, current}
 use Rattle.pw_cells.proofs.Current.{kinds_current, subsumed_by_current, subsumed_by_some}
 use Rattle.pw_cells.proofs.Late.{any_subsumes, none_subsume, assimilated_known, assimilated_news}
 use Rattle.pw_cells.proofs.assimilating.assimilate.Goals as goal

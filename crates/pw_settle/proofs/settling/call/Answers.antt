@@ -99,41 +99,34 @@ of_kind g c =
     (kinds_at_hand c.args.store.now c.args.worldview.now c.args.known.now.infos.items c.args.known.now.supports c.requires.kept ∙ c.requires.kinds) (low g c) (called g c)
     c.in-Some.info (gives g c).kind
 
-pub keep_news-requires-clause-cell : goal.keep_news-requires-clause-cell
-keep_news-requires-clause-cell g c =
-    subst (λ (n : ℕ). c.index-instances-number.result.output < n) c.requires.kept.many (below g (goal.at.keep_news-requires-clause-cell g c).After-deref_mut)
-
-pub keep_news-requires-clause-kind : goal.keep_news-requires-clause-kind
-keep_news-requires-clause-kind g c =
-    let d = (goal.at.keep_news-requires-clause-kind g c).After-deref_mut in
-    of_kind g d ∙ ap kind_of (c.requires.kept.infos_are c.index-instances-number.result.output) ∙ kind-kept c.args.store.now c.index-instances-number.result.output c.args.worldview.now
-
-pub keep_news-requires-clause-inputs : goal.keep_news-requires-clause-inputs
-keep_news-requires-clause-inputs g c =
-    let d = (goal.at.keep_news-requires-clause-inputs g c).After-deref_mut in
-    inputs_there (wiring c.args.network.now) c.args.network.now.well c.args.known.now.infos.items (wiring c.args.network.now).declared.procedures c.args.number
-    (attachment c.index-instances-number.result) refl
-    (kinds_at_hand c.args.store.now c.args.worldview.now c.args.known.now.infos.items c.args.known.now.supports c.requires.kept ∙ c.requires.kinds)
-    (low g d) (called g d) (length c.args.known.now.supports) (c.requires.kept.as_many ∙ sym c.requires.kept.many)
-
-pub keep_news-requires-clause-new : goal.keep_news-requires-clause-new
-keep_news-requires-clause-new g c =
-    let d = (goal.at.keep_news-requires-clause-new g c).After-deref_mut in
-    subst (λ (l : List Info). IsNewTo l c.args.known.now.supports c.index-instances-number.result.output c.in-Some.info) (sym c.deref_mut.ensures.value)
-    (record {
-      there = below g d;
-      as_many = c.requires.kept.as_many ∙ sym c.requires.kept.many;
-      kind = of_kind g d;
-      news = (news_is g d).new;
-    })
-
-pub keep_news-requires-clause-unsaid : goal.keep_news-requires-clause-unsaid
-keep_news-requires-clause-unsaid g c =
-    let d = (goal.at.keep_news-requires-clause-unsaid g c).After-deref_mut in
-    unsaid (wiring c.args.network.now) c.args.network.now.well c.args.store.now c.requires.kinds c.args.worldview.now
-    c.args.known.now.infos.items c.args.known.now.supports c.requires.kept (attached_no (wiring c.args.network.now) c.args.number no_instance)
-    (c.args.number, low g d, get_or_default (wiring c.args.network.now).attached c.args.number (attached_no (wiring c.args.network.now) c.args.number no_instance) no_instance (low g d))
-    (visible_no (wiring c.args.network.now) c.args.worldview.now c.args.number no_instance (low g d) ∙ c.requires.number) c.index-instances-number.result.output (fact g d) (news_is g d)
+-- so the store may keep them, and they may be merged into what is at hand
+pub keep_news-requires : goal.keep_news-requires
+keep_news-requires g c =
+    let d = (goal.at.keep_news-requires g c).After-deref_mut in
+    record {
+      there =
+          subst (λ (n : ℕ). c.index-instances-number.result.output < n) c.requires.kept.many (below g d);
+      kind =
+          of_kind g d ∙ ap kind_of (c.requires.kept.infos_are c.index-instances-number.result.output) ∙ kind-kept c.args.store.now c.index-instances-number.result.output c.args.worldview.now;
+      inputs =
+          inputs_there (wiring c.args.network.now) c.args.network.now.well c.args.known.now.infos.items (wiring c.args.network.now).declared.procedures c.args.number
+          (attachment c.index-instances-number.result) refl
+          (kinds_at_hand c.args.store.now c.args.worldview.now c.args.known.now.infos.items c.args.known.now.supports c.requires.kept ∙ c.requires.kinds)
+          (low g d) (called g d) (length c.args.known.now.supports) (c.requires.kept.as_many ∙ sym c.requires.kept.many);
+      new =
+          subst (λ (l : List Info). IsNewTo l c.args.known.now.supports c.index-instances-number.result.output c.in-Some.info) (sym c.deref_mut.ensures.value)
+          (record {
+            there = below g d;
+            as_many = c.requires.kept.as_many ∙ sym c.requires.kept.many;
+            kind = of_kind g d;
+            news = (news_is g d).new;
+          });
+      unsaid =
+          unsaid (wiring c.args.network.now) c.args.network.now.well c.args.store.now c.requires.kinds c.args.worldview.now
+          c.args.known.now.infos.items c.args.known.now.supports c.requires.kept (attached_no (wiring c.args.network.now) c.args.number no_instance)
+          (c.args.number, low g d, get_or_default (wiring c.args.network.now).attached c.args.number (attached_no (wiring c.args.network.now) c.args.number no_instance) no_instance (low g d))
+          (visible_no (wiring c.args.network.now) c.args.worldview.now c.args.number no_instance (low g d) ∙ c.requires.number) c.index-instances-number.result.output (fact g d) (news_is g d);
+    }
 
 -- how they are taken in
 taken : (g : given.Over) (c : After-queue_visible_readers g) →

@@ -21,15 +21,15 @@ returns-in-Many-clause-err g c =
     let same : c.deref_mut.result.now ≡ c.args.self.now = c.deref_mut.ensures.value ∙ ap cell_of (sym c.in-Many.is) ∙ c.self.view_is in
     still_then c.keep_news.result _ _ c.keep_news.new.self same c.keep_news.ensures.err
 
-pub keep_few_news-requires : goal.keep_few_news-requires
-keep_few_news-requires g c =
+pub keep_copied_news-requires : goal.keep_copied_news-requires
+keep_copied_news-requires g c =
     let fact = fact_on c.args.info.now c.args.support in
     is_news_so fact fact _ _ c.self.view_is refl c.requires
 
 pub returns-clause-kept : goal.returns-clause-kept
 returns-clause-kept g c =
     let fact = fact_on c.args.info.now c.args.support in
-    keeps_then c.keep_few_news.result fact fact _ _ c.keep_few_news.new.self c.self.view_is refl c.keep_few_news.ensures.kept
+    keeps_then c.keep_copied_news.result fact fact _ _ c.keep_copied_news.new.self c.self.view_is refl c.keep_copied_news.ensures.kept
 
 pub returns-clause-err : goal.returns-clause-err
-returns-clause-err g c = still_then c.keep_few_news.result _ _ c.keep_few_news.new.self c.self.view_is c.keep_few_news.ensures.err
+returns-clause-err g c = still_then c.keep_copied_news.result _ _ c.keep_copied_news.new.self c.self.view_is c.keep_copied_news.ensures.err

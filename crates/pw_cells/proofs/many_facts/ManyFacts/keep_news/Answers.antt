@@ -48,15 +48,15 @@ returns-in-Narrow-clause-err g c =
     let cell : c.in-Narrow.lists ≡ c.args.self.now = ap cell_in (sym c.in-Narrow.is) ∙ c.self.view_is in
     still_then c.keep_news-in-Narrow.result _ _ c.keep_news-in-Narrow.new.self cell c.keep_news-in-Narrow.ensures.err
 
-pub keep_wide_news-requires : goal.keep_wide_news-requires
-keep_wide_news-requires g c =
+pub keep_wide_copy-requires : goal.keep_wide_copy-requires
+keep_wide_copy-requires g c =
     let fact = fact_on c.args.info.now c.args.support in
     is_news_so fact fact _ _ c.self.view_is refl c.requires
 
 pub returns-in-Wide-clause-kept : goal.returns-in-Wide-clause-kept
 returns-in-Wide-clause-kept g c =
     let fact = fact_on c.args.info.now c.args.support in
-    keeps_then c.keep_wide_news.result fact fact _ _ c.keep_wide_news.new.self c.self.view_is refl c.keep_wide_news.ensures.kept
+    keeps_then c.keep_wide_copy.result fact fact _ _ c.keep_wide_copy.new.self c.self.view_is refl c.keep_wide_copy.ensures.kept
 
 pub returns-in-Wide-clause-err : goal.returns-in-Wide-clause-err
-returns-in-Wide-clause-err g c = still_then c.keep_wide_news.result _ _ c.keep_wide_news.new.self c.self.view_is c.keep_wide_news.ensures.err
+returns-in-Wide-clause-err g c = still_then c.keep_wide_copy.result _ _ c.keep_wide_copy.new.self c.self.view_is c.keep_wide_copy.ensures.err

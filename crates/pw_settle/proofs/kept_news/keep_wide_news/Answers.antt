@@ -4,9 +4,9 @@ use Rattle.pw_network.specs.inside.Held.{attachment}
 use Rattle.pw_cells.specs.Cells.{fact_on}
 use Rattle.pw_settle.specs.inside.Known.{Keeps, TakesIn, news_on}
 use Rattle.pw_settle.proofs.TakenIn.{OnErr_more, OnOk_more}
-use Rattle.pw_settle.proofs.settling.keep_wide_news.Given as given
-use Rattle.pw_settle.proofs.settling.keep_wide_news.Goals as goal
-use Rattle.pw_settle.proofs.settling.keep_wide_news.Goals.{After-take_in}
+use Rattle.pw_settle.proofs.kept_news.keep_wide_news.Given as given
+use Rattle.pw_settle.proofs.kept_news.keep_wide_news.Goals as goal
+use Rattle.pw_settle.proofs.kept_news.keep_wide_news.Goals.{After-take_in}
 
 -- the store has kept the news
 keeps : (g : given.Over) (c : After-take_in g) →

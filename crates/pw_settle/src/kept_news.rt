@@ -1,0 +1,144 @@
+//! News of instances: kept in the store, and merged into what is known.
+ghost use Rattle.std.specs.Prelude.{◌≡◌, ◌<◌, OnOk, OnErr, length};
+ghost use Rattle.pw_info.specs.Information.{kind_of};
+ghost use Rattle.pw_cells.specs.Cells.{IsUnsaid, fact_on, kept_in, kind_in_store};
+ghost use Rattle.pw_network.specs.inside.Held.{attachment};
+ghost use Rattle.pw_settle.specs.inside.Known.{AreNews, IsNewTo, KeepsAndTakesIn, PerhapsKeeps};
+ghost use Rattle.pw_settle.specs.inside.Known.{news_on};
+
+use crate::known::{joined_narrow, joined_support, take_in, take_in_narrow};
+use crate::support_list::SupportList;
+use pw_cells::CellStore;
+use pw_facts::Fact;
+use pw_info::Info;
+use pw_network::Instance;
+use pw_premises::NarrowSet;
+use std::alloc::{AllocError, Allocator};
+
+// Keeps news of an instance in the store, and merges them into what is known about its output. Fails
+// only when out of memory; then perhaps the store keeps them, but nothing else changes. Mostly they are
+// about an interval, on premises below 64: that is inlined, and the compiler knows which parts they have.
+#[inline(always)]
+pub(crate) fn keep_news<A: Allocator + Copy>(
+    store: &mut CellStore<A>,
+    infos: &mut [Info],
+    supports: &mut SupportList<A>,
+    cell: u32,
+    instance: &Instance,
+    info: &Info,
+) -> Result<(), AllocError>
+    requires { AreNews store.old infos.old supports.old cell (attachment instance.now) info.now }
+    ensures kept { OnOk result (KeepsAndTakesIn cell
+        (news_on supports.old (attachment instance.now) info.now) store.old store.new infos.old
+        infos.new supports.old supports.new) }
+    ensures refused { OnErr result (PerhapsKeeps cell
+        (news_on supports.old (attachment instance.now) info.now) store.old store.new infos.old
+        infos.new supports.old supports.new) }
+{
+    let Info::Interval(part) = *info else {
+        return keep_copied_news(store, infos, supports, cell, instance, info);
+    };
+    let news = Info::Interval(part);
+    if let Some(support) = joined_narrow(instance, supports) {
+        return keep_narrow_news(store, infos, supports, cell, &news, support);
+    }
+    keep_copied_news(store, infos, supports, cell, instance, &news)
+}
+
+// The same for any news. Only the copy lies in memory: the caller may hold its own in registers.
+#[inline(always)]
+fn keep_copied_news<A: Allocator + Copy>(
+    store: &mut CellStore<A>,
+    infos: &mut [Info],
+    supports: &mut SupportList<A>,
+    cell: u32,
+    instance: &Instance,
+    info: &Info,
+) -> Result<(), AllocError>
+    requires { AreNews store.old infos.old supports.old cell (attachment instance.now) info.now }
+    ensures kept { OnOk result (KeepsAndTakesIn cell
+        (news_on supports.old (attachment instance.now) info.now) store.old store.new infos.old
+        infos.new supports.old supports.new) }
+    ensures refused { OnErr result (PerhapsKeeps cell
+        (news_on supports.old (attachment instance.now) info.now) store.old store.new infos.old
+        infos.new supports.old supports.new) }
+{
+    let copy = info.copied();
+    keep_any_news(store, infos, supports, cell, instance, &copy)
+}
+
+// The same for any news. Never inlined, so that news about intervals carry no parts of other kinds.
+#[inline(never)]
+fn keep_any_news<A: Allocator + Copy>(
+    store: &mut CellStore<A>,
+    infos: &mut [Info],
+    supports: &mut SupportList<A>,
+    cell: u32,
+    instance: &Instance,
+    info: &Info,
+) -> Result<(), AllocError>
+    requires { AreNews store.old infos.old supports.old cell (attachment instance.now) info.now }
+    ensures kept { OnOk result (KeepsAndTakesIn cell
+        (news_on supports.old (attachment instance.now) info.now) store.old store.new infos.old
+        infos.new supports.old supports.new) }
+    ensures refused { OnErr result (PerhapsKeeps cell
+        (news_on supports.old (attachment instance.now) info.now) store.old store.new infos.old
+        infos.new supports.old supports.new) }
+{
+    if let Some(support) = joined_narrow(instance, supports) {
+        return keep_narrow_news(store, infos, supports, cell, info, support);
+    }
+    keep_wide_news(store, infos, supports, cell, instance, info)
+}
+
+// The same for news on these premises, which are below 64.
+#[inline(always)]
+fn keep_narrow_news<A: Allocator + Copy>(
+    store: &mut CellStore<A>,
+    infos: &mut [Info],
+    supports: &mut SupportList<A>,
+    cell: u32,
+    info: &Info,
+    support: NarrowSet,
+) -> Result<(), AllocError>
+    requires there { cell < length store.old.cells }
+    requires kind { kind_of info.now ≡ kind_in_store store.old cell }
+    requires new { IsNewTo infos.old supports.old cell info.now }
+    requires unsaid { IsUnsaid (kept_in store.old cell support) info.now }
+    ensures kept { OnOk result (KeepsAndTakesIn cell (fact_on info.now support) store.old store.new
+        infos.old infos.new supports.old supports.new) }
+    ensures refused { OnErr result (PerhapsKeeps cell (fact_on info.now support) store.old store.new
+        infos.old infos.new supports.old supports.new) }
+{
+    store.keep_news(cell, info, support)?;
+    take_in_narrow(infos, supports, cell, info, support);
+    Ok(())
+}
+
+// The same for news on any premises. Never inlined, so that news on premises below 64 make no room for
+// wide sets.
+#[inline(never)]
+fn keep_wide_news<A: Allocator + Copy>(
+    store: &mut CellStore<A>,
+    infos: &mut [Info],
+    supports: &mut SupportList<A>,
+    cell: u32,
+    instance: &Instance,
+    info: &Info,
+) -> Result<(), AllocError>
+    requires { AreNews store.old infos.old supports.old cell (attachment instance.now) info.now }
+    ensures kept { OnOk result (KeepsAndTakesIn cell
+        (news_on supports.old (attachment instance.now) info.now) store.old store.new infos.old
+        infos.new supports.old supports.new) }
+    ensures refused { OnErr result (PerhapsKeeps cell
+        (news_on supports.old (attachment instance.now) info.now) store.old store.new infos.old
+        infos.new supports.old supports.new) }
+{
+    let support = joined_support(instance, supports);
+    let fact = Fact {
+        info: *info,
+        support,
+    };
+    store.keep(cell, fact)?;
+    take_in(infos, supports, cell, info, support)
+}
