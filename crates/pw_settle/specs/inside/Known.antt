@@ -114,8 +114,9 @@ pub record StaysAtHand (infos new_infos : List Info) (supports new_supports : Li
 abbrev pub AreInputsThere : List Premises → Attached → Type 0
 AreInputsThere supports a = All (λ input. input < length supports) a.instance.inputs
 
--- an instance makes this information of what is at hand, and it is news about a cell: it is of the
--- kind of the cell, and neither said by what is at hand nor kept on these premises
+-- an information on the premises of an instance can be kept of a cell, and merged into what is at hand:
+-- it is of the cell's kind, there are premises at hand for each input, and it is neither said by what
+-- is at hand nor kept on these premises
 pub record AreNews (store : Store) (infos : List Info) (supports : List Premises) (cell : ℕ)
     (a : Attached) (info : Info) : Type 0 where
   pub there : cell < length store.cells
