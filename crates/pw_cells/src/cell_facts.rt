@@ -1,6 +1,6 @@
 //! The facts of one cell.
 
-ghost use Rattle.std.specs.Prelude.{◌≡◌, false, IfOk, IfSome, OnOk, OnErr};
+ghost use Rattle.std.specs.Prelude.{◌≡◌, false, IfOk, IfSome, IsTrue, OnOk, OnErr};
 ghost use Rattle.pw_info.specs.Information.{kind_of, Implies};
 ghost use Rattle.pw_facts.specs.Facts.{IsLeastAbove, IsMostBelow};
 ghost use Rattle.pw_cells.specs.Cells.{fact_on, new_cell, told_of, kept_of};
@@ -134,10 +134,28 @@ impl<A: Allocator + Copy> CellFacts<A> {
         ensures err { OnErr result (self.new ≡ self.old) }
     {
         let copy = info.copied();
+        if self.replace_one(&copy, support) {
+            return Ok(());
+        }
         self.keep_few_news(&copy, support)
     }
 
-    // The same. Never inlined: news of many facts are the ones in a hurry.
+    // Keeps the news in the place of the one fact that is kept, if they subsume it, and answers whether it
+    // did. Otherwise nothing changes. Never inlined: most cells have more facts.
+    #[inline(never)]
+    fn replace_one(&mut self, info: &Info, support: NarrowSet) -> bool
+        requires { IsNews (fact_on info.now support) self.old }
+        ensures kept { IsTrue result → KeepsFact (fact_on info.now support) self.old self.new }
+        ensures none { result ≡ false → self.new ≡ self.old }
+    {
+        let Facts::One(one) = &mut self.all else {
+            return false;
+        };
+        let fact = one.held(info, support);
+        one.replace(&fact)
+    }
+
+    // The same where that did not. Never inlined: news of many facts are the ones in a hurry.
     #[inline(never)]
     fn keep_few_news(&mut self, info: &Info, support: NarrowSet) -> Result<(), AllocError>
         requires { IsNews (fact_on info.now support) self.old }
@@ -147,9 +165,6 @@ impl<A: Allocator + Copy> CellFacts<A> {
         match &mut self.all {
             Facts::One(one) => {
                 let fact = one.held(info, support);
-                if one.replace(&fact) {
-                    return Ok(());
-                }
                 self.all = Facts::FewIntervals(listed_with(one, &fact)?);
                 Ok(())
             }

@@ -41,6 +41,11 @@ pub(crate) trait Content: Copy {
         requires { kind_of (said self.now) ≡ kind_of (said other.now) }
         ensures { IsTrue result ↔ Implies (said self.now) (said other.now) };
 
+    // Whether it says the same as another content of its kind.
+    fn says_same(&self, other: &Self) -> bool
+        requires { kind_of (said self.now) ≡ kind_of (said other.now) }
+        ensures { IsTrue result ↔ (said self.now ≡ said other.now) };
+
     // The merge with another content of its kind.
     fn meet(&self, other: &Self) -> Self
         requires { kind_of (said self.now) ≡ kind_of (said other.now) }
@@ -76,6 +81,11 @@ impl Content for Info {
     #[inline(always)]
     fn implies(&self, other: &Info) -> bool {
         Info::implies(self, other)
+    }
+
+    #[inline(always)]
+    fn says_same(&self, other: &Info) -> bool {
+        Info::implies(self, other) && Info::implies(other, self)
     }
 
     #[inline(always)]
@@ -118,6 +128,11 @@ impl Content for Interval {
     #[inline(always)]
     fn implies(&self, other: &Interval) -> bool {
         self.within(*other)
+    }
+
+    #[inline(always)]
+    fn says_same(&self, other: &Interval) -> bool {
+        self == other
     }
 
     #[inline(always)]

@@ -117,6 +117,15 @@ impl<C: Content, S: Support> Held<C, S> {
         self.content.implies(&other.content)
     }
 
+    // Whether it says the same as the other fact, of the same kind.
+    #[inline(always)]
+    pub(crate) fn says_same(&self, other: &Held<C, S>) -> bool
+        requires { kind_of self.now.info ≡ kind_of other.now.info }
+        ensures { IsTrue result ↔ (self.now.info ≡ other.now.info) }
+    {
+        self.content.says_same(&other.content)
+    }
+
     // Whether it says at least what the other fact, of the same kind, says, and rests on a subset of
     // its premises.
     #[inline(always)]

@@ -85,7 +85,7 @@ fn merge_in<C: Content, S: Support>(merge: &mut Held<C, S>, held: &Held<C, S>)
         } else {
             merge.joined(held)
         };
-    } else if held.rests_within(merge) && held.implies(merge) {
+    } else if held.says_same(merge) && held.rests_within(merge) {
         *merge = *held;
     }
 }

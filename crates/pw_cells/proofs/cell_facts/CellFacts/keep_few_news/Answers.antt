@@ -30,16 +30,10 @@ held-requires-then-has_room-2 g c =
     let same : c.in-Few.few ≡ c.args.self.now = ap cell_of (sym c.in-Few.is) ∙ c.self.view_is in
     c.requires.kind ∙ sym (ap (λ (x : Cell). x.kind) same)
 
-pub replace-requires : goal.replace-requires
-replace-requires g c =
-    let fact = fact_on c.args.info.now c.args.support in
-    let same : c.in-One.one ≡ c.args.self.now = ap cell_of (sym c.in-One.is) ∙ c.self.view_is in
-    is_news_so fact c.held-fact.result _ _ same c.held-fact.ensures c.requires
-
 pub listed_with-requires : goal.listed_with-requires
 listed_with-requires g c =
     let fact = fact_on c.args.info.now c.args.support in
-    let same : c.replace.new.self ≡ c.args.self.now = c.replace.ensures.none c.if-replace.false ∙ ap cell_of (sym c.in-One.is) ∙ c.self.view_is in
+    let same : c.in-One.one ≡ c.args.self.now = ap cell_of (sym c.in-One.is) ∙ c.self.view_is in
     is_news_so fact c.held-fact.result _ _ same c.held-fact.ensures c.requires
 
 pub keep_news-requires : goal.keep_news-requires
@@ -73,16 +67,10 @@ with_news-requires-in-Few g c =
     let same : c.in_ok-boxed-in-Few.field-0.value ≡ c.args.self.now = c.in_ok-boxed-in-Few.ensures ∙ ap cell_of (sym c.in-Few.is) ∙ c.self.view_is in
     is_news_so fact fact _ _ same refl c.requires
 
-pub returns-then-replace-clause-kept : goal.returns-then-replace-clause-kept
-returns-then-replace-clause-kept g c =
-    let fact = fact_on c.args.info.now c.args.support in
-    let same : c.in-One.one ≡ c.args.self.now = ap cell_of (sym c.in-One.is) ∙ c.self.view_is in
-    keeps_so fact c.held-fact.result _ _ c.replace.new.self same c.held-fact.ensures (c.replace.ensures.kept c.if-replace.true)
-
 pub returns-in_ok-listed_with-in-One-clause-kept : goal.returns-in_ok-listed_with-in-One-clause-kept
 returns-in_ok-listed_with-in-One-clause-kept g c =
     let fact = fact_on c.args.info.now c.args.support in
-    let same : c.replace.new.self ≡ c.args.self.now = c.replace.ensures.none c.if-replace.false ∙ ap cell_of (sym c.in-One.is) ∙ c.self.view_is in
+    let same : c.in-One.one ≡ c.args.self.now = ap cell_of (sym c.in-One.is) ∙ c.self.view_is in
     keeps_so fact c.held-fact.result _ _ c.in_ok-listed_with-in-One.field-0 same c.held-fact.ensures c.in_ok-listed_with-in-One.ensures
 
 pub returns-then-is_empty-clause-kept : goal.returns-then-is_empty-clause-kept
@@ -145,7 +133,7 @@ returns-in_ok-with_news-in-Few-clause-kept g c =
 
 pub returns-in_err-listed_with-in-One-clause-err : goal.returns-in_err-listed_with-in-One-clause-err
 returns-in_err-listed_with-in-One-clause-err g c =
-    let same : c.replace.new.self ≡ c.args.self.now = c.replace.ensures.none c.if-replace.false ∙ ap cell_of (sym c.in-One.is) ∙ c.self.view_is in
+    let same : c.in-One.one ≡ c.args.self.now = ap cell_of (sym c.in-One.is) ∙ c.self.view_is in
     OnErr_always c.from_residual.result same
 
 pub returns-in_err-boxed_intervals-in-FewIntervals-clause-err : goal.returns-in_err-boxed_intervals-in-FewIntervals-clause-err
