@@ -140,8 +140,8 @@ impl<A: Allocator + Copy> CellFacts<A> {
         self.keep_few_news(&copy, support)
     }
 
-    // Keeps the news in the place of the one fact that is kept, if they subsume it, and answers whether it
-    // did. Otherwise nothing changes. Never inlined: most cells have more facts.
+    // Puts the news in the place of the only kept fact, if they subsume it, and answers whether it did.
+    // Otherwise nothing changes. Never inlined: news of many facts are the ones in a hurry.
     #[inline(never)]
     fn replace_one(&mut self, info: &Info, support: NarrowSet) -> bool
         requires { IsNews (fact_on info.now support) self.old }
@@ -155,7 +155,7 @@ impl<A: Allocator + Copy> CellFacts<A> {
         one.replace(&fact)
     }
 
-    // The same where that did not. Never inlined: news of many facts are the ones in a hurry.
+    // Keeps the news in any cell. Never inlined, for the same reason.
     #[inline(never)]
     fn keep_few_news(&mut self, info: &Info, support: NarrowSet) -> Result<(), AllocError>
         requires { IsNews (fact_on info.now support) self.old }

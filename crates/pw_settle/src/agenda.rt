@@ -7,7 +7,8 @@ ghost use Rattle.pw_settle.specs.inside.Progress.{IsIdle, is_set};
 use std::alloc::{AllocError, Allocator, Global};
 use std::marker::Model;
 
-// The list of a small network has room for so many. With less it would be full again and again.
+// The list has room for at least this many. With less, that of a small network would be full again and
+// again.
 const LEAST_ROOM: usize = 64;
 
 // Numbers of instances, each at most once, in the order in which they came. Which one is taken next
@@ -129,7 +130,7 @@ impl<A: Allocator + Copy> Agenda<A> {
     }
 }
 
-// The room of the list for so many instances.
+// The room of the list for this many instances.
 fn room_for(count: usize) -> usize
     requires { count ≤ 4294967295 }
     ensures { count ≤ result }

@@ -48,7 +48,7 @@ const COMPOUNDS: [&str; 9] = [
     " end ",
 ];
 
-// Checks that a declaration of these lines declares so many of each thing.
+// Checks that a declaration of these lines declares this many of each thing.
 fn has_counts<R: Abort + AllocGlobal>(rt: &R, lines: &[&str], wanted: Counts) -> Result<(), Fail> {
     let text = joined(rt.alloc(), lines)?;
     let counts = counted(rt.alloc(), rt.alloc(), SOUND, text.as_str())?;

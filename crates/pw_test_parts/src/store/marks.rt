@@ -23,7 +23,7 @@ fn mark(store: &mut CellStore) -> u64
     store.mark()
 }
 
-// Tells the same fact of the interval cell so many times.
+// Tells the same fact of the interval cell this many times.
 fn tell_often(store: &mut CellStore, times: u32) -> Result<(), AllocError>
     requires { kinds_of store.old ≡ Kind.Interval ∷ Kind.Exact ∷ [] }
     ensures { kinds_of store.new ≡ Kind.Interval ∷ Kind.Exact ∷ [] }

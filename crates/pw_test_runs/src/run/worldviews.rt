@@ -23,7 +23,7 @@ const PREMISES: [&str; 7] = ["p0", "p1", "p2", "p3", "p4", "p5", "p6"];
 // What is told of x under each premise: from 0 to this.
 const MOST: [u32; 7] = [100, 90, 80, 70, 60, 50, 40];
 
-// In so many turns ann is in each of the 128 worldviews twice.
+// In this many turns ann is in each of the 128 worldviews twice.
 const TURNS: u32 = 256;
 
 // In this turn something is told that is news in each worldview.
