@@ -269,24 +269,45 @@ impl Settling<'_> {
         requires { IsReady (wiring network.now) store.old }
     {
         let before = all_told(self.alloc, store, self.worldviews)?;
-        let mut is_told_the_same = true;
         let mut answers = Vec::new(self.alloc);
+        let is_told_the_same = self.add_answers(network, store, &before, &mut answers)?;
+        Ok((answers, is_told_the_same))
+    }
+
+    // Adds what each settling answers, and says whether the told facts stayed as they were before.
+    fn add_answers(
+        &self,
+        network: &Network<'_, '_>,
+        store: &mut CellStore,
+        before: &[Info],
+        answers: &mut Vec<Answer>,
+    ) -> Result<bool, AllocError>
+        requires { IsReady (wiring network.now) store.old }
+    {
+        let mut is_told_the_same = true;
         for worldview in self.worldviews {
             answers.push(settle_and_show(self.alloc, network, store, worldview)?)?;
-            if !is_told(self.alloc, store, self.worldviews, &before)? {
+            if !is_told(self.alloc, store, self.worldviews, before)? {
                 is_told_the_same = false;
             }
         }
-        Ok((answers, is_told_the_same))
+        Ok(is_told_the_same)
     }
 
     // Settles the worldviews, over a store in which the facts were told.
     fn settle_all(&self, network: &Network<'_, '_>) -> Result<Shown, Fail> {
         let mut store = store_told(self.alloc, network, self.matter.tells)?;
-        let (answers, is_told_the_same) = self.answers(network, &mut store)?;
+        self.settle_told(network, &mut store)
+    }
+
+    // The same, for an owner of the store.
+    fn settle_told(&self, network: &Network<'_, '_>, store: &mut CellStore) -> Result<Shown, Fail>
+        requires { IsReady (wiring network.now) store.old }
+    {
+        let (answers, is_told_the_same) = self.answers(network, store)?;
         Ok(Shown {
             answers,
-            kept: kept_of(self.alloc, network, &mut store, self.asked)?,
+            kept: kept_of(self.alloc, network, store, self.asked)?,
             is_told_the_same,
         })
     }

@@ -60,16 +60,21 @@ fn add_answer(
     for place in 0..cells.len() {
         inputs[place] = *before.get(cells[place] as usize).ok_or("no cell")?;
     }
+    let answer = answer_on(network, instance.procedure, &inputs[..cells.len()])?;
+    add(known, instance.output, &answer)
+}
+
+// What a procedure answers to these inputs.
+fn answer_on(network: &Network<'_, '_>, number: u8, inputs: &[Info]) -> Result<Info, Fail> {
     let registry = network.declaration().registry();
-    if usize::from(instance.procedure) >= registry.len() {
+    if usize::from(number) >= registry.len() {
         return Err("no procedure".into());
     }
-    let procedure = registry.get(instance.procedure);
-    if !procedure.signature().fits(&inputs[..cells.len()]) {
+    let procedure = registry.get(number);
+    if !procedure.signature().fits(inputs) {
         return Err("inputs that do not fit".into());
     }
-    let answer = procedure.call(&inputs[..cells.len()]);
-    add(known, instance.output, &answer)
+    Ok(procedure.call(inputs))
 }
 
 // What is known after a round.
@@ -81,13 +86,25 @@ fn round(
     before: &[Info],
 ) -> Result<Vec<Info>, Fail> {
     let mut known = Vec::from_slice(alloc, before)?;
+    add_each(network, tells, worldview, before, &mut known)?;
+    Ok(known)
+}
+
+// Adds what is told, and what the instances answer to what was known before the round.
+fn add_each(
+    network: &Network<'_, '_>,
+    tells: &[Tell<'_>],
+    worldview: &PremiseSet,
+    before: &[Info],
+    known: &mut Vec<Info>,
+) -> Result<(), Fail> {
     for tell in tells {
-        add_told(network, tell, worldview, &mut known)?;
+        add_told(network, tell, worldview, known)?;
     }
     for instance in network.instances() {
-        add_answer(network, instance, worldview, before, &mut known)?;
+        add_answer(network, instance, worldview, before, known)?;
     }
-    Ok(known)
+    Ok(())
 }
 
 // Nothing known, of each cell.

@@ -32,6 +32,18 @@ fn settle_twice(
     Ok(settled)
 }
 
+// Settles the worldview with the first two premises twice. Answers what the values show.
+fn settle_twice_and_show(
+    alloc: Global,
+    network: &Network<'_, '_>,
+    store: &mut CellStore,
+) -> Result<Answer, AllocError>
+    requires { IsReady (wiring network.now) store.old }
+{
+    let settled = settle_twice(alloc, network, store, &PremiseSet::first(2))?;
+    answer_of(alloc, network, &settled)
+}
+
 // Settlings of the worldview with the first two premises.
 #[derive(Drop)]
 struct Twice<'a> {
@@ -43,8 +55,7 @@ impl Twice<'_> {
     // Tells the facts, and settles twice.
     fn answer(&self, network: &Network<'_, '_>) -> Result<Answer, Fail> {
         let mut store = store_told(self.alloc, network, self.matter.tells)?;
-        let settled = settle_twice(self.alloc, network, &mut store, &PremiseSet::first(2))?;
-        Ok(answer_of(self.alloc, network, &settled)?)
+        Ok(settle_twice_and_show(self.alloc, network, &mut store)?)
     }
 }
 

@@ -16,7 +16,7 @@ use super::{Matter, Shown, all_told, answer_of, is_told, settle_once, store_of, 
 use crate::networks::{Attachment, named_in};
 use pw_cells::CellStore;
 use pw_decl::{Callable, Declaration};
-use pw_info::Kind;
+use pw_info::{Info, Kind};
 use pw_network::Network;
 use pw_premises::PremiseSet;
 use pw_settle::{Settled, resettle};
@@ -206,12 +206,29 @@ impl Staged<'_> {
         let seen = [*worldview, PremiseSet::empty(), PremiseSet::first(5)];
         let before = all_told(self.alloc, store, &seen)?;
         let settled = settle_next(self.alloc, last, network, store, worldview)?;
-        if !is_told(self.alloc, store, &seen, &before)? {
+        self.show(network, store, &seen, &before, &settled, shown)?;
+        Ok(settled)
+    }
+
+    // Shows what a settling came to, and whether the told facts are as they were before it.
+    fn show(
+        &self,
+        network: &Network<'_, '_>,
+        store: &CellStore,
+        seen: &[PremiseSet],
+        before: &[Info],
+        settled: &Settled,
+        shown: &mut Shown,
+    ) -> Result<(), AllocError>
+        requires { length settled.now.infos ≡ cells_in (wiring network.now) }
+    {
+        if !is_told(self.alloc, store, seen, before)? {
             shown.is_told_the_same = false;
         }
-        let answer = answer_of(self.alloc, network, &settled)?;
-        shown.answers.push(answer)?;
-        Ok(settled)
+        shown
+            .answers
+            .push(answer_of(self.alloc, network, settled)?)?;
+        Ok(())
     }
 
     // Goes through the stages, over a network to which nothing is attached yet and a store of its
@@ -228,15 +245,28 @@ impl Staged<'_> {
             kept: Vec::new(self.alloc),
             is_told_the_same: true,
         };
+        self.settle_each(network, store, &mut shown)?;
+        Ok(shown)
+    }
+
+    // The same, for an owner of what is shown.
+    fn settle_each(
+        &self,
+        network: &mut Network<'_, '_>,
+        store: &mut CellStore,
+        shown: &mut Shown,
+    ) -> Result<(), Fail>
+        requires { IsReady (wiring network.old) store.old }
+    {
         let mut before = Stage::new(0, 0, PremiseSet::empty());
         let mut last = None;
         for stage in self.stages {
             self.come(network, store, &before, stage)?;
-            let settled = self.settle_stage(last, network, store, &stage.worldview, &mut shown)?;
+            let settled = self.settle_stage(last, network, store, &stage.worldview, shown)?;
             last = Some(settled);
             before = *stage;
         }
-        Ok(shown)
+        Ok(())
     }
 }
 
