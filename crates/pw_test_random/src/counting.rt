@@ -6,12 +6,13 @@ ghost use Rattle.pw_sessions.specs.inside.Fields.{state};
 ghost use Rattle.pw_transcript.specs.Limits.{most_lines};
 ghost use Rattle.pw_transcript.specs.inside.Answering.{IsLeft};
 
+use crate::replying::reply_to;
 use pw_decl::Declaration;
 use pw_network::Network;
 use pw_sessions::Workbench;
 use pw_testing::worlds::{GENERAL, OverDeclaration, over_text};
-use pw_transcript::read_command;
 use std::alloc::{Allocator, Global};
+use std::process::Abort;
 use std::test::Fail;
 
 // How often the line of this number called procedures. One that says no command calls none.
@@ -25,15 +26,32 @@ fn calls_of<A: Allocator + Copy>(
     requires most { number ≤ most_lines }
     ensures { IsLeft (declared declaration.now) (number + 1) (state workbench.new) }
 {
-    // Cells have kinds whose members are named.
-    declaration.limits();
-    match read_command(line, declaration) {
-        Ok(Some(command)) => {
-            workbench.command(number, &command);
-            workbench.last_calls()
-        }
-        _ => 0,
+    match reply_to(declaration, number, line, workbench) {
+        Some(_) => workbench.last_calls(),
+        None => 0,
     }
+}
+
+// How often each of the lines called procedures, over a new workbench.
+fn calls_over(
+    alloc: Global,
+    declaration: &Declaration<'_>,
+    lines: &[&str],
+    workbench: &mut Workbench<'_, '_>,
+) -> Result<Vec<u128>, Fail>
+    requires left { IsLeft (declared declaration.now) 1 (state workbench.old) }
+{
+    let mut calls = Vec::new(alloc);
+    let mut number = 1;
+    for line in lines {
+        if number > 1_000_000 {
+            return Err("too many lines".into());
+        }
+        let of_line = calls_of(declaration, number, line.as_bytes(), workbench);
+        calls.push(of_line)?;
+        number += 1;
+    }
+    Ok(calls)
 }
 
 // How often each of the lines called procedures, over one workbench.
@@ -44,17 +62,7 @@ fn calls_of_each(
 ) -> Result<Vec<u128>, Fail> {
     let network = Network::new(alloc, declaration)?;
     let mut workbench = Workbench::new(alloc, declaration, network)?;
-    let mut calls = Vec::new(alloc);
-    let mut number = 1;
-    for line in lines {
-        if number > 1_000_000 {
-            return Err("too many lines".into());
-        }
-        let of_line = calls_of(declaration, number, line.as_bytes(), &mut workbench);
-        calls.push(of_line)?;
-        number += 1;
-    }
-    Ok(calls)
+    calls_over(alloc, declaration, lines, &mut workbench)
 }
 
 // Lines over one workbench.
@@ -70,6 +78,11 @@ impl OverDeclaration<Global> for Counting<'_> {
     fn over(self, declaration: &Declaration<'_>) -> Result<Vec<u128>, Fail> {
         calls_of_each(self.alloc, declaration, self.lines)
     }
+}
+
+// How often each of the lines called procedures.
+fn calls_over_general(alloc: Global, lines: &[&str]) -> Result<Vec<u128>, Fail> {
+    over_text(alloc, alloc, GENERAL, Counting { alloc, lines })?
 }
 
 // Ann attaches a sum over x, y and t, tells of its cells and asks for t. Bob, who believes the
@@ -90,13 +103,8 @@ const SUM: &[&str] = &[
     "ann conflicts",
 ];
 
-#[test]
-fn who_is_fresh_calls_nothing(rt: HostRuntime) -> Result<(), Fail> {
-    let counting = Counting {
-        alloc: rt.alloc(),
-        lines: SUM,
-    };
-    let calls = over_text(rt.alloc(), rt.alloc(), GENERAL, counting)??;
+// Checks how often these lines called procedures.
+fn are_of_the_sum<R: Abort>(rt: &R, calls: &[u128]) -> Result<(), Fail> {
     let Some(calls) = calls.get(..13) else {
         return Err("a line is missing".into());
     };
@@ -116,6 +124,12 @@ fn who_is_fresh_calls_nothing(rt: HostRuntime) -> Result<(), Fail> {
     // Beliefs that were doubted: a smaller worldview settles anew. Then all is known.
     assert_eq!(rt; [calls[11], calls[12]], [3, 0]);
     Ok(())
+}
+
+#[test]
+fn who_is_fresh_calls_nothing(rt: HostRuntime) -> Result<(), Fail> {
+    let calls = calls_over_general(rt.alloc(), SUM)?;
+    are_of_the_sum(&rt, &calls)
 }
 
 // Ann goes to other worldviews and back, and bob into one where she was.
@@ -140,13 +154,8 @@ const RETURNING: &[&str] = &[
     "ann ask t",
 ];
 
-#[test]
-fn who_returns_goes_on_from_there(rt: HostRuntime) -> Result<(), Fail> {
-    let counting = Counting {
-        alloc: rt.alloc(),
-        lines: RETURNING,
-    };
-    let calls = over_text(rt.alloc(), rt.alloc(), GENERAL, counting)??;
+// Checks how often these lines called procedures.
+fn are_of_returning<R: Abort>(rt: &R, calls: &[u128]) -> Result<(), Fail> {
     let Some(calls) = calls.get(..18) else {
         return Err("a line is missing".into());
     };
@@ -162,6 +171,12 @@ fn who_returns_goes_on_from_there(rt: HostRuntime) -> Result<(), Fail> {
     // A smaller worldview; and back in each.
     assert_eq!(rt; [calls[14], calls[16], calls[17]], [3, 0, 0]);
     Ok(())
+}
+
+#[test]
+fn who_returns_goes_on_from_there(rt: HostRuntime) -> Result<(), Fail> {
+    let calls = calls_over_general(rt.alloc(), RETURNING)?;
+    are_of_returning(&rt, &calls)
 }
 
 // Ann chooses where nothing is consistent, where another premise is, and where her beliefs are. She
@@ -182,13 +197,8 @@ const CHOOSING: &[&str] = &[
     "ann ask y",
 ];
 
-#[test]
-fn who_chose_none_is_still_fresh(rt: HostRuntime) -> Result<(), Fail> {
-    let counting = Counting {
-        alloc: rt.alloc(),
-        lines: CHOOSING,
-    };
-    let calls = over_text(rt.alloc(), rt.alloc(), GENERAL, counting)??;
+// Checks how often these lines called procedures.
+fn are_of_choosing<R: Abort>(rt: &R, calls: &[u128]) -> Result<(), Fail> {
     let Some(calls) = calls.get(..13) else {
         return Err("a line is missing".into());
     };
@@ -203,4 +213,10 @@ fn who_chose_none_is_still_fresh(rt: HostRuntime) -> Result<(), Fail> {
     // The same beliefs were chosen, and then another user chose.
     assert_eq!(rt; [calls[10], calls[12]], [0, 0]);
     Ok(())
+}
+
+#[test]
+fn who_chose_none_is_still_fresh(rt: HostRuntime) -> Result<(), Fail> {
+    let calls = calls_over_general(rt.alloc(), CHOOSING)?;
+    are_of_choosing(&rt, &calls)
 }

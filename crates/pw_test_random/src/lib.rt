@@ -7,3 +7,5 @@
 mod counting;
 #[cfg(test)]
 mod random;
+#[cfg(test)]
+mod replying;

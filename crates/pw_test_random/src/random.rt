@@ -25,7 +25,7 @@ mod rounds;
 mod showing;
 
 use counts::Counts;
-use cutting::{cut_short, lines_given};
+use cutting::{Cut, cut_short, lines_given};
 use drawing::COMMANDS;
 use playing::{Outcome, Play, played};
 use pw_testing::random::Random;
@@ -38,6 +38,27 @@ const FIRST: u64 = 0;
 
 const DRAWN: u64 = 150;
 
+// Ends the test as a reply differs, and prints the seed and the sequence cut short.
+fn report_difference<R: Abort + AllocGlobal>(
+    rt: &R,
+    play: &Play<'_>,
+    cut: &Cut,
+) -> Result<(), Fail> {
+    let left = Play {
+        is_given: &cut.is_given,
+        ..*play
+    };
+    let lines = lines_given(rt.alloc(), &left)?;
+    let (seed, refused) = (play.seed, play.refused);
+    let line = cut.difference.line;
+    assert_eq!(rt;
+        cut.difference.given,
+        cut.difference.wanted,
+        "seed {seed}, line {line}, {refused:?}\n{lines}"
+    );
+    Ok(())
+}
+
 // Ends the test if a reply differs from the answer by rounds, and prints the seed and the sequence
 // cut short. Else answers what was compared, or nothing if that takes too many rounds.
 fn compare<R: Abort + AllocGlobal>(rt: &R, play: &Play<'_>) -> Result<Option<Counts>, Fail> {
@@ -47,18 +68,7 @@ fn compare<R: Abort + AllocGlobal>(rt: &R, play: &Play<'_>) -> Result<Option<Cou
         Outcome::TooLong => Ok(None),
         Outcome::Differs(difference) => {
             let cut = cut_short(alloc, play, difference)?;
-            let left = Play {
-                is_given: &cut.is_given,
-                ..*play
-            };
-            let lines = lines_given(alloc, &left)?;
-            let (seed, refused) = (play.seed, play.refused);
-            let line = cut.difference.line;
-            assert_eq!(rt;
-                cut.difference.given,
-                cut.difference.wanted,
-                "seed {seed}, line {line}, {refused:?}\n{lines}"
-            );
+            report_difference(rt, play, &cut)?;
             Ok(None)
         }
     }
@@ -85,20 +95,25 @@ fn compare_drawn<R: Abort + AllocGlobal>(rt: &R, seed: u64) -> Result<Option<Cou
     Ok(Some(all))
 }
 
+// Checks that a count of what was compared is at least this.
+fn is_enough<R: Abort>(rt: &R, count: u32, least: u64, all: &Counts) {
+    assert!(rt; u64::from(count) >= least, "{all:?}");
+}
+
 // Checks that enough answers of each kind were compared.
 fn is_telling<R: Abort>(rt: &R, compared: u64, all: &Counts) {
     let half = DRAWN / 2;
     assert!(rt; compared >= half, "{compared} sequences were compared");
-    assert!(rt; u64::from(all.values) >= half, "{all:?}");
-    assert!(rt; u64::from(all.reasons) >= half, "{all:?}");
-    assert!(rt; u64::from(all.cells_in_conflict) >= half, "{all:?}");
-    assert!(rt; u64::from(all.lines_in_conflict) >= half / 2, "{all:?}");
-    assert!(rt; u64::from(all.contradictions) >= half / 2, "{all:?}");
-    assert!(rt; u64::from(all.refused) >= half, "{all:?}");
-    assert!(rt; u64::from(all.chosen) >= half, "{all:?}");
-    assert!(rt; u64::from(all.chosen_none) >= half / 2, "{all:?}");
-    assert!(rt; u64::from(all.fresh) >= half, "{all:?}");
-    assert!(rt; u64::from(all.fresh_after_none) >= half / 20, "{all:?}");
+    is_enough(rt, all.values, half, all);
+    is_enough(rt, all.reasons, half, all);
+    is_enough(rt, all.cells_in_conflict, half, all);
+    is_enough(rt, all.lines_in_conflict, half / 2, all);
+    is_enough(rt, all.contradictions, half / 2, all);
+    is_enough(rt, all.refused, half, all);
+    is_enough(rt, all.chosen, half, all);
+    is_enough(rt, all.chosen_none, half / 2, all);
+    is_enough(rt, all.fresh, half, all);
+    is_enough(rt, all.fresh_after_none, half / 20, all);
 }
 
 #[test]

@@ -121,15 +121,20 @@ fn draw_group(random: &mut Random, size: u64, left: &mut PremiseSet) -> Group {
     group
 }
 
+// Adds a group of one to four of the premises that are left, if there are any.
+fn draw_next(random: &mut Random, left: &mut PremiseSet, alternatives: &mut Alternatives) {
+    let size = random.below(4).saturating_add(1);
+    if !left.is_empty() {
+        alternatives.add(draw_group(random, size, left));
+    }
+}
+
 /// One to six groups of one to four premises, none of them twice.
 pub fn draw_alternatives(random: &mut Random) -> Alternatives {
     let mut left = PremiseSet::first(PREMISE_COUNT);
     let mut alternatives = Alternatives::none();
     for _ in 0..random.below(6).saturating_add(1) {
-        let size = random.below(4).saturating_add(1);
-        if !left.is_empty() {
-            alternatives.add(draw_group(random, size, &mut left));
-        }
+        draw_next(random, &mut left, &mut alternatives);
     }
     alternatives
 }

@@ -72,7 +72,41 @@ fn add_line(lines: &mut Vec<u32>, cell: &Cell, worldview: &PremiseSet) -> Result
     Ok(())
 }
 
+// Whether the value at this place is contradictory, if there is one.
+fn is_contradiction(values: &[Info], place: usize) -> bool {
+    match values.get(place) {
+        Some(value) => value.is_contradiction(),
+        None => false,
+    }
+}
+
+// The declared cells whose values are contradictory.
+fn contradictory_cells(alloc: Global, values: &[Info]) -> Result<Vec<u32>, AllocError> {
+    let mut cells = Vec::new(alloc);
+    for place in 0..CELLS.len() {
+        if is_contradiction(values, place) {
+            cells.push(place as u32)?;
+        }
+    }
+    Ok(cells)
+}
+
 impl Entries {
+    // The lines of visible attachments that have an inner cell whose value is contradictory.
+    fn contradictory_lines(
+        &self,
+        worldview: &PremiseSet,
+        values: &[Info],
+    ) -> Result<Vec<u32>, AllocError> {
+        let mut lines = Vec::new(self.alloc);
+        for place in CELLS.len()..self.cells.len() {
+            if is_contradiction(values, place) {
+                add_line(&mut lines, &self.cells[place], worldview)?;
+            }
+        }
+        Ok(lines)
+    }
+
     /// The value of a cell in the worldview. None if that takes too many rounds.
     pub fn value(
         &self,
@@ -119,17 +153,8 @@ impl Entries {
         let Some(values) = self.values(registry, worldview)? else {
             return Ok(None);
         };
-        let (mut cells, mut lines) = (Vec::new(self.alloc), Vec::new(self.alloc));
-        for (place, (cell, value)) in self.cells.iter().zip(values.iter()).enumerate() {
-            if !value.is_contradiction() {
-                continue;
-            }
-            if place < CELLS.len() {
-                cells.push(place as u32)?;
-            } else {
-                add_line(&mut lines, cell, worldview)?;
-            }
-        }
+        let cells = contradictory_cells(self.alloc, &values)?;
+        let lines = self.contradictory_lines(worldview, &values)?;
         Ok(Some(Answer::Listed(cells, lines)))
     }
 

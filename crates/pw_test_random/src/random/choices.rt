@@ -5,6 +5,7 @@ use super::alternatives::{Alternatives, Group};
 use super::answers::Answer;
 use super::drawing::{Action, Command};
 use super::entries::{Cell, Entries};
+use pw_info::Info;
 use pw_premises::PremiseSet;
 use pw_procs::Registry;
 use std::alloc::{AllocError, Global};
@@ -71,12 +72,38 @@ impl Entries {
         let Some(values) = self.values(registry, worldview)? else {
             return Ok(None);
         };
+        Ok(Some(self.are_consistent(worldview, &values)))
+    }
+
+    // Whether no visible cell is contradictory, if the cells have these values.
+    fn are_consistent(&self, worldview: &PremiseSet, values: &[Info]) -> bool {
         for (cell, value) in self.cells.iter().zip(values.iter()) {
             if value.is_contradiction() && cell.is_visible(worldview) {
-                return Ok(Some(false));
+                return false;
             }
         }
-        Ok(Some(true))
+        true
+    }
+
+    // The first of these combinations under which nothing is contradictory.
+    fn first_consistent(
+        &self,
+        registry: &Registry,
+        beliefs: PremiseSet,
+        alternatives: &Alternatives,
+        combinations: &[Vec<u16>],
+    ) -> Result<Option<Answer>, Fail> {
+        for taken in combinations {
+            let worldview = alternatives.worldview(beliefs, taken);
+            let Some(is_consistent) = self.is_consistent(registry, &worldview)? else {
+                return Ok(None);
+            };
+            if is_consistent {
+                let taken = Vec::from_slice(self.alloc, taken)?;
+                return Ok(Some(Answer::Chose(Some(taken))));
+            }
+        }
+        Ok(Some(Answer::Chose(None)))
     }
 
     /// The first combination of the alternatives under which nothing is contradictory, for a user
@@ -88,17 +115,7 @@ impl Entries {
         alternatives: &Alternatives,
     ) -> Result<Option<Answer>, Fail> {
         let combinations = combinations_of(self.alloc, alternatives)?;
-        for taken in combinations.as_slice() {
-            let worldview = alternatives.worldview(beliefs, taken);
-            let Some(is_consistent) = self.is_consistent(registry, &worldview)? else {
-                return Ok(None);
-            };
-            if is_consistent {
-                let taken = Vec::from_slice(self.alloc, taken)?;
-                return Ok(Some(Answer::Chose(Some(taken))));
-            }
-        }
-        Ok(Some(Answer::Chose(None)))
+        self.first_consistent(registry, beliefs, alternatives, &combinations)
     }
 
     /// Takes in what the user of the command chose: what was taken is believed from now on, in place

@@ -23,31 +23,55 @@ fn given_until(alloc: Global, line: u32) -> Result<Vec<bool>, AllocError> {
     Ok(is_given)
 }
 
+// The same commands but for the one at this place.
+fn without(alloc: Global, is_given: &[bool], place: usize) -> Result<Vec<bool>, AllocError> {
+    let mut fewer = Vec::from_slice(alloc, is_given)?;
+    if let Some(it) = fewer.get_mut(place) {
+        *it = false;
+    }
+    Ok(fewer)
+}
+
+// The reply that differs if just these commands are given, if there is one.
+fn difference_of(
+    alloc: Global,
+    play: &Play<'_>,
+    is_given: &[bool],
+) -> Result<Option<Difference>, Fail> {
+    let cut = Play {
+        seed: play.seed,
+        is_given,
+        refused: play.refused,
+    };
+    match played(alloc, &cut)? {
+        Outcome::Differs(difference) => Ok(Some(difference)),
+        _ => Ok(None),
+    }
+}
+
+impl Cut {
+    // Leaves out the command at this place, if some reply differs without it.
+    fn leave_out(&mut self, alloc: Global, play: &Play<'_>, place: usize) -> Result<(), Fail> {
+        let fewer = without(alloc, &self.is_given, place)?;
+        if let Some(difference) = difference_of(alloc, play, &fewer)? {
+            self.difference = difference;
+            self.is_given = fewer;
+        }
+        Ok(())
+    }
+}
+
 /// The sequence up to the reply that differs. It leaves out each command without which some reply
 /// still differs.
 pub fn cut_short(alloc: Global, play: &Play<'_>, found: Difference) -> Result<Cut, Fail> {
-    let mut is_given = given_until(alloc, found.line)?;
-    let mut difference = found;
-    for place in (0..is_given.len()).rev() {
-        let mut fewer = Vec::from_slice(alloc, &is_given)?;
-        let Some(it) = fewer.get_mut(place) else {
-            continue;
-        };
-        *it = false;
-        let cut = Play {
-            seed: play.seed,
-            is_given: &fewer,
-            refused: play.refused,
-        };
-        if let Outcome::Differs(other) = played(alloc, &cut)? {
-            difference = other;
-            is_given = fewer;
-        }
+    let mut cut = Cut {
+        is_given: given_until(alloc, found.line)?,
+        difference: found,
+    };
+    for place in (0..cut.is_given.len()).rev() {
+        cut.leave_out(alloc, play, place)?;
     }
-    Ok(Cut {
-        is_given,
-        difference,
-    })
+    Ok(cut)
 }
 
 /// The lines that a sequence gives, each with its number.

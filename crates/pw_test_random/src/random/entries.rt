@@ -35,6 +35,16 @@ pub struct Instance {
     pub support: PremiseSet,
 }
 
+impl Instance {
+    // Whether this is the place of its output.
+    fn writes(&self, cell: usize) -> bool {
+        match self.cells.last() {
+            Some(output) => *output == cell,
+            None => false,
+        }
+    }
+}
+
 /// What the lines so far left.
 #[derive(Drop)]
 pub struct Entries {
@@ -54,16 +64,22 @@ fn picked(alloc: Global, cells: &[usize], places: &[usize]) -> Result<Vec<usize>
     Ok(list)
 }
 
+// The declared cells.
+fn declared_cells(alloc: Global) -> Result<Vec<Cell>, AllocError> {
+    let mut cells = Vec::new(alloc);
+    for (_, sort) in &CELLS {
+        cells.push(Cell {
+            sort: *sort,
+            attached: None,
+        })?;
+    }
+    Ok(cells)
+}
+
 impl Entries {
     /// Nothing told or attached, and each user believes every premise.
     pub fn new(alloc: Global) -> Result<Entries, AllocError> {
-        let mut cells = Vec::new(alloc);
-        for (_, sort) in &CELLS {
-            cells.push(Cell {
-                sort: *sort,
-                attached: None,
-            })?;
-        }
+        let cells = declared_cells(alloc)?;
         let all = PremiseSet::first(PREMISE_COUNT);
         Ok(Entries {
             alloc,
@@ -109,10 +125,11 @@ impl Entries {
         &mut self,
         registry: &Registry,
         name: &str,
-        cells: Vec<usize>,
+        cells: &[usize],
         support: PremiseSet,
     ) -> Result<(), Fail> {
         let procedure = registry.find(name.as_bytes()).ok_or("no procedure")?;
+        let cells = Vec::from_slice(self.alloc, cells)?;
         self.instances.push(Instance {
             procedure,
             cells,
@@ -134,7 +151,7 @@ impl Entries {
         cells: Vec<usize>,
     ) -> Result<(), Fail> {
         let Some(steps) = callable.steps() else {
-            return self.add_instance(registry, callable.name(), cells, support);
+            return self.add_instance(registry, callable.name(), &cells, support);
         };
         if depth == 0 {
             return Err("too deep".into());
@@ -187,7 +204,7 @@ impl Entries {
     /// Whether an instance that is visible in the worldview writes the cell.
     pub fn is_written(&self, cell: usize, worldview: &PremiseSet) -> bool {
         for instance in &self.instances {
-            if instance.cells.last() == Some(&cell) && instance.support.is_subset(worldview) {
+            if instance.writes(cell) && instance.support.is_subset(worldview) {
                 return true;
             }
         }

@@ -15,14 +15,15 @@ use super::fresh::Users;
 use super::lines::line_of;
 use super::refusing::{Refused, Watch, refusing_again};
 use super::showing::{Shown, shown_before};
+use crate::replying::reply_to;
 use pw_decl::Declaration;
 use pw_network::Network;
 use pw_procs::Registry;
-use pw_sessions::{Reply, Workbench};
+use pw_sessions::Workbench;
 use pw_testing::Refusing;
 use pw_testing::worlds::{OverDeclaration, over_text};
 use pw_transcript::read_command;
-use std::alloc::{Allocator, Global};
+use std::alloc::{AllocError, Allocator, Global};
 use std::test::Fail;
 
 /// The sequence of a seed: which of its commands are given, each at the line of its place, and
@@ -60,25 +61,6 @@ pub enum Outcome {
     /// The answer to a command takes too many rounds.
     TooLong,
     Differs(Difference),
-}
-
-// The reply to the line of this number, if it says a command.
-fn reply_to<A: Allocator + Copy>(
-    declaration: &Declaration<'_, A>,
-    number: u32,
-    line: &[u8],
-    workbench: &mut Workbench<'_, '_, A>,
-) -> Option<Reply<A>>
-    requires left { IsLeft (declared declaration.now) number (state workbench.old) }
-    requires most { number ≤ most_lines }
-    ensures { IsLeft (declared declaration.now) (number + 1) (state workbench.new) }
-{
-    // Cells have kinds whose members are named.
-    declaration.limits();
-    match read_command(line, declaration) {
-        Ok(Some(command)) => Some(workbench.command(number, &command)),
-        _ => None,
-    }
 }
 
 // Whether the line is read as the command says it, if the command is a choose.
@@ -127,6 +109,15 @@ struct State {
 }
 
 impl State {
+    // Nothing left, and nothing compared.
+    fn new(alloc: Global) -> Result<State, AllocError> {
+        Ok(State {
+            entries: Entries::new(alloc)?,
+            users: Users::new(),
+            counts: Counts::none(),
+        })
+    }
+
     // The line of this number, with its answer by rounds. It says the command, or is blank if there
     // is none. Nothing if the answer takes too many rounds.
     fn ask(
@@ -173,6 +164,26 @@ impl State {
         Ok(())
     }
 
+    // Takes in what a command got. Answers whether it was refused, as a growth was.
+    fn take_in_command(
+        &mut self,
+        registry: &Registry,
+        command: &Command,
+        asked: &Asked,
+        got: &Got,
+    ) -> Result<bool, Fail> {
+        self.counts.count(&got.answer);
+        if self.entries.settles(command) {
+            self.counts.count_settling(self.users.of(command.user));
+        }
+        if got.answer == Answer::NoMemory && got.is_met && !self.entries.takes_no_memory(command) {
+            self.users.note_refusal(command.user);
+            return Ok(true);
+        }
+        self.accept(registry, asked.number, command, &asked.wanted)?;
+        Ok(false)
+    }
+
     // Takes in what a line got, if it is the answer by rounds, or if the command was refused and a
     // growth was. Else answers the difference.
     fn take_in(
@@ -182,18 +193,13 @@ impl State {
         asked: Asked,
         got: Got,
     ) -> Result<Option<Difference>, Fail> {
-        let Some(command) = command else {
-            return Ok(asked.unless(got, &self.entries));
+        let is_refused = match &command {
+            Some(command) => self.take_in_command(registry, command, &asked, &got)?,
+            None => false,
         };
-        self.counts.count(&got.answer);
-        if self.entries.settles(&command) {
-            self.counts.count_settling(self.users.of(command.user));
-        }
-        if got.answer == Answer::NoMemory && got.is_met && !self.entries.takes_no_memory(&command) {
-            self.users.note_refusal(command.user);
+        if is_refused {
             return Ok(asked.unless_shown(&got.shown, &self.entries));
         }
-        self.accept(registry, asked.number, &command, &asked.wanted)?;
         Ok(asked.unless(got, &self.entries))
     }
 }
@@ -231,51 +237,89 @@ struct Playing<'o, 'i, 'p, A: Allocator> {
     play: Play<'p>,
 }
 
-// Gives the commands to a new workbench, one after another.
-fn play_over<A: Allocator + Copy>(
+// Gives the line of this number to the workbench, and answers what it got.
+fn give_line<A: Allocator + Copy>(
     task: &Playing<'_, '_, '_, A>,
     declaration: &Declaration<'_, A>,
-) -> Result<Outcome, Fail> {
-    let network = Network::new(task.memory, declaration)?;
-    let mut workbench = Workbench::new(task.memory, declaration, network)?;
-    let registry = declaration.registry();
-    let mut state = State {
-        entries: Entries::new(task.alloc)?,
-        users: Users::new(),
-        counts: Counts::none(),
+    number: u32,
+    line: &[u8],
+    command: &Option<Command>,
+    workbench: &mut Workbench<'_, '_, A>,
+) -> Result<Got, AllocError>
+    requires left { IsLeft (declared declaration.now) number (state workbench.old) }
+    requires most { number ≤ most_lines }
+    ensures { IsLeft (declared declaration.now) (number + 1) (state workbench.new) }
+{
+    let before = task.watch.met();
+    let reply = reply_to(declaration, number, line, workbench);
+    let is_met = task.watch.met() > before;
+    let shown = shown_before(declaration, number + 1, workbench);
+    let answer = if reads_groups(declaration, line, command) {
+        Answer::given(task.alloc, &reply)?
+    } else {
+        Answer::OtherGroups
     };
-    state.counts.growths_before = task.watch.asked();
+    Ok(Got {
+        answer,
+        shown,
+        is_met,
+    })
+}
+
+// Gives the commands to a new workbench, one after another. Answers what the sequence comes to, if
+// it ends before its last line or a line differs.
+fn play_lines<A: Allocator + Copy>(
+    task: &Playing<'_, '_, '_, A>,
+    declaration: &Declaration<'_, A>,
+    workbench: &mut Workbench<'_, '_, A>,
+    past: &mut State,
+) -> Result<Option<Outcome>, Fail>
+    requires left { IsLeft (declared declaration.now) 1 (state workbench.old) }
+{
     let mut number = 1u32;
     for place in 0..COMMANDS {
         if number > 1_000_000 {
             return Err("too many lines".into());
         }
         let command = task.play.command(place);
-        let Some(asked) = state.ask(registry, number, command)? else {
-            return Ok(Outcome::TooLong);
+        let Some(asked) = past.ask(declaration.registry(), number, command)? else {
+            return Ok(Some(Outcome::TooLong));
         };
         let line = asked.line.as_bytes();
-        let before = task.watch.met();
-        let reply = reply_to(declaration, number, line, &mut workbench);
-        let is_met = task.watch.met() > before;
-        let answer = if reads_groups(declaration, line, &command) {
-            Answer::given(task.alloc, &reply)?
-        } else {
-            Answer::OtherGroups
-        };
+        let got = give_line(task, declaration, number, line, &command, workbench)?;
         number += 1;
-        let shown = shown_before(declaration, number, &workbench);
-        let got = Got {
-            answer,
-            shown,
-            is_met,
-        };
-        if let Some(difference) = state.take_in(registry, command, asked, got)? {
-            return Ok(Outcome::Differs(difference));
+        if let Some(difference) = past.take_in(declaration.registry(), command, asked, got)? {
+            return Ok(Some(Outcome::Differs(difference)));
         }
     }
-    state.counts.growths = task.watch.asked();
-    Ok(Outcome::Same(state.counts))
+    Ok(None)
+}
+
+// What the commands come to over this workbench, which is new.
+fn play_through<A: Allocator + Copy>(
+    task: &Playing<'_, '_, '_, A>,
+    declaration: &Declaration<'_, A>,
+    workbench: &mut Workbench<'_, '_, A>,
+) -> Result<Outcome, Fail>
+    requires left { IsLeft (declared declaration.now) 1 (state workbench.old) }
+{
+    let mut past = State::new(task.alloc)?;
+    past.counts.growths_before = task.watch.asked();
+    if let Some(outcome) = play_lines(task, declaration, workbench, &mut past)? {
+        return Ok(outcome);
+    }
+    past.counts.growths = task.watch.asked();
+    Ok(Outcome::Same(past.counts))
+}
+
+// The same over a new workbench.
+fn play_over<A: Allocator + Copy>(
+    task: &Playing<'_, '_, '_, A>,
+    declaration: &Declaration<'_, A>,
+) -> Result<Outcome, Fail> {
+    let network = Network::new(task.memory, declaration)?;
+    let mut workbench = Workbench::new(task.memory, declaration, network)?;
+    play_through(task, declaration, &mut workbench)
 }
 
 impl<A: Allocator + Copy> OverDeclaration<A> for Playing<'_, '_, '_, A> {

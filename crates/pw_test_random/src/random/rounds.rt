@@ -91,13 +91,25 @@ impl Entries {
         before: &[Info],
     ) -> Result<Vec<Info>, Fail> {
         let mut known = Vec::from_slice(self.alloc, before)?;
+        self.add_all(registry, worldview, before, &mut known)?;
+        Ok(known)
+    }
+
+    // Adds what is told, and what instances answer to what was known before.
+    fn add_all(
+        &self,
+        registry: &Registry,
+        worldview: &PremiseSet,
+        before: &[Info],
+        known: &mut [Info],
+    ) -> Result<(), Fail> {
         for told in &self.told {
-            add_told(told, worldview, &mut known)?;
+            add_told(told, worldview, known)?;
         }
         for instance in &self.instances {
-            add_answer(registry, instance, worldview, before, &mut known)?;
+            add_answer(registry, instance, worldview, before, known)?;
         }
-        Ok(known)
+        Ok(())
     }
 
     /// What is known of each cell in the worldview when a round changes nothing. None if that takes

@@ -1,11 +1,5 @@
 use Rattle.std.proofs.Common.{[], refl}
 use Rattle.pw_test_random.proofs.counting.calls_of_each.Goals as goal
 
-pub loop-line-init : goal.loop-line-init
-loop-line-init g c = ([], refl, c.in_ok-workbench.ensures.left)
-
-pub calls_of-of_line-requires-clause-left : goal.calls_of-of_line-requires-clause-left
-calls_of-of_line-requires-clause-left g c = c.loop-line.invariant
-
-pub loop-line-preserved : goal.loop-line-preserved
-loop-line-preserved g c = c.calls_of-of_line.ensures
+pub calls_over-requires : goal.calls_over-requires
+calls_over-requires g c = record { left = ([], refl, c.in_ok-workbench.ensures.left) }

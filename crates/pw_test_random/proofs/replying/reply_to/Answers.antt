@@ -6,7 +6,7 @@ use Rattle.pw_sessions.specs.Reply.{Says}
 use Rattle.pw_sessions.specs.Reply.{reply_by}
 use Rattle.pw_transcript.specs.Reading.{Reads, reading_of}
 use Rattle.pw_transcript.proofs.AnswerLemmas.{can_be_carried_out, carried_left, still_left}
-use Rattle.pw_test_random.proofs.counting.calls_of.Goals as goal
+use Rattle.pw_test_random.proofs.replying.reply_to.Goals as goal
 
 pub command-requires : goal.command-requires
 command-requires g c =
@@ -24,8 +24,4 @@ returns-in-Ok-Some g c =
 
 pub returns-in_default : goal.returns-in_default
 returns-in_default g c =
-    still_left (declared c.args.declaration.now) c.limits.ensures c.args.number (state c.args.workbench.now) c.requires.left
-
-pub returns-in_default-2 : goal.returns-in_default-2
-returns-in_default-2 g c =
     still_left (declared c.args.declaration.now) c.limits.ensures c.args.number (state c.args.workbench.now) c.requires.left
