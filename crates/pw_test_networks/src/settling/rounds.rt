@@ -90,7 +90,7 @@ fn round(
     Ok(known)
 }
 
-// Adds what is told, and what the instances answer to what was known before the round.
+// Adds the told facts and the answers of the instances, which see only what was known before the round.
 fn add_each(
     network: &Network<'_, '_>,
     tells: &[Tell<'_>],

@@ -95,7 +95,7 @@ impl Entries {
         Ok(known)
     }
 
-    // Adds what is told, and what instances answer to what was known before.
+    // Adds the told facts and the answers of the instances, which see only what was known before.
     fn add_all(
         &self,
         registry: &Registry,

@@ -61,10 +61,10 @@ impl Shown {
         if self.calls > most_calls {
             return Some((Answer::Calls(most_calls), Answer::Calls(self.calls)));
         }
-        for user in 0..3 {
-            let (wanted, beliefs) = (entries.beliefs(user), self.beliefs[user]);
-            if wanted != beliefs {
-                return Some((Answer::Believes(wanted), Answer::Believes(beliefs)));
+        for (user, beliefs) in self.beliefs.iter().enumerate() {
+            let wanted = entries.beliefs(user);
+            if wanted != *beliefs {
+                return Some((Answer::Believes(wanted), Answer::Believes(*beliefs)));
             }
         }
         None
