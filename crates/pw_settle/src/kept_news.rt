@@ -1,10 +1,9 @@
 //! News of instances: kept in the store, and merged into what is known.
-ghost use Rattle.std.specs.Prelude.{◌≡◌, ◌<◌, OnOk, OnErr, length};
+ghost use Rattle.std.specs.Prelude.{◌≡◌, ◌<◌, length};
 ghost use Rattle.pw_info.specs.Information.{kind_of};
 ghost use Rattle.pw_cells.specs.Cells.{IsUnsaid, fact_on, kept_in, kind_in_store};
 ghost use Rattle.pw_network.specs.inside.Held.{attachment};
-ghost use Rattle.pw_settle.specs.inside.Known.{AreNews, IsNewTo, KeepsAndTakesIn, PerhapsKeeps};
-ghost use Rattle.pw_settle.specs.inside.Known.{news_on};
+ghost use Rattle.pw_settle.specs.inside.Known.{AreNews, IsNewTo, KeepsNews, news_on};
 
 use crate::known::{joined_narrow, joined_support, take_in, take_in_narrow};
 use crate::support_list::SupportList;
@@ -28,12 +27,8 @@ pub(crate) fn keep_news<A: Allocator + Copy>(
     info: &Info,
 ) -> Result<(), AllocError>
     requires { AreNews store.old infos.old supports.old cell (attachment instance.now) info.now }
-    ensures kept { OnOk result (KeepsAndTakesIn cell
-        (news_on supports.old (attachment instance.now) info.now) store.old store.new infos.old
-        infos.new supports.old supports.new) }
-    ensures refused { OnErr result (PerhapsKeeps cell
-        (news_on supports.old (attachment instance.now) info.now) store.old store.new infos.old
-        infos.new supports.old supports.new) }
+    ensures { KeepsNews result cell (news_on supports.old (attachment instance.now) info.now)
+        store.old store.new infos.old infos.new supports.old supports.new }
 {
     let Info::Interval(part) = *info else {
         return keep_copied_news(store, infos, supports, cell, instance, info);
@@ -56,12 +51,8 @@ fn keep_copied_news<A: Allocator + Copy>(
     info: &Info,
 ) -> Result<(), AllocError>
     requires { AreNews store.old infos.old supports.old cell (attachment instance.now) info.now }
-    ensures kept { OnOk result (KeepsAndTakesIn cell
-        (news_on supports.old (attachment instance.now) info.now) store.old store.new infos.old
-        infos.new supports.old supports.new) }
-    ensures refused { OnErr result (PerhapsKeeps cell
-        (news_on supports.old (attachment instance.now) info.now) store.old store.new infos.old
-        infos.new supports.old supports.new) }
+    ensures { KeepsNews result cell (news_on supports.old (attachment instance.now) info.now)
+        store.old store.new infos.old infos.new supports.old supports.new }
 {
     let copy = info.copied();
     keep_any_news(store, infos, supports, cell, instance, &copy)
@@ -78,12 +69,8 @@ fn keep_any_news<A: Allocator + Copy>(
     info: &Info,
 ) -> Result<(), AllocError>
     requires { AreNews store.old infos.old supports.old cell (attachment instance.now) info.now }
-    ensures kept { OnOk result (KeepsAndTakesIn cell
-        (news_on supports.old (attachment instance.now) info.now) store.old store.new infos.old
-        infos.new supports.old supports.new) }
-    ensures refused { OnErr result (PerhapsKeeps cell
-        (news_on supports.old (attachment instance.now) info.now) store.old store.new infos.old
-        infos.new supports.old supports.new) }
+    ensures { KeepsNews result cell (news_on supports.old (attachment instance.now) info.now)
+        store.old store.new infos.old infos.new supports.old supports.new }
 {
     if let Some(support) = joined_narrow(instance, supports) {
         return keep_narrow_news(store, infos, supports, cell, info, support);
@@ -105,10 +92,8 @@ fn keep_narrow_news<A: Allocator + Copy>(
     requires kind { kind_of info.now ≡ kind_in_store store.old cell }
     requires new { IsNewTo infos.old supports.old cell info.now }
     requires unsaid { IsUnsaid (kept_in store.old cell support) info.now }
-    ensures kept { OnOk result (KeepsAndTakesIn cell (fact_on info.now support) store.old store.new
-        infos.old infos.new supports.old supports.new) }
-    ensures refused { OnErr result (PerhapsKeeps cell (fact_on info.now support) store.old store.new
-        infos.old infos.new supports.old supports.new) }
+    ensures { KeepsNews result cell (fact_on info.now support) store.old store.new infos.old
+        infos.new supports.old supports.new }
 {
     store.keep_news(cell, info, support)?;
     take_in_narrow(infos, supports, cell, info, support);
@@ -127,12 +112,8 @@ fn keep_wide_news<A: Allocator + Copy>(
     info: &Info,
 ) -> Result<(), AllocError>
     requires { AreNews store.old infos.old supports.old cell (attachment instance.now) info.now }
-    ensures kept { OnOk result (KeepsAndTakesIn cell
-        (news_on supports.old (attachment instance.now) info.now) store.old store.new infos.old
-        infos.new supports.old supports.new) }
-    ensures refused { OnErr result (PerhapsKeeps cell
-        (news_on supports.old (attachment instance.now) info.now) store.old store.new infos.old
-        infos.new supports.old supports.new) }
+    ensures { KeepsNews result cell (news_on supports.old (attachment instance.now) info.now)
+        store.old store.new infos.old infos.new supports.old supports.new }
 {
     let support = joined_support(instance, supports);
     let fact = Fact {

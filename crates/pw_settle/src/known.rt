@@ -5,7 +5,7 @@ ghost use Rattle.pw_network.specs.inside.Held.{attachment};
 ghost use Rattle.pw_network.specs.Network.{Network as Networks};
 ghost use Rattle.pw_cells.specs.Shown.{IsKeptIn};
 ghost use Rattle.pw_settle.specs.inside.Known.{AreInputsThere, AreKept, IsAtHandFor, IsNewTo};
-ghost use Rattle.pw_settle.specs.inside.Known.{LeavesKept, ListsOneMore, PutsKept, SaysTold, StaysAtHand};
+ghost use Rattle.pw_settle.specs.inside.Known.{LeavesKept, ListsOneMore, PerhapsTakesIn, PutsKept, SaysTold};
 ghost use Rattle.pw_settle.specs.inside.Known.{ReadsUpstream, TakesIn, TakesInKept, joined};
 ghost use Rattle.pw_settle.specs.inside.Known.{news_on};
 ghost use Rattle.pw_settle.specs.inside.Since.{BeginsWith};
@@ -195,10 +195,8 @@ pub(crate) fn take_in_news<A: Allocator + Copy>(
 ) -> Result<(), AllocError>
     requires inputs { AreInputsThere supports.old (attachment instance.now) }
     requires new { IsNewTo infos.old supports.old cell info.now }
-    ensures taken { OnOk result (TakesIn cell
-        (news_on supports.old (attachment instance.now) info.now) infos.old infos.new supports.old
-        supports.new) }
-    ensures refused { OnErr result (StaysAtHand infos.old infos.new supports.old supports.new) }
+    ensures { PerhapsTakesIn result cell (news_on supports.old (attachment instance.now) info.now)
+        infos.old infos.new supports.old supports.new }
 {
     if let Some(support) = joined_narrow(instance, supports) {
         take_in_narrow(infos, supports, cell, info, support);
@@ -219,10 +217,8 @@ fn take_in_wide_news<A: Allocator + Copy>(
 ) -> Result<(), AllocError>
     requires inputs { AreInputsThere supports.old (attachment instance.now) }
     requires new { IsNewTo infos.old supports.old cell info.now }
-    ensures taken { OnOk result (TakesIn cell
-        (news_on supports.old (attachment instance.now) info.now) infos.old infos.new supports.old
-        supports.new) }
-    ensures refused { OnErr result (StaysAtHand infos.old infos.new supports.old supports.new) }
+    ensures { PerhapsTakesIn result cell (news_on supports.old (attachment instance.now) info.now)
+        infos.old infos.new supports.old supports.new }
 {
     let support = joined_support(instance, supports);
     take_in(infos, supports, cell, info, support)
@@ -261,9 +257,8 @@ pub(crate) fn take_in<A: Allocator + Copy>(
     support: PremiseSet,
 ) -> Result<(), AllocError>
     requires { IsNewTo infos.old supports.old cell info.now }
-    ensures taken { OnOk result (TakesIn cell (fact_on info.now support) infos.old infos.new
-        supports.old supports.new) }
-    ensures refused { OnErr result (StaysAtHand infos.old infos.new supports.old supports.new) }
+    ensures { PerhapsTakesIn result cell (fact_on info.now support) infos.old infos.new supports.old
+        supports.new }
 {
     let place = cell as usize;
     if info.implies(&infos[place]) {

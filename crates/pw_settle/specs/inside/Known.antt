@@ -1,4 +1,5 @@
 -- What is kept of each cell in a worldview, as a settling has it at hand.
+use Rattle.std.specs.Prelude.{OnErr, OnOk, Result}
 use Rattle.std.specs.Prelude.{◌≡◌, ◌⊎◌, ℕ, ◌<◌, Bool, true, false, List, length, fold, set, refl, [], ◌∷◌, ◌++◌, All, map}
 use Rattle.std.specs.FinSet.{union, is_subset, code}
 use Rattle.pw_info.specs.declared.info.Info.{Info}
@@ -110,6 +111,12 @@ pub record StaysAtHand (infos new_infos : List Info) (supports new_supports : Li
   pub infos_are : new_infos ≡ infos
   pub supports_are : new_supports ≡ supports
 
+-- a fact is merged into what is at hand for a cell. If memory is refused, what is at hand stays
+pub record PerhapsTakesIn {A E : Type 0} (result : Result A E) (cell : ℕ) (fact : Fact)
+    (infos new_infos : List Info) (supports new_supports : List Premises) : Type 0 where
+  pub taken : OnOk result (TakesIn cell fact infos new_infos supports new_supports)
+  pub refused : OnErr result (StaysAtHand infos new_infos supports new_supports)
+
 -- there are premises at hand for each input of an instance
 abbrev pub AreInputsThere : List Premises → Attached → Type 0
 AreInputsThere supports a = All (λ input. input < length supports) a.instance.inputs
@@ -136,6 +143,13 @@ pub record PerhapsKeeps (cell : ℕ) (fact : Fact) (old new : Store) (infos new_
     (supports new_supports : List Premises) : Type 0 where
   pub store : (new ≡ old) ⊎ Keeps cell fact old new
   pub stays : StaysAtHand infos new_infos supports new_supports
+
+-- news are kept and merged into what is at hand. If memory is refused, perhaps the store keeps them, but
+-- what is at hand stays
+pub record KeepsNews {A E : Type 0} (result : Result A E) (cell : ℕ) (fact : Fact) (old new : Store)
+    (infos new_infos : List Info) (supports new_supports : List Premises) : Type 0 where
+  pub kept : OnOk result (KeepsAndTakesIn cell fact old new infos new_infos supports new_supports)
+  pub refused : OnErr result (PerhapsKeeps cell fact old new infos new_infos supports new_supports)
 
 -- something is at hand for a cell of the store, and is of its kind
 pub record IsAtHandFor (store : Store) (cell : ℕ) (infos : List Info) (supports : List Premises)

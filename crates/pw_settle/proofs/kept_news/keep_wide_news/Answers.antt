@@ -24,17 +24,15 @@ keeps g c =
     })
 
 -- and where they are taken in, they are so on the same premises
-pub returns-clause-kept : goal.returns-clause-kept
-returns-clause-kept g c =
-    OnOk_more c.take_in.result (λ taken. record {
-      keeps = keeps g (goal.at.returns-clause-kept g c).After-take_in;
-      takes_in = subst (λ (p : Premises). TakesIn c.args.cell (fact_on c.args.info.now p) c.args.infos.now c.take_in.new.infos
-          c.args.supports.now c.take_in.new.supports) c.joined_support-support.ensures taken;
-    }) c.take_in.ensures.taken
-
-pub returns-clause-refused : goal.returns-clause-refused
-returns-clause-refused g c =
-    OnErr_more c.take_in.result (λ stays. record {
-      store = inr (keeps g (goal.at.returns-clause-refused g c).After-take_in);
-      stays = stays;
-    }) c.take_in.ensures.refused
+pub returns : goal.returns
+returns g c =
+    let kept = keeps g (goal.at.returns g c).After-take_in in
+    record {
+      kept =
+          OnOk_more c.take_in.result (λ taken. record {
+            keeps = kept;
+            takes_in = subst (λ (p : Premises). TakesIn c.args.cell (fact_on c.args.info.now p) c.args.infos.now c.take_in.new.infos
+                c.args.supports.now c.take_in.new.supports) c.joined_support-support.ensures taken;
+          }) c.take_in.ensures.taken;
+      refused = OnErr_more c.take_in.result (λ stays. record { store = inr kept; stays = stays }) c.take_in.ensures.refused;
+    }

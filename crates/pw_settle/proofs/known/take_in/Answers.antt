@@ -24,24 +24,30 @@ says_all g c =
 there : (g : given.Over) (c : After-implies g) → c.args.cell < length c.args.supports.now
 there g c = omega (arith, c.requires.there, c.requires.as_many)
 
-pub returns-in_ok-replace-clause-taken : goal.returns-in_ok-replace-clause-taken
-returns-in_ok-replace-clause-taken g c =
-    rw c.copied.ensures (subst (TakesIn c.args.cell (fact_on c.args.info.now c.args.support) c.args.infos.now (set c.args.infos.now c.args.cell c.args.info.now) c.args.supports.now)
-    (sym {A = List Premises} c.in_ok-replace.ensures.ok)
-    (takes_second c.args.infos.now c.args.supports.now c.args.cell c.args.info.now c.args.support (there g (goal.at.returns-in_ok-replace-clause-taken g c).After-implies) c.requires.kind c.requires.news
-    ((says_all g (goal.at.returns-in_ok-replace-clause-taken g c).After-implies).0 c.if-implies.true)))
+pub returns-in_ok-replace : goal.returns-in_ok-replace
+returns-in_ok-replace g c = record {
+  taken =
+      rw c.copied.ensures (subst (TakesIn c.args.cell (fact_on c.args.info.now c.args.support) c.args.infos.now (set c.args.infos.now c.args.cell c.args.info.now) c.args.supports.now)
+      (sym {A = List Premises} c.in_ok-replace.ensures.ok)
+      (takes_second c.args.infos.now c.args.supports.now c.args.cell c.args.info.now c.args.support (there g (goal.at.returns-in_ok-replace g c).After-implies) c.requires.kind c.requires.news
+      ((says_all g (goal.at.returns-in_ok-replace g c).After-implies).0 c.if-implies.true)));
+  refused = tt;
+}
 
-pub returns-in_ok-replace-2-clause-taken : goal.returns-in_ok-replace-2-clause-taken
-returns-in_ok-replace-2-clause-taken g c =
-    let read = get_or_default c.args.infos.now c.args.cell c.index-infos-place-else-implies.result (nothing kinds.Interval) c.requires.there in
-    let merged : c.meet.result ≡ meet (info_at c.args.infos.now c.args.cell) c.args.info.now =
-    c.meet.ensures.exact ∙ (λ i. meet (read i) c.args.info.now) in
-    let joined : c.join.result ≡ union (support_at c.args.supports.now c.args.cell) c.args.support =
-    c.join.ensures.union ∙ (λ i. union (c.get-known.ensures i) c.args.support) in
-    subst (λ (i : Info). TakesIn c.args.cell (fact_on c.args.info.now c.args.support) c.args.infos.now (set c.args.infos.now c.args.cell i) c.args.supports.now
-    c.replace-else-implies.new.self) (sym {A = Info} merged)
-    (subst (TakesIn c.args.cell (fact_on c.args.info.now c.args.support) c.args.infos.now
-    (set c.args.infos.now c.args.cell (meet (info_at c.args.infos.now c.args.cell) c.args.info.now)) c.args.supports.now)
-    (sym {A = List Premises} (c.in_ok-replace-2.ensures.ok ∙ (λ i. set c.args.supports.now c.args.cell (joined i))))
-    (takes_both c.args.infos.now c.args.supports.now c.args.cell c.args.info.now c.args.support (there g (goal.at.returns-in_ok-replace-2-clause-taken g c).After-implies) c.requires.kind c.requires.news
-    (λ more. not_both _ ((says_all g (goal.at.returns-in_ok-replace-2-clause-taken g c).After-implies).1 more) c.if-implies.false)))
+pub returns-in_ok-replace-2 : goal.returns-in_ok-replace-2
+returns-in_ok-replace-2 g c = record {
+  taken =
+      let read = get_or_default c.args.infos.now c.args.cell c.index-infos-place-else-implies.result (nothing kinds.Interval) c.requires.there in
+      let merged : c.meet.result ≡ meet (info_at c.args.infos.now c.args.cell) c.args.info.now =
+      c.meet.ensures.exact ∙ (λ i. meet (read i) c.args.info.now) in
+      let joined : c.join.result ≡ union (support_at c.args.supports.now c.args.cell) c.args.support =
+      c.join.ensures.union ∙ (λ i. union (c.get-known.ensures i) c.args.support) in
+      subst (λ (i : Info). TakesIn c.args.cell (fact_on c.args.info.now c.args.support) c.args.infos.now (set c.args.infos.now c.args.cell i) c.args.supports.now
+      c.replace-else-implies.new.self) (sym {A = Info} merged)
+      (subst (TakesIn c.args.cell (fact_on c.args.info.now c.args.support) c.args.infos.now
+      (set c.args.infos.now c.args.cell (meet (info_at c.args.infos.now c.args.cell) c.args.info.now)) c.args.supports.now)
+      (sym {A = List Premises} (c.in_ok-replace-2.ensures.ok ∙ (λ i. set c.args.supports.now c.args.cell (joined i))))
+      (takes_both c.args.infos.now c.args.supports.now c.args.cell c.args.info.now c.args.support (there g (goal.at.returns-in_ok-replace-2 g c).After-implies) c.requires.kind c.requires.news
+      (λ more. not_both _ ((says_all g (goal.at.returns-in_ok-replace-2 g c).After-implies).1 more) c.if-implies.false)));
+  refused = tt;
+}
