@@ -80,7 +80,7 @@ impl<A: Allocator + Copy> Arrivals<A> {
         ensures { IsAfterArrival arrival self.old self.new ⊎ IsForgotten self.old self.new }
     {
         if self.list.len() < self.list.capacity() && self.list.len() < MOST {
-            let _ = self.list.push(arrival);
+            self.list.push_reserved(arrival);
             return;
         }
         self.forget();

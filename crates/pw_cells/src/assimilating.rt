@@ -79,6 +79,7 @@ pub(crate) fn assimilate_late<C: Content, S: Support, A: Allocator>(
 }
 
 // The same, where some fact may be late.
+#[cold]
 #[inline(never)]
 fn assimilate_all<C: Content, S: Support, A: Allocator>(
     kind: Kind,

@@ -263,6 +263,7 @@ impl<A: Allocator + Copy> CellFacts<A> {
 }
 
 // The same cell, in lists, in a box. Fails only when out of memory.
+#[cold]
 #[inline(never)]
 fn boxed<A: Allocator + Copy>(few: &FewFacts<Info, A>) -> Result<Box<ManyFacts<A>, A>, AllocError>
     ensures { IfOk result (λ many. many.value ≡ few.now) }
@@ -272,6 +273,7 @@ fn boxed<A: Allocator + Copy>(few: &FewFacts<Info, A>) -> Result<Box<ManyFacts<A
 }
 
 // The same for a cell of intervals.
+#[cold]
 #[inline(never)]
 fn boxed_intervals<A: Allocator + Copy>(
     few: &FewFacts<Interval, A>,

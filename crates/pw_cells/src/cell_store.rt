@@ -419,6 +419,6 @@ fn append_cells<A: Allocator + Copy>(cells: &mut Vec<CellFacts<A>, A>, kinds: &[
 {
     let alloc = *cells.allocator();
     for kind in kinds {
-        let _ = cells.push(CellFacts::new(alloc, *kind));
+        cells.push_reserved(CellFacts::new(alloc, *kind));
     }
 }

@@ -395,5 +395,5 @@ pub(crate) fn append<C: Content, S: Support, A: Allocator>(
     ensures items { facts.new.items ≡ facts.old.items ++ fact.now ∷ [] }
     ensures capacity { vec_capacity facts.old ≤ vec_capacity facts.new }
 {
-    let _ = facts.push(*fact);
+    facts.push_reserved(*fact);
 }

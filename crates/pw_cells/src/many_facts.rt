@@ -95,6 +95,7 @@ impl<A: Allocator + Copy> ManyFacts<A> {
 
     // The same, in wide lists. Never inlined, like `keep_wide`, so that cells with narrow lists make
     // no room for wide ones.
+    #[cold]
     #[inline(never)]
     fn tell_wide(&mut self, fact: &Fact) -> Result<(), AllocError>
         requires { kind_of fact.now.info ≡ self.old.kind }
@@ -157,6 +158,7 @@ impl<A: Allocator + Copy> ManyFacts<A> {
 
     // The same. Never inlined, like `keep_wide`, so that what is narrow makes no room
     // for a wide fact.
+    #[cold]
     #[inline(never)]
     fn keep_wide_news(&mut self, info: &Info, support: NarrowSet) -> Result<(), AllocError>
         requires { IsNews (fact_on info.now support) self.old }
@@ -172,6 +174,7 @@ impl<A: Allocator + Copy> ManyFacts<A> {
     }
 
     // Keeps a fact in wide lists.
+    #[cold]
     #[inline(never)]
     fn keep_wide(&mut self, fact: &Fact) -> Result<bool, AllocError>
         requires { kind_of fact.now.info ≡ self.old.kind }
@@ -279,6 +282,7 @@ impl<A: Allocator + Copy> ManyFacts<A> {
 }
 
 // The same of wide lists. Never inlined, so that the tests of narrow supports stay short.
+#[cold]
 #[inline(never)]
 fn may_show_more_wide<A: Allocator + Copy>(
     lists: &FactLists<Info, PremiseSet, A>,

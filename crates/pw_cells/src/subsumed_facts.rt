@@ -112,6 +112,7 @@ fn last_alike<C: Content, S: Support>(facts: &[Held<C, S>], fact: &Held<C, S>) -
 }
 
 // Drops the facts that a later one outdoes.
+#[cold]
 #[inline(never)]
 pub(crate) fn drop_outdone<C: Content, S: Support, A: Allocator>(
     kept: &mut Vec<Held<C, S>, A>,

@@ -42,7 +42,7 @@ fn push_calls<A: Allocator>(
 {
     for call in calls {
         let instance = Instance::placed(global, call, cells, first, attached)?;
-        let _ = instances.push(instance);
+        instances.push_reserved(instance);
     }
     Ok(())
 }
@@ -129,7 +129,7 @@ pub(crate) fn append_inner<A: Allocator>(
     ensures { inner.new.items ≡ inner.old.items ++ inner_made line first list 0 kinds.now }
 {
     for (number, kind) in kinds.iter().enumerate() {
-        let _ = inner.push(InnerCell {
+        inner.push_reserved(InnerCell {
             line,
             first,
             list: list + number as u32,

@@ -158,7 +158,7 @@ impl<A: Allocator + Copy> InstanceLists<A> {
             first: ends.first.min(at),
             last: at,
         };
-        let _ = self.links.push(Link {
+        self.links.push_reserved(Link {
             list,
             number,
             next: NONE,

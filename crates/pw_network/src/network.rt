@@ -266,7 +266,7 @@ impl<'d, 'r, A: Allocator + Copy> Network<'d, 'r, A> {
         let instance = Instance::new(global, procedure, cells, &attached)?;
         self.reserve(0, 1)?;
         let count = self.instances.len();
-        let _ = self.instances.push(instance);
+        self.instances.push_reserved(instance);
         list_instances(&self.instances, count, &mut self.readers, &mut self.writers);
         self.premises = self.premises.join(support);
         self.last_line = line;

@@ -98,7 +98,7 @@ impl<A: Allocator + Copy> Agenda<A> {
         if !self.queued[number] {
             self.queued[number] = true;
             make_room(&mut self.listed, &mut self.taken);
-            let _ = self.listed.push(number as u32);
+            self.listed.push_reserved(number as u32);
         }
     }
 
@@ -154,6 +154,7 @@ fn make_room<A: Allocator>(listed: &mut Vec<u32, A>, taken: &mut usize)
 }
 
 // Forgets those that were taken.
+#[cold]
 #[inline(never)]
 fn forget_taken<A: Allocator>(listed: &mut Vec<u32, A>, taken: &mut usize)
     requires { taken.old ≤ length listed.old.items }

@@ -51,7 +51,7 @@ fn seen_anew<A: Allocator + Copy>(
             is_visible = instance.support().is_subset(worldview);
             was_visible = instance.support().is_subset(earlier);
         }
-        let _ = visible.push(is_visible);
+        visible.push_reserved(is_visible);
         if is_visible && !was_visible {
             agenda.add(number);
         }

@@ -59,6 +59,7 @@ fn keep_copied_news<A: Allocator + Copy>(
 }
 
 // The same for any news. Never inlined, so that news about intervals carry no parts of other kinds.
+#[cold]
 #[inline(never)]
 fn keep_any_news<A: Allocator + Copy>(
     store: &mut CellStore<A>,
@@ -102,6 +103,7 @@ fn keep_narrow_news<A: Allocator + Copy>(
 
 // The same for news on any premises. Never inlined, so that news on premises below 64 make no room for
 // wide sets.
+#[cold]
 #[inline(never)]
 fn keep_wide_news<A: Allocator + Copy>(
     store: &mut CellStore<A>,

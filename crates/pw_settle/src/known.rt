@@ -73,6 +73,7 @@ pub(crate) fn push_kept<A: Allocator + Copy>(
 }
 
 // The same, on any premises. Never inlined, so that what is narrow makes no room for wide sets.
+#[cold]
 #[inline(never)]
 fn push_wide_kept<A: Allocator + Copy>(
     store: &mut CellStore<A>,
@@ -120,6 +121,7 @@ pub(crate) fn put_kept<A: Allocator + Copy>(
 }
 
 // The same, on any premises. Never inlined, so that what is narrow makes no room for wide sets.
+#[cold]
 #[inline(never)]
 fn put_wide_kept<A: Allocator + Copy>(
     store: &mut CellStore<A>,
@@ -207,6 +209,7 @@ pub(crate) fn take_in_news<A: Allocator + Copy>(
 
 // The same, on any premises. Never inlined, so that news on premises below 64 make no room for wide
 // sets.
+#[cold]
 #[inline(never)]
 fn take_in_wide_news<A: Allocator + Copy>(
     infos: &mut [Info],
@@ -300,6 +303,7 @@ pub(crate) fn take_in_kept<A: Allocator + Copy>(
 }
 
 // The same, on any premises. Never inlined, so that what is narrow makes no room for wide sets.
+#[cold]
 #[inline(never)]
 fn take_in_wide_kept<A: Allocator + Copy>(
     store: &mut CellStore<A>,

@@ -42,6 +42,7 @@ fn procedure_value(
 
 // The value of the instance's procedure on what is known about its inputs, for any number of
 // inputs. Never inlined, so that other calls make no room for so many inputs.
+#[cold]
 #[inline(never)]
 fn answer_on_many(
     registry: &Registry,
@@ -65,6 +66,7 @@ fn answer_on_many(
 }
 
 // The same for inputs of any kinds. Most procedures have two. Never inlined, for the same reason.
+#[cold]
 #[inline(never)]
 fn answer_on_any(registry: &Registry, instance: &Instance, known: &[Info], calls: &mut u128) -> Info
     requires room { calls.old < most_calls }

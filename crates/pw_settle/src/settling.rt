@@ -59,7 +59,7 @@ fn seen<A: Allocator + Copy>(
             line = its_line;
             is_visible = instance.support().is_subset(worldview);
         }
-        let _ = visible.push(is_visible);
+        visible.push_reserved(is_visible);
     }
     Ok(visible)
 }

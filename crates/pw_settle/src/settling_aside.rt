@@ -159,6 +159,7 @@ fn push_start<A: Allocator + Copy>(
 }
 
 // The same, on any premises. Never inlined, so that what is narrow makes no room for wide sets.
+#[cold]
 #[inline(never)]
 fn push_wide_start<A: Allocator + Copy>(
     before: &Settled<A>,

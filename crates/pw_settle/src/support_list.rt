@@ -193,6 +193,7 @@ pub(crate) fn copied<T: Copy, A: Allocator>(alloc: A, items: &[T]) -> Result<Vec
 }
 
 // The same premises, in sets of any premises, with room for this many. Fails only when out of memory.
+#[cold]
 #[inline(never)]
 fn widened<A: Allocator>(
     alloc: A,

@@ -13,11 +13,10 @@ loop-call-preserved g c =
     let i = c.loop-call.call-index in
     let n = length c.args.instances.now.items in
     let before = c.loop-call.instances.items in
-    let after = c.push.new.self.items in
+    let after = c.push_reserved.new.self.items in
     let x = c.in_ok-instance.instance in
     let placed = cells_placed c.args.cells.now c.args.first c.call-item.result in
-    let done = c.push.ensures.succeeds (omega (arith, c.requires.room, c.loop-call.invariant.room, c.loop-call.invariant.len, c.loop-call-test.true)) in
-    let pushed : after ≡ before ++ x ∷ [] = rw done at c.push.ensures.items in
+    let pushed : after ≡ before ++ x ∷ [] = c.push_reserved.ensures.items in
     let many : n ≤ length before = omega (arith, c.args.instances.now.ok.0, c.loop-call.instances.ok.0, c.loop-call.invariant.len) in
     let more : drop n after ≡ drop n before ++ x ∷ [] = ap (drop n) pushed ∙ drop-append-le n before (x ∷ []) many in
     record {
@@ -25,8 +24,8 @@ loop-call-preserved g c =
       made = instances_more c.args.attached.now.value.line c.args.attached.now.value.support name [] (drop n before) (drop n after) c.args.calls.now i c.call-item.result placed x
           c.loop-call-test.true c.call-item.is more refl c.in_ok-instance.ensures.instance
           c.in_ok-instance.ensures.line c.in_ok-instance.ensures.support c.loop-call.invariant.made;
-      len = let long = rw done at c.push.ensures.len in omega (arith, long, c.loop-call.invariant.len);
-      room = omega (arith, c.loop-call.invariant.room, c.push.ensures.capacity);
+      len = omega (arith, c.push_reserved.ensures.len, c.loop-call.invariant.len);
+      room = omega (arith, c.loop-call.invariant.room, c.push_reserved.ensures.capacity);
       few = All-same (λ (y : InstanceType). length (attachment y).instance.inputs ≤ 8) (drop n after) (drop n before ++ x ∷ []) more
           (All-push (λ (y : InstanceType). length (attachment y).instance.inputs ≤ 8) (drop n before) x c.loop-call.invariant.few c.in_ok-instance.ensures.few);
     }

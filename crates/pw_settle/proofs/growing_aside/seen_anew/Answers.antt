@@ -44,7 +44,6 @@ loop-number-preserved g c =
     let many = ap length c.instances-instances.ensures.instances in
     let below : i < length all = omega (arith, c.loop-number-test.true, long, many) in
     let here : a ≡ get_or all i a = item_is c.instances-instances.result.now all c.instances-instances.ensures.instances i item c.index-instances-number.is in
-    let done = c.push.ensures.succeeds (omega (arith, c.loop-number.invariant.room, below)) in
     let longer : take (i + 1) all ≡ take i all ++ a ∷ [] = take_more all i a below ∙ ap (λ (x : Attached). take i all ++ x ∷ []) (sym here) in
     let known : (next.line ≡ (attachment item).line) × All (IsFlagged w next.line next.is_visible) all × All (IsFlagged e next.line next.was_visible) all =
     elim next.branch [
@@ -66,10 +65,10 @@ loop-number-preserved g c =
     let shown_at : visible_at network w i ≡ next.is_visible = sym (visible_no network w i a below) ∙ ap (is_instance_visible w) (sym here) ∙ shown in
     let was_at : visible_at network e i ≡ next.was_visible = sym (visible_no network e i a below) ∙ ap (is_instance_visible e) (sym here) ∙ was in
     record {
-      items = (rw done at c.push.ensures.items)
+      items = c.push_reserved.ensures.items
           ∙ (λ j. c.loop-number.invariant.items j ++ sym shown j ∷ [])
           ∙ sym (ap (map (is_instance_visible w)) longer ∙ map_push (is_instance_visible w) (take i all) a);
-      room = omega (arith, c.loop-number.invariant.room, c.push.ensures.upper_bound, c.push.ensures.capacity);
+      room = omega (arith, c.loop-number.invariant.room, c.push_reserved.ensures.len, c.push_reserved.ensures.capacity);
       new = elim c.if-is_visible.branch [
         | then-is_visible+then-not-was_visible b ↦
             subst (AreNewTo network e w (i + 1)) (sym (b.agenda-is ∙ b.add.ensures))

@@ -25,7 +25,6 @@ loop-instance-preserved g c =
     let w = c.args.worldview.now in
     let all = map attachment c.args.instances.now in
     let next = c.if-its_line-line in
-    let done = c.push.ensures.succeeds (omega (arith, c.loop-instance.invariant.room, c.loop-instance-test.true)) in
     let longer : take (i + 1) c.args.instances.now ≡ take i c.args.instances.now ++ item ∷ [] =
     take_more c.args.instances.now i item c.loop-instance-test.true
     ∙ ap (λ (x : Instance). take i c.args.instances.now ++ x ∷ []) (sym c.instance-item.is) in
@@ -42,10 +41,10 @@ loop-instance-preserved g c =
     ] in
     let shown = flag_of_item w all i (attachment item) below here next.line next.is_visible known.0 known.1 in
     record {
-      items = (rw done at c.push.ensures.items)
+      items = c.push_reserved.ensures.items
           ∙ (λ j. c.loop-instance.invariant.items j ++ sym shown j ∷ [])
           ∙ sym (ap (map (is_instance_visible w)) (ap (map attachment) longer ∙ map_push attachment (take i c.args.instances.now) item)
           ∙ map_push (is_instance_visible w) (map attachment (take i c.args.instances.now)) (attachment item));
-      room = omega (arith, c.loop-instance.invariant.room, c.push.ensures.upper_bound, c.push.ensures.capacity);
+      room = omega (arith, c.loop-instance.invariant.room, c.push_reserved.ensures.len, c.push_reserved.ensures.capacity);
       flag = known.1;
     }

@@ -22,7 +22,7 @@ pub list_instances-requires-clause-few : goal.list_instances-requires-clause-few
 list_instances-requires-clause-few g c =
     let x = c.in_ok-instance.instance in
     let old = c.reserve.new.self.instances.items in
-    let pushed : c.push.new.self.items ≡ old ++ x ∷ [] = search rules in
+    let pushed : c.push_reserved.new.self.items ≡ old ++ x ∷ [] = search rules in
     let count : length old ≡ c.len-count.result = omega (arith, c.len-count.ensures, c.reserve.new.self.instances.ok.0) in
     let new : drop c.len-count.result c.deref.result.now ≡ x ∷ [] =
     ap (drop c.len-count.result) (c.deref.ensures.value ∙ pushed) ∙ drop_at old (x ∷ []) c.len-count.result count in
@@ -36,7 +36,7 @@ invariant_of-self g c =
     let callable = callables.Stored c.args.procedure in
     let cells = cells_of c.args.cells in
     let x = c.in_ok-instance.instance in
-    let instances = c.push.new.self.items in
+    let instances = c.push_reserved.new.self.items in
     let later = map attachment instances in
     let least = vec_len old.writers.ends in
     let now = vec_len c.list_instances.new.writers.ends in
@@ -75,7 +75,7 @@ returns-clause-ok g c =
     let callable = callables.Stored c.args.procedure in
     let cells = cells_of c.args.cells in
     let x = c.in_ok-instance.instance in
-    let pushed : c.push.new.self.items ≡ old.instances.items ++ x ∷ [] = search rules in
-    procedure_attached (declared old.declaration.now) old.inner.items old.instances.items old.instances.items c.push.new.self.items old.last_line c.args.line c.args.procedure cells c.args.support x
+    let pushed : c.push_reserved.new.self.items ≡ old.instances.items ++ x ∷ [] = search rules in
+    procedure_attached (declared old.declaration.now) old.inner.items old.instances.items old.instances.items c.push_reserved.new.self.items old.last_line c.args.line c.args.procedure cells c.args.support x
     refl pushed c.in_ok-instance.ensures.instance (c.in_ok-instance.ensures.line ∙ c.in_ok-attached.ensures.line) (c.in_ok-instance.ensures.support ∙ c.in_ok-attached.ensures.support)
     ∙ ap (λ n. with_attached n c.args.line callable cells c.args.support) c.reserve.ensures.same

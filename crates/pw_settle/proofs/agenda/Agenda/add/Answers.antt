@@ -19,12 +19,11 @@ invariant_of-self g c =
     let below : c.args.number < length queued = omega (arith, c.requires, ap length c.self.view_is) in
     let free : is_set queued c.args.number ≡ false =
     get_or_default queued c.args.number false c.index.result.now below ∙ sym c.index.ensures ∙ c.if-not-index.true in
-    let done = c.push.ensures.succeeds (omega (arith, c.make_room.ensures.room)) in
-    let items = (rw done at c.push.ensures.items) in
+    let items = c.push_reserved.ensures.items in
     rw items (
       queue_listed queued waiting c.make_room.new.listed.items (c.make_room.new.listed.items ++ c.args.number ∷ []) c.make_room.new.taken (vec_capacity c.self.inside.listed)
-          (vec_capacity c.push.new.self) c.args.number below free
-          (omega (arith, c.push.ensures.capacity, c.make_room.ensures.capacity)) c.make_room.ensures.waiting c.make_room.ensures.place refl c.self.invariant.0,
+          (vec_capacity c.push_reserved.new.self) c.args.number below free
+          (omega (arith, c.push_reserved.ensures.capacity, c.make_room.ensures.capacity)) c.make_room.ensures.waiting c.make_room.ensures.place refl c.self.invariant.0,
       omega (arith, length-set queued c.args.number true, c.self.invariant.1),
       omega (arith, c.make_room.ensures.place, length-append c.make_room.new.listed.items (c.args.number ∷ [])),
     )
