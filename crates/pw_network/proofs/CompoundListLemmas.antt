@@ -1,11 +1,12 @@
 -- The readers of inner cells: those of an attachment are given by the lists of its compound, and later attachments add none.
-use Rattle.std.proofs.Common.{◌≡◌, ℕ, zero, suc, ◌+◌, ◌-◌, ◌<◌, ◌≤◌, inl, inr, false, ◌||◌, cond, List, [], ◌∷◌, ◌++◌, length, map, take, get_or, eqb, refl, sym, ap, subst, ◌∙◌, append-nil, length-append, arith}
+use Rattle.std.proofs.Common.{◌≡◌, ℕ, zero, suc, ◌+◌, ◌-◌, ◌<◌, ◌≤◌, inl, inr, false, ◌||◌, cond, List, [], ◌∷◌, ◌++◌, Bool, drop, length, map, take, get_or, eqb, refl, sym, ap, subst, ◌∙◌, append-nil, length-append, arith}
 use Rattle.std.specs.Prelude.{All, IfOk, Result, Ok, Err, slice_get}
 use Rattle.std.specs.FinSet as set
 use Rattle.std.specs.List.{list_any}
 use Rattle.std.proofs.lemmas.Bool.{cases_lt, ne_eqb}
 use Rattle.std.proofs.lemmas.Bool.Decides.{eqb_tells}
-use Rattle.std.proofs.lemmas.List.{get_or_append_left, get_or-append_right, length_push, map-append, take_more}
+use Rattle.std.proofs.Math.Bool.{or-false}
+use Rattle.std.proofs.lemmas.List.{at_drop_all, drop_more, get_or_append_left, get_or-append_right, length_push, map-append, take_more}
 use Rattle.std.proofs.lemmas.List.Elements.{All-map, All-tail, All-weaker}
 use Rattle.pw_info.specs.declared.kind.Kind.{Kind}
 use Rattle.pw_premises.specs.Premises.{Premises}
@@ -24,8 +25,8 @@ use Rattle.pw_network.specs.declared.network.InnerCell.{InnerCell as InnerType}
 use Rattle.pw_network.specs.inside.CompoundLists.{AreOwnLists, AreReadAs, HasLists, IsListedAs, IsReadAs, ListsCalls, attached_calls, first_list, inner_made}
 use Rattle.pw_network.specs.inside.Lists.{AddsNumber, LeavesFrom, Listed, listed_by, no_place, numbers_for}
 use Rattle.pw_network.specs.Network.{Attached, AreDeclared, IsWellNetwork, MayAttach, Network, attached_at, cells_in, with_attached}
-use Rattle.pw_network.specs.Readers.{AreReaders, reads, readers_from}
-use Rattle.pw_network.specs.Writers.{AreWriters}
+use Rattle.pw_network.specs.Readers.{numbers_from, reads, readers_from}
+use Rattle.pw_network.specs.Writers.{writes}
 use Rattle.pw_network.proofs.AppendedLemmas.{eqb_after}
 use Rattle.pw_network.proofs.AttachedCalls.{calls_placed, some_is}
 use Rattle.pw_network.proofs.AttachedCells.{inputs_on, instances_push, length-made, made_get}
@@ -127,6 +128,7 @@ module _ (network : Network) (line number : ℕ) (calls : List FlatCall) (cells 
 record IsOneInstance (procedure : ℕ) (places : List ℕ) : Type 0 where
   instance : Instance ℕ
   is : instance_on procedure places ≡ instance ∷ []
+  output : drop (length places - 1) places ≡ instance.output ∷ []
 
 one_instance : (procedure : ℕ) (places : List ℕ) → 1 ≤ length places → IsOneInstance procedure places
 one_instance procedure [] some = absurd (omega (arith, some))
@@ -134,6 +136,11 @@ one_instance procedure (cell ∷ cells) some =
     record {
       instance = record { procedure = procedure; inputs = take (length cells) (cell ∷ cells); output = get_or (cell ∷ cells) (length cells) cell };
       is = refl;
+      output =
+          let last : length (cell ∷ cells) - 1 ≡ length cells = omega arith in
+          ap (λ n. drop n (cell ∷ cells)) last
+          ∙ drop_more (cell ∷ cells) (length cells) cell (omega arith)
+          ∙ ap (λ l. get_or (cell ∷ cells) (length cells) cell ∷ l) (at_drop_all (λ l. l) (cell ∷ cells) (length cells + 1) (omega arith));
     }
 
 module _ (calls : List FlatCall) (number : ℕ) (call : FlatCall) (there : number < length calls) (read : call ≡ get_or calls number call) (some : 1 ≤ length (cells_of call.places)) where
@@ -150,16 +157,36 @@ module _ (calls : List FlatCall) (number : ℕ) (call : FlatCall) (there : numbe
   pub count_more : length (attached_calls (take number calls)) ≡ number → length (attached_calls (take (number + 1) calls)) ≡ number + 1
   count_more count = let long = ap length calls_push in let all = length_push (attached_calls (take number calls)) (attached_at 0 set.empty one.instance) in omega (arith, long, all, count)
 
-  -- lists to which one more is appended, as its inputs say, list the calls with it
-  pub calls_more : (first places : ℕ) (inputs : List ℕ) (old new : List Listed) → inputs ≡ take (length (cells_of call.places) - 1) (cells_of call.places) →
-      length (attached_calls (take number calls)) ≡ number → AddsNumber first places inputs number old new →
-      ListsCalls old first places (take number calls) → ListsCalls new first places (take (number + 1) calls)
-  calls_more first places inputs old new are count added so_far place below =
-      let own : inputs ≡ one.instance.inputs = are ∙ sym (inputs_on call.procedure (cells_of call.places) one.instance one.is) in
+  -- lists to which one more is appended, as a test says, list the calls with it
+  calls_more : (test : ℕ → Attached → Bool) (first places : ℕ) (named : List ℕ) (old new : List Listed) →
+      ((place : ℕ) → list_any (eqb place) named ≡ test place (attached_at 0 set.empty one.instance)) →
+      length (attached_calls (take number calls)) ≡ number → AddsNumber first places named number old new →
+      ListsCalls test old first places (take number calls) → ListsCalls test new first places (take (number + 1) calls)
+  calls_more test first places named old new are count added so_far place below =
       added.own place below
-      ∙ (λ i. so_far place below i ++ cond (list_any (eqb place) (own i)) (number ∷ []) [])
-      ∙ sym (ap (λ l. readers_from l place 0) calls_push
-      ∙ numbers_more (reads place) (attached_calls (take number calls)) (attached_at 0 set.empty one.instance) number (sym count))
+      ∙ (λ i. so_far place below i ++ cond (are place i) (number ∷ []) [])
+      ∙ sym (ap (λ l. numbers_from (test place) l 0) calls_push
+      ∙ numbers_more (test place) (attached_calls (take number calls)) (attached_at 0 set.empty one.instance) number (sym count))
+
+  pub calls_read : (first places : ℕ) (inputs : List ℕ) (old new : List Listed) → inputs ≡ take (length (cells_of call.places) - 1) (cells_of call.places) →
+      length (attached_calls (take number calls)) ≡ number → AddsNumber first places inputs number old new →
+      ListsCalls reads old first places (take number calls) → ListsCalls reads new first places (take (number + 1) calls)
+  calls_read first places inputs old new are =
+      calls_more reads first places inputs old new
+      (λ place. ap (list_any (eqb place)) (are ∙ sym (inputs_on call.procedure (cells_of call.places) one.instance one.is)))
+
+  pub calls_written : (first places : ℕ) (outputs : List ℕ) (old new : List Listed) → outputs ≡ drop (length (cells_of call.places) - 1) (cells_of call.places) →
+      length (attached_calls (take number calls)) ≡ number → AddsNumber first places outputs number old new →
+      ListsCalls writes old first places (take number calls) → ListsCalls writes new first places (take (number + 1) calls)
+  calls_written first places outputs old new are =
+      calls_more writes first places outputs old new
+      (λ place. ap (list_any (eqb place)) (are ∙ one.output) ∙ or-false (eqb place one.instance.output))
+
+-- lists that are as they were list the same calls
+pub calls_kept : (test : ℕ → Attached → Bool) (first places : ℕ) (calls : List FlatCall) (old new : List Listed) →
+    ((place : ℕ) → place < places → numbers_for (first + place) new ≡ numbers_for (first + place) old) →
+    ListsCalls test old first places calls → ListsCalls test new first places calls
+calls_kept test first places calls old new kept so_far place below = kept place below ∙ so_far place below
 
 -- ---- other lists
 
@@ -186,7 +213,9 @@ lists_kept least places calls first count more old new grows kept has =
     record {
       from = from;
       within = omega (arith, within, grows);
-      each = λ place there. kept (first + place) (omega (arith, from)) (omega (arith, within, there)) ∙ has.each place there;
+      read = calls_kept reads first places calls old new (λ place there. kept (first + place) (omega (arith, from)) (omega (arith, within, there))) has.read;
+      written = calls_kept writes (first + places) places calls old new
+          (λ place there. kept (first + places + place) (omega (arith, from)) (omega (arith, within, there))) has.written;
     }
 
 -- the lists of all compounds, after one of them got its own
@@ -210,8 +239,10 @@ own_after compounds least number places calls are old new count more before afte
           record {
             from = omega (arith, from, first);
             within = omega (arith, within, first, same_places);
-            each = λ place below. ap (λ n. numbers_for (n + place) after) (sym first) ∙ has.each place (omega (arith, below, same_places))
+            read = λ place below. ap (λ n. numbers_for (n + place) after) (sym first) ∙ has.read place (omega (arith, below, same_places))
                 ∙ ap (λ l. readers_from l place 0) same;
+            written = λ place below. (λ i. numbers_for (sym first i + sym same_places i + place) after) ∙ has.written place (omega (arith, below, same_places))
+                ∙ ap (λ l. numbers_from (writes place) l 0) same;
           })
       | inr differs ↦ (let first = others other differs.1 in
           let has = own other its also (subst (λ n. n < no_place) first there) in
@@ -221,13 +252,13 @@ own_after compounds least number places calls are old new count more before afte
     ]
 
 -- the lists of all compounds, where instances were added to those of declared cells
-pub own_later : {A : Type 0} (compounds : List Compound) (least now count more : ℕ) (held : CompoundLists A) (old new : List Listed) → now ≡ least → more ≡ count → LeavesFrom least old new →
+pub own_later : {A : Type 0} (compounds : List Compound) (least now count more : ℕ) (held : CompoundLists A) (old new : List Listed) → now ≡ least → more ≡ count → LeavesFrom least count old new →
     AreOwnLists compounds least held count old → AreOwnLists compounds now held more new
 own_later compounds least now count more held old new same long kept own =
     subst (λ n. AreOwnLists compounds n held more new) (sym same) (subst (λ n. AreOwnLists compounds least held n new) (sym long)
     (λ number calls are there.
     lists_kept least (length are.compound.parameters + length (inner_kinds_of compounds (callables.Compound number))) calls (first_list held number) count count old new (omega arith)
-    (λ list from below. kept list from) (own number calls are there)))
+    kept (own number calls are there)))
 
 -- what is said of the first list, if there is one
 pub listed_if_ok : {E : Type 0} (result : Result ℕ E) (first : ℕ) (P : ℕ → Type 0) → IfOk result (λ n. n ≡ first) → IfOk result (λ n. n < no_place) → (first < no_place → P first) → IfOk result P
@@ -244,7 +275,7 @@ read_as least now count more listed attached inner same long read =
 module _ (least now count more : ℕ) (old new : List Link) (same : now ≡ least) (long : more ≡ count) (items : new ≡ old) where
   pub own_in_room : {A : Type 0} (compounds : List Compound) (held : CompoundLists A) → AreOwnLists compounds least held count (map listed_by old) → AreOwnLists compounds now held more (map listed_by new)
   own_in_room compounds held own =
-      own_later compounds least now count more held (map listed_by old) (map listed_by new) same long (λ list from. ap (λ l. numbers_for list (map listed_by l)) items) own
+      own_later compounds least now count more held (map listed_by old) (map listed_by new) same long (λ list from below. ap (λ l. numbers_for list (map listed_by l)) items) own
 
   pub inner_in_room : (attached : List Attached) (inner : List InnerType) → AreReadAs least count (map listed_by old) attached inner → AreReadAs now more (map listed_by new) attached inner
   inner_in_room attached inner read =
@@ -254,12 +285,6 @@ module _ (least now count more : ℕ) (old new : List Link) (same : now ≡ leas
   has_in_room places calls first has =
       subst (λ n. HasLists n places calls first more (map listed_by new)) (sym same) (subst (λ n. HasLists least places calls first n (map listed_by new)) (sym long)
       (subst (λ l. HasLists least places calls first count (map listed_by l)) (sym items) has))
-
-  pub read_in_room : (attached : List Attached) → AreReaders least (map listed_by old) attached → AreReaders now (map listed_by new) attached
-  read_in_room attached read = subst (λ n. AreReaders n (map listed_by new) attached) (sym same) (subst (λ l. AreReaders least (map listed_by l) attached) (sym items) read)
-
-  pub written_in_room : (attached : List Attached) → AreWriters least (map listed_by old) attached → AreWriters now (map listed_by new) attached
-  written_in_room attached written = subst (λ n. AreWriters n (map listed_by new) attached) (sym same) (subst (λ l. AreWriters least (map listed_by l) attached) (sym items) written)
 
 -- an inner cell is read as before
 pub still_read : (least count more : ℕ) (old new : List Listed) (attached later : List Attached) (cell : ℕ) (inner : InnerType) → count ≤ more →
@@ -285,13 +310,13 @@ all_still_read least count more old new attached inner grows kept read i d there
 module _ (network : Network) (line : ℕ) (callable : Callable) (cells : List ℕ) (support : Premises) (well : IsWellNetwork network) (here : AreDeclared network cells)
     (least count : ℕ) (old new : List Listed) (later : List Attached) (inner : List InnerType)
     (declared : least ≡ length network.declared.cells) (long : length inner ≡ length network.inner)
-    (attached : later ≡ (with_attached network line callable cells support).attached) (kept : (list : ℕ) → least ≤ list → numbers_for list new ≡ numbers_for list old)
+    (attached : later ≡ (with_attached network line callable cells support).attached) (kept : LeavesFrom least count old new)
     (read : AreReadAs least count old network.attached inner) where
   pub all_read_later : AreReadAs least count new later inner
   all_read_later i d there =
       subst (λ l. IsReadAs least count new l (least + i) (get_or inner i d)) (sym attached)
       (still_read least count count old new network.attached (with_attached network line callable cells support).attached (least + i) (get_or inner i d) (omega arith)
-      (λ list from within. kept list from)
+      kept
       (inner_stays network line callable cells support well here (least + i) (omega (arith, declared)) (omega (arith, declared, there, long)))
       (read i d there))
 
@@ -302,7 +327,7 @@ module _ (network : Network) (line number : ℕ) (calls : List FlatCall) (cells 
     (least count : ℕ) (old new : List Listed) (later : List Attached) (inner after : List InnerType) (first list list_first : ℕ)
     (declared : least ≡ length network.declared.cells) (long : length inner ≡ length network.inner)
     (attached : later ≡ (with_attached network line (callables.Compound number) cells support).attached) (numbered : first ≡ length network.attached)
-    (kept : (list : ℕ) → least ≤ list → numbers_for list new ≡ numbers_for list old)
+    (kept : LeavesFrom least count old new)
     (has : HasLists least (length cells + length kinds) calls list count old) (is_first : list_first ≡ list + length cells)
     (made : after ≡ inner ++ inner_made line first list_first 0 kinds)
     (read : AreReadAs least count old network.attached inner) where
@@ -329,7 +354,7 @@ module _ (network : Network) (line number : ℕ) (calls : List FlatCall) (cells 
         within = omega (arith, at, within, there);
         readers = ap (λ n. readers_from then n 0) (sym cell)
             ∙ inner_comes network line number calls cells support well are may few_kinds j
-            ∙ ap (map (λ n. length network.attached + n)) (sym (kept (list + place) (omega (arith, from)) ∙ has.each place (omega (arith, there))))
+            ∙ ap (map (λ n. length network.attached + n)) (sym (kept (list + place) (omega (arith, from)) (omega (arith, within, there)) ∙ has.read place (omega (arith, there))))
             ∙ (λ k. map (λ n. sym (holds.first_is ∙ numbered) k + n) (numbers_for (sym at k) new));
       }
 

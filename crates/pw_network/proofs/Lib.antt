@@ -1,6 +1,7 @@
 pub mod AppendedLemmas
 pub mod AttachedCalls
 pub mod AttachedCells
+pub mod BatchLemmas
 pub mod CellLemmas
 pub mod CompoundListLemmas
 pub mod LineLemmas

@@ -1,15 +1,16 @@
--- The readers and the writers of a cell, with one more instance.
-use Rattle.std.proofs.Common.{◌≡◌, ℕ, zero, suc, ◌+◌, ◌-◌, ◌<◌, ◌≤◌, Bool, true, false, cond, List, [], ◌∷◌, ◌++◌, length, map, drop, get_or, eqb, refl, sym, ap, subst, ◌∙◌, append-nil, append_assoc, arith}
+-- The numbers of instances that pass a test, with more instances.
+use Rattle.std.proofs.Common.{◌≡◌, ℕ, zero, suc, ◌+◌, ◌-◌, ◌<◌, ◌≤◌, Bool, true, false, cond, List, [], ◌∷◌, ◌++◌, length, length-take, map, drop, take, get_or, refl, sym, ap, subst, ◌∙◌, append-nil, append_assoc, arith}
 use Rattle.std.specs.Prelude.{All, filter}
-use Rattle.std.specs.List.{list_any, range_with_len}
-use Rattle.std.proofs.lemmas.List.{get_or-drop, get_or_append_left, length-drop, get_or_push, length-map, length_push, map-append, map_push}
-use Rattle.std.proofs.lemmas.List.Elements.{All-tail}
+use Rattle.std.specs.List.{range_with_len}
+use Rattle.std.proofs.lemmas.List.{at_drop_all, drop-append-le, take_more, get_or-drop, get_or_append_left, length-drop, get_or_push, length-map, length_push, map-append, map_push}
+use Rattle.std.proofs.lemmas.List.Elements.{All-filter, All-tail}
+use Rattle.pw_decl.proofs.FlatKept.{range_below}
 use Rattle.pw_network.specs.declared.instance.Instance.{Instance as InstanceType}
 use Rattle.pw_network.specs.inside.Held.{attachment}
 use Rattle.pw_network.specs.Network.{Attached}
+use Rattle.pw_network.specs.inside.Batches.{AddsInstances, numbers_past}
 use Rattle.pw_network.specs.inside.Lists.{Listed, numbers_for}
-use Rattle.pw_network.specs.Readers.{AreReaders, numbers_from, reads}
-use Rattle.pw_network.specs.Writers.{AreWriters, writes}
+use Rattle.pw_network.specs.Readers.{numbers_from}
 
 -- ---- numbers that pass a test, of those in a row
 
@@ -53,43 +54,6 @@ numbers_more test attached x number is =
     ∙ filter_more after 0 number number (omega arith)
     ∙ (λ i. filter_alike after before 0 number old i ++ cond (new i) (number ∷ []) [])
     ∙ ap (λ n. filter before (range_with_len 0 n) ++ cond (test x) (number ∷ []) []) as_many
-
--- the same, of what the code holds
-numbers_after : (test : Attached → Bool) (instances after : List InstanceType) (x : InstanceType) (number : ℕ) →
-    number ≡ length instances → after ≡ instances ++ x ∷ [] →
-    numbers_from test (map attachment after) 0 ≡ numbers_from test (map attachment instances) 0 ++ cond (test (attachment x)) (number ∷ []) []
-numbers_after test instances after x number numbered pushed =
-    ap (λ l. numbers_from test l 0) (ap (map attachment) pushed ∙ map_push attachment instances x)
-    ∙ numbers_more test (map attachment instances) (attachment x) number (numbered ∙ sym (length-map instances attachment))
-
--- lists that an instance is appended to, as its inputs say, list the readers with it
-pub readers_push : (cells : ℕ) (old new : List Listed) (attached after : List Attached) (x : Attached) (number : ℕ) (inputs : List ℕ) →
-    number ≡ length attached → inputs ≡ x.instance.inputs → after ≡ attached ++ x ∷ [] →
-    ((cell : ℕ) → cell < cells → numbers_for cell new ≡ numbers_for cell old ++ cond (list_any (eqb cell) inputs) (number ∷ []) []) →
-    AreReaders cells old attached → AreReaders cells new after
-readers_push cells old new attached after x number inputs numbered are_inputs pushed appended readers cell within =
-    appended cell within
-    ∙ (λ i. readers cell within i ++ cond (list_any (eqb cell) (are_inputs i)) (number ∷ []) [])
-    ∙ sym (ap (λ l. numbers_from (reads cell) l 0) pushed ∙ numbers_more (reads cell) attached x number numbered)
-
--- the same, of what the code holds
-pub readers_more : (cells : ℕ) (old new : List Listed) (instances after : List InstanceType) (x : InstanceType) (number : ℕ) (inputs : List ℕ) →
-    number ≡ length instances → inputs ≡ (attachment x).instance.inputs → after ≡ instances ++ x ∷ [] →
-    ((cell : ℕ) → cell < cells → numbers_for cell new ≡ numbers_for cell old ++ cond (list_any (eqb cell) inputs) (number ∷ []) []) →
-    AreReaders cells old (map attachment instances) → AreReaders cells new (map attachment after)
-readers_more cells old new instances after x number inputs numbered are_inputs pushed appended readers =
-    readers_push cells old new (map attachment instances) (map attachment after) (attachment x) number inputs
-    (numbered ∙ sym (length-map instances attachment)) are_inputs (ap (map attachment) pushed ∙ map_push attachment instances x) appended readers
-
--- lists that an instance is appended to, as its output says, list the writers with it
-pub writers_more : (cells : ℕ) (old new : List Listed) (instances after : List InstanceType) (x : InstanceType) (number : ℕ) →
-    number ≡ length instances → after ≡ instances ++ x ∷ [] →
-    ((cell : ℕ) → cell < cells → numbers_for cell new ≡ numbers_for cell old ++ cond (eqb cell x.output) (number ∷ []) []) →
-    AreWriters cells old (map attachment instances) → AreWriters cells new (map attachment after)
-writers_more cells old new instances after x number numbered pushed appended writers cell within =
-    appended cell within
-    ∙ (λ i. writers cell within i ++ cond (eqb cell x.output) (number ∷ []) [])
-    ∙ sym (numbers_after (writes cell) instances after x number numbered pushed)
 
 -- ---- one of the instances from a number on
 
@@ -155,3 +119,54 @@ numbers_alike test other attached more same =
     let long : length attached - 0 ≡ length more - 0 =
     let a = length-map attached test in let b = length-map more other in let c = ap length same in omega arith in
     λ i. filter (λ n. get_or (same i) n false) (range_with_len 0 (long i))
+
+-- ---- those from a number on, one after another
+
+shifted_once : (a k n : ℕ) (b : Bool) → a + k ≡ n → map (λ m. a + m) (cond b (k ∷ []) []) ≡ cond b (n ∷ []) []
+shifted_once a k n true is = ap (λ m. m ∷ []) is
+shifted_once a k n false is = refl
+
+pub past_more : (test : Attached → Bool) (instances : List InstanceType) (first number : ℕ) (x : InstanceType) →
+    first ≤ number → number < length instances → x ≡ get_or instances number x →
+    numbers_past test (take (number + 1) instances) first ≡ numbers_past test (take number instances) first ++ cond (test (attachment x)) (number ∷ []) []
+past_more test instances first number x from there is =
+    let before = drop first (take number instances) in
+    let long = length-take number instances in
+    let left = length-drop first (take number instances) in
+    let many = length-map before attachment in
+    let more : drop first (take (number + 1) instances) ≡ before ++ x ∷ [] =
+    ap (drop first) (take_more instances number x there ∙ ap (λ y. take number instances ++ y ∷ []) (sym is))
+    ∙ drop-append-le first (take number instances) (x ∷ []) (omega (arith, long, from, there)) in
+    let count : number - first ≡ length (map attachment before) = omega (arith, long, left, many, from, there) in
+    ap (map (λ n. first + n))
+    (ap (λ l. numbers_from test l 0) (ap (map attachment) more ∙ map_push attachment before x)
+    ∙ numbers_more test (map attachment before) (attachment x) (number - first) count)
+    ∙ map-append (λ n. first + n) (numbers_from test (map attachment before) 0) (cond (test (attachment x)) ((number - first) ∷ []) [])
+    ∙ ap (λ l. map (λ n. first + n) (numbers_from test (map attachment before) 0) ++ l)
+    (shifted_once first (number - first) number (test (attachment x)) (omega (arith, from)))
+
+-- lists to which one more is appended, as a test says
+pub adds_one : (test : ℕ → Attached → Bool) (cells : ℕ) (instances : List InstanceType) (first number : ℕ) (x : InstanceType) (old mid new : List Listed) →
+    first ≤ number → number < length instances → x ≡ get_or instances number x →
+    ((cell : ℕ) → cell < cells → numbers_for cell new ≡ numbers_for cell mid ++ cond (test cell (attachment x)) (number ∷ []) []) →
+    AddsInstances test cells (take number instances) first old mid → AddsInstances test cells (take (number + 1) instances) first old new
+adds_one test cells instances first number x old mid new from there is appended so_far cell within =
+    appended cell within
+    ∙ ap (λ l. l ++ cond (test cell (attachment x)) (number ∷ []) []) (so_far cell within)
+    ∙ append_assoc (numbers_for cell old) (numbers_past (test cell) (take number instances) first) (cond (test cell (attachment x)) (number ∷ []) [])
+    ∙ ap (λ l. numbers_for cell old ++ l) (sym (past_more (test cell) instances first number x from there is))
+
+-- none was added yet
+pub adds_none : (test : ℕ → Attached → Bool) (cells : ℕ) (instances : List InstanceType) (first : ℕ) (old new : List Listed) → first ≤ length instances → new ≡ old →
+    AddsInstances test cells (take first instances) first old new
+adds_none test cells instances first old new within same cell below =
+    ap (numbers_for cell) same
+    ∙ sym (append-nil (numbers_for cell old))
+    ∙ ap (λ l. numbers_for cell old ++ l)
+    (sym (at_drop_all (λ l. map (λ n. first + n) (numbers_from (test cell) (map attachment l) 0)) (take first instances) first
+    (let long = length-take first instances in omega (arith, long, within))))
+
+-- what passes the test is one of them
+pub numbers_below : (test : Attached → Bool) (attached : List Attached) → All (λ n. n < length attached) (numbers_from test attached 0)
+numbers_below test attached =
+    All-filter (λ n. get_or (map test attached) n false) (λ n. n < length attached) _ (range_below (length attached - 0) (length attached) (omega arith))

@@ -1,3 +1,4 @@
+pub mod Batches
 pub mod Network
 pub mod Readers
 pub mod Wiring

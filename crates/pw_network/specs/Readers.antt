@@ -1,8 +1,7 @@
 -- Which instances read a cell.
-use Rattle.std.specs.Prelude.{◌≡◌, ℕ, ◌-◌, ◌<◌, List, Bool, false, map, filter, length}
+use Rattle.std.specs.Prelude.{ℕ, ◌-◌, List, Bool, false, map, filter, length}
 use Rattle.std.specs.Prelude.{nat_eq, slice_index_or}
 use Rattle.std.specs.List.{list_any, range_with_len}
-use Rattle.pw_network.specs.inside.Lists.{Listed, numbers_for}
 use Rattle.pw_network.specs.Network.{Attached, Network}
 
 -- the instance has the cell among its inputs
@@ -24,8 +23,3 @@ readers_from attached cell number = numbers_from (reads cell) attached number
 -- the numbers of all instances that read it, in rising order
 abbrev pub readers_of : Network → ℕ → List ℕ
 readers_of network cell = readers_from network.attached cell 0
-
--- these list the readers of each of the first cells, up to this number of cells
-abbrev pub AreReaders : ℕ → List Listed → List Attached → Type 0
-AreReaders cells listed attached = (cell : ℕ) → cell < cells → numbers_for cell listed
-    ≡ readers_from attached cell 0

@@ -1,6 +1,5 @@
 -- Which instances write a cell.
-use Rattle.std.specs.Prelude.{◌≡◌, ℕ, ◌<◌, List, Bool, nat_eq}
-use Rattle.pw_network.specs.inside.Lists.{Listed, numbers_for}
+use Rattle.std.specs.Prelude.{ℕ, List, Bool, nat_eq}
 use Rattle.pw_network.specs.Network.{Attached, Network}
 use Rattle.pw_network.specs.Readers.{numbers_from}
 
@@ -15,8 +14,3 @@ writers_in attached cell = numbers_from (writes cell) attached 0
 -- the numbers of all instances that write it, in rising order
 abbrev pub writers_of : Network → ℕ → List ℕ
 writers_of network cell = writers_in network.attached cell
-
--- these list the writers of each of the first cells, up to this number of cells
-abbrev pub AreWriters : ℕ → List Listed → List Attached → Type 0
-AreWriters cells listed attached = (cell : ℕ) → cell < cells → numbers_for cell listed
-    ≡ writers_in attached cell

@@ -7,19 +7,28 @@ ghost use Rattle.pw_network.specs.inside.Appended.{AppendsCalls};
 ghost use Rattle.pw_decl.specs.Limits.{most_inner_cells};
 ghost use Rattle.pw_network.specs.inside.CompoundLists.{inner_made};
 ghost use Rattle.pw_network.specs.inside.Held.{attachment};
-ghost use Rattle.pw_network.specs.Readers.{AreReaders};
-ghost use Rattle.pw_network.specs.Writers.{AreWriters};
+ghost use Rattle.pw_network.specs.Readers.{reads};
+ghost use Rattle.pw_network.specs.Writers.{writes};
+ghost use Rattle.pw_network.specs.inside.Batches.{AddsCalls, AddsInstances, AreListed, ArePlaced};
+ghost use Rattle.pw_network.specs.inside.Batches.{HaveLists, calls_from, least_calls};
+ghost use Rattle.pw_network.specs.inside.CompoundLists.{HasLists};
+ghost use Rattle.std.specs.Prelude.{◌≢◌, IsTrue};
+ghost use Rattle.std.specs.List.{AllPairs};
 ghost use Rattle.pw_network.specs.inside.Lists.{LeavesFrom, listed_by, no_place};
 
 use crate::attachment::Attachment;
+use crate::batch::{Calls, LEAST_CALLS};
 use crate::instance::Instance;
-use crate::instance_lists::InstanceLists;
+use crate::instance_lists::{InstanceLists, has};
 use crate::network::InnerCell;
 use pw_decl::FlatCall;
 use pw_info::Kind;
 use pw_premises::PremiseSet;
 use std::alloc::{AllocError, Allocator, Global};
 use std::rc::Rc;
+
+// An attachment of fewer instances is listed instance by instance: what reads a cell is found faster so.
+const MANY_CALLS: usize = 16;
 
 // Appends the instances of calls, for which there is room: a place means one of these cells, or, past
 // their end, an inner cell. The first inner cell has the number `first`. Fails only when out of memory;
@@ -93,15 +102,11 @@ pub(crate) fn list_instances<A: Allocator + Copy>(
         ≤ no_place }
     requires few { All (λ instance. length (attachment instance).instance.inputs ≤ 8)
         (drop first instances.now) }
-    requires readers { AreReaders (vec_len writers.old.ends) (map listed_by
-        readers.old.links.items) (map attachment (take first instances.now)) }
-    requires writers { AreWriters (vec_len writers.old.ends) (map listed_by
-        writers.old.links.items) (map attachment (take first instances.now)) }
-    ensures readers { AreReaders (vec_len writers.old.ends) (map listed_by
-        readers.new.links.items) (map attachment instances.now) }
-    ensures writers { AreWriters (vec_len writers.old.ends) (map listed_by
-        writers.new.links.items) (map attachment instances.now) }
-    ensures kept { LeavesFrom (vec_len writers.old.ends) (map listed_by
+    ensures readers { AddsInstances reads (vec_len writers.old.ends) instances.now first
+        (map listed_by readers.old.links.items) (map listed_by readers.new.links.items) }
+    ensures writers { AddsInstances writes (vec_len writers.old.ends) instances.now first
+        (map listed_by writers.old.links.items) (map listed_by writers.new.links.items) }
+    ensures kept { LeavesFrom (vec_len writers.old.ends) (vec_len readers.old.ends) (map listed_by
         readers.old.links.items) (map listed_by readers.new.links.items) }
     ensures lists { vec_len readers.new.ends ≡ vec_len readers.old.ends }
     ensures writer_lists { vec_len writers.new.ends ≡ vec_len writers.old.ends }
@@ -111,6 +116,112 @@ pub(crate) fn list_instances<A: Allocator + Copy>(
         readers.append(number as u32, instance.inputs(), 0, writers.len() as u32);
         writers.append_to(number as u32, instance.output);
     }
+}
+
+// Appends the calls of an attachment to the lists of its cells: those of each place as one. The first
+// instance of the attachment has the number `first`, and the calls of the first place are in this list.
+fn list_calls<A: Allocator + Copy>(
+    calls: &mut Vec<Calls, A>,
+    lists: &mut InstanceLists<A>,
+    cells: &[u32],
+    first: u32,
+    list: u32,
+)
+    requires room { vec_len calls.old + length cells.now ≤ vec_capacity calls.old }
+    requires few { vec_len calls.old + length cells.now < least_calls }
+    requires link_room { vec_len lists.old.links + length cells.now ≤ vec_capacity lists.old.links }
+    requires link_places { vec_len lists.old.links + length cells.now ≤ no_place }
+    requires lists { list + length cells.now ≤ no_place }
+    ensures calls { calls.new.items ≡ calls.old.items ++ calls_from first list (length cells.now) }
+    ensures count { vec_len calls.new ≡ vec_len calls.old + length cells.now }
+    ensures calls_room { vec_capacity calls.new ≡ vec_capacity calls.old }
+    ensures added { AddsCalls (vec_len lists.old.ends) (least_calls + vec_len calls.old) cells.now
+        (map listed_by lists.old.links.items) (map listed_by lists.new.links.items) }
+    ensures lists { vec_len lists.new.ends ≡ vec_len lists.old.ends }
+{
+    for place in 0..cells.len() {
+        let number = LEAST_CALLS + calls.len() as u32;
+        calls.push_reserved(Calls {
+            first,
+            list: list + place as u32,
+        });
+        lists.append_to(number, cells[place]);
+    }
+}
+
+// Whether the cells differ. Answers false where two are the same.
+fn are_distinct(cells: &[u32]) -> bool
+    ensures { IsTrue result → AllPairs (λ m n. m ≢ n) cells.now }
+{
+    for place in 0..cells.len() {
+        if has(&cells[..place], cells[place]) {
+            return false;
+        }
+    }
+    true
+}
+
+// Appends the instances of an attachment of a compound, which have the numbers from `first` on, to the
+// lists of its cells. The compound has these calls, and the calls of its first place are in this list.
+// Many calls are appended as one for each place, if the cells differ.
+pub(crate) fn list_attached<A: Allocator + Copy>(
+    instances: &[Instance],
+    first: usize,
+    cells: &[u32],
+    flat: &[FlatCall],
+    list: u32,
+    places: usize,
+    calls: &mut Vec<Calls, A>,
+    readers: &mut InstanceLists<A>,
+    writers: &mut InstanceLists<A>,
+)
+    requires there { first ≤ length instances.now }
+    requires numbers { length instances.now ≤ least_calls }
+    requires lists { vec_len writers.old.ends ≤ vec_len readers.old.ends }
+    requires reader_room { vec_len readers.old.links + 8 * (length instances.now - first)
+        ≤ vec_capacity readers.old.links }
+    requires writer_room { vec_len writers.old.links + (length instances.now - first)
+        ≤ vec_capacity writers.old.links }
+    requires reader_places { vec_len readers.old.links + 8 * (length instances.now - first)
+        ≤ no_place }
+    requires writer_places { vec_len writers.old.links + (length instances.now - first)
+        ≤ no_place }
+    requires few { All (λ instance. length (attachment instance).instance.inputs ≤ 8)
+        (drop first instances.now) }
+    requires calls_room { vec_len calls.old + 2 * length cells.now ≤ vec_capacity calls.old }
+    requires few_calls { vec_len calls.old + 2 * length cells.now < least_calls }
+    requires cells { All (λ cell. cell < vec_len writers.old.ends) cells.now }
+    requires most { length cells.now ≤ 9 }
+    requires places { length cells.now ≤ places }
+    requires has { HasLists (vec_len writers.old.ends) places flat.now list (vec_len readers.old.ends)
+        (map listed_by readers.old.links.items) }
+    requires placed { ArePlaced (vec_len writers.old.ends) cells.now flat.now
+        (map attachment (drop first instances.now)) }
+    requires own { HaveLists (vec_len writers.old.ends) (vec_len readers.old.ends) calls.old.items }
+    requires read { AreListed reads (vec_len writers.old.ends) calls.old.items (map listed_by
+        readers.old.links.items) (map listed_by readers.old.links.items) (map attachment (take first
+        instances.now)) }
+    requires written { AreListed writes (vec_len writers.old.ends) calls.old.items (map listed_by
+        readers.old.links.items) (map listed_by writers.old.links.items) (map attachment (take first
+        instances.now)) }
+    ensures own { HaveLists (vec_len writers.old.ends) (vec_len readers.old.ends) calls.new.items }
+    ensures read { AreListed reads (vec_len writers.old.ends) calls.new.items (map listed_by
+        readers.new.links.items) (map listed_by readers.new.links.items) (map attachment
+        instances.now) }
+    ensures written { AreListed writes (vec_len writers.old.ends) calls.new.items (map listed_by
+        readers.new.links.items) (map listed_by writers.new.links.items) (map attachment
+        instances.now) }
+    ensures kept { LeavesFrom (vec_len writers.old.ends) (vec_len readers.old.ends) (map listed_by
+        readers.old.links.items) (map listed_by readers.new.links.items) }
+    ensures lists { vec_len readers.new.ends ≡ vec_len readers.old.ends }
+    ensures writer_lists { vec_len writers.new.ends ≡ vec_len writers.old.ends }
+{
+    if instances.len() - first < MANY_CALLS || !are_distinct(cells) {
+        list_instances(instances, first, readers, writers);
+        return;
+    }
+    list_calls(calls, readers, cells, first as u32, list);
+    list_calls(calls, writers, cells, first as u32, list + places as u32);
 }
 
 // Appends the inner cells of an attachment at this line: they are of these kinds, and numbered from 0.

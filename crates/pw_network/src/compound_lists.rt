@@ -1,5 +1,7 @@
 //! Where the calls of each compound are listed.
-ghost use Rattle.std.specs.Prelude.{◌≡◌, ◌+◌, ◌<◌, ◌≤◌, ℕ, map, IfOk, OnOk, vec_len};
+ghost use Rattle.std.specs.Prelude.{◌≡◌, ◌+◌, ◌*◌, ◌<◌, ◌≤◌, ℕ, map, IfOk, OnOk, vec_len};
+ghost use Rattle.pw_network.specs.Readers.{reads};
+ghost use Rattle.pw_network.specs.Writers.{writes};
 ghost use Rattle.pw_network.specs.inside.CompoundLists.{IsListedAs, ListsCalls, first_list};
 ghost use Rattle.pw_network.specs.inside.Lists.{LeavesBelow, listed_by, no_place};
 
@@ -12,8 +14,8 @@ use std::alloc::{AllocError, Allocator, Global};
 const NONE: u32 = u32::MAX;
 
 // For each compound that was attached, the number of the list of its first place. The lists of its
-// other places follow. The list of a place has the numbers of the calls that read it. All attachments
-// of the compound share these lists.
+// other places follow, and then as many again. The first list of a place has the numbers of the calls
+// that read it, the second one of those that write it. All attachments of the compound share them.
 #[derive(Drop)]
 pub(crate) struct CompoundLists<A: Allocator = Global> {
     // By the number of the compound.
@@ -75,8 +77,9 @@ impl<A: Allocator + Copy> CompoundLists<A> {
     }
 }
 
-// Adds a list for each of this many places, with the numbers of the calls that read it. Answers the
-// number of the first. Fails only when out of memory; then the lists are unchanged.
+// Adds a list for each of this many places, with the numbers of the calls that read it, and then one
+// for each with the numbers of those that write it. Answers the number of the first. Fails only when
+// out of memory; then the lists are unchanged.
 fn list_calls<A: Allocator + Copy>(
     lists: &mut InstanceLists<A>,
     calls: &[FlatCall],
@@ -88,17 +91,24 @@ fn list_calls<A: Allocator + Copy>(
     ensures lists { vec_len lists.old.ends ≤ vec_len lists.new.ends }
     ensures first { IfOk result (λ first. first ≡ vec_len lists.old.ends) }
     ensures there { IfOk result (λ first. first < no_place) }
-    ensures places { IfOk result (λ first. first + places ≤ vec_len lists.new.ends) }
-    ensures calls { IfOk result (λ first. ListsCalls (map listed_by lists.new.links.items) first
-        places calls.now) }
+    ensures places { IfOk result (λ first. first + 2 * places ≤ vec_len lists.new.ends) }
+    ensures read { IfOk result (λ first. ListsCalls reads (map listed_by lists.new.links.items)
+        first places calls.now) }
+    ensures written { IfOk result (λ first. ListsCalls writes (map listed_by
+        lists.new.links.items) (first + places) places calls.now) }
 {
-    lists.reserve(places, calls.len() * MOST_INPUTS)?;
+    if calls.len() > u32::MAX as usize || places > u32::MAX as usize {
+        return Err(AllocError);
+    }
+    lists.reserve(2 * places, calls.len() * (MOST_INPUTS + 1))?;
     let first = lists.len() as u32;
-    lists.add(places);
+    let writers = first + places as u32;
+    lists.add(2 * places);
     for number in 0..calls.len() {
         let cells = calls[number].places.cells();
-        let inputs = &cells[..cells.len() - 1];
+        let (inputs, output) = cells.split_at(cells.len() - 1);
         lists.append(number as u32, inputs, first, places as u32);
+        lists.append(number as u32, output, writers, places as u32);
     }
     Ok(first)
 }

@@ -80,8 +80,8 @@ impl<A: Allocator + Copy> InstanceLists<A> {
             self.new.ends) }
         ensures few_lists { OnOk result (vec_len self.new.ends + lists ≤ no_place) }
     {
-        reserve_numbered(&mut self.links, links)?;
-        reserve_numbered(&mut self.ends, lists)
+        reserve_below(&mut self.links, links, NONE)?;
+        reserve_below(&mut self.ends, lists, NONE)
     }
 
     // Adds `count` empty lists.
@@ -189,18 +189,19 @@ impl<A: Allocator + Copy> InstanceLists<A> {
     }
 }
 
-// Makes room for this many more items. Fails only when out of memory; items whose places would not
-// fit 32 bits count as that. The items are unchanged.
-pub(crate) fn reserve_numbered<T, A: Allocator>(
+// Makes room for this many more items. Fails only when out of memory; more than `most` items in all count
+// as that. The items are unchanged.
+pub(crate) fn reserve_below<T, A: Allocator>(
     list: &mut Vec<T, A>,
     count: usize,
+    most: u32,
 ) -> Result<(), AllocError>
     ensures items { list.new.items ≡ list.old.items }
     ensures len { vec_len list.new ≡ vec_len list.old }
     ensures room { OnOk result (vec_len list.new + count ≤ vec_capacity list.new) }
-    ensures few { OnOk result (vec_len list.new + count ≤ no_place) }
+    ensures few { OnOk result (vec_len list.new + count ≤ most) }
 {
-    let most = u32::MAX as usize;
+    let most = most as usize;
     if count > most || list.len() > most - count {
         return Err(AllocError);
     }
@@ -208,7 +209,7 @@ pub(crate) fn reserve_numbered<T, A: Allocator>(
 }
 
 // Whether the cell is one of these.
-fn has(cells: &[u32], cell: u32) -> bool
+pub(crate) fn has(cells: &[u32], cell: u32) -> bool
     ensures { result ≡ list_any (nat_eq cell) cells.now }
 {
     cells.iter().any(|other| cell == *other)

@@ -1,5 +1,5 @@
 //! The instances that read a cell, or that write it, one after another.
-ghost use Rattle.std.specs.Prelude.{◌≡◌, ◌+◌, drop, map};
+ghost use Rattle.std.specs.Prelude.{◌≡◌, ◌+◌, [], drop, map};
 ghost use Rattle.std.specs.Iterator.{YieldsFirst, item_count};
 ghost use Rattle.pw_network.specs.inside.Lists.{IsWalk, next_of, numbers_for, listed_by};
 
@@ -30,6 +30,13 @@ impl<'n> Model for InstanceNumbers<'n> {
 }
 
 impl<'n> InstanceNumbers<'n> {
+    // No numbers.
+    pub(crate) fn none() -> InstanceNumbers<'n>
+        ensures { result ≡ [] }
+    {
+        InstanceNumbers::new(&[], 0, 0, 0)
+    }
+
     // The numbers of the instances of a list, from this place on. It is the place of one of them, if
     // any is left. They count from the instance of number `first`.
     pub(crate) fn new(links: &'n [Link], list: u32, at: u32, first: u32) -> InstanceNumbers<'n>

@@ -4,6 +4,8 @@
 
 mod attaching;
 mod attachment;
+mod batch;
+mod batch_numbers;
 mod compound_lists;
 mod instance;
 mod instance_lists;
@@ -11,6 +13,8 @@ mod instance_numbers;
 pub mod laws;
 mod network;
 
+pub use batch::{Batch, Batches};
+pub use batch_numbers::BatchNumbers;
 pub use instance::Instance;
 pub use instance_numbers::InstanceNumbers;
 pub use network::{Network, NetworkFault};

@@ -1,6 +1,6 @@
 //! What is attached to the cells of a declaration: instances of procedures, between its cells and
 //! inner ones.
-ghost use Rattle.std.specs.Prelude.{◌≡◌, ◌+◌, ◌<◌, ◌≤◌, ◌↔◌, length, map, IfOk, IfErr, OnOk, OnErr};
+ghost use Rattle.std.specs.Prelude.{◌≡◌, ◌+◌, ◌<◌, ◌≤◌, ◌↔◌, length, map, IfOk, IfErr, IfNone, IfSome, OnOk, OnErr};
 ghost use Rattle.pw_procs.specs.Registry.{cells_of};
 ghost use Rattle.pw_decl.specs.declared.step.Callable.TheVariants as callables;
 ghost use Rattle.pw_decl.specs.Expansion.{inner_kinds_of};
@@ -23,15 +23,19 @@ ghost use Rattle.pw_decl.specs.inside.Held.{named_prop};
 ghost use Rattle.pw_network.specs.inside.CompoundLists.{HasLists, HaveOwnLists, HaveReaders};
 ghost use Rattle.pw_network.specs.inside.Held.{support_code, wiring_from};
 ghost use Rattle.pw_network.specs.Network.{IsWellNetwork};
-ghost use Rattle.pw_network.specs.Readers.{AreReaders};
-ghost use Rattle.pw_network.specs.Writers.{AreWriters};
+ghost use Rattle.pw_network.specs.Batches.{numbers_in};
+ghost use Rattle.pw_network.specs.Readers.{reads};
+ghost use Rattle.pw_network.specs.Writers.{writes};
+ghost use Rattle.pw_network.specs.inside.Batches.{AreListed, HaveLists, least_calls};
 ghost use Rattle.pw_network.specs.inside.Lists.{listed_by, no_place};
 
-use crate::attaching::{append_calls, append_inner, list_instances, with_support};
+use crate::attaching::{append_calls, append_inner, list_attached, list_instances, with_support};
 use crate::attachment::Attachment;
+use crate::batch::{Batches, Calls, LEAST_CALLS};
+use crate::batch_numbers::BatchNumbers;
 use crate::compound_lists::CompoundLists;
 use crate::instance::{Instance, MOST_INPUTS};
-use crate::instance_lists::{InstanceLists, reserve_numbered};
+use crate::instance_lists::{InstanceLists, reserve_below};
 use crate::instance_numbers::InstanceNumbers;
 use pw_decl::{Callable, Declaration, FlatCall};
 use pw_info::Kind;
@@ -70,11 +74,13 @@ pub struct Network<'d, 'r, A: Allocator = Global> {
     inner: Vec<InnerCell, A>,
     instances: Vec<Instance, A>,
     // For each declared cell the list of the instances that read it, and after these, for each place of
-    // a compound that was attached, the list of its calls that read it.
+    // a compound that was attached, the lists of its calls that read it and of those that write it.
     readers: InstanceLists<A>,
     compounds: CompoundLists<A>,
-    // The numbers of the instances that write each declared cell. Inner cells have no such list.
+    // For each declared cell the list of the instances that write it. Inner cells have no such list.
     writers: InstanceLists<A>,
+    // The calls of attachments that the lists of declared cells have.
+    calls: Vec<Calls, A>,
     // The line of the last attachment, 0 before the first.
     last_line: u32,
     // The premises that instances rest on.
@@ -83,10 +89,11 @@ pub struct Network<'d, 'r, A: Allocator = Global> {
         last_line) } by { Prim.hlevel (props, named_prop, support_code) },
     ghost read_cells: { length (declared declaration.now).cells ≤ vec_len readers.ends },
     ghost declared_cells: { vec_len writers.ends ≡ length (declared declaration.now).cells },
-    ghost read: { AreReaders (vec_len writers.ends) (map listed_by readers.links.items) (map attachment instances.items) } by { Prim.hlevel props },
-    ghost calls: { HaveOwnLists (declared declaration.now).compounds (vec_len writers.ends) compounds readers } by { Prim.hlevel props },
+    ghost read: { AreListed reads (vec_len writers.ends) calls.items (map listed_by readers.links.items) (map listed_by readers.links.items) (map attachment instances.items) } by { Prim.hlevel props },
+    ghost own: { HaveOwnLists (declared declaration.now).compounds (vec_len writers.ends) compounds readers } by { Prim.hlevel props },
     ghost inner_read: { HaveReaders (vec_len writers.ends) readers (map attachment instances.items) inner.items } by { Prim.hlevel props },
-    ghost written: { AreWriters (vec_len writers.ends) (map listed_by writers.links.items) (map attachment instances.items) } by { Prim.hlevel props },
+    ghost written: { AreListed writes (vec_len writers.ends) calls.items (map listed_by readers.links.items) (map listed_by writers.links.items) (map attachment instances.items) } by { Prim.hlevel props },
+    ghost have: { HaveLists (vec_len writers.ends) (vec_len readers.ends) calls.items } by { Prim.hlevel props },
     ghost visible: { ArePremisesOf (map attachment instances.items) premises },
 }
 
@@ -108,6 +115,7 @@ impl<'d, 'r, A: Allocator + Copy> Network<'d, 'r, A> {
             readers: InstanceLists::new(alloc, declaration.cells() as usize)?,
             compounds: CompoundLists::new(alloc),
             writers: InstanceLists::new(alloc, declaration.cells() as usize)?,
+            calls: Vec::new(alloc),
             last_line: 0,
             premises: PremiseSet::empty(),
         })
@@ -174,25 +182,44 @@ impl<'d, 'r, A: Allocator + Copy> Network<'d, 'r, A> {
     }
 
     /// The numbers of the instances that read the cell, in rising order.
-    pub fn readers(&self, cell: u32) -> InstanceNumbers<'_>
+    pub fn readers(&self, cell: u32) -> BatchNumbers<'_, A>
         ensures { result ≡ readers_of (wiring self.now) cell }
     {
-        let declared = self.writers.len();
-        if (cell as usize) < declared {
-            return self.readers.numbers(cell, 0);
+        match self.inner_readers(cell) {
+            Some(numbers) => BatchNumbers::new(numbers, Batches::none(&self.readers)),
+            None => self.reader_batches(cell).numbers(),
         }
-        match self.inner.get(cell as usize - declared) {
-            Some(inner) => self.readers.numbers(inner.list, inner.first),
-            None => self.readers.numbers(u32::MAX, 0),
+    }
+
+    /// The instances that read the declared cell, batch by batch: their numbers, one batch after another,
+    /// are in rising order.
+    #[inline(always)]
+    pub fn reader_batches(&self, cell: u32) -> Batches<'_, A>
+        requires { cell < length (wiring self.now).declared.cells }
+        ensures { numbers_in result ≡ readers_of (wiring self.now) cell }
+    {
+        Batches::new(self.readers.numbers(cell, 0), &self.calls, &self.readers)
+    }
+
+    /// The numbers of the instances that read the inner cell, in rising order. None for a declared cell.
+    #[inline(always)]
+    pub fn inner_readers(&self, cell: u32) -> Option<InstanceNumbers<'_>>
+        ensures some { IfSome result (λ numbers. numbers ≡ readers_of (wiring self.now) cell) }
+        ensures none { IfNone result (cell < length (wiring self.now).declared.cells) }
+    {
+        let place = (cell as usize).checked_sub(self.writers.len())?;
+        match self.inner.get(place) {
+            Some(inner) => Some(self.readers.numbers(inner.list, inner.first)),
+            None => Some(InstanceNumbers::none()),
         }
     }
 
     /// The numbers of the instances that write the declared cell, in rising order.
-    pub fn writers(&self, cell: u32) -> InstanceNumbers<'_>
+    pub fn writers(&self, cell: u32) -> BatchNumbers<'_, A>
         requires { cell < length (wiring self.now).declared.cells }
         ensures { result ≡ writers_of (wiring self.now) cell }
     {
-        self.writers.numbers(cell, 0)
+        Batches::new(self.writers.numbers(cell, 0), &self.calls, &self.readers).numbers()
     }
 
     /// Whether all instances are visible in the worldview: they rest only on premises of it. Takes
@@ -264,7 +291,7 @@ impl<'d, 'r, A: Allocator + Copy> Network<'d, 'r, A> {
         let global = self.declaration.registry().allocator();
         let attached = Attachment::shared(global, line, &support)?;
         let instance = Instance::new(global, procedure, cells, &attached)?;
-        self.reserve(0, 1)?;
+        self.reserve(0, 1, 0)?;
         let count = self.instances.len();
         self.instances.push_reserved(instance);
         list_instances(&self.instances, count, &mut self.readers, &mut self.writers);
@@ -273,8 +300,9 @@ impl<'d, 'r, A: Allocator + Copy> Network<'d, 'r, A> {
         Ok(())
     }
 
-    // Makes room for this many more inner cells and instances. Fails only when out of memory.
-    fn reserve(&mut self, inner: usize, instances: usize) -> Result<(), AllocError>
+    // Makes room for this many more inner cells and instances, and calls of attachments. Fails only when
+    // out of memory.
+    fn reserve(&mut self, inner: usize, instances: usize, calls: usize) -> Result<(), AllocError>
         ensures same { wiring self.new ≡ wiring self.old }
         ensures links { self.new.readers.links.items ≡ self.old.readers.links.items }
         ensures reader_lists { vec_len self.new.readers.ends ≡ vec_len self.old.readers.ends }
@@ -283,7 +311,9 @@ impl<'d, 'r, A: Allocator + Copy> Network<'d, 'r, A> {
             ≤ vec_capacity self.new.inner) }
         ensures instances { OnOk result (vec_len self.new.instances + instances
             ≤ vec_capacity self.new.instances) }
-        ensures few { OnOk result (vec_len self.new.instances + instances ≤ no_place) }
+        ensures few { OnOk result (vec_len self.new.instances + instances ≤ least_calls) }
+        ensures calls { OnOk result (vec_len self.new.calls + calls ≤ vec_capacity self.new.calls) }
+        ensures few_calls { OnOk result (vec_len self.new.calls + calls < least_calls) }
         ensures reader_room { OnOk result (vec_len self.new.readers.links + 8 * instances
             ≤ vec_capacity self.new.readers.links) }
         ensures reader_places { OnOk result (vec_len self.new.readers.links + 8 * instances
@@ -294,7 +324,8 @@ impl<'d, 'r, A: Allocator + Copy> Network<'d, 'r, A> {
             ≤ no_place) }
     {
         self.inner.reserve(inner)?;
-        reserve_numbered(&mut self.instances, instances)?;
+        reserve_below(&mut self.instances, instances, LEAST_CALLS)?;
+        reserve_below(&mut self.calls, calls, LEAST_CALLS - 1)?;
         self.reserve_lists(instances)
     }
 
@@ -304,6 +335,7 @@ impl<'d, 'r, A: Allocator + Copy> Network<'d, 'r, A> {
         ensures same { wiring self.new ≡ wiring self.old }
         ensures inner { self.new.inner ≡ self.old.inner }
         ensures instances { self.new.instances ≡ self.old.instances }
+        ensures calls { self.new.calls ≡ self.old.calls }
         ensures links { self.new.readers.links.items ≡ self.old.readers.links.items }
         ensures reader_lists { vec_len self.new.readers.ends ≡ vec_len self.old.readers.ends }
         ensures writer_lists { vec_len self.new.writers.ends ≡ vec_len self.old.writers.ends }
@@ -320,7 +352,8 @@ impl<'d, 'r, A: Allocator + Copy> Network<'d, 'r, A> {
     }
 
     // The number of the list of a compound's first place, of this many. The lists of its other places
-    // follow: each has the calls that read the place. Fails only when out of memory.
+    // follow: each has the calls that read the place. Then come as many with the calls that write each.
+    // Fails only when out of memory.
     fn list_calls(
         &mut self,
         compound: u8,
@@ -369,10 +402,20 @@ impl<'d, 'r, A: Allocator + Copy> Network<'d, 'r, A> {
         let shared = Attachment::shared(global, line, &support)?;
         let cells = cells.cells();
         let list = self.list_calls(compound, calls, cells.len() + kinds.len())?;
-        self.reserve(kinds.len(), calls.len())?;
+        self.reserve(kinds.len(), calls.len(), 2 * cells.len())?;
         let count = self.instances.len();
         append_calls(&mut self.instances, global, calls, cells, first, &shared)?;
-        list_instances(&self.instances, count, &mut self.readers, &mut self.writers);
+        list_attached(
+            &self.instances,
+            count,
+            cells,
+            calls,
+            list,
+            cells.len() + kinds.len(),
+            &mut self.calls,
+            &mut self.readers,
+            &mut self.writers,
+        );
         append_inner(
             &mut self.inner,
             kinds,

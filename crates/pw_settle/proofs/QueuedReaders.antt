@@ -1,15 +1,15 @@
 -- An agenda while the readers of a cell are queued, one after another.
-use Rattle.std.proofs.Common.{◌≡◌, ◌⊎◌, ℕ, zero, suc, ◌+◌, ◌-◌, ◌<◌, ◌≤◌, Bool, true, false, cond, eqb, inl, inr, List, [], ◌∷◌, All, Contains, length, map, get_or, set, refl, sym, ap, ◌∙◌, subst, arith}
+use Rattle.std.proofs.Common.{◌≡◌, ◌⊎◌, ℕ, zero, suc, ◌+◌, ◌-◌, ◌<◌, ◌≤◌, Bool, true, false, cond, eqb, inl, inr, List, [], ◌∷◌, ◌++◌, All, Contains, length, length-append, map, get_or, set, refl, sym, ap, ◌∙◌, subst, arith}
 use Rattle.std.specs.List.{count_by}
 use Rattle.std.proofs.lemmas.Bool.{cases_Bool, eqb-false, eqb-true}
-use Rattle.std.proofs.lemmas.List.{get_or_default, get_or-set_other, get_or-set_same, length-set, same_lists}
-use Rattle.std.proofs.lemmas.List.Elements.{All-contains_itself, All-filter, All-head, All-tail}
-use Rattle.std.proofs.lemmas.List.Sums.{sum_by-cons, sum_by-set}
+use Rattle.std.proofs.lemmas.List.{get_or_append_left, get_or-append_right, get_or_default, get_or-set_other, get_or-set_same, length-set, same_lists}
+use Rattle.std.proofs.lemmas.List.Elements.{All-cons, All-contains, All-contains_itself, All-filter, All-head, All-nil, All-tail, Contains-append_cases}
+use Rattle.std.proofs.lemmas.List.Sums.{sum_by-append, sum_by-cons, sum_by-set}
 use Rattle.pw_decl.proofs.FlatKept.{range_below}
 use Rattle.pw_network.specs.Network.{Network}
 use Rattle.pw_network.specs.Readers.{reads, readers_of}
 use Rattle.pw_settle.specs.inside.Progress.{is_set, tally}
-use Rattle.pw_settle.specs.inside.Due.{QueuesReaders}
+use Rattle.pw_settle.specs.inside.Due.{QueuesNumbers, QueuesReaders}
 
 -- what reads a cell is an instance
 pub readers_below : (network : Network) (cell : ℕ) → All (λ n. n < length network.attached) (readers_of network cell)
@@ -149,6 +149,90 @@ none_left visible old now readers left count so_far none n reader seen =
       | inl flag ↦ flag
       | inr (k, within, is) ↦ let empty = ap length none in absurd (omega (arith, within, empty))
     ]
+
+-- numbers of which none is left were queued
+pub queues_numbers : (visible old now : List Bool) (numbers left : List ℕ) (count : ℕ) → AreQueuedBut visible old now numbers left count → left ≡ [] →
+    QueuesNumbers visible numbers old now
+queues_numbers visible old now numbers left count so_far none = record {
+  flags = so_far.flags;
+  stay = so_far.stay;
+  queued = none_left visible old now numbers left count so_far none;
+  others = so_far.others;
+  most = omega (arith, so_far.most);
+  least = so_far.least;
+}
+
+-- what holds of two lists holds of each
+pub first_of : (P : ℕ → Type 0) (xs ys : List ℕ) → All P (xs ++ ys) → All P xs
+first_of P xs ys all k d there = subst P (get_or_append_left xs ys d k there) (all k d (let l = length-append xs ys in omega (arith, l, there)))
+
+last_of : (P : ℕ → Type 0) (xs ys : List ℕ) → All P (xs ++ ys) → All P ys
+last_of P xs ys all k d there =
+    let i : length xs + k - length xs ≡ k = omega arith in
+    subst P (get_or-append_right xs ys (length xs) (length xs + k) d refl (omega arith) ∙ ap (λ n. get_or ys n d) i)
+    (all (length xs + k) d (let l = length-append xs ys in omega (arith, l, there)))
+
+-- the next numbers were queued
+pub queued_many : (visible old now new : List Bool) (readers left : List ℕ) (count : ℕ) (numbers rest : List ℕ) → left ≡ numbers ++ rest →
+    AreQueuedBut visible old now readers left count → QueuesNumbers visible numbers now new → AreQueuedBut visible old new readers rest count
+queued_many visible old now new readers left count numbers rest next so_far queues =
+    let below = subst (All (λ n. n < count)) next so_far.below in
+    let among = subst (All (Contains readers)) next so_far.among in
+    let counted = ap (count_by (is_set visible)) next ∙ sum_by-append (λ n. cond (is_set visible n) 1 0) numbers rest in
+    record {
+      queued = λ n reader seen. elim (so_far.queued n reader seen) [
+        | inl flag ↦ inl (queues.stay n flag)
+        | inr waits ↦ elim (Contains-append_cases numbers rest n (subst (λ (l : List ℕ). Contains l n) next waits)) [
+          | inl one ↦ inl (queues.queued n one seen)
+          | inr other ↦ inr other
+        ]
+      ];
+      stay = λ n flag. queues.stay n (so_far.stay n flag);
+      others = λ n flag. elim (queues.others n flag) [
+        | inl was ↦ so_far.others n was
+        | inr (seen, one) ↦ inr (seen, All-contains (Contains readers) numbers n (first_of (Contains readers) numbers rest among) one)
+      ];
+      most = omega (arith, so_far.most, queues.most, counted);
+      least = omega (arith, so_far.least, queues.least);
+      flags = queues.flags ∙ so_far.flags;
+      below = last_of (λ n. n < count) numbers rest below;
+      among = last_of (Contains readers) numbers rest among;
+    }
+
+-- the readers of a cell were queued
+pub queues_all : (network : Network) (cell : ℕ) (visible old now : List Bool) (numbers : List ℕ) → numbers ≡ readers_of network cell →
+    QueuesNumbers visible numbers old now → QueuesReaders network visible (λ c. c ≡ cell) old now
+queues_all network cell visible old now numbers all queues = record {
+  flags = queues.flags;
+  stay = queues.stay;
+  readers = λ c n one reader seen. queues.queued n
+      (subst (λ (l : List ℕ). Contains l n) (sym all) (subst (λ (k : ℕ). Contains (readers_of network k) n) one reader)) seen;
+  others = λ n flag. elim (queues.others n flag) [
+    | inl was ↦ inl was
+    | inr (seen, reader) ↦ inr (seen, (cell, refl, subst (λ (l : List ℕ). Contains l n) all reader))
+  ];
+}
+
+-- ---- one number
+
+module _ (visible old : List Bool) (number : ℕ) (below : number < length old) where
+  all : AreQueuedBut visible old old (number ∷ []) (number ∷ []) (length old)
+  all = all_left visible old (number ∷ []) (number ∷ []) (length old) refl (All-cons (λ n. n < length old) number [] below (All-nil (λ n. n < length old)))
+
+  -- it is visible, and is queued
+  pub one_queued : is_set visible number ≡ true → QueuesNumbers visible (number ∷ []) old (set old number true)
+  one_queued seen = queues_numbers visible old (set old number true) (number ∷ []) [] (length old)
+      (queued_one visible old old (number ∷ []) (number ∷ []) (length old) all number [] refl refl seen) refl
+
+  -- it is not visible
+  pub one_hidden : is_set visible number ≡ false → QueuesNumbers visible (number ∷ []) old old
+  one_hidden hidden = queues_numbers visible old old (number ∷ []) [] (length old)
+      (passed_one visible old old (number ∷ []) (number ∷ []) (length old) all number [] refl hidden) refl
+
+  -- it waits already
+  pub one_waits : is_set old number ≡ true → QueuesNumbers visible (number ∷ []) old old
+  one_waits flag = queues_numbers visible old old (number ∷ []) [] (length old)
+      (waiting_one visible old old (number ∷ []) (number ∷ []) (length old) all number [] refl flag) refl
 
 -- then exactly the numbers that were queued before and the visible readers are queued
 pub queues_readers : (network : Network) (cell : ℕ) (visible old now : List Bool) (left : List ℕ) (count : ℕ) →

@@ -8,6 +8,7 @@ mod kept_news;
 mod known;
 pub mod laws;
 mod propagating;
+mod readers;
 mod resettling;
 mod resettling_since;
 mod settled;

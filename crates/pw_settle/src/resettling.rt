@@ -20,8 +20,9 @@ ghost use Rattle.pw_settle.specs.Growth.{HasValues};
 
 use crate::agenda::Agenda;
 use crate::known::{Known, read_kept};
+use crate::readers::queue_visible_readers;
 use crate::settled::Settled;
-use crate::settling::{queue_visible_readers, settle, settle_from, visible_in};
+use crate::settling::{settle, settle_from, visible_in};
 use pw_cells::CellStore;
 use pw_info::Info;
 use pw_network::Network;

@@ -22,8 +22,9 @@ ghost use Rattle.pw_settle.specs.inside.Since.{TakesInNews};
 
 use crate::agenda::Agenda;
 use crate::known::{Known, push_kept, take_in_kept, take_in_narrow};
+use crate::readers::queue_visible_readers;
 use crate::settled::Settled;
-use crate::settling::{queue_visible_readers, work};
+use crate::settling::work;
 use crate::workspace::Workspace;
 use pw_cells::{Arrival, CellStore};
 use pw_info::Info;

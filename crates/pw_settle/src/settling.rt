@@ -1,18 +1,15 @@
 //! Settling: the values of all cells of a network in a worldview.
 ghost use Rattle.std.specs.Prelude.{◌≡◌, ◌+◌, ◌<◌, ◌≤◌, true, false, All, length, map};
-ghost use Rattle.std.specs.Prelude.{IfOk, IsTrue, OnOk, OnErr, replicate};
-ghost use Rattle.std.specs.List.{count_by};
+ghost use Rattle.std.specs.Prelude.{IfOk, IsTrue, OnOk, OnErr};
 ghost use Rattle.pw_cells.specs.Cells.{kept_in, kinds_of};
 ghost use Rattle.pw_network.specs.Wiring.{wiring};
 ghost use Rattle.pw_procs.specs.Registry.{procedures_in};
 ghost use Rattle.pw_network.specs.inside.Held.{attachment};
 ghost use Rattle.pw_network.specs.Network.{AreAllVisible, HaveSupportsByLine};
-ghost use Rattle.pw_network.specs.Readers.{readers_of};
-ghost use Rattle.pw_settle.specs.inside.Progress.{IsIdle, is_set, tally};
-ghost use Rattle.pw_settle.specs.Calls.{gains, is_instance_visible, most_calls, reader_count};
+ghost use Rattle.pw_settle.specs.inside.Progress.{IsIdle, tally};
+ghost use Rattle.pw_settle.specs.Calls.{gains, is_instance_visible, most_calls};
 ghost use Rattle.pw_settle.specs.Calls.{AreVisible, visible_at};
 ghost use Rattle.pw_settle.specs.Calls.{visible_count};
-ghost use Rattle.pw_settle.specs.inside.Due.{QueuesReaders};
 ghost use Rattle.pw_settle.specs.Growth.{KeepsMore, RestOnUpstream, StaysUpstream};
 ghost use Rattle.pw_settle.specs.inside.Known.{AreKept, SaysTold, WereKept};
 ghost use Rattle.pw_settle.specs.inside.Progress.{AreOthersSatisfied};
@@ -28,6 +25,7 @@ use crate::agenda::Agenda;
 use crate::kept_news::keep_news;
 use crate::known::{Known, read_kept};
 use crate::propagating::news_on;
+use crate::readers::queue_visible_readers;
 use crate::settled::Settled;
 use crate::support_list::SupportList;
 use pw_cells::CellStore;
@@ -91,97 +89,6 @@ fn agenda_of<A: Allocator + Copy>(alloc: A, visible: &[bool]) -> Result<Agenda<A
         }
     }
     Ok(agenda)
-}
-
-// Queues the visible readers of a cell.
-#[inline(always)]
-pub(crate) fn queue_readers<A: Allocator + Copy>(
-    network: &Network<'_, '_, A>,
-    visible: &[bool],
-    agenda: &mut Agenda<A>,
-    cell: u32,
-)
-    requires flags { length agenda.old ≡ length (wiring network.now).attached }
-    requires all { length visible.now ≡ length (wiring network.now).attached }
-    ensures readers { QueuesReaders (wiring network.now) visible.now (λ c. c ≡ cell)
-        agenda.old agenda.new }
-    ensures most { tally agenda.new
-        ≤ tally agenda.old + count_by (is_set visible.now) (readers_of (wiring network.now) cell) }
-    ensures least { tally agenda.old ≤ tally agenda.new }
-{
-    for number in network.readers(cell) {
-        if visible[number] {
-            agenda.add(number);
-        }
-    }
-}
-
-// Queues all readers of a cell.
-#[inline(always)]
-fn queue_all_readers<A: Allocator + Copy>(
-    network: &Network<'_, '_, A>,
-    agenda: &mut Agenda<A>,
-    cell: u32,
-)
-    requires flags { length agenda.old ≡ length (wiring network.now).attached }
-    ensures readers { QueuesReaders (wiring network.now) (replicate (length agenda.old) true)
-        (λ c. c ≡ cell) agenda.old agenda.new }
-    ensures most { tally agenda.new ≤ tally agenda.old + length (readers_of (wiring network.now)
-        cell) }
-    ensures least { tally agenda.old ≤ tally agenda.new }
-{
-    for number in network.readers(cell) {
-        agenda.add(number);
-    }
-}
-
-// Queues the readers of a cell that are visible in the worldview. Each is tested by itself: in a
-// large network few of the instances ever read news. One that waits already is not looked up: many do,
-// and the flags of an agenda are close together.
-#[inline(always)]
-fn queue_seen_readers<A: Allocator + Copy>(
-    network: &Network<'_, '_, A>,
-    worldview: &PremiseSet,
-    agenda: &mut Agenda<A>,
-    cell: u32,
-)
-    requires flags { length agenda.old ≡ length (wiring network.now).attached }
-    ensures readers { QueuesReaders (wiring network.now) (map (is_instance_visible worldview.now)
-        (wiring network.now).attached) (λ c. c ≡ cell) agenda.old agenda.new }
-    ensures most { tally agenda.new ≤ tally agenda.old + reader_count (wiring network.now)
-        worldview.now cell }
-    ensures least { tally agenda.old ≤ tally agenda.new }
-{
-    for number in network.readers(cell) {
-        if !agenda.has(number) && network.instances()[number].support().is_subset(worldview) {
-            agenda.add(number);
-        }
-    }
-}
-
-// Queues the readers of a cell that are visible in the worldview. If all instances are, as is mostly
-// so, none is tested by itself.
-#[inline(always)]
-pub(crate) fn queue_visible_readers<A: Allocator + Copy>(
-    network: &Network<'_, '_, A>,
-    worldview: &PremiseSet,
-    sees_all: bool,
-    agenda: &mut Agenda<A>,
-    cell: u32,
-)
-    requires flags { length agenda.old ≡ length (wiring network.now).attached }
-    requires all { IsTrue sees_all → AreAllVisible (wiring network.now) worldview.now }
-    ensures readers { QueuesReaders (wiring network.now) (map (is_instance_visible worldview.now)
-        (wiring network.now).attached) (λ c. c ≡ cell) agenda.old agenda.new }
-    ensures most { tally agenda.new ≤ tally agenda.old + reader_count (wiring network.now)
-        worldview.now cell }
-    ensures least { tally agenda.old ≤ tally agenda.new }
-{
-    if sees_all {
-        queue_all_readers(network, agenda, cell);
-        return;
-    }
-    queue_seen_readers(network, worldview, agenda, cell);
 }
 
 // Calls the procedure of an instance, which is visible and not queued. If the value is news, the

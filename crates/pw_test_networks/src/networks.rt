@@ -2,6 +2,7 @@
 //! lines.
 
 mod attaching;
+mod large;
 
 ghost use Rattle.std.specs.Prelude.{◌≡◌, ◌<◌, ◌≤◌, All, length, IfOk, IfSome, IsSome};
 ghost use Rattle.pw_procs.specs.Registry.{cells_of};

@@ -5,6 +5,7 @@ mod calls;
 mod drawing;
 mod going_on;
 mod growing;
+mod large;
 mod rounds;
 mod rows;
 mod since;

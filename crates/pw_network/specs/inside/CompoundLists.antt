@@ -1,5 +1,5 @@
 -- Which list has the calls of a compound that read one of its places, and which the readers of an inner cell.
-use Rattle.std.specs.Prelude.{◌≡◌, ℕ, ◌+◌, ◌<◌, ◌≤◌, List, [], ◌∷◌, length, map, slice_index_or, vec_len}
+use Rattle.std.specs.Prelude.{◌≡◌, ℕ, ◌+◌, ◌*◌, ◌<◌, ◌≤◌, Bool, List, [], ◌∷◌, length, map, slice_index_or, vec_len}
 use Rattle.std.specs.FinSet as set
 use Rattle.pw_info.specs.declared.kind.Kind.{Kind}
 use Rattle.pw_decl.specs.Compound.{Compound}
@@ -12,7 +12,8 @@ use Rattle.pw_network.specs.declared.instance_lists.InstanceLists.{InstanceLists
 use Rattle.pw_network.specs.declared.network.InnerCell.{InnerCell as InnerType}
 use Rattle.pw_network.specs.inside.Lists.{Listed, listed_by, no_place, numbers_for}
 use Rattle.pw_network.specs.Network.{Attached, attached_at}
-use Rattle.pw_network.specs.Readers.{readers_from}
+use Rattle.pw_network.specs.Readers.{numbers_from, reads, readers_from}
+use Rattle.pw_network.specs.Writers.{writes}
 
 -- the number of the list of the compound's first place; no list has it if the compound was not attached yet
 abbrev pub first_list : {A : Type 0} → CompoundLists A → ℕ → ℕ
@@ -22,16 +23,18 @@ first_list held compound = slice_index_or held.firsts.items compound no_place
 abbrev pub attached_calls : List FlatCall → List Attached
 attached_calls calls = map (attached_at 0 set.empty) (instances_of calls)
 
--- the lists from this number on, one for each place, have the calls that read the place
-abbrev pub ListsCalls : List Listed → ℕ → ℕ → List FlatCall → Type 0
-ListsCalls listed first places calls =
-    (place : ℕ) → place < places → numbers_for (first + place) listed ≡ readers_from (attached_calls calls) place 0
+-- the lists from this number on, one for each place, have the calls that pass the place's test
+abbrev pub ListsCalls : (ℕ → Attached → Bool) → List Listed → ℕ → ℕ → List FlatCall → Type 0
+ListsCalls test listed first places calls =
+    (place : ℕ) → place < places → numbers_for (first + place) listed ≡ numbers_from (test place) (attached_calls calls) 0
 
--- the same, and these lists are not below `least`, and below `count`
+-- the lists from this number on have the calls that read each place, and after them those that write it. These lists are
+-- not below `least`, and below `count`
 pub record HasLists (least places : ℕ) (calls : List FlatCall) (first count : ℕ) (listed : List Listed) : Type 0 where
   pub from : least ≤ first
-  pub within : first + places ≤ count
-  pub each : ListsCalls listed first places calls
+  pub within : first + 2 * places ≤ count
+  pub read : ListsCalls reads listed first places calls
+  pub written : ListsCalls writes listed (first + places) places calls
 
 -- the same, if the compound was attached
 abbrev pub IsListedAs : ℕ → ℕ → List FlatCall → ℕ → ℕ → List Listed → Type 0

@@ -81,6 +81,6 @@ AddsNumberTo lists list number old new =
 abbrev pub LeavesBelow : ℕ → List Listed → List Listed → Type 0
 LeavesBelow most old new = (list : ℕ) → list < most → numbers_for list new ≡ numbers_for list old
 
--- and those from this number on
-abbrev pub LeavesFrom : ℕ → List Listed → List Listed → Type 0
-LeavesFrom least old new = (list : ℕ) → least ≤ list → numbers_for list new ≡ numbers_for list old
+-- and those from this number on, below the other
+abbrev pub LeavesFrom : ℕ → ℕ → List Listed → List Listed → Type 0
+LeavesFrom least count old new = (list : ℕ) → least ≤ list → list < count → numbers_for list new ≡ numbers_for list old

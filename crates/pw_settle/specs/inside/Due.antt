@@ -1,6 +1,7 @@
 -- The instances that a settling has to call if it continues from the values of an earlier one.
 use Rattle.std.specs.Prelude.{◌≡◌, ◌≢◌, ◌⊎◌, ◌↔◌, ℕ, Bool, true, ◌&&◌, not, List, Contains, length}
 use Rattle.std.specs.Prelude.{nat_lt, slice_index_or, ◌≤◌, ◌+◌, false}
+use Rattle.std.specs.List.{count_by}
 use Rattle.pw_info.specs.declared.info.Info.{Info}
 use Rattle.pw_info.specs.Information.{kind_of, nothing, Implies}
 use Rattle.pw_premises.specs.Premises.{Premises}
@@ -42,6 +43,16 @@ found_of before now cell = slice_index_or before cell (nothing (kind_of (info_at
 -- what is kept of the cell now is not implied by what was found about it
 abbrev pub HasChanged : List Info → List Info → ℕ → Type 0
 HasChanged before now cell = Implies (found_of before now cell) (info_at now cell) → ⊥
+
+-- those of these instances that are visible are queued, and nothing else
+pub record QueuesNumbers (visible : List Bool) (numbers : List ℕ) (old new : List Bool) : Type 0 where
+  pub flags : length new ≡ length old
+  pub stay : (number : ℕ) → is_set old number ≡ true → is_set new number ≡ true
+  pub queued : (number : ℕ) → Contains numbers number → is_set visible number ≡ true → is_set new number ≡ true
+  pub others : (number : ℕ) → is_set new number ≡ true →
+      (is_set old number ≡ true) ⊎ ((is_set visible number ≡ true) × Contains numbers number)
+  pub most : tally new ≤ tally old + count_by (is_set visible) numbers
+  pub least : tally old ≤ tally new
 
 -- the visible readers of these cells are queued, and nothing else
 pub record QueuesReaders (network : Network) (visible : List Bool) (IsOne : ℕ → Type 0)

@@ -22,8 +22,8 @@ compound deep a interval b interval\nlocal m interval\napart a m\nlocal n interv
 compound deeper a interval b interval\ndeep a b\nlocal m interval\ndeep m a\nend\n\
 compound bare a interval\nend\n";
 
-// Checks that the text has these lines, and no other.
-fn has_lines<R: Abort + AllocGlobal>(rt: &R, text: &str, lines: &[&str]) -> Result<(), Fail> {
+/// Checks that the text has these lines, and no other.
+pub fn has_lines<R: Abort + AllocGlobal>(rt: &R, text: &str, lines: &[&str]) -> Result<(), Fail> {
     let wanted = ended(rt.alloc(), lines)?;
     assert_eq!(rt; text, wanted.as_str());
     Ok(())

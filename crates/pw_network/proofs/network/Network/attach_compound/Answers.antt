@@ -11,12 +11,14 @@ use Rattle.pw_decl.specs.inside.Held.{AreCallsOf, IsBelow, instances_on}
 use Rattle.pw_network.specs.inside.CompoundLists.{HasLists}
 use Rattle.pw_network.specs.inside.Held.{attachment, inner_of, wiring_from}
 use Rattle.pw_network.specs.inside.Lists.{listed_by}
-use Rattle.pw_network.specs.Readers.{AreReaders}
-use Rattle.pw_network.specs.Writers.{AreWriters}
+use Rattle.pw_network.specs.Readers.{reads}
+use Rattle.pw_network.specs.Writers.{writes}
+use Rattle.pw_network.specs.inside.Batches.{AreListed}
 use Rattle.pw_network.specs.Wiring.{wiring}
 use Rattle.pw_network.specs.Network.{IsWellNetwork, MayAttach, Network, cells_in, with_attached}
 use Rattle.pw_network.proofs.AttachedCalls.{as_many, compound_attached}
 use Rattle.pw_network.proofs.AttachedCells.{rejoined}
+use Rattle.pw_network.proofs.BatchLemmas.{have_as, listed_as}
 use Rattle.pw_network.proofs.CompoundListLemmas.{all_read_after, has_in_room, own_later, read_as}
 use Rattle.pw_network.proofs.LineLemmas.{IsOf, attached_of}
 use Rattle.pw_network.proofs.SupportLemmas.{premises_after}
@@ -66,11 +68,11 @@ invariant_of-self-2 g c =
     let inner = c.append_inner.new.inner.items in
     let later = map attachment new in
     let least = vec_len old.writers.ends in
-    let now = vec_len c.list_instances.new.writers.ends in
+    let now = vec_len c.list_attached.new.writers.ends in
     let count = vec_len old.readers.ends in
-    let more = vec_len c.list_instances.new.readers.ends in
+    let more = vec_len c.list_attached.new.readers.ends in
     let before = map listed_by old.readers.links.items in
-    let after = map listed_by c.list_instances.new.readers.links.items in
+    let after = map listed_by c.list_attached.new.readers.links.items in
     let list = c.in_ok-list.list in
     let first = c.len-count.result in
     let same : network ≡ wiring c.args.self.now = c.reserve.ensures.same ∙ c.list_calls.ensures.same in
@@ -89,19 +91,21 @@ invariant_of-self-2 g c =
     c.reserve.ensures.writer_lists c.reserve.ensures.reader_lists c.reserve.ensures.links (length c.cells-cells.result.now + length kinds) calls list c.in_ok-list.ensures.listed in
     record {
       well = subst IsWellNetwork (sym attached) (well_with_attached network line callable cells support old.well may (omega (arith, all_kinds, c.requires.few)));
-      read_cells = omega (arith, old.read_cells, c.list_instances.ensures.lists);
-      declared_cells = omega (arith, old.declared_cells, c.list_instances.ensures.writer_lists);
-      read = subst (λ n. AreReaders n after later) (sym c.list_instances.ensures.writer_lists)
-          (subst (λ l. AreReaders least after (map attachment l)) c.deref.ensures.value c.list_instances.ensures.readers);
-      calls = own_later network.declared.compounds least now count more old.compounds before after c.list_instances.ensures.writer_lists c.list_instances.ensures.lists
-          c.list_instances.ensures.kept old.calls;
-      inner_read = read_as least now count more after later inner c.list_instances.ensures.writer_lists c.list_instances.ensures.lists
+      read_cells = omega (arith, old.read_cells, c.list_attached.ensures.lists);
+      declared_cells = omega (arith, old.declared_cells, c.list_attached.ensures.writer_lists);
+      read = listed_as reads least now c.list_attached.new.calls.items after after later c.list_attached.ensures.writer_lists
+          (subst (λ l. AreListed reads least c.list_attached.new.calls.items after after (map attachment l)) c.deref.ensures.value c.list_attached.ensures.read);
+      own = own_later network.declared.compounds least now count more old.compounds before after c.list_attached.ensures.writer_lists c.list_attached.ensures.lists
+          c.list_attached.ensures.kept old.own;
+      inner_read = read_as least now count more after later inner c.list_attached.ensures.writer_lists c.list_attached.ensures.lists
           (all_read_after network line compound calls cells support kinds old.well are may are_kinds c.requires.few least count before after later old.inner.items inner
           first list (list + length c.cells-cells.result.now) old.declared_cells (sym (length-map old.inner.items inner_of)) (ap (λ (n : Network). n.attached) attached)
-          (let held = length-map instances attachment in omega (arith, held, c.len-count.ensures, old.instances.ok.0)) c.list_instances.ensures.kept
+          (let held = length-map instances attachment in omega (arith, held, c.len-count.ensures, old.instances.ok.0)) c.list_attached.ensures.kept
           (subst (λ n. HasLists least (n + length kinds) calls list count before) many has) (omega (arith, many)) c.append_inner.ensures old.inner_read);
-      written = subst (λ n. AreWriters n (map listed_by c.list_instances.new.writers.links.items) later) (sym c.list_instances.ensures.writer_lists)
-          (subst (λ l. AreWriters least (map listed_by c.list_instances.new.writers.links.items) (map attachment l)) c.deref.ensures.value c.list_instances.ensures.writers);
+      written = listed_as writes least now c.list_attached.new.calls.items after (map listed_by c.list_attached.new.writers.links.items) later c.list_attached.ensures.writer_lists
+          (subst (λ l. AreListed writes least c.list_attached.new.calls.items after (map listed_by c.list_attached.new.writers.links.items) (map attachment l)) c.deref.ensures.value
+          c.list_attached.ensures.written);
+      have = have_as least now count more c.list_attached.new.calls.items c.list_attached.ensures.writer_lists c.list_attached.ensures.lists c.list_attached.ensures.own;
       visible =
           let of_line = subst (All (IsOf line support)) (sym made) (attached_of line support (instances_on cells c.cells-first.result calls)) in
           let long : length own ≡ length calls =
@@ -130,3 +134,20 @@ returns-clause-ok g c =
     refl c.append_inner.ensures refl (rejoined instances new c.in_ok-append_calls.ensures.appended.before)
     (rw (c.cells-cells.ensures.cells, c.in_ok-shared.ensures.line, c.in_ok-shared.ensures.support) at c.in_ok-append_calls.ensures.appended.made)
     ∙ ap (λ n. with_attached n line callable cells c.args.support) same
+
+pub list_attached-requires-clause-placed : goal.list_attached-requires-clause-placed
+list_attached-requires-clause-placed g c =
+    let old = c.reserve.new.self in
+    let instances = old.instances.items in
+    let new = c.append_calls.new.instances.items in
+    let count : length instances ≡ c.len-count.result = omega (arith, c.len-count.ensures, old.instances.ok.0) in
+    let made = rw (c.in_ok-shared.ensures.line, c.in_ok-shared.ensures.support) at c.in_ok-append_calls.ensures.appended.made in
+    let same : wiring old ≡ wiring c.args.self.now = c.reserve.ensures.same ∙ c.list_calls.ensures.same in
+    let cells = ap cells_in same in
+    record {
+      line = c.args.line;
+      support = c.args.support;
+      first = c.cells-first.result;
+      from = omega (arith, c.cells-first.ensures.count, cells, old.declared_cells);
+      are = (λ i. map attachment (drop (sym count i) (c.deref.ensures.value i))) ∙ made;
+    }

@@ -1,7 +1,10 @@
 use Rattle.std.proofs.Common.{map, refl, arith, vec_len}
 use Rattle.pw_decl.specs.inside.Fields.{declared}
 use Rattle.pw_network.specs.inside.Held.{attachment}
-use Rattle.pw_network.proofs.CompoundListLemmas.{inner_in_room, own_in_room, read_in_room, written_in_room}
+use Rattle.pw_network.specs.Readers.{reads}
+use Rattle.pw_network.specs.Writers.{writes}
+use Rattle.pw_network.proofs.BatchLemmas.{have_as, listed_in_room}
+use Rattle.pw_network.proofs.CompoundListLemmas.{inner_in_room, own_in_room}
 use Rattle.pw_network.proofs.network.Network.reserve_lists.Goals as goal
 
 pub invariant_of-self : goal.invariant_of-self
@@ -17,10 +20,11 @@ invariant_of-self g c =
       well = old.well;
       read_cells = omega (arith, old.read_cells, c.reserve.ensures.lists);
       declared_cells = old.declared_cells;
-      read = read_in_room least least count more links now refl c.reserve.ensures.lists c.reserve.ensures.links attached old.read;
-      calls = own_in_room least least count more links now refl c.reserve.ensures.lists c.reserve.ensures.links (declared old.declaration.now).compounds old.compounds old.calls;
+      read = listed_in_room reads least least old.calls.items links links now now attached refl c.reserve.ensures.links c.reserve.ensures.links old.read;
+      own = own_in_room least least count more links now refl c.reserve.ensures.lists c.reserve.ensures.links (declared old.declaration.now).compounds old.compounds old.own;
       inner_read = inner_in_room least least count more links now refl c.reserve.ensures.lists c.reserve.ensures.links attached old.inner.items old.inner_read;
-      written = old.written;
+      written = listed_in_room writes least least old.calls.items links old.writers.links.items now old.writers.links.items attached refl c.reserve.ensures.links refl old.written;
+      have = have_as least least count more old.calls.items refl c.reserve.ensures.lists old.have;
       visible = old.visible;
     }
 
@@ -38,11 +42,12 @@ invariant_of-self-2 g c =
       well = old.well;
       read_cells = omega (arith, old.read_cells, c.reserve.ensures.lists);
       declared_cells = omega (arith, old.declared_cells, c.reserve-2.ensures.lists);
-      read = read_in_room least now_least count more links now c.reserve-2.ensures.lists c.reserve.ensures.lists c.reserve.ensures.links attached old.read;
-      calls = own_in_room least now_least count more links now c.reserve-2.ensures.lists c.reserve.ensures.lists c.reserve.ensures.links
-          (declared old.declaration.now).compounds old.compounds old.calls;
+      read = listed_in_room reads least now_least old.calls.items links links now now attached c.reserve-2.ensures.lists c.reserve.ensures.links c.reserve.ensures.links old.read;
+      own = own_in_room least now_least count more links now c.reserve-2.ensures.lists c.reserve.ensures.lists c.reserve.ensures.links
+          (declared old.declaration.now).compounds old.compounds old.own;
       inner_read = inner_in_room least now_least count more links now c.reserve-2.ensures.lists c.reserve.ensures.lists c.reserve.ensures.links attached old.inner.items old.inner_read;
-      written = written_in_room least now_least count more old.writers.links.items c.reserve-2.new.self.links.items c.reserve-2.ensures.lists c.reserve.ensures.lists
-          c.reserve-2.ensures.links attached old.written;
+      written = listed_in_room writes least now_least old.calls.items links old.writers.links.items now c.reserve-2.new.self.links.items attached c.reserve-2.ensures.lists
+          c.reserve.ensures.links c.reserve-2.ensures.links old.written;
+      have = have_as least now_least count more old.calls.items c.reserve-2.ensures.lists c.reserve.ensures.lists old.have;
       visible = old.visible;
     }

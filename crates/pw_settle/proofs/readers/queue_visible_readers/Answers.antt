@@ -3,7 +3,7 @@ use Rattle.std.specs.Prelude.{replicate}
 use Rattle.pw_network.specs.Wiring.{wiring}
 use Rattle.pw_settle.specs.inside.Due.{QueuesReaders}
 use Rattle.pw_settle.proofs.SeenInstances.{all_readers_seen, all_seen}
-use Rattle.pw_settle.proofs.settling.queue_visible_readers.Goals as goal
+use Rattle.pw_settle.proofs.readers.queue_visible_readers.Goals as goal
 
 pub returns-then-sees_all-clause-readers : goal.returns-then-sees_all-clause-readers
 returns-then-sees_all-clause-readers g c =
