@@ -5,3 +5,4 @@ pub mod CompoundLists
 pub mod Held
 pub mod Lists
 pub mod Reads
+pub mod Room

@@ -15,6 +15,7 @@ ghost use Rattle.pw_network.specs.inside.CompoundLists.{HasLists};
 ghost use Rattle.std.specs.Prelude.{◌≢◌, IsTrue};
 ghost use Rattle.std.specs.List.{AllPairs};
 ghost use Rattle.pw_network.specs.inside.Lists.{LeavesFrom, listed_by, no_place};
+ghost use Rattle.pw_network.specs.inside.Room.{HaveRoomFor};
 
 use crate::attachment::Attachment;
 use crate::batch::{Calls, LEAST_CALLS};
@@ -92,14 +93,7 @@ pub(crate) fn list_instances<A: Allocator + Copy>(
     requires there { first ≤ length instances.now }
     requires numbers { length instances.now ≤ no_place }
     requires lists { vec_len writers.old.ends ≤ vec_len readers.old.ends }
-    requires reader_room { vec_len readers.old.links + 8 * (length instances.now - first)
-        ≤ vec_capacity readers.old.links }
-    requires writer_room { vec_len writers.old.links + (length instances.now - first)
-        ≤ vec_capacity writers.old.links }
-    requires reader_places { vec_len readers.old.links + 8 * (length instances.now - first)
-        ≤ no_place }
-    requires writer_places { vec_len writers.old.links + (length instances.now - first)
-        ≤ no_place }
+    requires room { HaveRoomFor (length instances.now - first) readers.old writers.old }
     requires few { All (λ instance. length (attachment instance).instance.inputs ≤ 8)
         (drop first instances.now) }
     ensures readers { AddsInstances reads (vec_len writers.old.ends) instances.now first
@@ -178,14 +172,7 @@ pub(crate) fn list_attached<A: Allocator + Copy>(
     requires there { first ≤ length instances.now }
     requires numbers { length instances.now ≤ least_calls }
     requires lists { vec_len writers.old.ends ≤ vec_len readers.old.ends }
-    requires reader_room { vec_len readers.old.links + 8 * (length instances.now - first)
-        ≤ vec_capacity readers.old.links }
-    requires writer_room { vec_len writers.old.links + (length instances.now - first)
-        ≤ vec_capacity writers.old.links }
-    requires reader_places { vec_len readers.old.links + 8 * (length instances.now - first)
-        ≤ no_place }
-    requires writer_places { vec_len writers.old.links + (length instances.now - first)
-        ≤ no_place }
+    requires room { HaveRoomFor (length instances.now - first) readers.old writers.old }
     requires few { All (λ instance. length (attachment instance).instance.inputs ≤ 8)
         (drop first instances.now) }
     requires calls_room { vec_len calls.old + 2 * length cells.now ≤ vec_capacity calls.old }

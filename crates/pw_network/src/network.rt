@@ -28,6 +28,7 @@ ghost use Rattle.pw_network.specs.Readers.{reads};
 ghost use Rattle.pw_network.specs.Writers.{writes};
 ghost use Rattle.pw_network.specs.inside.Batches.{AreListed, HaveLists, least_calls};
 ghost use Rattle.pw_network.specs.inside.Lists.{listed_by, no_place};
+ghost use Rattle.pw_network.specs.inside.Room.{HaveRoomFor};
 
 use crate::attaching::{append_calls, append_inner, list_attached, list_instances, with_support};
 use crate::attachment::Attachment;
@@ -314,14 +315,7 @@ impl<'d, 'r, A: Allocator + Copy> Network<'d, 'r, A> {
         ensures few { OnOk result (vec_len self.new.instances + instances ≤ least_calls) }
         ensures calls { OnOk result (vec_len self.new.calls + calls ≤ vec_capacity self.new.calls) }
         ensures few_calls { OnOk result (vec_len self.new.calls + calls < least_calls) }
-        ensures reader_room { OnOk result (vec_len self.new.readers.links + 8 * instances
-            ≤ vec_capacity self.new.readers.links) }
-        ensures reader_places { OnOk result (vec_len self.new.readers.links + 8 * instances
-            ≤ no_place) }
-        ensures writer_room { OnOk result (vec_len self.new.writers.links + instances
-            ≤ vec_capacity self.new.writers.links) }
-        ensures writer_places { OnOk result (vec_len self.new.writers.links + instances
-            ≤ no_place) }
+        ensures room { OnOk result (HaveRoomFor instances self.new.readers self.new.writers) }
     {
         self.inner.reserve(inner)?;
         reserve_below(&mut self.instances, instances, LEAST_CALLS)?;
@@ -339,13 +333,7 @@ impl<'d, 'r, A: Allocator + Copy> Network<'d, 'r, A> {
         ensures links { self.new.readers.links.items ≡ self.old.readers.links.items }
         ensures reader_lists { vec_len self.new.readers.ends ≡ vec_len self.old.readers.ends }
         ensures writer_lists { vec_len self.new.writers.ends ≡ vec_len self.old.writers.ends }
-        ensures reader_room { OnOk result (vec_len self.new.readers.links + 8 * count
-            ≤ vec_capacity self.new.readers.links) }
-        ensures reader_places { OnOk result (vec_len self.new.readers.links + 8 * count
-            ≤ no_place) }
-        ensures writer_room { OnOk result (vec_len self.new.writers.links + count
-            ≤ vec_capacity self.new.writers.links) }
-        ensures writer_places { OnOk result (vec_len self.new.writers.links + count ≤ no_place) }
+        ensures room { OnOk result (HaveRoomFor count self.new.readers self.new.writers) }
     {
         self.readers.reserve(0, count * MOST_INPUTS)?;
         self.writers.reserve(0, count)

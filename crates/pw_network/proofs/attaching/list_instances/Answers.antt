@@ -15,14 +15,22 @@ append-requires-clause-room g c =
     let few = holds_from (λ (y : InstanceType). length (attachment y).instance.inputs ≤ 8) c.args.instances.now c.args.first c.loop-number.number c.index-instances-number.result
     c.loop-number.auto.number c.loop-number-test.true c.index-instances-number.is c.requires.few in
     let same = ap length c.inputs.ensures in
-    omega (arith, few, same, c.loop-number.auto.number, c.loop-number-test.true, c.requires.reader_room, c.loop-number.invariant.reader_links, c.loop-number.invariant.reader_room)
+    omega (arith, few, same, c.loop-number.auto.number, c.loop-number-test.true, c.requires.room.to_read, c.loop-number.invariant.reader_links, c.loop-number.invariant.reader_room)
+
+pub append_to-requires-clause-room : goal.append_to-requires-clause-room
+append_to-requires-clause-room g c =
+    omega (arith, c.loop-number.auto.number, c.loop-number-test.true, c.requires.room.to_write, c.loop-number.invariant.writer_links, c.loop-number.invariant.writer_room)
+
+pub append_to-requires-clause-few : goal.append_to-requires-clause-few
+append_to-requires-clause-few g c =
+    omega (arith, c.loop-number.auto.number, c.loop-number-test.true, c.requires.room.places_written, c.loop-number.invariant.writer_links)
 
 pub append-requires-clause-few : goal.append-requires-clause-few
 append-requires-clause-few g c =
     let few = holds_from (λ (y : InstanceType). length (attachment y).instance.inputs ≤ 8) c.args.instances.now c.args.first c.loop-number.number c.index-instances-number.result
     c.loop-number.auto.number c.loop-number-test.true c.index-instances-number.is c.requires.few in
     let same = ap length c.inputs.ensures in
-    omega (arith, few, same, c.loop-number.auto.number, c.loop-number-test.true, c.requires.reader_places, c.loop-number.invariant.reader_links)
+    omega (arith, few, same, c.loop-number.auto.number, c.loop-number-test.true, c.requires.room.places_read, c.loop-number.invariant.reader_links)
 
 pub loop-number-init : goal.loop-number-init
 loop-number-init g c = record {

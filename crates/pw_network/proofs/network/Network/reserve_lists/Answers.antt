@@ -1,4 +1,5 @@
 use Rattle.std.proofs.Common.{map, refl, arith, vec_len}
+use Rattle.std.specs.Prelude.{Result, Ok, Err, OnOk}
 use Rattle.pw_decl.specs.inside.Fields.{declared}
 use Rattle.pw_network.specs.inside.Held.{attachment}
 use Rattle.pw_network.specs.Readers.{reads}
@@ -51,3 +52,18 @@ invariant_of-self-2 g c =
       have = have_as least now_least count more old.calls.items c.reserve-2.ensures.lists c.reserve.ensures.lists old.have;
       visible = old.visible;
     }
+
+both : {T E : Type 0} (r : Result T E) {P Q R : Type 0} → (P → Q → R) → OnOk r P → OnOk r Q → OnOk r R
+both (Ok x) f p q = f p q
+both (Err e) f p q = p
+
+pub returns-clause-room : goal.returns-clause-room
+returns-clause-room g c =
+    both c.reserve-2.result
+    (λ to_write few. record {
+      to_read = omega (arith, c.in_ok-reserve.ensures.room_for_links);
+      places_read = omega (arith, c.in_ok-reserve.ensures.few_links);
+      to_write = to_write;
+      places_written = few;
+    })
+    c.reserve-2.ensures.room_for_links c.reserve-2.ensures.few_links
