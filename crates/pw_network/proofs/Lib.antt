@@ -1,3 +1,4 @@
+pub mod AllListed
 pub mod AppendedLemmas
 pub mod AttachedCalls
 pub mod AttachedCells

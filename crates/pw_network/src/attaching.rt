@@ -9,8 +9,8 @@ ghost use Rattle.pw_network.specs.inside.CompoundLists.{inner_made};
 ghost use Rattle.pw_network.specs.inside.Held.{attachment};
 ghost use Rattle.pw_network.specs.Readers.{reads};
 ghost use Rattle.pw_network.specs.Writers.{writes};
-ghost use Rattle.pw_network.specs.inside.Batches.{AddsCalls, AddsInstances, AreListed, ArePlaced};
-ghost use Rattle.pw_network.specs.inside.Batches.{HaveLists, calls_from, least_calls};
+ghost use Rattle.pw_network.specs.inside.Batches.{AddsCalls, AddsInstances, AreAllListed, ArePlaced};
+ghost use Rattle.pw_network.specs.inside.Batches.{calls_from, least_calls};
 ghost use Rattle.pw_network.specs.inside.CompoundLists.{HasLists};
 ghost use Rattle.std.specs.Prelude.{◌≢◌, IsTrue};
 ghost use Rattle.std.specs.List.{AllPairs};
@@ -184,20 +184,10 @@ pub(crate) fn list_attached<A: Allocator + Copy>(
         (map listed_by readers.old.links.items) }
     requires placed { ArePlaced (vec_len writers.old.ends) cells.now flat.now
         (map attachment (drop first instances.now)) }
-    requires own { HaveLists (vec_len writers.old.ends) (vec_len readers.old.ends) calls.old.items }
-    requires read { AreListed reads (vec_len writers.old.ends) calls.old.items (map listed_by
-        readers.old.links.items) (map listed_by readers.old.links.items) (map attachment (take first
-        instances.now)) }
-    requires written { AreListed writes (vec_len writers.old.ends) calls.old.items (map listed_by
-        readers.old.links.items) (map listed_by writers.old.links.items) (map attachment (take first
-        instances.now)) }
-    ensures own { HaveLists (vec_len writers.old.ends) (vec_len readers.old.ends) calls.new.items }
-    ensures read { AreListed reads (vec_len writers.old.ends) calls.new.items (map listed_by
-        readers.new.links.items) (map listed_by readers.new.links.items) (map attachment
-        instances.now) }
-    ensures written { AreListed writes (vec_len writers.old.ends) calls.new.items (map listed_by
-        readers.new.links.items) (map listed_by writers.new.links.items) (map attachment
-        instances.now) }
+    requires listed { AreAllListed (vec_len writers.old.ends) calls.old.items readers.old writers.old
+        (map attachment (take first instances.now)) }
+    ensures listed { AreAllListed (vec_len writers.new.ends) calls.new.items readers.new writers.new
+        (map attachment instances.now) }
     ensures kept { LeavesFrom (vec_len writers.old.ends) (vec_len readers.old.ends) (map listed_by
         readers.old.links.items) (map listed_by readers.new.links.items) }
     ensures lists { vec_len readers.new.ends ≡ vec_len readers.old.ends }

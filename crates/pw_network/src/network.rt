@@ -24,9 +24,7 @@ ghost use Rattle.pw_network.specs.inside.CompoundLists.{HasLists, HaveOwnLists, 
 ghost use Rattle.pw_network.specs.inside.Held.{support_code, wiring_from};
 ghost use Rattle.pw_network.specs.Network.{IsWellNetwork};
 ghost use Rattle.pw_network.specs.Batches.{numbers_in};
-ghost use Rattle.pw_network.specs.Readers.{reads};
-ghost use Rattle.pw_network.specs.Writers.{writes};
-ghost use Rattle.pw_network.specs.inside.Batches.{AreListed, HaveLists, least_calls};
+ghost use Rattle.pw_network.specs.inside.Batches.{AreAllListed, least_calls};
 ghost use Rattle.pw_network.specs.inside.Lists.{listed_by, no_place};
 ghost use Rattle.pw_network.specs.inside.Room.{HaveRoomFor};
 
@@ -90,11 +88,9 @@ pub struct Network<'d, 'r, A: Allocator = Global> {
         last_line) } by { Prim.hlevel (props, named_prop, support_code) },
     ghost read_cells: { length (declared declaration.now).cells ≤ vec_len readers.ends },
     ghost declared_cells: { vec_len writers.ends ≡ length (declared declaration.now).cells },
-    ghost read: { AreListed reads (vec_len writers.ends) calls.items (map listed_by readers.links.items) (map listed_by readers.links.items) (map attachment instances.items) } by { Prim.hlevel props },
+    ghost listed: { AreAllListed (vec_len writers.ends) calls.items readers writers (map attachment instances.items) } by { Prim.hlevel props },
     ghost own: { HaveOwnLists (declared declaration.now).compounds (vec_len writers.ends) compounds readers } by { Prim.hlevel props },
     ghost inner_read: { HaveReaders (vec_len writers.ends) readers (map attachment instances.items) inner.items } by { Prim.hlevel props },
-    ghost written: { AreListed writes (vec_len writers.ends) calls.items (map listed_by readers.links.items) (map listed_by writers.links.items) (map attachment instances.items) } by { Prim.hlevel props },
-    ghost have: { HaveLists (vec_len writers.ends) (vec_len readers.ends) calls.items } by { Prim.hlevel props },
     ghost visible: { ArePremisesOf (map attachment instances.items) premises },
 }
 

@@ -1,16 +1,18 @@
 -- What a number in the list of a declared cell means: an instance, or calls of an attachment.
-use Rattle.std.specs.Prelude.{◌≡◌, ℕ, zero, suc, ◌+◌, ◌-◌, ◌<◌, ◌≤◌, Bool, List, [], ◌∷◌, ◌++◌, All, cond, drop, length, map, nat_eq, nat_lt, slice_index_or}
+use Rattle.std.specs.Prelude.{◌≡◌, ℕ, zero, suc, ◌+◌, ◌-◌, ◌<◌, ◌≤◌, Bool, List, [], ◌∷◌, ◌++◌, All, cond, drop, length, map, nat_eq, nat_lt, slice_index_or, vec_len}
 use Rattle.pw_network.specs.Batches.{numbers_in}
 use Rattle.pw_network.specs.declared.instance.Instance.{Instance as InstanceType}
 use Rattle.pw_decl.specs.declared.flat_call.FlatCall.{FlatCall}
 use Rattle.pw_premises.specs.Premises.{Premises}
 use Rattle.pw_network.specs.inside.Held.{attached_on, attachment}
 use Rattle.pw_network.specs.Network.{Attached}
-use Rattle.pw_network.specs.Readers.{numbers_from}
+use Rattle.pw_network.specs.Readers.{numbers_from, reads}
+use Rattle.pw_network.specs.Writers.{writes}
 use Rattle.pw_network.specs.declared.batch.Batch.{Batch}
 use Rattle.pw_network.specs.declared.batch.Batch.TheVariants as batches
 use Rattle.pw_network.specs.declared.batch.Calls.{Calls}
-use Rattle.pw_network.specs.inside.Lists.{Listed, numbers_for}
+use Rattle.pw_network.specs.declared.instance_lists.InstanceLists.{InstanceLists}
+use Rattle.pw_network.specs.inside.Lists.{Listed, listed_by, numbers_for}
 
 -- the numbers below this one are those of instances, and the others those of calls
 abbrev pub least_calls : ℕ
@@ -44,6 +46,13 @@ pub record AreListed (test : ℕ → Attached → Bool) (cells : ℕ) (calls : L
   pub there : (cell : ℕ) → cell < cells → AreThere calls (numbers_for cell listed)
   pub are : (cell : ℕ) → cell < cells → numbers_in (map (batch_of calls lists) (numbers_for cell listed))
       ≡ numbers_from (test cell) attached 0
+
+-- the lists of these calls are there, and the list of each of the first cells has the instances that read the cell, and
+-- that of writers those that write it
+pub record AreAllListed {A : Type 0} (cells : ℕ) (calls : List Calls) (readers writers : InstanceLists A) (attached : List Attached) : Type 0 where
+  pub own : HaveLists cells (vec_len readers.ends) calls
+  pub read : AreListed reads cells calls (map listed_by readers.links.items) (map listed_by readers.links.items) attached
+  pub written : AreListed writes cells calls (map listed_by readers.links.items) (map listed_by writers.links.items) attached
 
 -- the numbers of those of the instances from a number on that pass the test
 abbrev pub numbers_past : (Attached → Bool) → List InstanceType → ℕ → List ℕ

@@ -11,14 +11,11 @@ use Rattle.pw_decl.specs.inside.Held.{AreCallsOf, IsBelow, instances_on}
 use Rattle.pw_network.specs.inside.CompoundLists.{HasLists}
 use Rattle.pw_network.specs.inside.Held.{attachment, inner_of, wiring_from}
 use Rattle.pw_network.specs.inside.Lists.{listed_by}
-use Rattle.pw_network.specs.Readers.{reads}
-use Rattle.pw_network.specs.Writers.{writes}
-use Rattle.pw_network.specs.inside.Batches.{AreListed}
+use Rattle.pw_network.specs.inside.Batches.{AreAllListed}
 use Rattle.pw_network.specs.Wiring.{wiring}
 use Rattle.pw_network.specs.Network.{IsWellNetwork, MayAttach, Network, cells_in, with_attached}
 use Rattle.pw_network.proofs.AttachedCalls.{as_many, compound_attached}
 use Rattle.pw_network.proofs.AttachedCells.{rejoined}
-use Rattle.pw_network.proofs.BatchLemmas.{have_as, listed_as}
 use Rattle.pw_network.proofs.CompoundListLemmas.{all_read_after, has_in_room, own_later, read_as}
 use Rattle.pw_network.proofs.LineLemmas.{IsOf, attached_of}
 use Rattle.pw_network.proofs.SupportLemmas.{premises_after}
@@ -93,8 +90,8 @@ invariant_of-self-2 g c =
       well = subst IsWellNetwork (sym attached) (well_with_attached network line callable cells support old.well may (omega (arith, all_kinds, c.requires.few)));
       read_cells = omega (arith, old.read_cells, c.list_attached.ensures.lists);
       declared_cells = omega (arith, old.declared_cells, c.list_attached.ensures.writer_lists);
-      read = listed_as reads least now c.list_attached.new.calls.items after after later c.list_attached.ensures.writer_lists
-          (subst (λ l. AreListed reads least c.list_attached.new.calls.items after after (map attachment l)) c.deref.ensures.value c.list_attached.ensures.read);
+      listed = subst (λ l. AreAllListed now c.list_attached.new.calls.items c.list_attached.new.readers c.list_attached.new.writers (map attachment l)) c.deref.ensures.value
+          c.list_attached.ensures.listed;
       own = own_later network.declared.compounds least now count more old.compounds before after c.list_attached.ensures.writer_lists c.list_attached.ensures.lists
           c.list_attached.ensures.kept old.own;
       inner_read = read_as least now count more after later inner c.list_attached.ensures.writer_lists c.list_attached.ensures.lists
@@ -102,10 +99,6 @@ invariant_of-self-2 g c =
           first list (list + length c.cells-cells.result.now) old.declared_cells (sym (length-map old.inner.items inner_of)) (ap (λ (n : Network). n.attached) attached)
           (let held = length-map instances attachment in omega (arith, held, c.len-count.ensures, old.instances.ok.0)) c.list_attached.ensures.kept
           (subst (λ n. HasLists least (n + length kinds) calls list count before) many has) (omega (arith, many)) c.append_inner.ensures old.inner_read);
-      written = listed_as writes least now c.list_attached.new.calls.items after (map listed_by c.list_attached.new.writers.links.items) later c.list_attached.ensures.writer_lists
-          (subst (λ l. AreListed writes least c.list_attached.new.calls.items after (map listed_by c.list_attached.new.writers.links.items) (map attachment l)) c.deref.ensures.value
-          c.list_attached.ensures.written);
-      have = have_as least now count more c.list_attached.new.calls.items c.list_attached.ensures.writer_lists c.list_attached.ensures.lists c.list_attached.ensures.own;
       visible =
           let of_line = subst (All (IsOf line support)) (sym made) (attached_of line support (instances_on cells c.cells-first.result calls)) in
           let long : length own ≡ length calls =

@@ -7,13 +7,11 @@ use Rattle.pw_decl.specs.inside.Fields.{declared}
 use Rattle.pw_network.specs.declared.instance.Instance.{Instance as InstanceType}
 use Rattle.pw_network.specs.inside.Held.{attachment, inner_of, wiring_from}
 use Rattle.pw_network.specs.inside.Lists.{listed_by}
-use Rattle.pw_network.specs.Readers.{reads}
-use Rattle.pw_network.specs.Writers.{writes}
 use Rattle.pw_network.specs.Wiring.{wiring}
 use Rattle.pw_network.specs.Network.{IsWellNetwork, MayAttach, Network, with_attached}
-use Rattle.pw_network.specs.inside.Batches.{AreListed, least_calls}
+use Rattle.pw_network.specs.inside.Batches.{AreAllListed, least_calls}
+use Rattle.pw_network.proofs.AllListed.{all_added}
 use Rattle.pw_network.proofs.AttachedCalls.{procedure_attached}
-use Rattle.pw_network.proofs.BatchLemmas.{have_as, listed_as, listed_instances}
 use Rattle.pw_network.proofs.CompoundListLemmas.{all_read_later, own_later, read_as}
 use Rattle.pw_network.proofs.LineLemmas.{IsOf}
 use Rattle.pw_network.proofs.SupportLemmas.{premises_joined}
@@ -46,7 +44,6 @@ invariant_of-self g c =
     let more = vec_len c.list_instances.new.readers.ends in
     let before = map listed_by old.readers.links.items in
     let after = map listed_by c.list_instances.new.readers.links.items in
-    let written = map listed_by c.list_instances.new.writers.links.items in
     let count_is : length old.instances.items ≡ c.len-count.result = omega (arith, c.len-count.ensures, old.instances.ok.0) in
     let all : c.deref.result.now ≡ old.instances.items ++ x ∷ [] = c.deref.ensures.value ∙ (let pushed : instances ≡ old.instances.items ++ x ∷ [] = search rules in pushed) in
     let long = ap length all ∙ length_push old.instances.items x in
@@ -66,20 +63,15 @@ invariant_of-self g c =
       well = subst IsWellNetwork (sym attached) (well_with_attached network c.args.line callable cells c.args.support old.well may (omega arith));
       read_cells = omega (arith, old.read_cells, c.list_instances.ensures.lists);
       declared_cells = omega (arith, old.declared_cells, c.list_instances.ensures.writer_lists);
-      read = listed_as reads least now old.calls.items after after later c.list_instances.ensures.writer_lists
-          (subst (λ l. AreListed reads least old.calls.items after after (map attachment l)) c.deref.ensures.value
-          (listed_instances reads least old.calls.items before after before after least count c.deref.result.now c.len-count.result there old.have c.list_instances.ensures.kept
-          (subst (λ l. AreListed reads least old.calls.items before before (map attachment l)) (sym taken) old.read) low c.list_instances.ensures.readers));
+      listed = subst (λ l. AreAllListed now old.calls.items c.list_instances.new.readers c.list_instances.new.writers (map attachment l)) c.deref.ensures.value
+          (all_added old.calls.items old.readers old.writers c.list_instances.new.readers c.list_instances.new.writers c.list_instances.ensures.lists c.list_instances.ensures.writer_lists
+          c.deref.result.now c.len-count.result there low c.list_instances.ensures.kept c.list_instances.ensures.readers c.list_instances.ensures.writers
+          (subst (λ l. AreAllListed least old.calls.items old.readers old.writers (map attachment l)) (sym taken) old.listed));
       own = own_later network.declared.compounds least now count more old.compounds before after c.list_instances.ensures.writer_lists c.list_instances.ensures.lists
           c.list_instances.ensures.kept old.own;
       inner_read = read_as least now count more after later old.inner.items c.list_instances.ensures.writer_lists c.list_instances.ensures.lists
           (all_read_later network c.args.line callable cells c.args.support old.well may.here least count before after later old.inner.items old.declared_cells
           (sym (length-map old.inner.items inner_of)) (ap (λ (n : Network). n.attached) attached) c.list_instances.ensures.kept old.inner_read);
-      written = listed_as writes least now old.calls.items after written later c.list_instances.ensures.writer_lists
-          (subst (λ l. AreListed writes least old.calls.items after written (map attachment l)) c.deref.ensures.value
-          (listed_instances writes least old.calls.items before after (map listed_by old.writers.links.items) written least count c.deref.result.now c.len-count.result there old.have
-          c.list_instances.ensures.kept (subst (λ l. AreListed writes least old.calls.items before (map listed_by old.writers.links.items) (map attachment l)) (sym taken) old.written) low c.list_instances.ensures.writers));
-      have = have_as least now count more old.calls.items c.list_instances.ensures.writer_lists c.list_instances.ensures.lists old.have;
       visible = premises_joined old.premises c.args.support c.join-self.result c.args.line old.instances.items old.instances.items (x ∷ []) instances refl pushed
           (All-cons (IsOf c.args.line c.args.support) (attachment x) [] (lines, supports) (All-nil (IsOf c.args.line c.args.support)))
           old.visible (attachment x) (omega arith) c.join-self.ensures.union;

@@ -34,14 +34,17 @@ invariant_of-self g c =
       well = old.well;
       read_cells = omega (arith, old.read_cells, c.first.ensures.lists);
       declared_cells = old.declared_cells;
-      read = still_listed reads old.calls.items before after least count least before after (map attachment old.instances.items) old.have kept (λ cell below. c.first.ensures.kept cell (omega (arith, below, there))) old.read;
+      listed = record {
+        own = have_wider least count more old.calls.items c.first.ensures.lists old.listed.own;
+        read = still_listed reads old.calls.items before after least count least before after (map attachment old.instances.items) old.listed.own kept
+            (λ cell below. c.first.ensures.kept cell (omega (arith, below, there))) old.listed.read;
+        written = still_listed writes old.calls.items before after least count least (map listed_by old.writers.links.items) (map listed_by old.writers.links.items)
+            (map attachment old.instances.items) old.listed.own kept (λ cell below. refl) old.listed.written;
+      };
       own = own_after (declared old.declaration.now).compounds least c.args.compound c.args.places c.args.calls.now c.requires.calls old.compounds c.first.new.self count more before after
           (c.requires.places c.requires.calls) c.first.ensures.others c.first.ensures.kept c.first.ensures.lists (own_lists g c) old.own;
       inner_read = all_still_read least count more before after (map attachment old.instances.items) old.inner.items c.first.ensures.lists
           (λ list from below. c.first.ensures.kept list below) old.inner_read;
-      written = still_listed writes old.calls.items before after least count least (map listed_by old.writers.links.items) (map listed_by old.writers.links.items)
-          (map attachment old.instances.items) old.have kept (λ cell below. refl) old.written;
-      have = have_wider least count more old.calls.items c.first.ensures.lists old.have;
       visible = old.visible;
     }
 

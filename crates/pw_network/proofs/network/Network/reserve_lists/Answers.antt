@@ -2,9 +2,7 @@ use Rattle.std.proofs.Common.{map, refl, arith, vec_len}
 use Rattle.std.specs.Prelude.{Result, Ok, Err, OnOk}
 use Rattle.pw_decl.specs.inside.Fields.{declared}
 use Rattle.pw_network.specs.inside.Held.{attachment}
-use Rattle.pw_network.specs.Readers.{reads}
-use Rattle.pw_network.specs.Writers.{writes}
-use Rattle.pw_network.proofs.BatchLemmas.{have_as, listed_in_room}
+use Rattle.pw_network.proofs.AllListed.{all_in_room}
 use Rattle.pw_network.proofs.CompoundListLemmas.{inner_in_room, own_in_room}
 use Rattle.pw_network.proofs.network.Network.reserve_lists.Goals as goal
 
@@ -21,11 +19,9 @@ invariant_of-self g c =
       well = old.well;
       read_cells = omega (arith, old.read_cells, c.reserve.ensures.lists);
       declared_cells = old.declared_cells;
-      read = listed_in_room reads least least old.calls.items links links now now attached refl c.reserve.ensures.links c.reserve.ensures.links old.read;
+      listed = all_in_room old.calls.items old.readers old.writers c.reserve.new.self old.writers c.reserve.ensures.lists refl attached c.reserve.ensures.links refl old.listed;
       own = own_in_room least least count more links now refl c.reserve.ensures.lists c.reserve.ensures.links (declared old.declaration.now).compounds old.compounds old.own;
       inner_read = inner_in_room least least count more links now refl c.reserve.ensures.lists c.reserve.ensures.links attached old.inner.items old.inner_read;
-      written = listed_in_room writes least least old.calls.items links old.writers.links.items now old.writers.links.items attached refl c.reserve.ensures.links refl old.written;
-      have = have_as least least count more old.calls.items refl c.reserve.ensures.lists old.have;
       visible = old.visible;
     }
 
@@ -43,13 +39,11 @@ invariant_of-self-2 g c =
       well = old.well;
       read_cells = omega (arith, old.read_cells, c.reserve.ensures.lists);
       declared_cells = omega (arith, old.declared_cells, c.reserve-2.ensures.lists);
-      read = listed_in_room reads least now_least old.calls.items links links now now attached c.reserve-2.ensures.lists c.reserve.ensures.links c.reserve.ensures.links old.read;
+      listed = all_in_room old.calls.items old.readers old.writers c.reserve.new.self c.reserve-2.new.self c.reserve.ensures.lists c.reserve-2.ensures.lists attached
+          c.reserve.ensures.links c.reserve-2.ensures.links old.listed;
       own = own_in_room least now_least count more links now c.reserve-2.ensures.lists c.reserve.ensures.lists c.reserve.ensures.links
           (declared old.declaration.now).compounds old.compounds old.own;
       inner_read = inner_in_room least now_least count more links now c.reserve-2.ensures.lists c.reserve.ensures.lists c.reserve.ensures.links attached old.inner.items old.inner_read;
-      written = listed_in_room writes least now_least old.calls.items links old.writers.links.items now c.reserve-2.new.self.links.items attached c.reserve-2.ensures.lists
-          c.reserve.ensures.links c.reserve-2.ensures.links old.written;
-      have = have_as least now_least count more old.calls.items c.reserve-2.ensures.lists c.reserve.ensures.lists old.have;
       visible = old.visible;
     }
 
