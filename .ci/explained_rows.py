@@ -310,7 +310,7 @@ declaration line 4: duplicate name
 declaration line 3: unknown name
     addr p p p
     ^^^^
-    expected a procedure, a compound that ended above, local or end; perhaps `adder`
+    expected a procedure, a compound that is built in or ended above, local or end; perhaps `adder`
 
 declaration line 4: unknown name
     adder p p r

@@ -11,7 +11,7 @@ from transcript_reader import REFUSALS, WORDS, lines_with_replies, read_line
 # The most bytes of a line that are shown.
 MOST_SHOWN = 100
 # The last line of an output that is not whole.
-MORE = "out of memory: more faulty lines may follow"
+MORE = "out of memory: faulty lines may follow"
 # The words of the language that may be near names, beside kinds and callables.
 LANGUAGE = {
     "workbench", "user", "premise", "set", "cell", "compound", "local", "end", "of", "under", "nothing", "contradiction", *WORDS, *KINDS,

@@ -21,7 +21,7 @@ const MORE: &str = "Files:
               and compounds, each of several lines, as `compound twice x interval t interval`,
               `adder x x t`, `end`: calls of procedures, of the compounds above it and of sum,
               product and conditional, over its parameters and cells as `local s interval`
-  TRANSCRIPT  a command on each line, read from standard input where no file is named
+  TRANSCRIPT  a command on each line; `run` reads standard input where no file is named
 
 Command lines:
   USER tell CELL INFO [under P..]  tells of CELL that it is INFO, as 5, 1..5 or {card}, given the premises P..
@@ -52,8 +52,8 @@ its cells, and what it says about them.
 
 Status:
   0  the transcript was answered to its end, the declaration has no fault, no line is faulty for `explain`,
-     or the procedures were printed
-  1  a fault, told by one line on standard error
+     or the procedures, the help or the version were printed
+  1  a fault; one line on standard error says which
   2  a bad command line
 
 Example, with the declaration above:
@@ -61,7 +61,7 @@ Example, with the declaration above:
   1: ok
   2: 1..5
 
-The manual is docs/FORMATS.md.";
+The manual is workbench(5), or docs/FORMATS.md in the sources.";
 
 /// The job that the program is asked to do. Files are given by name.
 #[derive(Clone, Copy, Debug, PartialEq, Eq)]
@@ -123,7 +123,7 @@ fn command<'a>(alloc: Global) -> Result<Command<'a>, Error> {
         .about("Lists what a declaration declares, a line each, or says its first fault")
         .arg(declaration_argument(alloc))?;
     let explained = Arg::new(alloc, "TRANSCRIPT").help(
-        "The file of the transcript, of which refused lines are explained too",
+        "The file of the transcript, whose refused lines are explained if the declaration has no fault",
     );
     let explain = Command::new(alloc, "explain")
         .about("Explains the faulty lines of a declaration, or of a transcript")

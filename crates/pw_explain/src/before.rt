@@ -63,7 +63,7 @@ pub(crate) struct Opened<'a> {
     pub(crate) text: &'a [u8],
 }
 
-/// The lines of which the names in a line may come.
+/// The lines that may declare the names in a line.
 #[derive(Clone, Copy)]
 pub(crate) struct Before<'a> {
     // The table of the procedures and of the compounds that every declaration has.

@@ -45,7 +45,7 @@ fn unknown_in_group<'a, A: Allocator + Copy>(
     ensures { IfSome result (λ it. IsNameAt word.now it.0 it.1.now) }
 {
     let mut names = GroupNames::new(word);
-    // A word has no more names than bytes, and one.
+    // A word has at most one name more than bytes.
     for number in 0..=word.len() {
         let name = names.next()?;
         if declaration.premise(name).is_none() {

@@ -178,7 +178,7 @@ fn explain_information<'a>(before: &Before<'a>, line: &'a [u8]) -> Explanation<'
     }
 }
 
-// Cells that a callable does not take, or no groups.
+// Cells that a callable does not take, or groups that may not be chosen from.
 fn explain_arguments<'a>(before: &Before<'a>, line: &'a [u8]) -> Explanation<'a> {
     if is_command(line, b"choose") {
         return explain_choice(words_from(line, 2));

@@ -125,7 +125,8 @@ impl<'a> Expected<'a> {
             Expected::Under => "`under` and premises, or no further word",
             Expected::User => "a declared user",
             Expected::Kind => "a kind: interval, exact, bool, sign or a set declared above",
-            Expected::Call => "a procedure, a compound that ended above, local or end",
+            Expected::Call =>
+                "a procedure, a compound that is built in or ended above, local or end",
             Expected::CompoundCell => "a parameter or a local cell of the compound",
             Expected::Members => "at least 2 members",
             Expected::Parameter => "a parameter and its kind",

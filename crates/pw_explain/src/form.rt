@@ -9,7 +9,7 @@ use pw_info::{Words, allows_all, is_name};
 /// Nothing, or the first word that does not fit.
 pub(crate) type Fits<'a> = Result<(), Explanation<'a>>;
 
-/// The word of this number does not fit, where one of these words may stand.
+/// The explanation of a word that does not fit, in a place where one of these words may stand.
 pub(crate) fn wrong_word<'a>(
     word: &'a [u8],
     number: usize,

@@ -22,7 +22,7 @@ pub enum Spot {
     Line,
 }
 
-/// Bytes of a line: from the first number on, up to the second.
+/// Bytes of a line or of a text: from the first number on, up to the second.
 ///
 /// A missing word has the place of one byte, after a space after the last word. That place may lie
 /// past the end of the line.

@@ -28,22 +28,22 @@ use std::alloc::Allocator;
 // room for the values that others need.
 #[inline(always)]
 fn answer_command<A: Allocator + Copy, O: Output>(
-    d: &Declaration<'_, A>,
+    declaration: &Declaration<'_, A>,
     number: u32,
     command: &Command,
     workbench: &mut Workbench<'_, '_, A>,
     output: &mut O,
 ) -> Result<bool, Failed>
-    requires { IsNextLine (declared d.now) number
-        (λ held. ReadsHeld (declared d.now) held (Says command.now)) (state workbench.old) }
-    ensures { AnswersLine O.passes (declared d.now) O.has_failed number
-        (λ held. ReadsHeld (declared d.now) held (Says command.now))
+    requires { IsNextLine (declared declaration.now) number
+        (λ held. ReadsHeld (declared declaration.now) held (Says command.now)) (state workbench.old) }
+    ensures { AnswersLine O.passes (declared declaration.now) O.has_failed number
+        (λ held. ReadsHeld (declared declaration.now) held (Says command.now))
         (state workbench.old) (state workbench.new) output.old output.new result }
 {
     // Cells have kinds whose members have names.
-    d.limits();
+    declaration.limits();
     let reply = workbench.command(number, command);
-    match write_reply(number, &reply, d, output) {
+    match write_reply(number, &reply, declaration, output) {
         Ok(()) => Ok(true),
         Err(fault) => Err(fault),
     }
@@ -53,20 +53,20 @@ fn answer_command<A: Allocator + Copy, O: Output>(
 // inlined: few lines are refused.
 #[inline(never)]
 fn answer_refused<A: Allocator + Copy, O: Output>(
-    d: &Declaration<'_, A>,
+    declaration: &Declaration<'_, A>,
     number: u32,
     refusal: Refusal,
     output: &mut O,
 ) -> Result<bool, Failed>
-    ensures { (workbench : Workbenches) → IsLeft (declared d.now) number workbench
-        → AnswersLine O.passes (declared d.now) O.has_failed number
-        (λ held. ReadsHeld (declared d.now) held (Refused refusal))
+    ensures { (workbench : Workbenches) → IsLeft (declared declaration.now) number workbench
+        → AnswersLine O.passes (declared declaration.now) O.has_failed number
+        (λ held. ReadsHeld (declared declaration.now) held (Refused refusal))
         workbench workbench output.old output.new result }
 {
     // Cells have kinds whose members have names.
-    d.limits();
+    declaration.limits();
     let reply: Reply<A> = Reply::Refused(refusal);
-    match write_reply(number, &reply, d, output) {
+    match write_reply(number, &reply, declaration, output) {
         Ok(()) => Ok(true),
         Err(fault) => Err(fault),
     }
@@ -77,53 +77,53 @@ fn answer_refused<A: Allocator + Copy, O: Output>(
 // reading that waits in one place for commands and refusals would be copied there.
 #[inline(never)]
 fn answer_tell<A: Allocator + Copy, O: Output>(
-    d: &Declaration<'_, A>,
+    declaration: &Declaration<'_, A>,
     number: u32,
     user: &[u8],
     rest: Words<'_>,
     workbench: &mut Workbench<'_, '_, A>,
     output: &mut O,
 ) -> Result<bool, Failed>
-    requires { IsNextLine (declared d.now) number
-        (ReadsAs (declared d.now) (option_map (sentence_by user.now) (tell_form rest)))
+    requires { IsNextLine (declared declaration.now) number
+        (ReadsAs (declared declaration.now) (option_map (sentence_by user.now) (tell_form rest)))
         (state workbench.old) }
-    ensures { AnswersLine O.passes (declared d.now) O.has_failed number
-        (ReadsAs (declared d.now) (option_map (sentence_by user.now) (tell_form rest.entry)))
+    ensures { AnswersLine O.passes (declared declaration.now) O.has_failed number
+        (ReadsAs (declared declaration.now) (option_map (sentence_by user.now) (tell_form rest.entry)))
         (state workbench.old) (state workbench.new) output.old output.new result }
 {
-    match read_tell(d, user, rest) {
-        Ok(command) => answer_command(d, number, &command, workbench, output),
-        Err(refusal) => answer_refused(d, number, refusal, output),
+    match read_tell(declaration, user, rest) {
+        Ok(command) => answer_command(declaration, number, &command, workbench, output),
+        Err(refusal) => answer_refused(declaration, number, refusal, output),
     }
 }
 
 // Answers a line that asks.
 #[inline(never)]
 fn answer_ask<A: Allocator + Copy, O: Output>(
-    d: &Declaration<'_, A>,
+    declaration: &Declaration<'_, A>,
     number: u32,
     user: &[u8],
     rest: Words<'_>,
     workbench: &mut Workbench<'_, '_, A>,
     output: &mut O,
 ) -> Result<bool, Failed>
-    requires { IsNextLine (declared d.now) number
-        (ReadsAs (declared d.now) (option_map (sentence_by user.now) (cell_form Ask rest)))
+    requires { IsNextLine (declared declaration.now) number
+        (ReadsAs (declared declaration.now) (option_map (sentence_by user.now) (cell_form Ask rest)))
         (state workbench.old) }
-    ensures { AnswersLine O.passes (declared d.now) O.has_failed number
-        (ReadsAs (declared d.now) (option_map (sentence_by user.now) (cell_form Ask rest.entry)))
+    ensures { AnswersLine O.passes (declared declaration.now) O.has_failed number
+        (ReadsAs (declared declaration.now) (option_map (sentence_by user.now) (cell_form Ask rest.entry)))
         (state workbench.old) (state workbench.new) output.old output.new result }
 {
-    match read_ask(d, user, rest) {
-        Ok(command) => answer_command(d, number, &command, workbench, output),
-        Err(refusal) => answer_refused(d, number, refusal, output),
+    match read_ask(declaration, user, rest) {
+        Ok(command) => answer_command(declaration, number, &command, workbench, output),
+        Err(refusal) => answer_refused(declaration, number, refusal, output),
     }
 }
 
 // Answers a line of any other command, or of none.
 #[inline(never)]
 fn answer_other<A: Allocator + Copy, O: Output>(
-    d: &Declaration<'_, A>,
+    declaration: &Declaration<'_, A>,
     number: u32,
     user: &[u8],
     name: &[u8],
@@ -133,24 +133,24 @@ fn answer_other<A: Allocator + Copy, O: Output>(
 ) -> Result<bool, Failed>
     requires tell { bytes_eq name.now (codes "tell") ≡ false }
     requires ask { bytes_eq name.now (codes "ask") ≡ false }
-    requires next { IsNextLine (declared d.now) number
-        (ReadsAs (declared d.now) (option_map (sentence_by user.now) (said_form name.now rest)))
+    requires next { IsNextLine (declared declaration.now) number
+        (ReadsAs (declared declaration.now) (option_map (sentence_by user.now) (said_form name.now rest)))
         (state workbench.old) }
-    ensures { AnswersLine O.passes (declared d.now) O.has_failed number
-        (ReadsAs (declared d.now)
+    ensures { AnswersLine O.passes (declared declaration.now) O.has_failed number
+        (ReadsAs (declared declaration.now)
         (option_map (sentence_by user.now) (said_form name.now rest.entry)))
         (state workbench.old) (state workbench.new) output.old output.new result }
 {
-    match read_other(d, user, name, rest) {
-        Ok(command) => answer_command(d, number, &command, workbench, output),
-        Err(refusal) => answer_refused(d, number, refusal, output),
+    match read_other(declaration, user, name, rest) {
+        Ok(command) => answer_command(declaration, number, &command, workbench, output),
+        Err(refusal) => answer_refused(declaration, number, refusal, output),
     }
 }
 
 // Answers a line of these words, after the one that names the user.
 #[inline(always)]
 fn answer_named<A: Allocator + Copy, O: Output>(
-    d: &Declaration<'_, A>,
+    declaration: &Declaration<'_, A>,
     number: u32,
     user: &[u8],
     name: &[u8],
@@ -158,77 +158,77 @@ fn answer_named<A: Allocator + Copy, O: Output>(
     workbench: &mut Workbench<'_, '_, A>,
     output: &mut O,
 ) -> Result<bool, Failed>
-    requires { IsNextLine (declared d.now) number
-        (ReadsAs (declared d.now) (option_map (sentence_by user.now) (said_form name.now rest)))
+    requires { IsNextLine (declared declaration.now) number
+        (ReadsAs (declared declaration.now) (option_map (sentence_by user.now) (said_form name.now rest)))
         (state workbench.old) }
-    ensures { AnswersLine O.passes (declared d.now) O.has_failed number
-        (ReadsAs (declared d.now)
+    ensures { AnswersLine O.passes (declared declaration.now) O.has_failed number
+        (ReadsAs (declared declaration.now)
         (option_map (sentence_by user.now) (said_form name.now rest.entry)))
         (state workbench.old) (state workbench.new) output.old output.new result }
 {
     if is_tell(name) {
-        answer_tell(d, number, user, rest, workbench, output)
+        answer_tell(declaration, number, user, rest, workbench, output)
     } else if is_ask(name) {
-        answer_ask(d, number, user, rest, workbench, output)
+        answer_ask(declaration, number, user, rest, workbench, output)
     } else {
-        answer_other(d, number, user, name, rest, workbench, output)
+        answer_other(declaration, number, user, name, rest, workbench, output)
     }
 }
 
 // Answers a line of these words.
 #[inline(always)]
 fn answer_words<A: Allocator + Copy, O: Output>(
-    d: &Declaration<'_, A>,
+    declaration: &Declaration<'_, A>,
     number: u32,
     mut words: Words<'_>,
     workbench: &mut Workbench<'_, '_, A>,
     output: &mut O,
 ) -> Result<bool, Failed>
-    requires { IsNextLine (declared d.now) number
-        (ReadsAs (declared d.now) (sentence_form words)) (state workbench.old) }
-    ensures { AnswersLine O.passes (declared d.now) O.has_failed number
-        (ReadsAs (declared d.now) (sentence_form words.entry))
+    requires { IsNextLine (declared declaration.now) number
+        (ReadsAs (declared declaration.now) (sentence_form words)) (state workbench.old) }
+    ensures { AnswersLine O.passes (declared declaration.now) O.has_failed number
+        (ReadsAs (declared declaration.now) (sentence_form words.entry))
         (state workbench.old) (state workbench.new) output.old output.new result }
 {
     let Some(user) = words.next() else {
-        return answer_refused(d, number, Refusal::Syntax, output);
+        return answer_refused(declaration, number, Refusal::Syntax, output);
     };
     let Some(name) = words.next() else {
-        return answer_refused(d, number, Refusal::Syntax, output);
+        return answer_refused(declaration, number, Refusal::Syntax, output);
     };
-    answer_named(d, number, user, name, words, workbench, output)
+    answer_named(declaration, number, user, name, words, workbench, output)
 }
 
 /// Answers the line of this number: its reply, if it gets one, is passed to the output. The line is
 /// passed in if it has at most 1,024 bytes. The result is whether there was a reply. On `Failed`
 /// the output failed, and a front of the reply was passed.
 pub(crate) fn answer_line<A: Allocator + Copy, O: Output>(
-    d: &Declaration<'_, A>,
+    declaration: &Declaration<'_, A>,
     number: u32,
     line: Option<&[u8]>,
     workbench: &mut Workbench<'_, '_, A>,
     output: &mut O,
 ) -> Result<bool, Failed>
-    requires left { IsLeft (declared d.now) number (state workbench.old) }
+    requires left { IsLeft (declared declaration.now) number (state workbench.old) }
     requires most { number ≤ most_lines }
-    ensures ok { IfOk result (PassesHeldReply O.passes (declared d.now) number
+    ensures ok { IfOk result (PassesHeldReply O.passes (declared declaration.now) number
         (option_copied line.entry) (state workbench.old) (state workbench.new)
         output.old output.new) }
-    ensures err { OnErr result (FailsInHeldReply O.passes (declared d.now) number
+    ensures err { OnErr result (FailsInHeldReply O.passes (declared declaration.now) number
         (option_copied line.entry) (state workbench.old) output.old output.new) }
     ensures failed { OnErr result (O.has_failed output.new ≡ true) }
     ensures works { OnOk result (O.has_failed output.old ≡ false
         → O.has_failed output.new ≡ false) }
-    ensures left { IsLeft (declared d.now) (number + 1) (state workbench.new) }
+    ensures left { IsLeft (declared declaration.now) (number + 1) (state workbench.new) }
 {
     // Cells have kinds whose members have names.
-    d.limits();
+    declaration.limits();
     let Some(line) = line else {
-        return answer_refused(d, number, Refusal::LineTooLong, output);
+        return answer_refused(declaration, number, Refusal::LineTooLong, output);
     };
     match line_words(line) {
-        Ok(Some(words)) => answer_words(d, number, words, workbench, output),
+        Ok(Some(words)) => answer_words(declaration, number, words, workbench, output),
         Ok(None) => Ok(false),
-        Err(refusal) => answer_refused(d, number, refusal, output),
+        Err(refusal) => answer_refused(declaration, number, refusal, output),
     }
 }

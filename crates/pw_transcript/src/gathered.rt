@@ -1,6 +1,6 @@
 //! An output that gathers the bytes put into it, and passes them on in large pieces.
-ghost use Rattle.std.specs.Prelude.{◌≡◌, ◌≤◌, ◌<◌, ℕ, List, [], ◌++◌, length, take, drop, true};
-ghost use Rattle.std.specs.Prelude.{false, is_err, OnOk, Some};
+ghost use Rattle.std.specs.Prelude.{◌≡◌, ◌≤◌, ◌<◌, ℕ, List, [], ◌++◌, length, take, drop};
+ghost use Rattle.std.specs.Prelude.{is_err, OnOk};
 
 use pw_info::{Failed, Output};
 use std::marker::Model;

@@ -80,19 +80,29 @@ impl<'d, 'r, A: Allocator + Copy> Progress<'d, 'r, A> {
     }
 
     // Answers the line that has come, as a line that has ended.
-    fn end_line<O: Output>(&mut self, d: &Declaration<'_, A>, output: &mut O) -> Result<(), Failed>
-        requires running { IsRunning (declared d.now) (progress self.old) }
+    fn end_line<O: Output>(
+        &mut self,
+        declaration: &Declaration<'_, A>,
+        output: &mut O,
+    ) -> Result<(), Failed>
+        requires running { IsRunning (declared declaration.now) (progress self.old) }
         requires more { (progress self.old).counts.lines < most_lines }
-        ensures ok { OnOk result (GoesOn O.passes (declared d.now)
+        ensures ok { OnOk result (GoesOn O.passes (declared declaration.now)
             (progress self.old) output.old (line_feed ∷ []) (progress self.new) output.new) }
         ensures empty { OnOk result ((progress self.new).line ≡ held_line []) }
-        ensures running { OnOk result (IsRunning (declared d.now) (progress self.new)) }
-        ensures err { OnErr result (FailsIn O.passes (declared d.now)
+        ensures running { OnOk result (IsRunning (declared declaration.now) (progress self.new)) }
+        ensures err { OnErr result (FailsIn O.passes (declared declaration.now)
             (progress self.old) output.old (line_feed ∷ []) output.new) }
         ensures failed { OnErr result (O.has_failed output.new ≡ true) }
     {
         let number = self.counts.lines + 1;
-        let replied = answer_line(d, number, self.line.line(), &mut self.workbench, output)?;
+        let replied = answer_line(
+            declaration,
+            number,
+            self.line.line(),
+            &mut self.workbench,
+            output,
+        )?;
         self.counts = self.counts.and_one(replied);
         self.line.clear();
         Ok(())
@@ -101,24 +111,24 @@ impl<'d, 'r, A: Allocator + Copy> Progress<'d, 'r, A> {
     // Answers a line that has come as a whole and has ended. No part of it is held.
     fn end_whole_line<O: Output>(
         &mut self,
-        d: &Declaration<'_, A>,
+        declaration: &Declaration<'_, A>,
         line: &[u8],
         output: &mut O,
     ) -> Result<(), Failed>
-        requires running { IsRunning (declared d.now) (progress self.old) }
+        requires running { IsRunning (declared declaration.now) (progress self.old) }
         requires more { (progress self.old).counts.lines < most_lines }
         requires fresh { (progress self.old).line ≡ held_line [] }
         requires short { length line.now ≤ most_command_bytes }
         requires no_end { HasNoEnd line.now }
-        ensures ok { OnOk result (GoesOn O.passes (declared d.now) (progress self.old)
+        ensures ok { OnOk result (GoesOn O.passes (declared declaration.now) (progress self.old)
             output.old (line.now ++ line_feed ∷ []) (progress self.new) output.new) }
-        ensures running { OnOk result (IsRunning (declared d.now) (progress self.new)) }
-        ensures err { OnErr result (FailsIn O.passes (declared d.now)
+        ensures running { OnOk result (IsRunning (declared declaration.now) (progress self.new)) }
+        ensures err { OnErr result (FailsIn O.passes (declared declaration.now)
             (progress self.old) output.old (line.now ++ line_feed ∷ []) output.new) }
         ensures failed { OnErr result (O.has_failed output.new ≡ true) }
     {
         let number = self.counts.lines + 1;
-        let replied = answer_line(d, number, Some(line), &mut self.workbench, output)?;
+        let replied = answer_line(declaration, number, Some(line), &mut self.workbench, output)?;
         self.counts = self.counts.and_one(replied);
         Ok(())
     }
@@ -127,42 +137,42 @@ impl<'d, 'r, A: Allocator + Copy> Progress<'d, 'r, A> {
     // there.
     fn end_with<O: Output>(
         &mut self,
-        d: &Declaration<'_, A>,
+        declaration: &Declaration<'_, A>,
         piece: &[u8],
         output: &mut O,
     ) -> Result<(), Failed>
-        requires running { IsRunning (declared d.now) (progress self.old) }
+        requires running { IsRunning (declared declaration.now) (progress self.old) }
         requires more { (progress self.old).counts.lines < most_lines }
         requires no_end { HasNoEnd piece.now }
-        ensures ok { OnOk result (GoesOn O.passes (declared d.now) (progress self.old)
+        ensures ok { OnOk result (GoesOn O.passes (declared declaration.now) (progress self.old)
             output.old (piece.now ++ line_feed ∷ []) (progress self.new) output.new) }
-        ensures running { OnOk result (IsRunning (declared d.now) (progress self.new)) }
-        ensures err { OnErr result (FailsIn O.passes (declared d.now)
+        ensures running { OnOk result (IsRunning (declared declaration.now) (progress self.new)) }
+        ensures err { OnErr result (FailsIn O.passes (declared declaration.now)
             (progress self.old) output.old (piece.now ++ line_feed ∷ []) output.new) }
         ensures failed { OnErr result (O.has_failed output.new ≡ true) }
     {
         if piece.len() <= MOST_LINE_BYTES && self.line.is_empty() {
-            return self.end_whole_line(d, piece, output);
+            return self.end_whole_line(declaration, piece, output);
         }
         self.line.extend(piece);
-        self.end_line(d, output)
+        self.end_line(declaration, output)
     }
 
     /// Answers the lines that end in the bytes, and holds the rest.
     pub(crate) fn feed<O: Output>(
         &mut self,
-        d: &Declaration<'_, A>,
+        declaration: &Declaration<'_, A>,
         bytes: &[u8],
         output: &mut O,
     ) -> Result<Fed, Failed>
-        requires running { IsRunning (declared d.now) (progress self.old) }
-        ensures whole { IfOk result (λ fed. fed ≡ Fed.Whole → GoesOn O.passes (declared d.now)
+        requires running { IsRunning (declared declaration.now) (progress self.old) }
+        ensures whole { IfOk result (λ fed. fed ≡ Fed.Whole → GoesOn O.passes (declared declaration.now)
             (progress self.old) output.old bytes.now (progress self.new) output.new) }
-        ensures limit { IfOk result (λ fed. fed ≡ Fed.PastLimit → StopsIn O.passes (declared d.now)
+        ensures limit { IfOk result (λ fed. fed ≡ Fed.PastLimit → StopsIn O.passes (declared declaration.now)
             (progress self.old) output.old bytes.now output.new) }
-        ensures running { OnOk result (IsRunning (declared d.now) (progress self.new)) }
+        ensures running { OnOk result (IsRunning (declared declaration.now) (progress self.new)) }
         ensures err { OnErr result (FailsIn O.passes
-            (declared d.now) (progress self.old) output.old bytes.now output.new) }
+            (declared declaration.now) (progress self.old) output.old bytes.now output.new) }
         ensures failed { OnErr result (O.has_failed output.new ≡ true) }
     {
         let mut rest = bytes;
@@ -174,7 +184,7 @@ impl<'d, 'r, A: Allocator + Copy> Progress<'d, 'r, A> {
                 self.line.extend(rest);
                 return Ok(Fed::Whole);
             };
-            match self.end_with(d, piece, output) {
+            match self.end_with(declaration, piece, output) {
                 Ok(()) => {}
                 Err(fault) => return Err(fault),
             }
@@ -186,19 +196,19 @@ impl<'d, 'r, A: Allocator + Copy> Progress<'d, 'r, A> {
     /// Answers the last line, which has no line feed after it, if there is one.
     pub(crate) fn end<O: Output>(
         &mut self,
-        d: &Declaration<'_, A>,
+        declaration: &Declaration<'_, A>,
         output: &mut O,
     ) -> Result<(), Failed>
-        requires running { IsRunning (declared d.now) (progress self.old) }
-        ensures ok { OnOk result (Ends O.passes (declared d.now)
+        requires running { IsRunning (declared declaration.now) (progress self.old) }
+        ensures ok { OnOk result (Ends O.passes (declared declaration.now)
             (progress self.old) output.old (progress self.new) output.new) }
         ensures err { OnErr result (FailsAtEnd O.passes
-            (declared d.now) (progress self.old) output.old output.new) }
+            (declared declaration.now) (progress self.old) output.old output.new) }
         ensures failed { OnErr result (O.has_failed output.new ≡ true) }
     {
         if self.line.is_empty() {
             return Ok(());
         }
-        self.end_line(d, output)
+        self.end_line(declaration, output)
     }
 }

@@ -304,7 +304,7 @@ fn write_answer_line<A: Allocator + Copy, O: Output>(
 
 /// Writes the reply to a line: the number of the line, a colon and a space, the content of the
 /// reply, and a line feed. Takes no memory. On `Failed` a front of the text was passed. The kind of
-/// a value is one of the declaration.
+/// a value, each cell that is listed and each premise that was chosen are those of the declaration.
 #[tactic(auto, using(pw_info::proofs::PassingFacts::first_fails, pw_info::proofs::PassingFacts::second_writes))]
 pub fn write_reply<A: Allocator + Copy, O: Output>(
     line: u32,

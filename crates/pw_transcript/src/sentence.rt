@@ -13,8 +13,8 @@ ghost use Rattle.pw_transcript.specs.inside.Forms.{premises_form, told_in, attac
 use crate::group_names::are_group_words;
 use pw_info::Words;
 
-//// Whether the word is `tell`. Words that many lines have are compared byte by byte, which costs
-/// less than a call.
+// Whether the word is `tell`. Words that many lines have are compared byte by byte, which costs less
+// than a call.
 #[inline(always)]
 pub(crate) fn is_tell(word: &[u8]) -> bool
     ensures { result ≡ bytes_eq word.now (codes "tell") }

@@ -1,6 +1,6 @@
 //! A transcript from end to end: its lines in, their replies out.
 
-ghost use Rattle.std.specs.Prelude.{◌≡◌, [], true, false, IfOk, OnOk, OnErr, IsErrOf};
+ghost use Rattle.std.specs.Prelude.{◌≡◌, [], true, false, IfOk, OnOk, IsErrOf};
 ghost use Rattle.pw_decl.specs.inside.Fields.{declared};
 ghost use Rattle.pw_transcript.specs.FromScratch.{RepliesToAll, RepliesToEnded, RepliesUpToLimit};
 ghost use Rattle.pw_transcript.specs.FromScratch.{RepliesInPart};
@@ -53,31 +53,31 @@ pub enum RunFault {
 // answers each chunk before it takes the next.
 fn answer_all<A: Allocator + Copy, I: Input, O: Output>(
     so_far: &mut Progress<'_, '_, A>,
-    d: &Declaration<'_, A>,
+    declaration: &Declaration<'_, A>,
     input: &mut I,
     output: &mut Gathered<'_, O>,
 ) -> Result<Lines, RunFault>
-    requires start { AnsweredSoFar (GatheredPasses O.passes) (declared d.now) output.old output.old
+    requires start { AnsweredSoFar (GatheredPasses O.passes) (declared declaration.now) output.old output.old
         (progress so_far.old) [] }
-    requires running { IsRunning (declared d.now) (progress so_far.old) }
+    requires running { IsRunning (declared declaration.now) (progress so_far.old) }
     requires empty { held_of output.old ≡ [] }
     ensures ok { IfOk result (RepliesToAll I.takes (GatheredPasses O.passes)
-        (declared d.now) input.old input.new output.old output.new) }
+        (declared declaration.now) input.old input.new output.old output.new) }
     ensures ended { OnOk result (I.has_ended input.new ≡ true) }
     ensures nothing_left { OnOk result (I.nothing_left input.new) }
     ensures works { OnOk result (O.has_failed (output_of output.new).now ≡ false) }
     ensures passed_on { OnOk result (held_of output.new ≡ []) }
     ensures read { IsErrOf result RunFault.Read → RepliesToEnded I.takes (GatheredPasses O.passes)
-        (declared d.now) input.old input.new output.old output.new }
+        (declared declaration.now) input.old input.new output.old output.new }
     ensures read_failed { IsErrOf result RunFault.Read → I.has_failed input.new ≡ true }
     ensures read_passed_on { IsErrOf result RunFault.Read → held_of output.new ≡ [] }
     ensures write { IsErrOf result RunFault.Write →
-        RepliesInPart I.takes (GatheredPasses O.passes) (declared d.now) I.has_ended
+        RepliesInPart I.takes (GatheredPasses O.passes) (declared declaration.now) I.has_ended
         input.old input.new output.old output.new }
     ensures write_failed { IsErrOf result RunFault.Write
         → O.has_failed (output_of output.new).now ≡ true }
     ensures limit { IsErrOf result RunFault.Limit → RepliesUpToLimit I.takes (GatheredPasses
-        O.passes) (declared d.now) input.old input.new output.old output.new }
+        O.passes) (declared declaration.now) input.old input.new output.old output.new }
     ensures limit_passed_on { IsErrOf result RunFault.Limit → held_of output.new ≡ [] }
     ensures no_memory { IsErrOf result RunFault.Memory → ⊥ }
 {
@@ -93,7 +93,7 @@ fn answer_all<A: Allocator + Copy, I: Input, O: Output>(
             break;
         }
         let kept = taken.min((MOST_BYTES - total) as usize);
-        let fed = match so_far.feed(d, &chunk[..kept], output) {
+        let fed = match so_far.feed(declaration, &chunk[..kept], output) {
             Ok(fed) => fed,
             Err(_) => return Err(RunFault::Write),
         };
@@ -111,7 +111,7 @@ fn answer_all<A: Allocator + Copy, I: Input, O: Output>(
         }
         total += taken as u32;
     }
-    match so_far.end(d, output) {
+    match so_far.end(declaration, output) {
         Ok(()) => {}
         Err(_) => return Err(RunFault::Write),
     }
@@ -122,7 +122,7 @@ fn answer_all<A: Allocator + Copy, I: Input, O: Output>(
 }
 
 /// Answers the lines of the input, one after another, until its end, and writes the replies to the
-/// output.
+/// output. The result counts the lines and the replies.
 ///
 /// What is taken is answered before more is taken, and the replies written are passed on then. A
 /// line ends at a line feed; the last line needs none. There are at most 1,000,000 lines and
@@ -137,36 +137,36 @@ fn answer_all<A: Allocator + Copy, I: Input, O: Output>(
 ///   all lines that end before it are written then.
 pub fn run<A: Allocator + Copy, I: Input, O: Output>(
     alloc: A,
-    d: &Declaration<'_, A>,
+    declaration: &Declaration<'_, A>,
     input: &mut I,
     output: &mut O,
 ) -> Result<Lines, RunFault>
     ensures ok { IfOk result (RepliesToAll I.takes O.passes
-        (declared d.now) input.old input.new output.old output.new) }
+        (declared declaration.now) input.old input.new output.old output.new) }
     ensures ended { OnOk result (I.has_ended input.new ≡ true) }
     ensures nothing_left { OnOk result (I.nothing_left input.new) }
     ensures works { OnOk result (O.has_failed output.new ≡ false) }
     ensures read { IsErrOf result RunFault.Read → RepliesToEnded I.takes O.passes
-        (declared d.now) input.old input.new output.old output.new }
+        (declared declaration.now) input.old input.new output.old output.new }
     ensures read_failed { IsErrOf result RunFault.Read → I.has_failed input.new ≡ true }
     ensures write { IsErrOf result RunFault.Write → RepliesInPart I.takes O.passes
-        (declared d.now) I.has_ended input.old input.new output.old output.new }
+        (declared declaration.now) I.has_ended input.old input.new output.old output.new }
     ensures write_failed { IsErrOf result RunFault.Write → O.has_failed output.new ≡ true }
     ensures memory { IsErrOf result RunFault.Memory → (input.new ≡ input.old)
         × (output.new ≡ output.old) }
     ensures limit { IsErrOf result RunFault.Limit → RepliesUpToLimit I.takes O.passes
-        (declared d.now) input.old input.new output.old output.new }
+        (declared declaration.now) input.old input.new output.old output.new }
 {
     if output.failed() {
         return Err(RunFault::Write);
     }
-    let Ok(network) = Network::new(alloc, d) else {
+    let Ok(network) = Network::new(alloc, declaration) else {
         return Err(RunFault::Memory);
     };
-    let Ok(workbench) = Workbench::new(alloc, d, network) else {
+    let Ok(workbench) = Workbench::new(alloc, declaration, network) else {
         return Err(RunFault::Memory);
     };
     let mut so_far = Progress::new(workbench);
     let mut gathered = Gathered::new(output);
-    answer_all(&mut so_far, d, input, &mut gathered)
+    answer_all(&mut so_far, declaration, input, &mut gathered)
 }

@@ -100,7 +100,7 @@ fn print_blocks<'a, R: Print + AllocGlobal>(
 ) -> Result<(), Fault<'a>> {
     print(rt, &blocks.text)?;
     if blocks.are_cut {
-        print(rt, b"out of memory: more faulty lines may follow\n")?;
+        print(rt, b"out of memory: faulty lines may follow\n")?;
     }
     Ok(())
 }
@@ -198,7 +198,8 @@ impl<'a, R: Files + Input + Print + AllocGlobal> OverRegistry for Doing<'_, 'a, 
     }
 }
 
-/// Does the job over the standard procedures. There may be no memory for these.
+/// Does the job over the standard procedures. Fails with the fault that ends the program: `Memory`, if
+/// there is no memory for the procedures.
 pub fn do_job<'a, R: Files + Input + Print + AllocGlobal>(
     rt: &R,
     job: &Job<'a>,

@@ -9,7 +9,7 @@ use pw_transcript::RunFault;
 use std::alloc::AllocError;
 use std::process::ExitCode;
 
-/// Why the program ends before it has answered a transcript to its end.
+/// Why the program ends otherwise than after a job without a fault.
 #[derive(Debug, Drop)]
 pub enum Stop<'a> {
     /// The command line is bad, or it asks for help or for the version.

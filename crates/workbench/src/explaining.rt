@@ -107,7 +107,8 @@ fn add_block<A: Allocator + Copy>(
     Ok(goes_on)
 }
 
-/// The fault of the text, if it has one.
+/// The first fault of the text, or `Memory` if memory runs out while it is read. None if it spells a
+/// declaration.
 pub(crate) fn fault_of<A: Allocator + Copy>(
     alloc: A,
     text: &[u8],

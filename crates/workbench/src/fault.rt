@@ -14,13 +14,14 @@ pub enum Fault<'a> {
     /// The declaration is at fault.
     #[error(transparent)]
     Declaration(#[from] DeclFault),
-    /// The run over the transcript ended before the transcript did.
+    /// A read of the transcript or a write to standard output failed, or the run ended at a limit or
+    /// for lack of memory.
     #[error(transparent)]
     Run(#[from] RunFault),
     /// Lines of the transcript are refused, and were explained.
     #[error("transcript: refused lines")]
     RefusedLines,
-    /// Out of memory, elsewhere than in the declaration and the run.
+    /// Out of memory, elsewhere than in the run and while the text of the declaration is read as one.
     #[error("memory")]
     Memory,
 }
@@ -37,7 +38,7 @@ impl<'a, T: Drop> From<AllocFailed<T>> for Fault<'a> {
     }
 }
 
-/// The line of a fault, without its line end.
+/// The line of a fault, without its line end. Fails only when out of memory.
 pub fn fault_line<A: Allocator + Copy>(
     alloc: A,
     fault: &Fault<'_>,

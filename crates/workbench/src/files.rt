@@ -23,7 +23,8 @@ fn read_front<A: Allocator, R: Read + Drop>(alloc: A, reader: R) -> io::Result<V
 /// The text of the declaration in the file of this name, or the first 1,048,577 bytes of a longer
 /// one.
 ///
-/// Opening the file may fail, and so may reading it.
+/// Fails with `CannotRead` if the file cannot be opened or read, and with `Memory` if memory runs out
+/// while it is read.
 pub fn declaration_text<'a, R: Files + AllocGlobal>(
     rt: &R,
     name: &'a str,

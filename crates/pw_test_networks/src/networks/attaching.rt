@@ -1,6 +1,7 @@
 //! What attachments add to a network.
 
 use super::{Attachment, at_line, attached};
+use pw_info::{Kind, SetKind};
 use pw_network::NetworkFault;
 use pw_premises::PremiseSet;
 use pw_testing::texts::ended;
@@ -43,18 +44,15 @@ fn gives<R: Abort + AllocGlobal>(
     has_lines(rt, shown.readers.as_str(), readers)
 }
 
-// Checks that these attachments to `GENERAL` make one cell, of the kind of the cell `e`.
+// Checks that these attachments to `GENERAL` make one cell, of the kind `bool`.
 fn makes_a_truth<R: Abort + AllocGlobal>(
     rt: &R,
     attachments: &[Attachment<'_>],
 ) -> Result<(), Fail> {
     let shown = attached(rt.alloc(), GENERAL, attachments)?;
     assert_eq!(rt; shown.kinds.len(), 10);
-    assert_eq!(rt;
-        shown.kinds.get(9),
-        shown.kinds.get(5),
-        "of kind bool, as e is"
-    );
+    let truth = Kind::Members(SetKind { number: 0, size: 2 });
+    assert_eq!(rt; shown.kinds.get(9), Some(&truth), "of kind bool");
     Ok(())
 }
 

@@ -74,6 +74,7 @@ fn a_long_settling_is_not_made_again(rt: HostRuntime) -> Result<(), Fail> {
     let shown = settled(rt.alloc(), matter, &[all, all], &[("x", all)])?;
     let calls = shown.answers.get(1).map(|answer| answer.calls);
     assert_eq!(rt; calls, Some(1));
+    assert_eq!(rt; shown.kept.len(), 1);
     assert!(rt; shown.kept.iter().all(|kept| kept.info.is_contradiction()));
     Ok(())
 }

@@ -3,10 +3,6 @@
 
 ghost use Rattle.std.specs.Prelude.{◌≡◌, ◌+◌, ◌≤◌, ◌++◌, length, map, IfOk, IfSome, OnOk};
 ghost use Rattle.pw_cells.specs.Cells.{most_store_cells, new_cell};
-ghost use Rattle.pw_decl.specs.Declaration.{IsCallable};
-ghost use Rattle.pw_decl.specs.Expansion.{inner_kinds_of};
-ghost use Rattle.pw_decl.specs.inside.Fields.{declared};
-ghost use Rattle.pw_decl.specs.Limits.{most_inner_cells};
 ghost use Rattle.pw_network.specs.Wiring.{wiring};
 ghost use Rattle.pw_network.specs.Network.{cells_in};
 ghost use Rattle.pw_settle.specs.Growth.{IsFitting};
@@ -15,7 +11,7 @@ ghost use Rattle.pw_test_networks.specs.Settling.{IsReady, LeavesFitting};
 use super::{Matter, Shown, all_told, answer_of, is_told, settle_once, store_of, tell_each};
 use crate::networks::{Attachment, named_in};
 use pw_cells::CellStore;
-use pw_decl::{Callable, Declaration};
+use pw_decl::Declaration;
 use pw_info::{Info, Kind};
 use pw_network::Network;
 use pw_premises::PremiseSet;
@@ -61,18 +57,6 @@ impl<'a> Matter<'a> {
     }
 }
 
-// The kinds of the inner cells that the callable makes.
-fn inner_kinds<'a>(declaration: &'a Declaration<'_>, callable: Callable) -> &'a [Kind]
-    requires { IsCallable (declared declaration.now) callable }
-    ensures kinds { result.now ≡ inner_kinds_of (declared declaration.now).compounds callable }
-    ensures most { length result.now ≤ most_inner_cells }
-{
-    match callable {
-        Callable::Stored(_) => &[],
-        Callable::Compound(compound) => declaration.inner_kinds(compound),
-    }
-}
-
 // Adds new cells of these kinds.
 fn add_cells(store: &mut CellStore, kinds: &[Kind]) -> Result<(), AllocError>
     requires { length store.old.cells + length kinds.now ≤ most_store_cells }
@@ -97,7 +81,7 @@ fn attach_one(
     let Ok(()) = network.attach(attachment.line, callable, cells, attachment.support) else {
         return Err("not attached".into());
     };
-    let kinds = inner_kinds(network.declaration(), callable);
+    let kinds = network.declaration().inner_kinds_of(callable);
     add_cells(store, kinds)?;
     Ok(())
 }

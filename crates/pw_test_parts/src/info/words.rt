@@ -8,6 +8,7 @@ use super::{has_front, trickling};
 use pw_info::{GroupNames, Info, Kind, KindNames, SetKind, read_info, write_info};
 use pw_kinds::{Exact, Interval, Members};
 use std::process::Abort;
+use std::test::Fail;
 
 /// One set of members: the names of three colours, under each number.
 #[derive(Drop)]
@@ -78,7 +79,7 @@ fn is_written<R: Abort + AllocGlobal, N: KindNames>(rt: &R, info: &Info, names: 
 }
 
 #[test]
-fn reads_and_writes_intervals(rt: HostRuntime) {
+fn reads_and_writes_intervals(rt: HostRuntime) -> Result<(), Fail> {
     let nothing = Some(Info::nothing(Kind::Interval));
     let contradiction = Some(Info::contradiction(Kind::Interval));
     let cases: [(&str, Option<Info>, &str); 9] = [
@@ -103,16 +104,15 @@ fn reads_and_writes_intervals(rt: HostRuntime) {
     for (word, want, text) in cases {
         let read = read_info(word.as_bytes(), Kind::Interval, &Palette);
         assert!(rt; read == want, "at {word}");
-        let Some(info) = read else {
-            continue;
-        };
+        let info = read.ok_or("nothing is read")?;
         assert!(rt; info.kind() == Kind::Interval);
         is_written(&rt, &info, &Palette, text);
     }
+    Ok(())
 }
 
 #[test]
-fn reads_and_writes_members(rt: HostRuntime) {
+fn reads_and_writes_members(rt: HostRuntime) -> Result<(), Fail> {
     let kind = Kind::Members(SetKind { number: 7, size: 3 });
     let cases: [(&str, u128, &str); 9] = [
         ("nothing", 0b111, "nothing"),
@@ -129,16 +129,15 @@ fn reads_and_writes_members(rt: HostRuntime) {
         let want = Members::of(3, mask).map(|part| Info::of_members(7, part));
         let read = read_info(word.as_bytes(), kind, &Palette);
         assert!(rt; read == want, "at {word}");
-        let Some(info) = read else {
-            continue;
-        };
+        let info = read.ok_or("nothing is read")?;
         assert!(rt; info.kind() == kind);
         is_written(&rt, &info, &Palette, text);
     }
+    Ok(())
 }
 
 #[test]
-fn reads_and_writes_exact_numbers(rt: HostRuntime) {
+fn reads_and_writes_exact_numbers(rt: HostRuntime) -> Result<(), Fail> {
     let cases: [(&str, Option<Exact>, &str); 6] = [
         ("nothing", Some(Exact::any()), "nothing"),
         ("contradiction", Some(Exact::none()), "contradiction"),
@@ -151,12 +150,11 @@ fn reads_and_writes_exact_numbers(rt: HostRuntime) {
         let want = exact.map(Info::of_exact);
         let read = read_info(word.as_bytes(), Kind::Exact, &Palette);
         assert!(rt; read == want, "at {word}");
-        let Some(info) = read else {
-            continue;
-        };
+        let info = read.ok_or("nothing is read")?;
         assert!(rt; info.kind() == Kind::Exact);
         is_written(&rt, &info, &Palette, text);
     }
+    Ok(())
 }
 
 #[test]

@@ -27,24 +27,24 @@ answer_words-requires g c =
     record {
       left = c.requires.left;
       most = c.requires.most;
-      reads = (Some c.in-Some.line.now, held_reads (declared c.args.d.now) c.in-Some.line.now c.in-Ok-Some.words spoken);
+      reads = (Some c.in-Some.line.now, held_reads (declared c.args.declaration.now) c.in-Some.line.now c.in-Ok-Some.words spoken);
     }
 
 pub returns-in-Ok-Some-clause-ok : goal.returns-in-Ok-Some-clause-ok
 returns-in-Ok-Some-clause-ok g c =
     let spoken : IsSpoken c.in-Some.line.now c.in-Ok-Some.words = rw c.in-Ok-Some.field-0-is at c.in-Ok-Some.ensures.some in
-    rw c.in-Some.is (c.answer_words.ensures.ok (Some c.in-Some.line.now) (held_reads (declared c.args.d.now) c.in-Some.line.now c.in-Ok-Some.words spoken))
+    rw c.in-Some.is (c.answer_words.ensures.ok (Some c.in-Some.line.now) (held_reads (declared c.args.declaration.now) c.in-Some.line.now c.in-Ok-Some.words spoken))
 
 pub returns-in-Ok-Some-clause-err : goal.returns-in-Ok-Some-clause-err
 returns-in-Ok-Some-clause-err g c =
     let spoken : IsSpoken c.in-Some.line.now c.in-Ok-Some.words = rw c.in-Ok-Some.field-0-is at c.in-Ok-Some.ensures.some in
-    rw c.in-Some.is (c.answer_words.ensures.err (Some c.in-Some.line.now) (held_reads (declared c.args.d.now) c.in-Some.line.now c.in-Ok-Some.words spoken))
+    rw c.in-Some.is (c.answer_words.ensures.err (Some c.in-Some.line.now) (held_reads (declared c.args.declaration.now) c.in-Some.line.now c.in-Ok-Some.words spoken))
 
 pub returns-in-Err-clause-ok : goal.returns-in-Err-clause-ok
-returns-in-Err-clause-ok g c = rw c.in-Some.is ((c.answer_refused-in-Err.ensures (state c.args.workbench.now) c.requires.left).ok (Some c.in-Some.line.now) (c.in-Err.ensures.err (declared c.args.d.now)))
+returns-in-Err-clause-ok g c = rw c.in-Some.is ((c.answer_refused-in-Err.ensures (state c.args.workbench.now) c.requires.left).ok (Some c.in-Some.line.now) (c.in-Err.ensures.err (declared c.args.declaration.now)))
 
 pub returns-in-Err-clause-err : goal.returns-in-Err-clause-err
-returns-in-Err-clause-err g c = rw c.in-Some.is ((c.answer_refused-in-Err.ensures (state c.args.workbench.now) c.requires.left).err (Some c.in-Some.line.now) (c.in-Err.ensures.err (declared c.args.d.now)))
+returns-in-Err-clause-err g c = rw c.in-Some.is ((c.answer_refused-in-Err.ensures (state c.args.workbench.now) c.requires.left).err (Some c.in-Some.line.now) (c.in-Err.ensures.err (declared c.args.declaration.now)))
 
 pub returns-in-Err-clause-failed : goal.returns-in-Err-clause-failed
 returns-in-Err-clause-failed g c = (c.answer_refused-in-Err.ensures (state c.args.workbench.now) c.requires.left).failed
@@ -58,9 +58,9 @@ returns-in-Err-clause-left g c = (c.answer_refused-in-Err.ensures (state c.args.
 pub returns-in-Ok-None-clause-ok : goal.returns-in-Ok-None-clause-ok
 returns-in-Ok-None-clause-ok g c =
     rw c.in-Some.is (λ before line left next e.
-    passes_none g.O.Output.passes (declared c.args.d.now) c.args.number before line (state c.args.workbench.now) c.args.output.now (g.met.O.Output.none c.args.output.now)
-    (held_blank (declared c.args.d.now) c.limits.ensures (state c.args.workbench.now) (Some c.in-Some.line.now) (rw c.in-Ok-None.field-0-is at c.in-Ok-None.ensures.none)
+    passes_none g.O.Output.passes (declared c.args.declaration.now) c.args.number before line (state c.args.workbench.now) c.args.output.now (g.met.O.Output.none c.args.output.now)
+    (held_blank (declared c.args.declaration.now) c.limits.ensures (state c.args.workbench.now) (Some c.in-Some.line.now) (rw c.in-Ok-None.field-0-is at c.in-Ok-None.ensures.none)
     before line left e))
 
 pub returns-in-Ok-None-clause-left : goal.returns-in-Ok-None-clause-left
-returns-in-Ok-None-clause-left g c = still_left (declared c.args.d.now) c.limits.ensures c.args.number (state c.args.workbench.now) c.requires.left
+returns-in-Ok-None-clause-left g c = still_left (declared c.args.declaration.now) c.limits.ensures c.args.number (state c.args.workbench.now) c.requires.left

@@ -31,7 +31,7 @@ returns-in-Err-clause-read g c = λ _.
       bytes = inv.bytes;
       taken = taken_no_more g.I.Input.takes g.met.I.Input.joins _ _ _ inv.bytes inv.taken c.in-Err.ensures.taken;
       within = record { lines = inv.so_far.few; bytes = omega (arith, inv.count, inv.bound) };
-      passed = SoFar-ended_lines (GatheredPasses g.O.Output.passes) (declared c.args.d.now) _ _ (progress c.loop-taken.so_far) inv.bytes inv.so_far;
+      passed = SoFar-ended_lines (GatheredPasses g.O.Output.passes) (declared c.args.declaration.now) _ _ (progress c.loop-taken.so_far) inv.bytes inv.so_far;
     }
 
 -- ---- a chunk
@@ -110,7 +110,7 @@ loop-taken-preserved g c =
     record {
       bytes = inv.bytes ++ take c.in-Ok.taken c.take.new.buffer;
       taken = last.all;
-      so_far = subst (AnsweredSoFar (GatheredPasses g.O.Output.passes) (declared c.args.d.now) _ _ _)
+      so_far = subst (AnsweredSoFar (GatheredPasses g.O.Output.passes) (declared c.args.declaration.now) _ _ _)
           (kept_all inv.bytes c.take.new.buffer _ c.min-kept.result c.in-Ok.taken same last.within)
           (SoFar-still _ _ (GatheredPasses-joins g.O.Output.passes g.met.O.Output.joins) _ _ _ (progress c.feed.new.self) _
           (c.in-Ok-feed.ensures.whole c.in-Whole.is _ inv.bytes inv.so_far) c.flush.ensures.passed);

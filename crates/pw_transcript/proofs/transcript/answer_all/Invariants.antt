@@ -11,11 +11,11 @@ abbrev pub invariant-loop-taken : goal.invariant-loop-taken
 invariant-loop-taken g l = record {
   bytes : List ℕ;
   taken : g.I.Input.takes l.fn.input bytes l.input;
-  so_far : AnsweredSoFar (GatheredPasses g.O.Output.passes) (declared l.d) l.fn.output l.output (progress l.so_far) bytes;
+  so_far : AnsweredSoFar (GatheredPasses g.O.Output.passes) (declared l.declaration) l.fn.output l.output (progress l.so_far) bytes;
   count : length bytes ≡ l.total;
   bound : l.total ≤ most_bytes;
   passed_on : held_of l.output ≡ [];
-  running : IsRunning (declared l.d) (progress l.so_far);
+  running : IsRunning (declared l.declaration) (progress l.so_far);
 }
 
 abbrev pub decreases-loop-taken : goal.decreases-loop-taken

@@ -13,11 +13,11 @@ use Rattle.pw_test_networks.proofs.settling.stages.attach_one.Goals as goal
 pub add_cells-requires : goal.add_cells-requires
 add_cells-requires g c =
     let room = room_for_inner (wiring c.args.network.now) c.args.store.now c.args.network.now.well c.requires.kinds in
-    omega (arith, c.inner_kinds-kinds.ensures.most)
+    omega (arith, c.inner_kinds_of-kinds.ensures.most)
 
 pub returns : goal.returns
 returns g c =
-    let own = c.inner_kinds-kinds.ensures.kinds
+    let own = c.inner_kinds_of-kinds.ensures.kinds
     ∙ ap (λ (d : Declared). inner_kinds_of d.compounds c.in_ok-callable.callable)
     (c.declaration.ensures ∙ ap (λ (n : Network). n.declared) c.in-Ok.ensures.ok) in
     let are = c.in_ok-add_cells.ensures ∙ ap (λ (ks : List Kind). c.args.store.now.cells ++ map new_cell ks) own in

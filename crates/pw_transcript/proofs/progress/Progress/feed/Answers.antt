@@ -13,7 +13,7 @@ pub loop-rest-init : goal.loop-rest-init
 loop-rest-init g c = record {
   done = [];
   whole = refl;
-  so_far = λ first before s. subst (AnsweredSoFar g.O.Output.passes (declared c.args.d.now) first _ _) (sym (append-nil before)) s;
+  so_far = λ first before s. subst (AnsweredSoFar g.O.Output.passes (declared c.args.declaration.now) first _ _) (sym (append-nil before)) s;
   running = c.requires.running;
 }
 
@@ -22,7 +22,7 @@ pub returns-then-self-eq-MOST_LINES-clause-limit : goal.returns-then-self-eq-MOS
 returns-then-self-eq-MOST_LINES-clause-limit g c = λ _ first before s.
     let inv = c.loop-rest.invariant in
     let some : 0 < length c.loop-rest.rest.now = grind (arith, common_steps) in
-    SoFar-limit g.O.Output.passes (declared c.args.d.now) first _ (progress c.loop-rest.self) before c.args.bytes.now inv.done c.loop-rest.rest.now (inv.so_far first before s)
+    SoFar-limit g.O.Output.passes (declared c.args.declaration.now) first _ (progress c.loop-rest.self) before c.args.bytes.now inv.done c.loop-rest.rest.now (inv.so_far first before s)
     c.if-self-eq-MOST_LINES.true inv.whole some
 
 -- the rest has no line feed
@@ -30,8 +30,8 @@ pub returns-in_default-clause-whole : goal.returns-in_default-clause-whole
 returns-in_default-clause-whole g c = λ _ first before s.
     let inv = c.loop-rest.invariant in
     let more : c.loop-rest.self.counts.lines < most_lines = grind (arith, common_steps, inv.running.lines) in
-    subst (AnsweredSoFar g.O.Output.passes (declared c.args.d.now) first _ _) (before_rest before c.args.bytes.now inv.done c.loop-rest.rest.now inv.whole)
-    (SoFar-held g.O.Output.passes (declared c.args.d.now) first _ (progress c.loop-rest.self) _ (before ++ inv.done) c.loop-rest.rest.now (inv.so_far first before s)
+    subst (AnsweredSoFar g.O.Output.passes (declared c.args.declaration.now) first _ _) (before_rest before c.args.bytes.now inv.done c.loop-rest.rest.now inv.whole)
+    (SoFar-held g.O.Output.passes (declared c.args.declaration.now) first _ (progress c.loop-rest.self) _ (before ++ inv.done) c.loop-rest.rest.now (inv.so_far first before s)
     c.in_default.ensures.none refl refl c.extend.ensures more)
 
 pub returns-in_default-clause-running : goal.returns-in_default-clause-running
@@ -50,10 +50,10 @@ returns-in-Err-clause-err g c = λ first before s.
     let inv = c.loop-rest.invariant in
     let piece = c.in-Some.piece.now in
     let after = c.in-Some.after.now in
-    subst (FrontSoFar g.O.Output.passes (declared c.args.d.now) first _)
+    subst (FrontSoFar g.O.Output.passes (declared c.args.declaration.now) first _)
     (ap (λ (text : List ℕ). text ++ after) (append_assoc before inv.done (piece ++ 10 ∷ []))
     ∙ before_rest before c.args.bytes.now (inv.done ++ (piece ++ 10 ∷ [])) after (line_done c.args.bytes.now inv.done c.loop-rest.rest.now piece after inv.whole c.in-Some.ensures.some.0))
-    (FrontSoFar-more g.O.Output.passes (declared c.args.d.now) first _ _ after (c.in-Err.ensures.err first _ (inv.so_far first before s)))
+    (FrontSoFar-more g.O.Output.passes (declared c.args.declaration.now) first _ _ after (c.in-Err.ensures.err first _ (inv.so_far first before s)))
 
 pub loop-rest-smaller : goal.loop-rest-smaller
 loop-rest-smaller g c = omega (arith, ap length c.in-Some.ensures.some.0, length-append c.in-Some.piece.now (10 ∷ c.in-Some.after.now))
@@ -67,7 +67,7 @@ loop-rest-preserved g c =
       done = inv.done ++ (piece ++ 10 ∷ []);
       whole = line_done c.args.bytes.now inv.done c.loop-rest.rest.now piece after inv.whole c.in-Some.ensures.some.0;
       so_far = λ first before s.
-          subst (AnsweredSoFar g.O.Output.passes (declared c.args.d.now) first _ _) (append_assoc before inv.done (piece ++ 10 ∷ []))
+          subst (AnsweredSoFar g.O.Output.passes (declared c.args.declaration.now) first _ _) (append_assoc before inv.done (piece ++ 10 ∷ []))
           (c.in-Ok.ensures.ok first _ (inv.so_far first before s));
       running = c.in-Ok.ensures.running;
     }
@@ -76,7 +76,7 @@ loop-rest-preserved g c =
 pub returns-clause-whole : goal.returns-clause-whole
 returns-clause-whole g c = λ _ first before s.
     let inv = c.loop-rest.invariant in
-    subst (AnsweredSoFar g.O.Output.passes (declared c.args.d.now) first _ _)
+    subst (AnsweredSoFar g.O.Output.passes (declared c.args.declaration.now) first _ _)
     (ap (λ (text : List ℕ). before ++ text) (taken_all c.args.bytes.now inv.done c.loop-rest.rest.now inv.whole
     (sym c.is_empty.ensures ∙ c.loop-rest-test.false)))
     (inv.so_far first before s)

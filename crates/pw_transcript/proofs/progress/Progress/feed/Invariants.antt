@@ -9,8 +9,8 @@ abbrev pub invariant-loop-rest : goal.invariant-loop-rest
 invariant-loop-rest g l = record {
   done : List ℕ;
   whole : l.fn.bytes ≡ done ++ l.rest;
-  so_far : GoesOn g.O.Output.passes (declared l.d) (progress l.fn.self) l.fn.output done (progress l.self) l.output;
-  running : IsRunning (declared l.d) (progress l.self);
+  so_far : GoesOn g.O.Output.passes (declared l.declaration) (progress l.fn.self) l.fn.output done (progress l.self) l.output;
+  running : IsRunning (declared l.declaration) (progress l.self);
 }
 
 abbrev pub decreases-loop-rest : goal.decreases-loop-rest
