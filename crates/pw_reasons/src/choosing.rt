@@ -36,7 +36,7 @@ use std::alloc::{AllocError, Allocator};
 enum Found {
     // The first consistent combination.
     Chosen(Picks),
-    // No combination is consistent, as what was refuted last says. It is not noted.
+    // No combination is consistent: the nogood and the place in `Tried` refute each. They are not noted yet.
     Refuted,
     // No combination is consistent: noted sets cover each, but not what is believed.
     Nothing,
@@ -229,9 +229,9 @@ fn search<A: Allocator + Copy>(
 /// (`settle_aside`). (Radul and Sussman, *The Art of the Propagator*, on hypothetical premises. The
 /// order is this program's own.)
 ///
-/// The store is sound, and the nogoods are sets of premises that contradict themselves. Both stay
-/// so, the store keeps no less than before, the told facts are unchanged, and what was covered is
-/// covered: after a failure too.
+/// All premises of the groups must be below 512. The store must be sound, and the nogoods sets of
+/// premises that contradict themselves. Both stay so, the store keeps no less than before, the told
+/// facts are unchanged, and what was covered is covered: after a failure too.
 pub fn choose<A: Allocator + Copy>(
     alloc: A,
     network: &Network<'_, '_, A>,

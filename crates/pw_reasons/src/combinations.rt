@@ -61,7 +61,7 @@ fn with_taken(others: &PremiseSet, picks: &Picks) -> PremiseSet
 
 /// The worldview of a combination of the groups: what is believed without all premises of the
 /// groups, together with the premises taken. Where these are what `choose` answered, nothing is
-/// contradictory in it. Takes no memory.
+/// contradictory in it. All premises must be below 512. Takes no memory.
 pub fn worldview_with(beliefs: &PremiseSet, groups: &Groups, picks: &Picks) -> PremiseSet
     requires groups { All (All (λ premise. premise < most_premises)) (groups_of groups.now) }
     requires picks { All (λ premise. premise < most_premises) (picked_in picks.now) }

@@ -11,7 +11,7 @@ use crate::group::Group;
 const MOST_GROUPS: usize = 6;
 
 /// Groups of premises, from each of which one premise is taken: one to six groups of one to four
-/// premises, by number, and no premise stands twice in the whole. Two values with the same groups
+/// premises, by number, and no premise occurs twice in the whole. Two values with the same groups
 /// are equal.
 #[derive(Clone, Copy, Debug, PartialEq, Eq)]
 pub struct Groups {
@@ -31,7 +31,7 @@ fn hold(groups: &[Group], premise: u16) -> bool
         .any(|group| group.premises().contains(&premise))
 }
 
-// Whether no premise stands twice among these, or in the groups, in which none stands twice.
+// Whether no premise occurs twice among these, or in the groups, in which none occurs twice.
 fn stand_once(groups: &[Group], premises: &[u16]) -> bool
     requires { AllPairs (λ m n. m ≢ n) (all_premises groups.now) }
     ensures { IsTrue result ↔ AllPairs (λ m n. m ≢ n) (all_premises groups.now ++ premises.now) }
@@ -45,8 +45,8 @@ fn stand_once(groups: &[Group], premises: &[u16]) -> bool
     true
 }
 
-// The premises as one more group. None unless they are one to four, and none of them stands twice,
-// or in the groups, in which none stands twice.
+// The premises as one more group. None unless they are one to four, and none of them occurs twice,
+// or in the groups, in which none occurs twice.
 fn one_more(groups: &[Group], premises: &[u16]) -> Option<Group>
     requires { AllPairs (λ m n. m ≢ n) (all_premises groups.now) }
     ensures some { IsSome result ↔ (IsGroup premises.now
@@ -63,7 +63,7 @@ impl Groups {
     ghost use Rattle.std.specs.Prelude.{◌<◌, ◌∷◌, [], length, slice_index_or};
     ghost use Rattle.pw_reasons.specs.Combinations.{groups_of};
 
-    /// One group of these premises. None unless they are one to four, and none stands twice. Takes
+    /// One group of these premises. None unless they are one to four, and none occurs twice. Takes
     /// no memory.
     pub fn one(premises: &[u16]) -> Option<Groups>
         ensures some { IsSome result ↔ AreGroups (premises.now ∷ []) }
@@ -75,8 +75,8 @@ impl Groups {
         Some(Groups { held, count: 1 })
     }
 
-    /// These groups, and one more after them. None if it is a seventh group, unless it has one to
-    /// four premises, or if a premise would stand twice in the whole. Takes no memory.
+    /// These groups, and one more after them. None if there are six groups already, if the new one has
+    /// no premise or more than four, or if a premise would occur twice in the whole. Takes no memory.
     pub fn with(self, premises: &[u16]) -> Option<Groups>
         ensures some { IsSome result ↔ AreGroups (groups_of self ++ premises.now ∷ []) }
         ensures groups { IfSome result (λ groups. groups_of groups
@@ -103,7 +103,7 @@ impl Groups {
         self.count
     }
 
-    /// The premises of the group at this place, from 0.
+    /// The premises of the group at this place, from 0. The place must be below `len`.
     pub fn group(&self, place: usize) -> &[u16]
         requires { place < length (groups_of self.now) }
         ensures { result.now ≡ slice_index_or (groups_of self.now) place [] }

@@ -16,8 +16,8 @@ use pw_premises::PremiseSet;
 use std::alloc::{AllocError, Allocator, Global};
 use std::marker::Model;
 
-/// Sets of premises. Each is noted because something is contradictory if exactly these premises are
-/// believed; so it is in every worldview that includes one of the sets.
+/// Sets of premises, noted by callers who found that something is contradictory if exactly these are
+/// believed: so it is in every worldview that includes one of the sets. The type does not test it.
 ///
 /// (Radul and Sussman, *The Art of the Propagator*, on nogood sets.)
 #[derive(Drop)]
@@ -116,7 +116,7 @@ impl<A: Allocator + Copy> Nogoods<A> {
         self.products.add(fixed, groups, place)
     }
 
-    // Says which premises are expected in questions, for speed: others may come too.
+    // Announces which premises later questions are about, for speed. Others may be asked about too.
     pub(crate) fn expect(&mut self, premises: &PremiseSet)
         ensures { self.new ≡ self.old }
     {

@@ -37,7 +37,7 @@ impl Product {
         }
     }
 
-    // Whether all fixed premises are among these. The key is asked first: mostly it is not.
+    // Whether all fixed premises are among these. The key is tested first: mostly it is not.
     #[inline(always)]
     fn is_fixed_in(&self, premises: &PremiseSet) -> bool
         ensures { result ≡ is_subset self.now.fixed premises.now }

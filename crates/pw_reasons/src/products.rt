@@ -77,7 +77,7 @@ impl<A: Allocator> Products<A> {
         }
     }
 
-    // Says which premises are expected in questions. Others may come too.
+    // Announces which premises later questions are about. Others may be asked about too.
     pub(crate) fn expect(&mut self, premises: &PremiseSet)
         ensures { self.new ≡ self.old }
     {

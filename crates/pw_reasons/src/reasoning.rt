@@ -199,16 +199,16 @@ fn try_premises<A: Allocator + Copy>(
 /// one of them the value differs. If the value is a contradiction, they are noted. Fails only when
 /// out of memory.
 ///
-/// The store is sound, and the nogoods are sets of premises that contradict themselves. Both stay
-/// so, the store keeps no less than before, the told facts are unchanged, and what was covered is
-/// covered: after a failure too.
+/// The cell must exist, and the settled values must be those of the network and the store now. The
+/// store must be sound, and the nogoods sets of premises that contradict themselves. Both stay so, the
+/// store keeps no less than before, the told facts are unchanged, and what was covered is covered:
+/// after a failure too.
 ///
 /// Premises that are enough for the value are always at hand. A premise that is not among them is
 /// taken out at once. For a premise that is, the kept facts are looked up without it, and if they
 /// do not say the value, the values without it are found beside the store (`settle_aside`), from the
-/// values found last in which the cell has its value. So the store is unchanged. (Radul and Sussman, *The Art of the
-/// Propagator*, keep one support with each value. Making it irredundant, in a fixed order, is this
-/// program's own.)
+/// values found last in which the cell has its value. (Radul and Sussman, *The Art of the Propagator*,
+/// keep one support with each value. Making it irredundant, in a fixed order, is this program's own.)
 pub fn reason<A: Allocator + Copy>(
     alloc: A,
     network: &Network<'_, '_, A>,

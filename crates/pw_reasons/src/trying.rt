@@ -164,8 +164,8 @@ fn clashes_at<A: Allocator + Copy>(
     clashes
 }
 
-// The same at any declared cell. Mostly it is the cell at which the last one was found: so this one
-// comes first.
+// The same at any declared cell. The one where the last contradiction was found comes first: mostly it
+// is there again.
 fn clashes_anywhere<A: Allocator + Copy>(
     last: &Settled<A>,
     network: &Network<'_, '_, A>,

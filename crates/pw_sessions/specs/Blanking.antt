@@ -22,7 +22,7 @@ abbrev pub tried_by : Premises → Command → Premises
 tried_by beliefs (commands.Choose user groups) = tried_with beliefs (groups_of groups)
 tried_by beliefs command = beliefs
 
--- the same after lines with these readings
+-- what the command's user tries after lines with these readings
 abbrev pub tried_in : Declared → List LineReading → Command → Premises
 tried_in d before command = tried_by (beliefs_at d (user_of command) before) command
 
@@ -54,8 +54,8 @@ rests_on user later reading = false
 abbrev pub kept_if : Bool → LineReading → LineReading
 kept_if keeps reading = if keeps then reading else Blank
 
--- further lines, after lines with these readings, each blanked that the user does not rest on, who
--- tries this set at last
+-- further lines, after lines with these readings, with each line blanked that the user does not rest on. This is what the
+-- user tries at the last line
 abbrev pub blanked_from : Declared → ℕ → Premises → List LineReading → List LineReading → List LineReading
 blanked_from d user last before [] = []
 blanked_from d user last before (reading ∷ readings) =

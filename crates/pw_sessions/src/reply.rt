@@ -63,6 +63,6 @@ pub enum Reply<A: Allocator = Global> {
     /// The premises of the combination that the user believes now; None if something is
     /// contradictory under each combination.
     Chose(Option<Picks>),
-    /// The line was refused, and changed nothing.
+    /// The line was refused, and changed nothing that a reply shows.
     Refused(Refusal),
 }

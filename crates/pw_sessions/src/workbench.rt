@@ -246,13 +246,13 @@ impl<'d, 'r, A: Allocator + Copy> Workbench<'d, 'r, A> {
     ///
     /// After an answered why or conflicts, or an answered ask of a cell that is written by an
     /// instance whose premises are all believed, its user is fresh: nothing is left to derive, for
-    /// any user of the same beliefs. A fresh user stays fresh until the user believes something else, or a line of this user is
-    /// refused, or a line attaches something under premises that this user believes, or tells
-    /// something that does not follow already under this user's beliefs. `last_calls` says what
-    /// that saves.
+    /// any user of the same beliefs. A fresh user stays fresh until the user believes something else, or
+    /// a line of this user is refused, or a line attaches something under premises that this user
+    /// believes, or tells something that does not follow already under this user's beliefs.
+    /// `last_calls` says what that saves.
     ///
-    /// After a why that is answered with a contradiction the reason is noted, and what was noted is
-    /// never forgotten.
+    /// After a why that is answered with a contradiction the reason is noted, and what noted sets cover
+    /// stays covered.
     #[inline(always)]
     pub fn command(&mut self, line: u32, command: &Command) -> Reply<A>
         requires { CanBeCarriedOut (state self.old) line command.now }
@@ -269,18 +269,17 @@ impl<'d, 'r, A: Allocator + Copy> Workbench<'d, 'r, A> {
         self.carry_out(line, command)
     }
 
-    /// The number of procedure calls made by the last command to settle: 0 if its user was fresh,
-    /// and so if another user of the same beliefs was. It is 0
-    /// before the first command, and after a command that settled nothing or was refused while
-    /// settling. A why or conflicts that was refused after it had settled counts these calls. Calls
-    /// made to find a reason or a choice do not count.
+    /// The number of procedure calls that the last command made to settle: 0 if its user was fresh, or
+    /// another user of the same beliefs. It is 0 before the first command, and after a command that
+    /// settled nothing or was refused while settling. A why or conflicts that was refused after it had
+    /// settled counts these calls. Calls made to find a reason or a choice do not count.
     pub fn last_calls(&self) -> u128
         ensures { result ≡ (state self.now).calls }
     {
         self.calls
     }
 
-    /// The premises that the user believes now.
+    /// The premises that the user, who must be declared, believes now.
     pub fn beliefs(&self, user: u8) -> PremiseSet
         requires { IsUserOf (state self.now) user }
         ensures { (d : Declared) (before : List LineReading) → IsLeftBy d before (state self.now)

@@ -210,7 +210,7 @@ impl<'d, 'r, A: Allocator + Copy> Workbench<'d, 'r, A> {
     }
 
     // The same, by settling, where an instance that the user sees writes the cell. Never inlined, so
-    // that other questions make no room for the values of a settling.
+    // that the stack frame of other questions stays small.
     #[inline(never)]
     fn ask_settled(&mut self, user: u8, cell: u32, place: Option<usize>) -> Reply<A>
         requires can { CanAnswer (state self.old) user }
