@@ -57,7 +57,7 @@ fn push_calls<A: Allocator>(
     Ok(())
 }
 
-// The same. If memory is refused, nothing changes.
+// Appends the instances of calls, as `push_calls` does. If memory is refused, nothing changes.
 pub(crate) fn append_calls<A: Allocator>(
     instances: &mut Vec<Instance, A>,
     global: Global,

@@ -1,4 +1,4 @@
-//! The instances that read a declared cell, or that write it, attachment by attachment.
+//! The instances that read a declared cell, or that write it, batch by batch.
 ghost use Rattle.std.specs.Prelude.{◌≡◌, [], map};
 ghost use Rattle.std.specs.Iterator.{YieldsFirst, item_count};
 ghost use Rattle.pw_network.specs.Batches.{numbers_in};
@@ -29,8 +29,8 @@ pub(crate) struct Calls {
     pub(crate) list: u32,
 }
 
-// A list of a declared cell has the numbers of instances, which are below this one, and, from this one
-// on, those of `Calls`.
+// In the list of a declared cell, a number below this is that of an instance, and from this one on that
+// of `Calls`, which count from here.
 pub(crate) const LEAST_CALLS: u32 = 1 << 31;
 
 /// The remaining instances that read a declared cell, or that write it. The numbers of all of them, one

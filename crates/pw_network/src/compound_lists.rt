@@ -32,8 +32,8 @@ impl<A: Allocator + Copy> CompoundLists<A> {
         }
     }
 
-    // The number of the list of a compound's first place, of this many. Its calls get their lists
-    // unless they have them. Fails only when out of memory.
+    // The number of the list of the first of the compound's places, of which there are this many. Its
+    // calls get their lists unless they have them. Fails only when out of memory.
     pub(crate) fn first(
         &mut self,
         lists: &mut InstanceLists<A>,

@@ -135,7 +135,7 @@ impl<'d, 'r, A: Allocator + Copy> Network<'d, 'r, A> {
         &self.instances
     }
 
-    /// The number of cells, declared and inner.
+    /// The number of cells, declared and inner: at most 1,024 + 256 × 1,000,000.
     pub fn cells(&self) -> u32
         ensures count { result ≡ cells_in (wiring self.now) }
         ensures most { result ≤ most_cells_in }
@@ -143,7 +143,7 @@ impl<'d, 'r, A: Allocator + Copy> Network<'d, 'r, A> {
         self.declaration.cells() + self.inner.len() as u32
     }
 
-    /// The kind of the cell of this number.
+    /// The kind of the cell of this number, which must exist.
     pub fn kind(&self, cell: u32) -> Kind
         requires { cell < cells_in (wiring self.now) }
         ensures { result ≡ kind_in (wiring self.now) cell }
@@ -156,7 +156,7 @@ impl<'d, 'r, A: Allocator + Copy> Network<'d, 'r, A> {
     }
 
     /// The line of an inner cell's attachment and the cell's number there, from 0. None for a
-    /// declared cell. In the order of the cells, the lines never fall.
+    /// declared cell. The cell must exist. In the order of the cells, the lines never fall.
     pub fn inner(&self, cell: u32) -> Option<(u32, u16)>
         requires { cell < cells_in (wiring self.now) }
         ensures origin { result ≡ origin_in (wiring self.now) cell }
@@ -170,7 +170,7 @@ impl<'d, 'r, A: Allocator + Copy> Network<'d, 'r, A> {
         Some((inner.line, u16::from(inner.number)))
     }
 
-    /// The line of the last attachment, 0 before the first.
+    /// The line of the last attachment, 0 before the first, and at most 1,000,000.
     pub fn last_line(&self) -> u32
         ensures line { result ≡ (wiring self.now).last_line }
         ensures most { result ≤ last_attachment_line }
@@ -178,7 +178,7 @@ impl<'d, 'r, A: Allocator + Copy> Network<'d, 'r, A> {
         self.last_line
     }
 
-    /// The numbers of the instances that read the cell, in rising order.
+    /// The numbers of the instances that read the cell, in rising order: none if there is no such cell.
     pub fn readers(&self, cell: u32) -> BatchNumbers<'_, A>
         ensures { result ≡ readers_of (wiring self.now) cell }
     {
@@ -198,10 +198,12 @@ impl<'d, 'r, A: Allocator + Copy> Network<'d, 'r, A> {
         Batches::new(self.readers.numbers(cell, 0), &self.calls, &self.readers)
     }
 
-    /// The numbers of the instances that read the inner cell, in rising order. None for a declared cell.
+    /// The numbers of the instances that read the inner cell, in rising order: none if there is no such
+    /// cell. None for a declared cell.
     #[inline(always)]
     pub fn inner_readers(&self, cell: u32) -> Option<InstanceNumbers<'_>>
         ensures some { IfSome result (λ numbers. numbers ≡ readers_of (wiring self.now) cell) }
+        ensures inner { IfSome result (λ numbers. length (wiring self.now).declared.cells ≤ cell) }
         ensures none { IfNone result (cell < length (wiring self.now).declared.cells) }
     {
         let place = (cell as usize).checked_sub(self.writers.len())?;
@@ -229,9 +231,9 @@ impl<'d, 'r, A: Allocator + Copy> Network<'d, 'r, A> {
     }
 
     /// Attaches a callable, which must exist, to declared cells under these premises, at a line
-    /// after the last: adds its instances, and its inner cells, which get the next numbers. Fails
-    /// if the callable does not take these cells, and otherwise only when out of memory. After a
-    /// failure nothing is changed.
+    /// after the last and at most 1,000,000: adds its instances, and its inner cells, which get the
+    /// next numbers. Fails if the callable does not take these cells, and otherwise only when out of
+    /// memory. After a failure nothing is changed.
     pub fn attach(
         &mut self,
         line: u32,
@@ -335,9 +337,9 @@ impl<'d, 'r, A: Allocator + Copy> Network<'d, 'r, A> {
         self.writers.reserve(0, count)
     }
 
-    // The number of the list of a compound's first place, of this many. The lists of its other places
-    // follow: each has the calls that read the place. Then come as many with the calls that write each.
-    // Fails only when out of memory.
+    // The number of the list of the first of the compound's places, of which there are this many. The
+    // lists of its other places follow: each has the calls that read the place. Then come as many with
+    // the calls that write each. Fails only when out of memory.
     fn list_calls(
         &mut self,
         compound: u8,

@@ -12,19 +12,19 @@ ghost use Rattle.pw_settle.specs.Laws.{TellsMayBeMerged, UnwrittenCellsHaveWhatI
 ghost use Rattle.pw_settle.specs.Laws.{NetworksMeetTheLaws, AttachingWidens, GainsGrow};
 ghost use Rattle.pw_settle.specs.Laws.{FittingInWider, FittingWithNewCells, FittingWhereMoreIsKept};
 
-/// A round leaves the fixpoint unchanged: nothing more follows.
+/// A round leaves the fixpoint unchanged: nothing more follows. At each cell it is of the cell's kind.
 pub fn round_leaves_the_fixpoint<C>()
     ensures stays { RoundLeavesTheFixpoint C }
     ensures kinds { FixpointIsOfItsKinds C }
 {}
 
-/// It is the least informed of these: anything that a round leaves unchanged says at each cell at
-/// least as much.
+/// The fixpoint is the least informed of all that a round leaves unchanged: any other says at each cell
+/// at least as much.
 pub fn fixpoint_is_least_informed<C>()
     ensures { FixpointIsLeastInformed C }
 {}
 
-/// The same without rounds: the fixpoint says about each cell what each source says about it, and
+/// The fixpoint, said without rounds: it says about each cell what each source says about it, and
 /// anything that does so says at each cell at least what the fixpoint says.
 pub fn fixpoint_says_what_sources_say<C>()
     ensures says { FixpointSaysWhatSourcesSay C }
@@ -68,7 +68,7 @@ pub fn attaching_widens()
     ensures { AttachingWidens }
 {}
 
-/// If still more is kept afterwards, no less was gained.
+/// Gains never shrink: if still more is kept later, the gains up to then are at least those up to now.
 pub fn gains_grow()
     ensures { GainsGrow }
 {}

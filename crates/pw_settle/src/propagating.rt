@@ -1,5 +1,5 @@
 //! Calls of procedures on what is known about the inputs of their instances.
-ghost use Rattle.std.specs.Prelude.{◌≡◌, ◌<◌, ◌+◌, IfNone, IfSome, length, map};
+ghost use Rattle.std.specs.Prelude.{◌≡◌, ◌<◌, IfNone, IfSome, length, map};
 ghost use Rattle.pw_info.specs.Information.{kind_of, Implies};
 ghost use Rattle.pw_cells.specs.Cells.{IsUnsaid};
 ghost use Rattle.pw_network.specs.inside.Held.{attachment};
@@ -7,8 +7,7 @@ ghost use Rattle.pw_procs.specs.Registry.{procedures_in};
 ghost use Rattle.pw_settle.specs.Calls.{most_calls};
 ghost use Rattle.pw_settle.specs.inside.Known.{IsPlaced};
 ghost use Rattle.pw_settle.specs.Settled.{info_at};
-ghost use Rattle.pw_settle.specs.Values.{numbered};
-ghost use Rattle.pw_settle.specs.inside.Known.{Gives, GivesNews, GivesNone};
+ghost use Rattle.pw_settle.specs.inside.Known.{GivesNewsOnce, GivesOnce};
 
 use pw_info::{Info, Kind};
 use pw_network::Instance;
@@ -32,9 +31,8 @@ fn procedure_value(
         (attachment instance.now).instance }
     requires given { given.now ≡ map (info_at known.now) (attachment instance.now).instance.inputs }
     requires room { calls.old < most_calls }
-    ensures counted { calls.new ≡ calls.old + 1 }
-    ensures says { Gives (procedures_in registry.now) known.now (attachment instance.now) result }
-    ensures kind { kind_of result ≡ (numbered (map kind_of known.now)).kind instance.now.output }
+    ensures { GivesOnce (procedures_in registry.now) known.now (attachment instance.now) calls.old
+        calls.new result }
 {
     *calls += 1;
     registry.get(instance.procedure).call(given)
@@ -53,9 +51,8 @@ fn answer_on_many(
     requires room { calls.old < most_calls }
     requires placed { IsPlaced (procedures_in registry.now) (map kind_of known.now)
         (attachment instance.now).instance }
-    ensures counted { calls.new ≡ calls.old + 1 }
-    ensures says { Gives (procedures_in registry.now) known.now (attachment instance.now) result }
-    ensures kind { kind_of result ≡ (numbered (map kind_of known.now)).kind instance.now.output }
+    ensures { GivesOnce (procedures_in registry.now) known.now (attachment instance.now) calls.old
+        calls.new result }
 {
     let mut inputs = [Info::nothing(Kind::Interval); MOST_INPUTS];
     let cells = instance.inputs();
@@ -72,9 +69,8 @@ fn answer_on_any(registry: &Registry, instance: &Instance, known: &[Info], calls
     requires room { calls.old < most_calls }
     requires placed { IsPlaced (procedures_in registry.now) (map kind_of known.now)
         (attachment instance.now).instance }
-    ensures counted { calls.new ≡ calls.old + 1 }
-    ensures says { Gives (procedures_in registry.now) known.now (attachment instance.now) result }
-    ensures kind { kind_of result ≡ (numbered (map kind_of known.now)).kind instance.now.output }
+    ensures { GivesOnce (procedures_in registry.now) known.now (attachment instance.now) calls.old
+        calls.new result }
 {
     if let [one, another] = instance.inputs() {
         let given = [
@@ -116,11 +112,8 @@ fn news_on_given(
         (attachment instance.now).instance }
     requires there { instance.now.output < length known.now }
     requires given { given.now ≡ map (info_at known.now) (attachment instance.now).instance.inputs }
-    ensures counted { calls.new ≡ calls.old + 1 }
-    ensures news { IfSome result (GivesNews (procedures_in registry.now) known.now
-        (attachment instance.now)) }
-    ensures none { IfNone result (GivesNone (procedures_in registry.now) known.now
-        (attachment instance.now)) }
+    ensures { GivesNewsOnce (procedures_in registry.now) known.now (attachment instance.now)
+        calls.old calls.new result }
 {
     let info = procedure_value(registry, instance, known, given, calls);
     unless_known(known, instance.output, info)
@@ -138,11 +131,8 @@ fn news_on_any(
     requires placed { IsPlaced (procedures_in registry.now) (map kind_of known.now)
         (attachment instance.now).instance }
     requires there { instance.now.output < length known.now }
-    ensures counted { calls.new ≡ calls.old + 1 }
-    ensures news { IfSome result (GivesNews (procedures_in registry.now) known.now
-        (attachment instance.now)) }
-    ensures none { IfNone result (GivesNone (procedures_in registry.now) known.now
-        (attachment instance.now)) }
+    ensures { GivesNewsOnce (procedures_in registry.now) known.now (attachment instance.now)
+        calls.old calls.new result }
 {
     let info = answer_on_any(registry, instance, known, calls);
     unless_known(known, instance.output, info)
@@ -164,11 +154,8 @@ pub(crate) fn news_on(
     requires placed { IsPlaced (procedures_in registry.now) (map kind_of known.now)
         (attachment instance.now).instance }
     requires there { instance.now.output < length known.now }
-    ensures counted { calls.new ≡ calls.old + 1 }
-    ensures news { IfSome result (GivesNews (procedures_in registry.now) known.now
-        (attachment instance.now)) }
-    ensures none { IfNone result (GivesNone (procedures_in registry.now) known.now
-        (attachment instance.now)) }
+    ensures { GivesNewsOnce (procedures_in registry.now) known.now (attachment instance.now)
+        calls.old calls.new result }
 {
     let inputs = instance.inputs();
     if let [one, another] = inputs {

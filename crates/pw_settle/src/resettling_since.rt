@@ -82,7 +82,7 @@ fn push_new_cells<A: Allocator + Copy>(
     Ok(())
 }
 
-// The same. If memory is refused, nothing changes.
+// Appends what is kept of the cells that came since. Fails only when out of memory; then nothing changes.
 fn read_new_cells<A: Allocator + Copy>(
     store: &mut CellStore<A>,
     worldview: &PremiseSet,
@@ -130,8 +130,8 @@ fn queue_new_cells<A: Allocator + Copy>(
     }
 }
 
-// Merges a fact that came into what is known about its cell, and queues the visible readers of the
-// cell, if it is news in the worldview.
+// Merges an arrival into what is known about its cell. If that is news in the worldview, queues the
+// visible readers of the cell.
 #[inline(always)]
 fn take_in_arrival<A: Allocator + Copy>(
     network: &Network<'_, '_, A>,
@@ -171,8 +171,8 @@ fn take_in_arrival<A: Allocator + Copy>(
     queue_visible_readers(network, worldview, sees_all, agenda, cell);
 }
 
-// The same for all that came since a mark, the last first: it mostly says the most. Never inlined, so that
-// the loop is compiled by itself.
+// The same for all arrivals since a mark, the last first: it mostly says the most. Never inlined, so
+// that the loop is compiled by itself.
 #[inline(never)]
 fn take_in_arrivals<A: Allocator + Copy>(
     network: &Network<'_, '_, A>,
@@ -265,7 +265,8 @@ fn read_all_again<A: Allocator + Copy>(
     Ok(())
 }
 
-// The store knows what came since the mark, and it is less than reading all cells again would cost.
+// Whether the store remembers what came since the mark, and reading that costs less than reading all
+// cells again.
 fn is_little_new<A: Allocator + Copy>(store: &CellStore<A>, mark: u64) -> bool
     ensures { IsTrue result → KnowsWhatCame store.now mark }
 {
@@ -310,8 +311,9 @@ fn take_in_news<A: Allocator + Copy>(
 /// cells are. The instances called at first are only the visible instances that came since, and the
 /// readers of cells of which more is kept now than was found then.
 ///
-/// The values must fit, and a settling must be able to continue from them. Both hold of what a
-/// settling answered, as long as cells, instances and facts are only added.
+/// The values must fit, and a settling must be able to continue from them. Both hold of what `settle`,
+/// `resettle_from` and `resettle_since` answered, as long as cells, instances and facts are only added;
+/// not of what `settle_aside` answered.
 ///
 /// Fails only when out of memory. Then both still hold, and if nothing was new to the values, they
 /// are unchanged.

@@ -233,12 +233,13 @@ pub(crate) fn settle_from<A: Allocator + Copy>(
 
 /// The values of the cells of a network in a worldview: what follows, at each cell, from what the
 /// store is told there and from the instances that are visible there, with premises of the
-/// worldview that it rests on. The store has the network's cells, with their kinds. Fails only when
-/// out of memory.
+/// worldview that it rests on. The store must have the network's cells, with their kinds. The values
+/// are these if the store is sound: it keeps only what follows. Fails only when out of memory.
 ///
 /// Derived facts are cached in the store with their premises, so later settlings start from them,
-/// in any worldview. The told facts are unchanged, and the store stays sound: after a failure too,
-/// with perhaps more kept. A later settling may continue from the values (`resettle`).
+/// in any worldview. Afterwards the store keeps the value of each cell in this worldview. The told
+/// facts are unchanged, and the store stays sound: after a failure too, with perhaps more kept. A
+/// later settling may continue from the values (`resettle_from`, `resettle_since`).
 ///
 /// An instance is called once, and again if what is kept of one of its inputs has changed. (Radul
 /// and Sussman, *The Art of the Propagator*, on schedulers of propagators; Radul, *Propagation

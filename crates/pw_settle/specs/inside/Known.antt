@@ -1,5 +1,5 @@
 -- What is kept of each cell in a worldview, as a settling has it at hand.
-use Rattle.std.specs.Prelude.{OnErr, OnOk, Result}
+use Rattle.std.specs.Prelude.{◌+◌, IfNone, IfSome, OnErr, OnOk, Option, Result}
 use Rattle.std.specs.Prelude.{◌≡◌, ◌⊎◌, ℕ, ◌<◌, Bool, true, false, List, length, fold, set, refl, [], ◌∷◌, ◌++◌, All, map}
 use Rattle.std.specs.FinSet.{union, is_subset, code}
 use Rattle.pw_info.specs.declared.info.Info.{Info}
@@ -240,3 +240,17 @@ pub record GivesNone (procedures : List Procedure) (known : List Info) (a : Atta
   pub info : Info
   pub gives : Gives procedures known a info
   pub said : Implies (info_at known a.instance.output) info
+
+-- one call more gives this information, of the kind of the instance's output
+pub record GivesOnce (procedures : List Procedure) (known : List Info) (a : Attached) (old new : ℕ) (info : Info)
+    : Type 0 where
+  pub counted : new ≡ old + 1
+  pub says : Gives procedures known a info
+  pub kind : kind_of info ≡ (numbered (map kind_of known)).kind a.instance.output
+
+-- one call more gives news about the instance's output, or nothing that is not known
+pub record GivesNewsOnce (procedures : List Procedure) (known : List Info) (a : Attached) (old new : ℕ) (found : Option Info)
+    : Type 0 where
+  pub counted : new ≡ old + 1
+  pub news : IfSome found (GivesNews procedures known a)
+  pub none : IfNone found (GivesNone procedures known a)

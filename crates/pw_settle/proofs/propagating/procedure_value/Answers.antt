@@ -1,4 +1,4 @@
-use Rattle.std.proofs.Common.{List, map, sym, ap, subst, ◌∙◌}
+use Rattle.std.proofs.Common.{List, map, refl, sym, ap, subst, ◌∙◌}
 use Rattle.std.proofs.lemmas.Option.{slice_get_within}
 use Rattle.pw_info.specs.declared.info.Info.{Info}
 use Rattle.pw_info.specs.Information.{kind_of}
@@ -19,12 +19,14 @@ call-requires g c =
     let fits = fits_given (procedures_in c.args.registry.now) c.args.known.now (attachment c.args.instance.now).instance c.requires.placed (procedure_of c.get.result.now) c.get.ensures in
     subst (λ (l : List Info). FitSignature c.get.result.now.signature l) (sym {A = List Info} c.requires.given) fits.0
 
-pub returns-clause-kind : goal.returns-clause-kind
-returns-clause-kind g c =
-    let fits = fits_given (procedures_in c.args.registry.now) c.args.known.now (attachment c.args.instance.now).instance c.requires.placed (procedure_of c.get.result.now) c.get.ensures in
-    ap kind_of (c.call.ensures ∙ ap (value_by (procedure_of c.get.result.now)) c.requires.given) ∙ fits.1
-
-pub returns-clause-says : goal.returns-clause-says
-returns-clause-says g c =
-    given_is_said (procedures_in c.args.registry.now) c.args.known.now (attachment c.args.instance.now).instance c.requires.placed (procedure_of c.get.result.now) c.get.ensures
-    c.call.result (c.call.ensures ∙ ap (value_by (procedure_of c.get.result.now)) c.requires.given)
+pub returns : goal.returns
+returns g c =
+    let procedures = procedures_in c.args.registry.now in
+    let instance = (attachment c.args.instance.now).instance in
+    let procedure = procedure_of c.get.result.now in
+    let is = c.call.ensures ∙ ap (value_by procedure) c.requires.given in
+    record {
+      counted = refl;
+      says = given_is_said procedures c.args.known.now instance c.requires.placed procedure c.get.ensures c.call.result is;
+      kind = ap kind_of is ∙ (fits_given procedures c.args.known.now instance c.requires.placed procedure c.get.ensures).1;
+    }
