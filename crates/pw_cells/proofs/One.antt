@@ -48,24 +48,3 @@ pub takes_place : (k : Kind) (f one : Fact) → kind_of f.info ≡ k → AreOfKi
     → f ∷ [] ≡ assimilated (one ∷ []) f
 takes_place k f one is kinds new subsumed =
     sym (ap (λ (l : List Fact). l ++ f ∷ []) (none_left f one true subsumed refl)) ∙ sym (assimilated_news f (one ∷ []) (none_subsume k f (one ∷ []) is kinds new))
-
--- a merge of the facts kept of a cell is shown at least where its premises are, and shows the most where
--- it is merged
-pub shown_above : (cell now : Cell) (facts : List Fact) (merge : Fact) → cell ≡ now → facts ≡ cell.kept → shown_by cell.kind merge.support facts ≡ merge.info
-    → IsLeastAbove merge.support (kept_of now) merge.info
-shown_above cell now facts merge view facts_are same =
-    subst (λ (c : Cell). IsLeastAbove merge.support (kept_of c) merge.info) view
-    (λ w sub. subst (λ (i : Info). Implies (kept_of cell w) i) (ap (shown_by cell.kind merge.support) (sym {A = List Fact} facts_are) ∙ same)
-    (larger_shown cell.kind merge.support w cell.kept sub))
-
-pub shown_below : (cell now : Cell) (facts : List Fact) (worldview : Premises) (info : Info) → cell ≡ now → facts ≡ cell.kept
-    → info ≡ shown_by cell.kind worldview facts → IsMostBelow worldview (kept_of now) info
-shown_below cell now facts worldview info view facts_are same =
-    subst (λ (c : Cell). IsMostBelow worldview (kept_of c) info) view
-    (λ w sub. subst (λ (i : Info). Implies i (kept_of cell w)) (sym {A = Info} (same ∙ ap (shown_by cell.kind worldview) facts_are))
-    (larger_shown cell.kind w worldview cell.kept sub))
-
--- a fact that stands for the facts of a cell stands for those of the same cell
-pub stands_so : (cell now : Cell) (w : Premises) (held fact : Fact) → cell ≡ now → fact ≡ held → StandsFor cell.kind w cell.kept held → StandsFor now.kind w now.kept fact
-stands_so cell now w held fact view is stands =
-    subst (λ (c : Cell). StandsFor c.kind w c.kept fact) view (subst (StandsFor cell.kind w cell.kept) (sym {A = Fact} is) stands)

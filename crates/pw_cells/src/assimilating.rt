@@ -78,7 +78,7 @@ pub(crate) fn assimilate_late<C: Content, S: Support, A: Allocator>(
     }
 }
 
-// The same, where some fact may be late.
+// `assimilate_late`, where some fact may be late.
 #[cold]
 #[inline(never)]
 fn assimilate_all<C: Content, S: Support, A: Allocator>(
@@ -130,7 +130,7 @@ pub(crate) fn assimilate<C: Content, S: Support, A: Allocator>(
     }
 }
 
-// The same, where no kept fact subsumes this one.
+// Keeps a fact that no kept fact subsumes.
 #[inline(always)]
 fn assimilate_news<C: Content, S: Support, A: Allocator>(
     kept: &mut Vec<Held<C, S>, A>,
@@ -194,7 +194,7 @@ fn push_news<C: Content, S: Support, A: Allocator>(
     ensures len { vec_len kept.new ≤ vec_len kept.old + 1 }
     ensures capacity { vec_capacity kept.old ≤ vec_capacity kept.new }
 {
-    // Only the copy lies in memory: the caller may hold its own in registers.
+    // The address of a copy is taken, so that the caller's value can stay in registers.
     let copy = *fact;
     shorten(kept, bound, limit);
     make_way(kept, bound, &copy);

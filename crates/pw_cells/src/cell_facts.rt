@@ -2,12 +2,11 @@
 
 ghost use Rattle.std.specs.Prelude.{◌≡◌, false, IfOk, IfSome, IsTrue, OnOk, OnErr};
 ghost use Rattle.pw_info.specs.Information.{kind_of, Implies};
-ghost use Rattle.pw_facts.specs.Facts.{IsLeastAbove, IsMostBelow};
+ghost use Rattle.pw_facts.specs.Facts.{IsLeastAbove};
 ghost use Rattle.pw_cells.specs.Cells.{fact_on, new_cell, told_of, kept_of};
 ghost use Rattle.pw_cells.specs.Changes.{TellsNews};
 ghost use Rattle.pw_cells.specs.Shown.{IsKeptOf};
 ghost use Rattle.pw_cells.specs.inside.CellChanges.{IsNews, KeepsFact, TellsFact};
-ghost use Rattle.pw_cells.specs.inside.OneCell.{StandsFor};
 
 use crate::few_facts::FewFacts;
 use crate::held::Held;
@@ -125,8 +124,8 @@ impl<A: Allocator + Copy> CellFacts<A> {
         self.keep_copied_news(info, support)
     }
 
-    // The same, where few facts are kept. Only the copy lies in memory: the caller may hold its own in
-    // registers.
+    // The same, where few facts are kept. Takes the address of a copy only, so that the caller's value
+    // can stay in registers.
     #[inline(always)]
     fn keep_copied_news(&mut self, info: &Info, support: NarrowSet) -> Result<(), AllocError>
         requires { IsNews (fact_on info.now support) self.old }
@@ -140,8 +139,8 @@ impl<A: Allocator + Copy> CellFacts<A> {
         self.keep_few_news(&copy, support)
     }
 
-    // Puts the news in the place of the only kept fact, if they subsume it, and answers whether it did.
-    // Otherwise nothing changes. Never inlined: news of many facts are the ones in a hurry.
+    // Replaces the only kept fact by the news, if that subsumes it, and answers whether it did.
+    // Otherwise nothing changes. Never inlined: cells with many facts are the fast path.
     #[inline(never)]
     fn replace_one(&mut self, info: &Info, support: NarrowSet) -> bool
         requires { IsNews (fact_on info.now support) self.old }
@@ -155,7 +154,7 @@ impl<A: Allocator + Copy> CellFacts<A> {
         one.replace(&fact)
     }
 
-    // Keeps the news in any cell. Never inlined, for the same reason.
+    // Keeps the news in a cell of any form. Never inlined, like `replace_one`.
     #[inline(never)]
     fn keep_few_news(&mut self, info: &Info, support: NarrowSet) -> Result<(), AllocError>
         requires { IsNews (fact_on info.now support) self.old }
@@ -217,11 +216,7 @@ impl<A: Allocator + Copy> CellFacts<A> {
     #[inline(always)]
     pub(crate) fn kept(&mut self, worldview: &PremiseSet) -> Fact
         ensures same { self.new ≡ self.old }
-        ensures stands { StandsFor self.old.kind worldview.now self.old.kept result }
-        ensures kind { kind_of result.info ≡ self.old.kind }
-        ensures told { Implies result.info (told_of self.old worldview.now) }
-        ensures larger { IsLeastAbove result.support (kept_of self.old) result.info }
-        ensures smaller { IsMostBelow worldview.now (kept_of self.old) result.info }
+        ensures kept { IsKeptOf self.old worldview.now result }
     {
         match &mut self.all {
             Facts::One(one) => one.kept(worldview).fact(),
@@ -231,7 +226,7 @@ impl<A: Allocator + Copy> CellFacts<A> {
         }
     }
 
-    // The same, if no wide premise came to the cell.
+    // What `kept` answers, if no premise from 64 on came to the cell.
     #[inline(always)]
     pub(crate) fn kept_narrow(&mut self, worldview: &PremiseSet) -> Option<NarrowFact>
         ensures same { self.new ≡ self.old }
@@ -272,7 +267,7 @@ fn boxed<A: Allocator + Copy>(few: &FewFacts<Info, A>) -> Result<Box<ManyFacts<A
     Ok(Box::new(few.allocator(), many)?)
 }
 
-// The same for a cell of intervals.
+// `boxed` for a cell of intervals.
 #[cold]
 #[inline(never)]
 fn boxed_intervals<A: Allocator + Copy>(

@@ -90,7 +90,8 @@ impl<A: Allocator + Copy> CellStore<A> {
     }
 
     /// Makes room for this many more cells: the next `add_cells` of at most this many succeeds, no
-    /// matter what is told or kept in between. Fails only when out of memory; then nothing changes.
+    /// matter what is told or kept in between. There are at most 4,294,967,295 cells in all. Fails only
+    /// when out of memory; then nothing changes.
     pub fn reserve(&mut self, cells: u32) -> Result<(), AllocError>
         requires { length self.old.cells + cells ≤ most_store_cells }
         ensures room { OnOk result (cells ≤ self.new.room) }
@@ -103,7 +104,8 @@ impl<A: Allocator + Copy> CellStore<A> {
     }
 
     /// Adds cells of these kinds, about which nothing was told, and answers the number of the
-    /// first. Succeeds if there is room. Fails only when out of memory; then nothing changes.
+    /// first. Succeeds if there is room. There are at most 4,294,967,295 cells in all. Fails only when
+    /// out of memory; then nothing changes.
     pub fn add_cells(&mut self, kinds: &[Kind]) -> Result<u32, AllocError>
         requires { length self.old.cells + length kinds.now ≤ most_store_cells }
         ensures first { IfOk result (λ first. first ≡ length self.old.cells) }
@@ -300,7 +302,7 @@ impl<A: Allocator + Copy> CellStore<A> {
 
     /// The facts that came to be kept of cells since a mark, in the order in which they came. None
     /// if the store no longer remembers all of them: it remembers a few thousand, and none from
-    /// before one that rests on a premise from 64 on.
+    /// before one that rests on a premise from 64 on. None came since a mark that is still to come.
     pub fn since(&self, mark: u64) -> Option<&[Arrival]>
         ensures some { IfSome result (λ list. since self.now mark ≡ Some list.now) }
         ensures none { IfNone result (since self.now mark ≡ None) }
@@ -336,8 +338,8 @@ impl<A: Allocator + Copy> CellStore<A> {
         self.recall_much(asker, cell, worldview)
     }
 
-    // The same, for a cell about which much was told. Never inlined, so that the usual question
-    // makes no room for the cached answers.
+    // The same, for a cell about which much was told. Never inlined, so that the stack frame of the
+    // usual question stays small.
     #[inline(never)]
     fn recall_much(&mut self, asker: u8, cell: u32, worldview: &PremiseSet) -> Info
         requires { cell < length self.old.cells }
@@ -384,7 +386,7 @@ impl<A: Allocator + Copy> CellStore<A> {
         self.cells[cell as usize].kept(worldview)
     }
 
-    /// What `kept` answers, in little room. None if a premise from 64 on came to the cell; no clause
+    /// What `kept` answers, as a `NarrowFact`. None if a premise from 64 on came to the cell; no clause
     /// says when. Takes no memory. The cell must exist.
     #[inline(always)]
     pub fn kept_narrow(&mut self, cell: u32, worldview: &PremiseSet) -> Option<NarrowFact>

@@ -4,13 +4,14 @@ ghost use Rattle.std.specs.Prelude.{◌≡◌, ◌+◌, ◌<◌, ◌≤◌, ◌+
 ghost use Rattle.std.specs.Prelude.{if◌then◌else◌};
 ghost use Rattle.std.specs.Prelude.{length, vec_len, vec_capacity, IsTrue, IfOk, OnOk, OnErr};
 ghost use Rattle.pw_info.specs.Information.{kind_of, Implies};
-ghost use Rattle.pw_facts.specs.Facts.{IsLeastAbove, IsMostBelow};
+ghost use Rattle.pw_facts.specs.Facts.{IsLeastAbove};
+ghost use Rattle.pw_cells.specs.Shown.{IsKeptOf};
 ghost use Rattle.pw_cells.specs.inside.OneCell.{Bounds};
 ghost use Rattle.pw_cells.specs.Cells.{fact_on, told_of, kept_of, IsSubsumedBy};
 ghost use Rattle.pw_cells.specs.Changes.{TellsNews};
 ghost use Rattle.pw_cells.specs.inside.CellChanges.{IsNews, KeepsFact, TellsFact};
 ghost use Rattle.pw_cells.specs.Cells.{all_assimilated};
-ghost use Rattle.pw_cells.specs.inside.OneCell.{AreOfKind, IsCellWhole, StandsFor, current};
+ghost use Rattle.pw_cells.specs.inside.OneCell.{AreOfKind, IsCellWhole, current};
 ghost use Rattle.pw_cells.specs.inside.OneCell.{cell_keeping};
 
 use crate::assimilating::{LEAST_LIMIT, assimilate, assimilate_late, is_subsumed};
@@ -232,11 +233,7 @@ impl<C: Content, S: Support, A: Allocator + Copy> FactLists<C, S, A> {
     #[inline(always)]
     pub(crate) fn kept(&mut self, worldview: &PremiseSet) -> Held<C, S>
         ensures same { self.new ≡ self.old }
-        ensures stands { StandsFor self.old.kind worldview.now self.old.kept result }
-        ensures kind { kind_of result.info ≡ self.old.kind }
-        ensures told { Implies result.info (told_of self.old worldview.now) }
-        ensures larger { IsLeastAbove result.support (kept_of self.old) result.info }
-        ensures smaller { IsMostBelow worldview.now (kept_of self.old) result.info }
+        ensures kept { IsKeptOf self.old worldview.now result }
     {
         assimilate_late(
             self.kind,

@@ -2,11 +2,10 @@
 
 ghost use Rattle.std.specs.Prelude.{◌≡◌, ◌∷◌, [], true, false, IfOk, OnOk, OnErr};
 ghost use Rattle.pw_info.specs.Information.{kind_of, nothing, Implies};
-ghost use Rattle.pw_facts.specs.Facts.{IsLeastAbove, IsMostBelow};
 ghost use Rattle.pw_cells.specs.Cells.{fact_on, new_cell, told_of, kept_of};
 ghost use Rattle.pw_cells.specs.Shown.{IsKeptOf};
 ghost use Rattle.pw_cells.specs.inside.CellChanges.{IsNews, KeepsFact};
-ghost use Rattle.pw_cells.specs.inside.OneCell.{StandsFor, cell_keeping};
+ghost use Rattle.pw_cells.specs.inside.OneCell.{cell_keeping};
 
 use crate::content::Content;
 use crate::fact_lists::{FactLists, append, reserve_unless};
@@ -130,16 +129,12 @@ impl<C: Content, A: Allocator + Copy> FewFacts<C, A> {
     // The merge of the kept facts, in a worldview, with premises that it rests on.
     #[inline(always)]
     pub(crate) fn kept(&self, worldview: &PremiseSet) -> Held<C, NarrowSet>
-        ensures stands { StandsFor self.now.kind worldview.now self.now.kept result }
-        ensures kind { kind_of result.info ≡ self.now.kind }
-        ensures told { Implies result.info (told_of self.now worldview.now) }
-        ensures larger { IsLeastAbove result.support (kept_of self.now) result.info }
-        ensures smaller { IsMostBelow worldview.now (kept_of self.now) result.info }
+        ensures { IsKeptOf self.now worldview.now result }
     {
         merged_few(self.kind, self.kept.as_slice(), worldview)
     }
 
-    // The same, in little room.
+    // The same, as a `NarrowFact`.
     #[inline(always)]
     pub(crate) fn kept_narrow(&self, worldview: &PremiseSet) -> NarrowFact
         ensures { IsKeptOf self.now worldview.now (fact_on result.info result.support) }

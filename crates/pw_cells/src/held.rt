@@ -180,7 +180,7 @@ impl<C: Content, S: Support> Held<C, S> {
 }
 
 impl<C: Content> Held<C, NarrowSet> {
-    // The same fact, as callers of a store see it, in little room.
+    // The same fact, as callers of a store see it: a `NarrowFact`.
     #[inline(always)]
     pub(crate) fn narrow(&self) -> NarrowFact
         ensures info { result.info ≡ self.now.info }

@@ -2,12 +2,11 @@
 
 ghost use Rattle.std.specs.Prelude.{◌≡◌, false, IfOk, IfSome, OnOk, OnErr};
 ghost use Rattle.pw_info.specs.Information.{kind_of, Implies};
-ghost use Rattle.pw_facts.specs.Facts.{IsLeastAbove, IsMostBelow};
+ghost use Rattle.pw_facts.specs.Facts.{IsLeastAbove};
 ghost use Rattle.pw_cells.specs.Cells.{fact_on, told_of, kept_of};
 ghost use Rattle.pw_cells.specs.Changes.{TellsNews};
 ghost use Rattle.pw_cells.specs.Shown.{IsKeptOf};
 ghost use Rattle.pw_cells.specs.inside.CellChanges.{IsNews, KeepsFact, TellsFact};
-ghost use Rattle.pw_cells.specs.inside.OneCell.{StandsFor};
 
 use crate::fact_lists::FactLists;
 use crate::held::Held;
@@ -93,8 +92,8 @@ impl<A: Allocator + Copy> ManyFacts<A> {
         self.tell_wide(fact)
     }
 
-    // The same, in wide lists. Never inlined, like `keep_wide`, so that cells with narrow lists make
-    // no room for wide ones.
+    // `tell` for wide lists, or for a fact that makes them wide. Never inlined, like `keep_wide`, so that
+    // the stack frame of what is narrow stays small.
     #[cold]
     #[inline(never)]
     fn tell_wide(&mut self, fact: &Fact) -> Result<(), AllocError>
@@ -145,7 +144,8 @@ impl<A: Allocator + Copy> ManyFacts<A> {
         }
     }
 
-    // The same, in wide lists. Only the copy lies in memory: the caller may hold its own in registers.
+    // Keeps news in wide lists. Takes the address of a copy only, so that the caller's value can stay in
+    // registers.
     #[inline(always)]
     fn keep_wide_copy(&mut self, info: &Info, support: NarrowSet) -> Result<(), AllocError>
         requires { IsNews (fact_on info.now support) self.old }
@@ -156,8 +156,7 @@ impl<A: Allocator + Copy> ManyFacts<A> {
         self.keep_wide_news(&copy, support)
     }
 
-    // The same. Never inlined, like `keep_wide`, so that what is narrow makes no room
-    // for a wide fact.
+    // The same. Never inlined, like `keep_wide`, so that the stack frame of what is narrow stays small.
     #[cold]
     #[inline(never)]
     fn keep_wide_news(&mut self, info: &Info, support: NarrowSet) -> Result<(), AllocError>
@@ -239,11 +238,7 @@ impl<A: Allocator + Copy> ManyFacts<A> {
     #[inline(always)]
     pub(crate) fn kept(&mut self, worldview: &PremiseSet) -> Fact
         ensures same { self.new ≡ self.old }
-        ensures stands { StandsFor self.old.kind worldview.now self.old.kept result }
-        ensures kind { kind_of result.info ≡ self.old.kind }
-        ensures told { Implies result.info (told_of self.old worldview.now) }
-        ensures larger { IsLeastAbove result.support (kept_of self.old) result.info }
-        ensures smaller { IsMostBelow worldview.now (kept_of self.old) result.info }
+        ensures kept { IsKeptOf self.old worldview.now result }
     {
         match &mut self.lists {
             Lists::Intervals(lists) => lists.kept(worldview).fact(),
@@ -252,7 +247,7 @@ impl<A: Allocator + Copy> ManyFacts<A> {
         }
     }
 
-    // The same, if the lists are narrow.
+    // What `kept` answers, if the lists are narrow.
     #[inline(always)]
     pub(crate) fn kept_narrow(&mut self, worldview: &PremiseSet) -> Option<NarrowFact>
         ensures same { self.new ≡ self.old }
@@ -281,7 +276,7 @@ impl<A: Allocator + Copy> ManyFacts<A> {
     }
 }
 
-// The same of wide lists. Never inlined, so that the tests of narrow supports stay short.
+// `may_show_more` of wide lists. Never inlined, so that the tests of narrow supports stay short.
 #[cold]
 #[inline(never)]
 fn may_show_more_wide<A: Allocator + Copy>(

@@ -37,7 +37,7 @@ pub(crate) fn merged<C: Content, S: Support>(
     merge
 }
 
-// The same for few facts, which are all gone over.
+// `merged` for few facts, which are all gone over.
 #[inline(always)]
 pub(crate) fn merged_few<C: Content, S: Support>(
     kind: Kind,

@@ -3,7 +3,7 @@
 use pw_info::Info;
 use pw_premises::NarrowSet;
 
-/// A fact that rests on premises below 64, in little room.
+/// A fact that rests on premises below 64, with a support of one word.
 #[derive(Clone, Copy, Debug)]
 pub struct NarrowFact {
     /// What it says about a value.

@@ -3,11 +3,10 @@
 ghost use Rattle.std.specs.Prelude.{◌≡◌, ◌∷◌, [], false, IfOk, IsTrue};
 ghost use Rattle.pw_info.specs.declared.kind.Kind.TheVariants as kinds;
 ghost use Rattle.pw_info.specs.Information.{kind_of, Implies};
-ghost use Rattle.pw_facts.specs.Facts.{IsLeastAbove, IsMostBelow};
 ghost use Rattle.pw_cells.specs.Cells.{fact_on, told_of, kept_of};
 ghost use Rattle.pw_cells.specs.Shown.{IsKeptOf};
 ghost use Rattle.pw_cells.specs.inside.CellChanges.{IsNews, KeepsFact};
-ghost use Rattle.pw_cells.specs.inside.OneCell.{StandsFor, cell_keeping};
+ghost use Rattle.pw_cells.specs.inside.OneCell.{cell_keeping};
 
 use crate::few_facts::FewFacts;
 use crate::held::Held;
@@ -94,16 +93,12 @@ impl<A: Allocator + Copy> OneFact<A> {
     // The merge of the kept facts, in a worldview, with premises that it rests on.
     #[inline(always)]
     pub(crate) fn kept(&self, worldview: &PremiseSet) -> Held<Interval, NarrowSet>
-        ensures stands { StandsFor self.now.kind worldview.now self.now.kept result }
-        ensures kind { kind_of result.info ≡ self.now.kind }
-        ensures told { Implies result.info (told_of self.now worldview.now) }
-        ensures larger { IsLeastAbove result.support (kept_of self.now) result.info }
-        ensures smaller { IsMostBelow worldview.now (kept_of self.now) result.info }
+        ensures { IsKeptOf self.now worldview.now result }
     {
         merged_few(Kind::Interval, slice::from_ref(&self.kept), worldview)
     }
 
-    // The same, in little room.
+    // The same, as a `NarrowFact`.
     #[inline(always)]
     pub(crate) fn kept_narrow(&self, worldview: &PremiseSet) -> NarrowFact
         ensures { IsKeptOf self.now worldview.now (fact_on result.info result.support) }

@@ -29,7 +29,7 @@ pub(crate) fn any_comes_in<C: Content, S: Support>(
     one_comes_in(left, before, worldview)
 }
 
-// The same for four facts. If none of them is visible, a test of each is enough.
+// `any_comes_in` for four facts. If none of them is visible, a test of each is enough.
 #[inline(always)]
 fn one_of_four_comes_in<C: Content, S: Support>(
     four: &[Held<C, S>],
@@ -46,7 +46,7 @@ fn one_of_four_comes_in<C: Content, S: Support>(
     visible && one_comes_in(four, before, worldview)
 }
 
-// The same, one fact after another.
+// `any_comes_in`, one fact after another.
 #[inline(always)]
 fn one_comes_in<C: Content, S: Support>(
     facts: &[Held<C, S>],

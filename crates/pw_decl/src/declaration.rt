@@ -190,7 +190,7 @@ impl<'r, A: Allocator + Copy> Declaration<'r, A> {
         self.accepts(callable, &given[..places.len()])
     }
 
-    /// The lines of the compound of this number.
+    /// The lines of the compound of this number, which must exist.
     pub fn steps(&self, compound: u8) -> &[Step]
         requires { compound < length (declared self.now).compounds }
         ensures { StepsAre (declared self.now) compound (steps_of result.now) }
@@ -198,8 +198,8 @@ impl<'r, A: Allocator + Copy> Declaration<'r, A> {
         &self.compounds[usize::from(compound)].steps
     }
 
-    /// The flattened compound of this number, as calls of procedures over places: its parameters
-    /// from 0, and after them its inner cells.
+    /// The flattened compound of this number, which must exist, as calls of procedures over places: its
+    /// parameters from 0, and after them its inner cells.
     pub fn flat_calls(&self, compound: u8) -> &[FlatCall]
         requires { compound < length (declared self.now).compounds }
         ensures { AreCallsOf (declared self.now).compounds compound result.now }
@@ -207,8 +207,8 @@ impl<'r, A: Allocator + Copy> Declaration<'r, A> {
         &self.flattened[usize::from(compound)].calls
     }
 
-    /// The kinds of the inner cells of the flattened compound of this number, at most 256, in the
-    /// order in which they are made.
+    /// The kinds of the inner cells of the flattened compound of this number, which must exist: at most
+    /// 256, in the order in which they are made.
     pub fn inner_kinds(&self, compound: u8) -> &[Kind]
         requires { compound < length (declared self.now).compounds }
         ensures kinds { result.now ≡ inner_kinds_of (declared self.now).compounds
@@ -218,8 +218,8 @@ impl<'r, A: Allocator + Copy> Declaration<'r, A> {
         &self.flattened[usize::from(compound)].inner
     }
 
-    /// The kinds of the inner cells that the callable, which is there, makes, at most 256: a
-    /// procedure makes none.
+    /// The kinds of the inner cells that the callable, which must exist, makes, at most 256: a procedure
+    /// makes none.
     pub fn inner_kinds_of(&self, callable: Callable) -> &[Kind]
         requires { IsCallable (declared self.now) callable }
         ensures kinds { result.now ≡ inner_kinds_of (declared self.now).compounds callable }
@@ -261,7 +261,7 @@ impl<'r, A: Allocator + Copy> Declaration<'r, A> {
         Some(number as u32)
     }
 
-    /// The name of the user of this number.
+    /// The name of the user of this number, who must exist.
     pub fn user_name(&self, user: u8) -> &str
         requires { user < length (declared self.now).users }
         ensures name { slice_get (declared self.now).users user ≡ Some result.now }
@@ -270,7 +270,7 @@ impl<'r, A: Allocator + Copy> Declaration<'r, A> {
         self.users.name(usize::from(user))
     }
 
-    /// The name of the premise of this number.
+    /// The name of the premise of this number, which must exist.
     pub fn premise_name(&self, premise: u16) -> &str
         requires { premise < length (declared self.now).premises }
         ensures name { slice_get (declared self.now).premises premise ≡ Some result.now }
@@ -279,7 +279,7 @@ impl<'r, A: Allocator + Copy> Declaration<'r, A> {
         self.premises.name(usize::from(premise))
     }
 
-    /// The name of the cell of this number.
+    /// The name of the cell of this number, which must exist.
     pub fn cell_name(&self, cell: u32) -> &str
         requires { cell < length (declared self.now).cells }
         ensures name { slice_get (declared self.now).cells cell ≡ Some result.now }
@@ -288,7 +288,7 @@ impl<'r, A: Allocator + Copy> Declaration<'r, A> {
         self.cells.name(cell as usize)
     }
 
-    /// The number of the user that the premise of this number belongs to, if any.
+    /// The number of the user that the premise of this number, which must exist, belongs to, if any.
     pub fn owner(&self, premise: u16) -> Option<u8>
         requires { premise < length (declared self.now).premises }
         ensures owner { result ≡ owner_of (declared self.now) premise }
@@ -306,7 +306,7 @@ impl<'r, A: Allocator + Copy> Declaration<'r, A> {
         &self.kinds
     }
 
-    /// The kind of the cell of this number.
+    /// The kind of the cell of this number, which must exist.
     pub fn cell_kind(&self, cell: u32) -> Kind
         requires { cell < length (declared self.now).cells }
         ensures kind { result ≡ kind_at (declared self.now) cell }

@@ -29,7 +29,7 @@ pub struct FlatCall {
 }
 
 /// The cell at a place: one of these cells, or, past their end, an inner cell. The first inner cell
-/// has the number `first`.
+/// has the number `first`, and `first + place` is at most 4,294,967,295.
 #[inline(always)]
 pub fn cell_at(cells: &[u32], first: u32, place: u32) -> u32
     requires { first + place ≤ 4294967295 }
@@ -43,7 +43,8 @@ pub fn cell_at(cells: &[u32], first: u32, place: u32) -> u32
 }
 
 /// The cells at these places: a place means one of these cells, or, past their end, an inner cell.
-/// The first inner cell has the number `first`.
+/// The first inner cell has the number `first`, and `first + place` is at most 4,294,967,295 for each
+/// place.
 pub fn place_cells(places: Arguments, cells: &[u32], first: u32) -> Arguments
     requires { All (λ place. first + place ≤ 4294967295) (cells_of places) }
     ensures { cells_of result ≡ map (at_place cells.now (λ j. first + j)) (cells_of places) }

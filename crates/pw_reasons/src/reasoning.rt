@@ -201,8 +201,7 @@ fn try_premises<A: Allocator + Copy>(
 ///
 /// The cell must exist, and the settled values must be those of the network and the store now. The
 /// store must be sound, and the nogoods sets of premises that contradict themselves. Both stay so, the
-/// store keeps no less than before, the told facts are unchanged, and what was covered is covered:
-/// after a failure too.
+/// store is unchanged, and what was covered is covered: after a failure too.
 ///
 /// Premises that are enough for the value are always at hand. A premise that is not among them is
 /// taken out at once. For a premise that is, the kept facts are looked up without it, and if they
@@ -228,6 +227,7 @@ pub fn reason<A: Allocator + Copy>(
         settled.now.worldview cell nogoods.new) }
     ensures nogoods { AreNogoods (wiring network.now) store.old nogoods.new }
     ensures covers { (w : Premises) → covers nogoods.old w ≡ true → covers nogoods.new w ≡ true }
+    ensures unchanged { store.new ≡ store.old }
     ensures grows { KeepsMore (wiring network.now) store.old store.new }
     ensures upstream { StaysUpstream (wiring network.now) store.old store.new }
 {

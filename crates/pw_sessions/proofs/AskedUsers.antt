@@ -55,7 +55,7 @@ module _ (old : Workbench) (user place : ℕ) (found : Workbench) where
     asked_settled answer can has = record {
       becomes = λ so. inr (fresh_settled can has after.grows);
       stays = λ is. fresh_settled can has after.grows;
-      few = after.few;
+      fresh = after.fresh;
       due = λ so. inr has.due;
       none = λ not. absurd (not settling);
     }
@@ -67,7 +67,7 @@ module _ (old : Workbench) (user place : ℕ) (found : Workbench) where
     asked_noted store nogoods answer can has grows upstream are = record {
       becomes = λ so. inr fresh;
       stays = λ is. fresh;
-      few = after.few;
+      fresh = after.fresh;
       due = λ so. inr (due_for_still old found new user after.grows.network grows refl has.due);
       none = λ not. absurd (not settling);
     } where

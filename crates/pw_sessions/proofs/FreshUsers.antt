@@ -23,7 +23,7 @@ use Rattle.pw_settle.specs.Growth.{IsWider}
 use Rattle.pw_settle.proofs.KeptFacts.{also_implies}
 use Rattle.pw_sessions.specs.declared.command.Command.{Command}
 use Rattle.pw_sessions.specs.Answer.{user_of}
-use Rattle.pw_sessions.specs.Freshness.{CallsDueFor, CallsFew, CountsCalls, IsAsked, IsFresh, KeepsFresh, MayEndFreshness, Settles}
+use Rattle.pw_sessions.specs.Freshness.{CallsDueFor, CallsNoneIfFresh, CountsCalls, IsAsked, IsFresh, KeepsFresh, MayEndFreshness, Settles}
 use Rattle.pw_sessions.specs.Reply.{LineReading}
 use Rattle.pw_sessions.specs.Reply.{Reply}
 use Rattle.pw_sessions.specs.Snapshot.{IsAfterTell, IsCurrent, Snapshot, after_entry, snapshot_in, start_for}
@@ -155,19 +155,16 @@ fresh_attached old new line callable cells support well also fits kinds wide all
 
 -- ---- commands that settle nothing
 
--- no calls are few calls
-pub calls_none : (old : Workbench) (user calls : ℕ) → calls ≡ 0 → CallsFew old user calls
-calls_none old user calls none = record {
-  none = λ is. none;
-  once = λ other is same. omega (arith, none);
-}
+-- no calls are none where a user is fresh too
+pub calls_none : (old : Workbench) (user calls : ℕ) → calls ≡ 0 → CallsNoneIfFresh old user calls
+calls_none old user calls none other is same = none
 
 -- if nobody's freshness ends
 module _ (old new : Workbench) (command : Command) (answer : Reply)
     (quiet : (d : Declared) (before : List LineReading) → Settles d before command → ⊥) where
   pub counts_none : new.calls ≡ 0 → CountsCalls old command new answer
   counts_none none = record {
-    few = calls_none old (user_of command) new.calls none;
+    fresh = calls_none old (user_of command) new.calls none;
     due = λ d before left settles. absurd (quiet d before settles);
     none = λ d before left not. none;
   }
@@ -226,7 +223,7 @@ module _ (old : Workbench) (command : Command) (Settling : Type 0) (new : Workbe
       ((d : Declared) (before : List LineReading) → IsLeftBy d before old → Settling → Settles d before command) →
       CountsCalls old command new answer
   question_counts settling settles = record {
-    few = asked.few;
+    fresh = asked.fresh;
     due = λ d before left so. asked.due (settling d before left so);
     none = λ d before left not. asked.none (λ settling. not (settles d before left settling));
   }
@@ -249,16 +246,13 @@ fresh_remembered old user values new remembered there worldview current =
 
 -- ---- a settling of the user
 
--- it made few calls, if it makes none from current values
-pub calls_few : (old : Workbench) (user calls : ℕ) → user < length old.beliefs →
+-- it made none where a user is fresh, if it makes none from current values
+pub calls_none_if_fresh : (old : Workbench) (user calls : ℕ) → user < length old.beliefs →
     ((snapshot : Snapshot) → snapshot_in old.snapshots (beliefs_in old user) ≡ Some snapshot → IsCurrent old.network old.store snapshot.values →
-    calls ≡ 0) → CallsFew old user calls
-calls_few old user calls there none = record {
-  none = λ is. none is.snapshot is.has is.current;
-  once = λ other is same.
-      let own = fresh_alike old user other there same is in
-      omega (arith, none own.snapshot own.has own.current);
-}
+    calls ≡ 0) → CallsNoneIfFresh old user calls
+calls_none_if_fresh old user calls there none other is same =
+    let own = fresh_alike old user other there same is in
+    none own.snapshot own.has own.current
 
 -- a user who is fresh has nothing due
 pub due_fresh : (old : Workbench) (user : ℕ) → IsFresh old user → old.calls ≡ 0 → CallsDueFor old user old
@@ -309,7 +303,7 @@ pub asked_known : (old : Workbench) (user : ℕ) (Settling : Type 0) (answer : R
 asked_known old user Settling answer fresh none = record {
   becomes = λ so. inr fresh;
   stays = λ is. is;
-  few = calls_none old user old.calls none;
+  fresh = calls_none old user old.calls none;
   due = λ so. inr (due_fresh old user fresh none);
   none = λ not. none;
 }

@@ -19,13 +19,13 @@ use Rattle.pw_settle.specs.Sound.{IsSound}
 use Rattle.pw_settle.specs.Values.{kinds_in}
 use Rattle.pw_settle.proofs.KeptFacts.{by_cell}
 use Rattle.pw_reasons.proofs.NogoodLemmas.{nogoods_same}
-use Rattle.pw_sessions.specs.Freshness.{AreCalls, CallsDue, CallsFew}
+use Rattle.pw_sessions.specs.Freshness.{AreCalls, CallsDue, CallsNoneIfFresh}
 use Rattle.pw_sessions.specs.inside.Steps.{CallsDueAgain, CanAnswer, HasSettled, IsAfterSettling, IsRemembered, OnlyKeepsMore, OnlySpares, RestOnUpstreamOf, StaysUpstreamOf, place_in}
 use Rattle.pw_sessions.specs.Snapshot.{IsCurrent, IsSnapshotOf, Snapshot, is_of, snapshot_in, start_for}
 use Rattle.pw_sessions.specs.Workbench.{Workbench, beliefs_in}
 use Rattle.pw_sessions.proofs.CurrentValues.{current_keeping, current_settled}
 use Rattle.pw_sessions.proofs.FewCalls.{due_none, no_gains}
-use Rattle.pw_sessions.proofs.FreshUsers.{calls_few, calls_none, fresh_remembered}
+use Rattle.pw_sessions.proofs.FreshUsers.{calls_none, calls_none_if_fresh, fresh_remembered}
 use Rattle.pw_sessions.proofs.LastValues.{only_remembers, only_settles, snapshots_keeping}
 use Rattle.pw_sessions.proofs.SnapshotLists.{first_there, its_worldview, latest_after, own_there, position_within, set_there, starts_there}
 use Rattle.pw_sessions.proofs.UpstreamSnapshots.{Rests}
@@ -130,10 +130,10 @@ module _ (old : Workbench) (user place : ℕ) (d before after : Snapshot) (store
           );
     }
 
-    -- they are few
-    few_again : (IsCurrent old.network old.store before.values → after.values.calls ≡ 0) → CallsFew old user calls
-    few_again none =
-        calls_few old user calls can.exists
+    -- none where the user was fresh
+    none_again : (IsCurrent old.network old.store before.values → after.values.calls ≡ 0) → CallsNoneIfFresh old user calls
+    none_again none =
+        calls_none_if_fresh old user calls can.exists
         (λ snapshot begins was. counted
         ∙ none (subst (λ (s : Snapshot). IsCurrent old.network old.store s.values) (same_Some snapshot before (sym begins ∙ has)) was))
 
@@ -181,7 +181,7 @@ module _ (old : Workbench) (user place : ℕ) (d before after : Snapshot) (store
     after_first none = record {
       grows = only_remembers old user found after.values brought (only_settles old user store calls grows stays) lies remembered
           still_own (subst (IsSnapshotOf old.network store) is_now fits);
-      few = few_again calls counted none;
+      fresh = none_again calls counted none;
       stays = λ fresh. fresh_remembered found user after.values brought remembered can.exists still_own current;
       same = refl;
     }
@@ -230,11 +230,11 @@ module _ (old : Workbench) (user place : ℕ) (d before after : Snapshot) (store
     }
 
     -- it is current if it was
-    after_kept : (IsCurrent old.network old.store before.values → IsCurrent old.network store after.values) → CallsFew old user calls →
+    after_kept : (IsCurrent old.network old.store before.values → IsCurrent old.network store after.values) → CallsNoneIfFresh old user calls →
         IsAfterSettling old user left
-    after_kept still few = record {
+    after_kept still none = record {
       grows = keeps;
-      few = few;
+      fresh = none;
       stays = λ fresh. record {
         exists = can.exists;
         snapshot = after;
@@ -267,7 +267,7 @@ module _ (old : Workbench) (user place : ℕ) (d before after : Snapshot) (store
 
     pub after_in_place : (IsCurrent old.network old.store before.values → after.values.calls ≡ 0) → IsAfterSettling old user (new list)
     after_in_place none =
-        subst (λ (l : List Snapshot). IsAfterSettling old user (new l)) (sym listed) (after_kept calls (λ was. current) (few_again calls counted none))
+        subst (λ (l : List Snapshot). IsAfterSettling old user (new l)) (sym listed) (after_kept calls (λ was. current) (none_again calls counted none))
 
   -- it was refused
   pub after_refused_again : (IsCurrent old.network old.store before.values → after.values ≡ before.values) → old.calls ≡ 0 →

@@ -10,7 +10,7 @@ use Rattle.pw_sessions.specs.Freshness.{CallsDue, IsSettledFor}
 use Rattle.pw_sessions.specs.inside.Steps.{CanAnswer, HasSettled, IsAfterSettling, IsLatest, IsRemembered, RestOnUpstreamOf, StaysUpstreamOf, place_in}
 use Rattle.pw_sessions.specs.Snapshot.{IsCurrent, Snapshot, is_of, start_for}
 use Rattle.pw_sessions.specs.Workbench.{Workbench, beliefs_in}
-use Rattle.pw_sessions.proofs.FreshUsers.{calls_few, calls_none, fresh_keeping, fresh_remembered}
+use Rattle.pw_sessions.proofs.FreshUsers.{calls_none, calls_none_if_fresh, fresh_keeping, fresh_remembered}
 use Rattle.pw_sessions.proofs.LastValues.{fitting_snapshot, only_remembers, only_settles}
 use Rattle.pw_sessions.proofs.SnapshotLists.{first_there, found_none}
 
@@ -22,7 +22,7 @@ module _ (old : Workbench) (user : ℕ) (store : Store) (can : CanAnswer old use
   after_refused_anew snapshots stay uncounted =
       subst (λ (l : List Snapshot). IsAfterSettling old user (record old { store = store; snapshots = l })) (sym stay) (record {
         grows = only_settles old user store old.calls grows upstream;
-        few = calls_none old user old.calls uncounted;
+        fresh = calls_none old user old.calls uncounted;
         stays = fresh_keeping old user (record old { store = store }) can.fits (only_settles old user store old.calls grows upstream) refl user;
         same = refl;
       })
@@ -58,7 +58,7 @@ module _ (old : Workbench) (user : ℕ) (store : Store) (can : CanAnswer old use
     after_settled_anew well none continues lie = record {
       grows = only_remembers old user found values new (only_settles old user store calls grows upstream) lie remembered settled.worldview_is
           (fitting_snapshot old user found values well (only_settles old user store calls grows upstream) settled continues current);
-      few = calls_few old user calls can.exists
+      fresh = calls_none_if_fresh old user calls can.exists
           (λ snapshot has was. absurd (none-some snapshot (sym (found_none (is_of (beliefs_in old user)) old.snapshots none) ∙ has)));
       stays = λ fresh. fresh_remembered found user values new remembered can.exists settled.worldview_is current;
       same = refl;

@@ -55,10 +55,7 @@ fresh_from_uncounted bench network command new answer keeps = record {
 pub counts_from_uncounted : (bench : Workbench) → IsWellNetwork bench.network → (command : Command) (new : Workbench) (answer : Reply) →
     CountsCalls (uncounted bench) command new answer → CountsCalls bench command new answer
 counts_from_uncounted bench network command new answer counts = record {
-  few = record {
-    none = λ is. counts.few.none (fresh_uncounted bench (user_of command) is);
-    once = λ other is. counts.few.once other (fresh_uncounted bench other is);
-  };
+  fresh = λ other is. counts.fresh other (fresh_uncounted bench other is);
   due = λ d before left. counts.due d before (left_uncounted d before bench network left);
   none = λ d before left. counts.none d before (left_uncounted d before bench network left);
 }

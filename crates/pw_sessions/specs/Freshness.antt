@@ -72,12 +72,10 @@ pub record KeepsFresh (old : Workbench) (command : Command) (new : Workbench) (a
   pub stays : (user : ℕ) → IsFresh old user → MayEndFreshness old user command new answer
       ⊎ IsFresh new user
 
--- the number of procedure calls of a settling of the user: none if the user was fresh, and at most
--- one for each visible instance if some user of the same beliefs was fresh
-pub record CallsFew (old : Workbench) (user : ℕ) (calls : ℕ) : Type 0 where
-  pub none : IsFresh old user → calls ≡ 0
-  pub once : (other : ℕ) → IsFresh old other → beliefs_in old other ≡ beliefs_in old user →
-      calls ≤ visible_count old.network (beliefs_in old user)
+-- the number of procedure calls of a settling of the user: none if some user of the same beliefs was fresh
+abbrev pub CallsNoneIfFresh : Workbench → ℕ → ℕ → Type 0
+CallsNoneIfFresh old user calls =
+    (other : ℕ) → IsFresh old other → beliefs_in old other ≡ beliefs_in old user → calls ≡ 0
 
 -- procedures were called at least `first` times, and at most `gained` times more
 pub record AreCalls (first gained calls : ℕ) : Type 0 where
@@ -112,14 +110,14 @@ pub record IsAsked (old : Workbench) (user : ℕ) (Settling : Type 0) (new : Wor
     (answer : Reply) : Type 0 where
   pub becomes : Settling → (answer ≡ reply.Refused refusal.Memory) ⊎ IsFresh new user
   pub stays : IsFresh old user → IsFresh new user
-  pub few : CallsFew old user new.calls
+  pub fresh : CallsNoneIfFresh old user new.calls
   pub due : Settling → CountsSettling old user new answer
   pub none : (Settling → ⊥) → new.calls ≡ 0
 
 -- the same for the command; a command that does not settle makes no calls
 pub record CountsCalls (old : Workbench) (command : Command) (new : Workbench) (answer : Reply)
     : Type 0 where
-  pub few : CallsFew old (user_of command) new.calls
+  pub fresh : CallsNoneIfFresh old (user_of command) new.calls
   pub due : (d : Declared) (before : List LineReading) → IsLeftBy d before old →
       Settles d before command →
       CountsSettling old (user_of command) new answer

@@ -8,7 +8,8 @@ use Rattle.pw_info.specs.Information.{meet, nothing}
 use Rattle.pw_settle.specs.Sources.{Cells, Source, Told, cell_of, is_propagator, said_by, Fits}
 
 -- this many rounds for each cell are enough: each round but the last makes some cell more informed,
--- which can happen to a cell at most as many times as it has possible values
+-- which can happen to a cell at most as many times as it has possible values. An interval has
+-- 2,000,001, and no kind has more
 abbrev pub rounds_of_a_cell : ℕ
 rounds_of_a_cell = 2000002
 
@@ -20,9 +21,7 @@ module _ {C : Type 0} (cells : Cells C) where
 
   -- a round: what is known about a cell is merged with everything that the sources say about it
   abbrev pub round : List (Source C) → (C → Info) → C → Info
-  round sources known cell =
-      fold (λ info source. if cells.same (cell_of source) cell then meet info (said_by known source)
-      else info) (known cell) sources
+  round sources known cell = fold (with_source known cell) (known cell) sources
 
   -- nothing is known about any cell
   abbrev pub unknown_at : C → Info
@@ -32,8 +31,7 @@ module _ {C : Type 0} (cells : Cells C) where
   -- rounds; a further round changes nothing. It is never computed: the laws of this crate describe
   -- it
   unfoldable pub fixpoint : List C → List (Source C) → C → Info
-  fixpoint over sources = iterate (round sources) (length over * rounds_of_a_cell) (λ cell.
-      nothing (cells.kind cell))
+  fixpoint over sources = iterate (round sources) (length over * rounds_of_a_cell) unknown_at
 
   -- the told information about a cell: everything told about it, merged
   abbrev pub told_alone : List (Source C) → C → Info

@@ -48,11 +48,7 @@ propagator_of procedures instance =
 
 -- instances as sources, each where there is a procedure of its number
 abbrev pub propagators_of : {C : Type 0} → List Procedure → List (Instance C) → List (Source C)
-propagators_of procedures instances =
-    filter_map
-    (λ instance. option_map (λ procedure. Propagator procedure instance.inputs instance.output)
-    (slice_get procedures instance.procedure))
-    instances
+propagators_of procedures instances = filter_map (propagator_of procedures) instances
 
 -- the instances that are visible in a worldview: all premises under which each was attached are in
 -- it
@@ -60,11 +56,6 @@ abbrev pub visible_instances : List Attached → Premises → List (Instance ℕ
 visible_instances attached worldview =
     map (λ (a : Attached). a.instance) (filter (λ (a : Attached).
     is_subset a.support worldview) attached)
-
--- what the store is told about each of its cells in a worldview
-abbrev pub told_infos : Store → Premises → List Info
-told_infos store worldview = map (λ cell. told_in store cell worldview)
-    (range_with_len 0 (length store.cells))
 
 -- the cells below this number, with what the store is told about each in a worldview
 abbrev pub told_sources : Store → Premises → ℕ → List (Source ℕ)

@@ -100,7 +100,7 @@ fn grow_cell<A: Allocator + Copy>(
     Ok(())
 }
 
-// The same for all cells, one after another.
+// Calls `grow_cell` for each cell, one after another.
 fn grow_cells<A: Allocator + Copy>(
     network: &Network<'_, '_, A>,
     store: &mut CellStore<A>,

@@ -40,7 +40,8 @@ pub(crate) fn keep_news<A: Allocator + Copy>(
     keep_copied_news(store, infos, supports, cell, instance, &news)
 }
 
-// The same for any news. Only the copy lies in memory: the caller may hold its own in registers.
+// The same for news of any kind. Takes the address of a copy only, so that the caller's value can stay in
+// registers.
 #[inline(always)]
 fn keep_copied_news<A: Allocator + Copy>(
     store: &mut CellStore<A>,
@@ -58,7 +59,7 @@ fn keep_copied_news<A: Allocator + Copy>(
     keep_any_news(store, infos, supports, cell, instance, &copy)
 }
 
-// The same for any news. Never inlined, so that news about intervals carry no parts of other kinds.
+// `keep_news` for any news. Never inlined, so that news about an interval carries no parts of other kinds.
 #[cold]
 #[inline(never)]
 fn keep_any_news<A: Allocator + Copy>(
@@ -79,7 +80,7 @@ fn keep_any_news<A: Allocator + Copy>(
     keep_wide_news(store, infos, supports, cell, instance, info)
 }
 
-// The same for news on these premises, which are below 64.
+// `keep_news` on these premises, which are below 64.
 #[inline(always)]
 fn keep_narrow_news<A: Allocator + Copy>(
     store: &mut CellStore<A>,
@@ -101,8 +102,8 @@ fn keep_narrow_news<A: Allocator + Copy>(
     Ok(())
 }
 
-// The same for news on any premises. Never inlined, so that news on premises below 64 make no room for
-// wide sets.
+// The same for news on any premises. Never inlined, so that the stack frame for premises below 64 stays
+// small.
 #[cold]
 #[inline(never)]
 fn keep_wide_news<A: Allocator + Copy>(

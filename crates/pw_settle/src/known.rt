@@ -72,7 +72,8 @@ pub(crate) fn push_kept<A: Allocator + Copy>(
     push_wide_kept(store, cell, worldview, infos, supports)
 }
 
-// The same, on any premises. Never inlined, so that what is narrow makes no room for wide sets.
+// What `push_kept` does, on any premises. Never inlined, so that the stack frame for premises below 64
+// stays small.
 #[cold]
 #[inline(never)]
 fn push_wide_kept<A: Allocator + Copy>(
@@ -120,7 +121,8 @@ pub(crate) fn put_kept<A: Allocator + Copy>(
     put_wide_kept(store, cell, worldview, known)
 }
 
-// The same, on any premises. Never inlined, so that what is narrow makes no room for wide sets.
+// What `put_kept` does, on any premises. Never inlined, so that the stack frame for premises below 64
+// stays small.
 #[cold]
 #[inline(never)]
 fn put_wide_kept<A: Allocator + Copy>(
@@ -159,7 +161,7 @@ pub(crate) fn joined_support<A: Allocator>(
     joined
 }
 
-// The same, if all of them are below 64.
+// The premises of `joined_support`, if all are below 64. None says nothing.
 #[inline(always)]
 pub(crate) fn joined_narrow<A: Allocator>(
     instance: &Instance,
@@ -207,8 +209,8 @@ pub(crate) fn take_in_news<A: Allocator + Copy>(
     take_in_wide_news(infos, supports, cell, instance, info)
 }
 
-// The same, on any premises. Never inlined, so that news on premises below 64 make no room for wide
-// sets.
+// What `take_in_news` does, on any premises. Never inlined, so that the stack frame for premises below 64
+// stays small.
 #[cold]
 #[inline(never)]
 fn take_in_wide_news<A: Allocator + Copy>(
@@ -302,7 +304,8 @@ pub(crate) fn take_in_kept<A: Allocator + Copy>(
     take_in_wide_kept(store, cell, worldview, infos, supports)
 }
 
-// The same, on any premises. Never inlined, so that what is narrow makes no room for wide sets.
+// What `take_in_kept` does, on any premises. Never inlined, so that the stack frame for premises below 64
+// stays small.
 #[cold]
 #[inline(never)]
 fn take_in_wide_kept<A: Allocator + Copy>(

@@ -39,7 +39,7 @@ fn procedure_value(
 }
 
 // The value of the instance's procedure on what is known about its inputs, for any number of
-// inputs. Never inlined, so that other calls make no room for so many inputs.
+// inputs. Never inlined, so that the stack frame of other calls stays small.
 #[cold]
 #[inline(never)]
 fn answer_on_many(
@@ -62,7 +62,8 @@ fn answer_on_many(
     procedure_value(registry, instance, known, &inputs[..cells.len()], calls)
 }
 
-// The same for inputs of any kinds. Most procedures have two. Never inlined, for the same reason.
+// Like `answer_on_many`, with a case for two inputs, as most procedures have. Never inlined, for the same
+// reason.
 #[cold]
 #[inline(never)]
 fn answer_on_any(registry: &Registry, instance: &Instance, known: &[Info], calls: &mut u128) -> Info
@@ -119,7 +120,7 @@ fn news_on_given(
     unless_known(known, instance.output, info)
 }
 
-// The same for any inputs.
+// `news_on` without its fast cases.
 #[inline(always)]
 fn news_on_any(
     registry: &Registry,

@@ -171,8 +171,8 @@ fn take_in_arrival<A: Allocator + Copy>(
     queue_visible_readers(network, worldview, sees_all, agenda, cell);
 }
 
-// The same for all arrivals since a mark, the last first: it mostly says the most. Never inlined, so
-// that the loop is compiled by itself.
+// `take_in_arrival` for all arrivals since a mark, the last first: it mostly says the most. Never
+// inlined, so that the loop is compiled by itself.
 #[inline(never)]
 fn take_in_arrivals<A: Allocator + Copy>(
     network: &Network<'_, '_, A>,
@@ -237,7 +237,7 @@ fn read_again<A: Allocator + Copy>(
     Ok(())
 }
 
-// The same for all cells. Fails only when out of memory; then what is known is still at hand, and
+// `read_again` for all cells. Fails only when out of memory; then what is known is still at hand, and
 // more is kept of a cell than was known before.
 fn read_all_again<A: Allocator + Copy>(
     network: &Network<'_, '_, A>,

@@ -158,7 +158,8 @@ fn push_start<A: Allocator + Copy>(
     push_wide_start(before, network, store, cell, worldview, infos, supports)
 }
 
-// The same, on any premises. Never inlined, so that what is narrow makes no room for wide sets.
+// What `push_start` does, on any premises. Never inlined, so that the stack frame for premises below 64
+// stays small.
 #[cold]
 #[inline(never)]
 fn push_wide_start<A: Allocator + Copy>(
@@ -211,8 +212,8 @@ fn other_values<A: Allocator + Copy>(
     Ok(Known { infos, supports })
 }
 
-// The same, in a part of the earlier worldview. There the earlier values stay, but for those that
-// rest on a premise which it lacks. Fails only when out of memory.
+// What is known at the start in a subset of the earlier worldview: the earlier values, but what is kept
+// where a value rests on a premise outside it. Fails only when out of memory.
 fn part_values<A: Allocator + Copy>(
     alloc: A,
     before: &Settled<A>,

@@ -8,7 +8,8 @@ use pw_kinds::Interval;
 use pw_premises::PremiseSet;
 use pw_procs::are_equal_kinds;
 
-/// The fact that a number lies from `lo` to `hi`, under these premises.
+/// The fact that a number lies from `lo` to `hi`, under these premises; the contradiction if no interval has
+/// these ends.
 pub fn fact(lo: i64, hi: i64, support: PremiseSet) -> Fact
     ensures { kind_of result.info ≡ Kind.Interval }
 {

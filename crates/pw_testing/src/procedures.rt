@@ -17,8 +17,10 @@ use std::test::Fail;
 
 /// What a test does over a registry.
 pub trait OverRegistry {
+    /// What the task answers.
     type Answer;
 
+    /// Does the task.
     fn over(self, registry: &Registry) -> Self::Answer;
 }
 

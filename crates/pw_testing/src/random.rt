@@ -40,7 +40,8 @@ impl Random {
         }
     }
 
-    /// A set of the first `count` premises: each is in it with one chance in `chance`.
+    /// A set of the first `count` premises, 512 at most: each is in it with one chance in `chance`, and at 0
+    /// each is.
     pub fn premises(&mut self, count: u16, chance: u64) -> PremiseSet {
         let mut premises = PremiseSet::empty();
         for premise in 0..count.min(512) {

@@ -41,8 +41,10 @@ pub const GENERAL: &str = world! {
 
 /// What a test does over a declaration.
 pub trait OverDeclaration<A: Allocator> {
+    /// What the task answers.
     type Answer;
 
+    /// Does the task.
     fn over(self, declaration: &Declaration<'_, A>) -> Self::Answer;
 }
 

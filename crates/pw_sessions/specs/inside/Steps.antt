@@ -34,7 +34,7 @@ use Rattle.pw_sessions.specs.declared.reply.Refusal.TheVariants as refusal
 use Rattle.pw_sessions.specs.Reply.{LineReading, Says}
 use Rattle.pw_sessions.specs.Command.{IsDeclared}
 use Rattle.pw_sessions.specs.Snapshot.{EachBecomes, IsAfterTell, Snapshot, after_entry, snapshot_in}
-use Rattle.pw_sessions.specs.Freshness.{AreCalls, CallsDueFor, CallsFew, IsFresh, IsSettledFor}
+use Rattle.pw_sessions.specs.Freshness.{AreCalls, CallsDueFor, CallsNoneIfFresh, IsFresh, IsSettledFor}
 use Rattle.pw_sessions.specs.Snapshot.{AllRestUpstream, AreApart, IsCurrent, is_of}
 use Rattle.pw_sessions.specs.Workbench.{Workbench, IsLeftBy, IsSetUpFor, IsCarriedOut, SnapshotsFit}
 use Rattle.pw_sessions.specs.Workbench.{beliefs_in}
@@ -226,7 +226,7 @@ pub record HasSettled (old : Workbench) (user place : ℕ) (new : Workbench) : T
 -- stay, and a user who was fresh still is
 pub record IsAfterSettling (old : Workbench) (user : ℕ) (new : Workbench) : Type 0 where
   pub grows : OnlyKeepsMore old user new
-  pub few : CallsFew old user new.calls
+  pub fresh : CallsNoneIfFresh old user new.calls
   pub stays : IsFresh old user → IsFresh new user
   pub same : new ≡ record old { store = new.store; snapshots = new.snapshots; calls = new.calls }
 

@@ -14,8 +14,8 @@ compound large p interval q interval\n\
 copy p q\ncopy p q\ncopy p q\ncopy p q\ncopy p q\ncopy p q\ncopy p q\ncopy p q\ncopy p q\n\
 copy p q\ncopy p q\ncopy p q\ncopy p q\ncopy p q\ncopy p q\ncopy p q\ncopy q p\nend\n";
 
-// The compound is attached once under no premise and once under a premise. More is told of x between
-// the first stage and the second, and the third one sees the premise.
+// The compound is attached under no premise, and again under a premise. The second stage has one more
+// tell about x, the third has nothing new, and the worldview of the last has the premise.
 fn attached_twice(alloc: Global) -> Result<Shown, Fail> {
     let (none, a) = (PremiseSet::empty(), PremiseSet::one(0));
     let under_a = Attachment {
@@ -48,7 +48,7 @@ fn many_calls_are_due_once(rt: HostRuntime) -> Result<(), Fail> {
     Ok(())
 }
 
-// What is told of x is known of y, and of t where the premise is seen.
+// The value of x carries to y, and to t in the worldview that has the premise.
 #[test]
 fn many_calls_find_what_one_finds(rt: HostRuntime) -> Result<(), Fail> {
     let shown = attached_twice(rt.alloc())?;

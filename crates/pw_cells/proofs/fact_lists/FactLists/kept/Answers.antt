@@ -1,26 +1,15 @@
 use Rattle.std.proofs.Common.{◌≡◌, List, sym, ◌∙◌, ap, subst, arith}
 use Rattle.pw_info.specs.declared.info.Info.{Info}
-use Rattle.pw_info.specs.Information.{kind_of, Implies}
+use Rattle.pw_info.specs.Information.{Implies}
 use Rattle.pw_facts.specs.declared.fact.Fact.{Fact}
 use Rattle.pw_cells.specs.inside.OneCell.{Bounds}
 use Rattle.pw_cells.specs.Cells.{Cell, shown_by, told_of}
 use Rattle.pw_cells.specs.inside.OneCell.{AreOfKind, StandsFor, current}
 use Rattle.pw_cells.proofs.Tells.{whole_caught_up}
 use Rattle.pw_cells.specs.Cells.{all_assimilated}
-use Rattle.pw_cells.proofs.Together.{kind-shown_by, larger_shown}
+use Rattle.pw_cells.proofs.Shown.{is_kept}
+use Rattle.pw_cells.proofs.fact_lists.FactLists.kept.Given as given
 use Rattle.pw_cells.proofs.fact_lists.FactLists.kept.Goals as goal
-
-pub returns-clause-kind : goal.returns-clause-kind
-returns-clause-kind g c =
-    ap kind_of c.merged.ensures.info ∙ kind-shown_by c.self.inside.kind c.args.worldview.now (current c.as_slice.result.now) ∙ ap (λ (cell : Cell). cell.kind) c.self.view_is
-
-pub returns-clause-larger : goal.returns-clause-larger
-returns-clause-larger g c = λ w sub. rw (← c.merged.ensures.same, c.as_slice.ensures.value, c.assimilate_late.ensures.kept, ← c.self.view_is)
-    (larger_shown c.self.inside.kind c.merged.result.support w (all_assimilated (current c.self.inside.kept.items) c.self.inside.late.items) sub)
-
-pub returns-clause-smaller : goal.returns-clause-smaller
-returns-clause-smaller g c = λ w sub. rw (c.merged.ensures.info, c.as_slice.ensures.value, c.assimilate_late.ensures.kept, ← c.self.view_is)
-    (larger_shown c.self.inside.kind w c.args.worldview.now (all_assimilated (current c.self.inside.kept.items) c.self.inside.late.items) sub)
 
 pub merged-requires-clause-kinds : goal.merged-requires-clause-kinds
 merged-requires-clause-kinds g c =
@@ -62,17 +51,22 @@ returns-clause-same g c =
       kept = all_assimilated (c.assimilate_late.ensures.kept j) (c.assimilate_late.ensures.late j);
     }) ∙ c.self.view_is
 
-pub returns-clause-stands : goal.returns-clause-stands
-returns-clause-stands g c =
+-- the merge stands for the kept facts
+stands : (g : given.Over) (c : goal.After-merged g) → StandsFor c.args.self.now.kind c.args.worldview.now c.args.self.now.kept c.merged.result
+stands g c =
     subst (λ (cell : Cell). StandsFor cell.kind c.args.worldview.now cell.kept c.merged.result) c.self.view_is
     (subst (λ (l : List Fact). StandsFor c.self.inside.kind c.args.worldview.now l c.merged.result)
     (ap current c.as_slice.ensures.value ∙ c.assimilate_late.ensures.kept) c.merged.ensures)
 
-pub returns-clause-told : goal.returns-clause-told
-returns-clause-told g c =
+-- and says at least what was told
+told : (g : given.Over) (c : goal.After-merged g) → Implies c.merged.result.info (told_of c.args.self.now c.args.worldview.now)
+told g c =
     let w = c.args.worldview.now in
     let self = c.self.inside in
     let shown : c.merged.result.info ≡ shown_by self.kind w (all_assimilated (current self.kept.items) self.late.items) =
     c.merged.ensures.info ∙ ap (shown_by self.kind w) (ap current c.as_slice.ensures.value ∙ c.assimilate_late.ensures.kept) in
     subst (λ (cell : Cell). Implies c.merged.result.info (told_of cell w)) c.self.view_is
     (subst (λ (i : Info). Implies i (shown_by self.kind w self.told)) (sym {A = Info} shown) (c.self.invariant.0.says w))
+
+pub returns-clause-kept : goal.returns-clause-kept
+returns-clause-kept g c = is_kept c.args.self.now c.args.worldview.now c.merged.result (stands g c) (told g c)

@@ -1,17 +1,14 @@
-use Rattle.std.proofs.Common.{◌∙◌, ap}
-use Rattle.pw_info.specs.Information.{kind_of}
-use Rattle.pw_cells.specs.Cells.{Cell}
-use Rattle.pw_cells.proofs.Together.{kind-shown_by, larger_shown}
+use Rattle.std.proofs.Common.{List, refl, subst}
+use Rattle.pw_facts.specs.declared.fact.Fact.{Fact}
+use Rattle.pw_cells.specs.inside.OneCell.{StandsFor, cell_keeping}
+use Rattle.pw_cells.proofs.Shown.{is_kept_alone, is_kept_as}
 use Rattle.pw_cells.proofs.few_facts.FewFacts.kept.Goals as goal
 
-pub returns-clause-kind : goal.returns-clause-kind
-returns-clause-kind g c =
-    ap kind_of c.merged_few.ensures.info ∙ kind-shown_by c.self.inside.kind c.args.worldview.now c.as_slice.result.now ∙ ap (λ (cell : Cell). cell.kind) c.self.view_is
-
-pub returns-clause-larger : goal.returns-clause-larger
-returns-clause-larger g c = λ w sub. rw (← c.merged_few.ensures.same, c.as_slice.ensures.value, ← c.self.view_is)
-    (larger_shown c.self.inside.kind c.merged_few.result.support w c.self.inside.kept.items sub)
-
-pub returns-clause-smaller : goal.returns-clause-smaller
-returns-clause-smaller g c = λ w sub. rw (c.merged_few.ensures.info, c.as_slice.ensures.value, ← c.self.view_is)
-    (larger_shown c.self.inside.kind w c.args.worldview.now c.self.inside.kept.items sub)
+pub returns : goal.returns
+returns g c =
+    let w = c.args.worldview.now in
+    let kind = c.self.inside.kind in
+    let cell = cell_keeping kind c.self.inside.kept.items in
+    is_kept_as cell c.args.self.now w c.merged_few.result c.merged_few.result c.self.view_is refl
+    (is_kept_alone cell w c.merged_few.result refl
+    (subst (λ (l : List Fact). StandsFor kind w l c.merged_few.result) c.as_slice.ensures.value c.merged_few.ensures))

@@ -1,13 +1,14 @@
-use Rattle.std.proofs.Common.{◌∷◌, []}
+use Rattle.std.proofs.Common.{◌∷◌, [], List, refl, subst}
 use Rattle.pw_info.specs.declared.kind.Kind.TheVariants as kinds
-use Rattle.pw_cells.specs.inside.OneCell.{cell_keeping}
-use Rattle.pw_cells.proofs.One.{shown_above, shown_below}
+use Rattle.pw_facts.specs.declared.fact.Fact.{Fact}
+use Rattle.pw_cells.specs.inside.OneCell.{StandsFor, cell_keeping}
+use Rattle.pw_cells.proofs.Shown.{is_kept_alone, is_kept_as}
 use Rattle.pw_cells.proofs.one_fact.OneFact.kept.Goals as goal
 
-pub returns-clause-larger : goal.returns-clause-larger
-returns-clause-larger g c =
-    shown_above (cell_keeping kinds.Interval (c.self.inside.kept ∷ [])) _ _ _ c.self.view_is c.from_ref.ensures.value c.merged_few.ensures.same
-
-pub returns-clause-smaller : goal.returns-clause-smaller
-returns-clause-smaller g c =
-    shown_below (cell_keeping kinds.Interval (c.self.inside.kept ∷ [])) _ _ _ _ c.self.view_is c.from_ref.ensures.value c.merged_few.ensures.info
+pub returns : goal.returns
+returns g c =
+    let w = c.args.worldview.now in
+    let cell = cell_keeping kinds.Interval (c.self.inside.kept ∷ []) in
+    is_kept_as cell c.args.self.now w c.merged_few.result c.merged_few.result c.self.view_is refl
+    (is_kept_alone cell w c.merged_few.result refl
+    (subst (λ (l : List Fact). StandsFor kinds.Interval w l c.merged_few.result) c.from_ref.ensures.value c.merged_few.ensures))
