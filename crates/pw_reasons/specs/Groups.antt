@@ -2,10 +2,11 @@
 use Rattle.std.specs.Prelude.{◌≢◌, ℕ, ◌≤◌, List, length, All}
 use Rattle.std.specs.List.{AllPairs, flat_map}
 
--- the greatest number of groups, and of things in a group
+-- the greatest number of groups
 abbrev pub most_groups : ℕ
 most_groups = 6
 
+-- the greatest number of things in a group
 abbrev pub most_in_a_group : ℕ
 most_in_a_group = 4
 

@@ -55,6 +55,7 @@ answer_to d entries beliefs (commands.Choose user groups) =
     reply.Chose (chosen_in d entries beliefs (groups_of groups))
 answer_to d entries beliefs command = reply.Done
 
+-- the user who gives the command
 abbrev pub user_of : Command → ℕ
 user_of (commands.Tell user cell fact) = user
 user_of (commands.Attach user callable cells support) = user

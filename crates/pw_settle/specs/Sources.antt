@@ -24,6 +24,7 @@ abbrev pub cell_of : {C : Type 0} → Source C → C
 cell_of (Told cell info) = cell
 cell_of (Propagator procedure inputs output) = output
 
+-- it is a propagator, and no told fact
 abbrev pub is_propagator : {C : Type 0} → Source C → Bool
 is_propagator (Told cell info) = false
 is_propagator (Propagator procedure inputs output) = true

@@ -34,16 +34,17 @@ use Rattle.pw_info.specs.Words.{words_of, is_idle, is_allowed}
 abbrev pub is_known : Declared → List ℕ → Bool
 is_known d word = is_some (place_of_name d.premises word)
 
+-- the user is this owner, or there is no owner
 abbrev pub is_owner : ℕ → Option ℕ → Bool
 is_owner user None = true
 is_owner user (Some owner) = owner == user
 
+-- the user may use the premise of this place, if there is one: it belongs to no user, or to this one
 abbrev pub may_use_at : Declared → ℕ → Option ℕ → Bool
 may_use_at d user None = true
 may_use_at d user (Some premise) = is_owner user (owner_of d premise)
 
--- the user may tell or attach under the premise that the word names: it belongs to no user, or to
--- this one
+-- the user may tell or attach under the premise that the word names
 abbrev pub may_use : Declared → ℕ → List ℕ → Bool
 may_use d user word = may_use_at d user (place_of_name d.premises word)
 
@@ -111,6 +112,7 @@ abbrev pub Means : Declared → Sentence → Command → Type 0
 Means d sentence command = (user : ℕ) × (place_of_name d.users sentence.user ≡ Some user)
     × MeansFor d user sentence.said command
 
+-- the words that name premises
 abbrev pub premise_words_of : Said → List (List ℕ)
 premise_words_of (Tell cell info premises) = premises
 premise_words_of (Attach callable cells premises) = premises
@@ -119,10 +121,12 @@ premise_words_of (Doubt premises) = premises
 premise_words_of (Choose groups) = all_of groups
 premise_words_of said = []
 
+-- there is no such command
 abbrev pub HasUnknownCommand : Said → Type 0
 HasUnknownCommand Other = Unit {0}
 HasUnknownCommand said = ⊥
 
+-- a word that stands for a cell names none
 abbrev pub HasUnknownCell : Declared → Said → Type 0
 HasUnknownCell d (Tell cell info premises) = place_of_name d.cells cell ≡ None
 HasUnknownCell d (Attach callable cells premises) = list_all (is_cell d) cells ≡ false
@@ -151,6 +155,7 @@ HasWrongArguments d (Attach callable_word cells premises) =
 HasWrongArguments d (Choose groups) = AreGroups groups → ⊥
 HasWrongArguments d said = ⊥
 
+-- a word that stands for a premise names none
 abbrev pub HasUnknownPremise : Declared → Said → Type 0
 HasUnknownPremise d said = list_all (is_known d) (premise_words_of said) ≡ false
 

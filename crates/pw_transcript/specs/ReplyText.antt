@@ -88,6 +88,7 @@ abbrev pub text_of_reply : Declared → ℕ → Reply → List ℕ
 text_of_reply d number reply = (decimal number ++ codes ": ")
     ++ (text_of_answer d reply ++ codes "\n")
 
+-- the text of the reply to a line, if it gets one
 abbrev pub text_if_any : Declared → ℕ → Option Reply → List ℕ
 text_if_any d number None = []
 text_if_any d number (Some reply) = text_of_reply d number reply

@@ -35,6 +35,7 @@ pub record ShowsNoLine (text : List ℕ) (number : ℕ) (block : List ℕ) : Typ
   pub near : Option (Bor (List ℕ))
   pub says : SaysExpected near title block
 
+-- the block is that of the line of this number, whether or not the text has such a line
 abbrev pub IsBlockAt : List ℕ → ℕ → List ℕ → Type 0
 IsBlockAt text number block = ShowsLineAt text number block ⊎ ShowsNoLine text number block
 
@@ -50,6 +51,7 @@ pub record HasLineAt (text : List ℕ) (number : ℕ) (header : Bool) : Type 0 w
   pub at : IsCutAt text number cut
   pub is : is_header (lines_of cut.before.now) cut.line.now ≡ header
 
+-- what is left of the text, as one text
 abbrev pub text_left : Left → List ℕ
 text_left left = left.front ++ left.rest
 

@@ -7,6 +7,7 @@ use Rattle.pw_premises.specs.Premises.{Premises}
 use Rattle.pw_settle.specs.declared.support_list.Widths.{Widths}
 use Rattle.pw_settle.specs.declared.support_list.Widths.TheVariants.{Narrow, Wide}
 
+-- the supports that the list holds, cell by cell
 abbrev pub supports_in : {A : _} → Widths A → List Premises
 supports_in (Narrow list) = list.items
 supports_in (Wide list) = list.items

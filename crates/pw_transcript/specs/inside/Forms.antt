@@ -82,6 +82,7 @@ said_form name rest =
     else (if bytes_eq name (codes "choose") then choose_form rest
     else Some Other))))))))
 
+-- the sentence in which the user of this name says this
 abbrev pub sentence_by : List ℕ → Said → Sentence
 sentence_by user said = record { user = user; said = said }
 
@@ -90,10 +91,11 @@ abbrev pub sentence_form : List (List ℕ) → Option Sentence
 sentence_form (user ∷ name ∷ rest) = option_map (sentence_by user) (said_form name rest)
 sentence_form words = None
 
--- what the words of a tell, and of an attach, say
+-- what the words of a tell say
 abbrev pub told_in : TellWords → Said
 told_in words = Tell words.cell.now words.info.now words.premises
 
+-- what the words of an attach say
 abbrev pub attached_in : AttachWords → Said
 attached_in words = Attach words.callable.now (before_under words.cells) words.premises
 
