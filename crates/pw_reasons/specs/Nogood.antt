@@ -1,7 +1,7 @@
 -- What it is for premises to contradict themselves in a network, and which premises the noted
 -- contradictions cover. A noted set is a nogood for good: what is told or attached later takes no
 -- contradiction back.
-use Rattle.std.specs.Prelude.{ℕ, ◌<◌, List, All, Bool}
+use Rattle.std.specs.Prelude.{◌≡◌, ℕ, ◌<◌, List, All, Bool, true}
 use Rattle.pw_info.specs.Information.{IsContradiction}
 use Rattle.pw_premises.specs.Premises.{Premises}
 use Rattle.pw_cells.specs.Cells.{Store}
@@ -23,3 +23,8 @@ AreNogoods network store nogoods = All (IsNogood network store) nogoods
 -- whether one of the noted sets is a subset of these premises
 abbrev pub covers : List Premises → Premises → Bool
 covers nogoods premises = list_any (λ noted. is_subset noted premises) nogoods
+
+-- where the value of the cell is a contradiction, the nogoods cover its reason
+abbrev pub CoversContradiction : Network → Store → Premises → ℕ → List Premises → Premises → Type 0
+CoversContradiction network store worldview cell nogoods reason =
+    IsContradiction (value_in network store worldview cell) → covers nogoods reason ≡ true

@@ -1,9 +1,9 @@
 //! The first consistent combination of groups of premises.
 
-ghost use Rattle.std.specs.Prelude.{◌≡◌, ◌<◌, ◌≤◌, ℕ, true, false, All, Ok, None, [], IfOk, IfNone, IfSome, OnOk, drop, length, take};
-ghost use Rattle.std.specs.Prelude.{◌+◌, ◌++◌, List, slice_index_or};
+ghost use Rattle.std.specs.Prelude.{◌≡◌, ◌<◌, ◌≤◌, [], ◌+◌, ◌++◌, All, IfNone, IfOk, IfSome, List};
+ghost use Rattle.std.specs.Prelude.{None, Ok, OnOk, drop, false, length, slice_index_or, take};
+ghost use Rattle.std.specs.Prelude.{true};
 ghost use Rattle.std.specs.FinSet.{is_subset, remove};
-ghost use Rattle.pw_cells.specs.Cells.{kinds_of};
 ghost use Rattle.pw_network.specs.Wiring.{wiring};
 ghost use Rattle.pw_premises.specs.Premises.{Premises, most_premises};
 ghost use Rattle.pw_reasons.specs.Choice.{IsFirstConsistent};
@@ -12,12 +12,11 @@ ghost use Rattle.pw_reasons.specs.Nogood.{AreNogoods, covers};
 ghost use Rattle.pw_settle.specs.Growth.{KeepsMore, StaysUpstream};
 ghost use Rattle.pw_reasons.specs.inside.Reasoning.{AreSettledLast};
 ghost use Rattle.pw_reasons.specs.inside.Searching.{AreCovered, IsFoundBeside, LeavesSound};
+ghost use Rattle.pw_reasons.specs.inside.Searching.{ends_search, refuting};
 ghost use Rattle.pw_reasons.specs.inside.Products.{worldviews_beside};
 ghost use Rattle.pw_reasons.specs.inside.Alike.{HasMore, MayHaveMore, pending};
-ghost use Rattle.pw_reasons.specs.inside.Searching.{ends_search, refuting};
 ghost use Rattle.pw_reasons.specs.declared.choosing.Found.TheVariants.{Nothing, Refuted};
-ghost use Rattle.pw_settle.specs.Sound.{IsSound};
-ghost use Rattle.pw_settle.specs.Values.{kinds_in};
+ghost use Rattle.pw_settle.specs.Sound.{IsSoundFor};
 
 use crate::alike::{note_alike, take_refuted};
 use crate::combinations::{believed_beside, believed_with_all};
@@ -69,8 +68,7 @@ fn try_combination<A: Allocator + Copy>(
     picks: &Picks,
     tried: &mut Tried<A>,
 ) -> Result<Found, AllocError>
-    requires kinds { kinds_of store.old ≡ kinds_in (wiring network.now) }
-    requires sound { IsSound (wiring network.now) store.old }
+    requires sound { IsSoundFor (wiring network.now) store.old }
     requires part { is_subset part.now worldview.now ≡ true }
     requires all { length (picked_in picks.now) ≡ length (groups_of groups.now) }
     requires above { AreSettledLast (wiring network.now) store.old above.now }
@@ -151,8 +149,7 @@ fn search<A: Allocator + Copy>(
     picks: &Picks,
     tried: &mut Tried<A>,
 ) -> Result<Found, AllocError>
-    requires kinds { kinds_of store.old ≡ kinds_in (wiring network.now) }
-    requires sound { IsSound (wiring network.now) store.old }
+    requires sound { IsSoundFor (wiring network.now) store.old }
     requires nogoods { AreNogoods (wiring network.now) store.old nogoods.old }
     requires premises { All (All (λ premise. premise < most_premises)) (groups_of groups.now) }
     requires above { AreSettledLast (wiring network.now) store.old above.now }
@@ -240,8 +237,7 @@ pub fn choose<A: Allocator + Copy>(
     worldview: &PremiseSet,
     groups: &Groups,
 ) -> Result<Option<Picks>, AllocError>
-    requires kinds { kinds_of store.old ≡ kinds_in (wiring network.now) }
-    requires sound { IsSound (wiring network.now) store.old }
+    requires sound { IsSoundFor (wiring network.now) store.old }
     requires nogoods { AreNogoods (wiring network.now) store.old nogoods.old }
     requires premises { All (All (λ premise. premise < most_premises)) (groups_of groups.now) }
     ensures some { IfOk result (λ chosen. IfSome chosen (λ picks. IsFirstConsistent

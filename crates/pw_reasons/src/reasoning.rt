@@ -1,20 +1,17 @@
 //! Why a cell has its value.
-ghost use Rattle.std.specs.Prelude.{◌≡◌, ◌<◌, true, IfOk, IfNone, IfSome};
+ghost use Rattle.std.specs.Prelude.{◌≡◌, ◌<◌, IfNone, IfOk, IfSome, true};
 ghost use Rattle.std.specs.FinSet.{is_subset};
-ghost use Rattle.pw_cells.specs.Cells.{kinds_of};
 ghost use Rattle.pw_info.specs.Information.{Implies, kind_of};
 ghost use Rattle.pw_network.specs.Wiring.{wiring};
 ghost use Rattle.pw_network.specs.Network.{cells_in};
 ghost use Rattle.pw_premises.specs.Premises.{Premises};
-ghost use Rattle.pw_reasons.specs.inside.Reasoning.{AreEnough};
-ghost use Rattle.pw_reasons.specs.Nogood.{AreNogoods};
-ghost use Rattle.pw_reasons.specs.Nogood.{covers};
+ghost use Rattle.pw_reasons.specs.inside.Reasoning.{AreEnough, AreSettledLast, tried_in};
+ghost use Rattle.pw_reasons.specs.Nogood.{AreNogoods, CoversContradiction, covers};
 ghost use Rattle.pw_reasons.specs.Reason.{reason_of};
 ghost use Rattle.pw_settle.specs.Growth.{KeepsMore, StaysUpstream};
 ghost use Rattle.pw_settle.specs.Settled.{IsSettled, info_at};
-ghost use Rattle.pw_settle.specs.Sound.{IsSound};
-ghost use Rattle.pw_settle.specs.Values.{kinds_in, value_in};
-ghost use Rattle.pw_reasons.specs.inside.Reasoning.{AreSettledLast, CoversContradiction, tried_in};
+ghost use Rattle.pw_settle.specs.Sound.{IsSoundFor};
+ghost use Rattle.pw_settle.specs.Values.{value_in};
 
 use crate::nogoods::Nogoods;
 use pw_cells::CellStore;
@@ -40,8 +37,7 @@ fn kept_support<A: Allocator + Copy>(
     cell: u32,
     worldview: &PremiseSet,
 ) -> Option<PremiseSet>
-    requires kinds { kinds_of store.old ≡ kinds_in (wiring network.now) }
-    requires sound { IsSound (wiring network.now) store.old }
+    requires sound { IsSoundFor (wiring network.now) store.old }
     requires cell { cell < cells_in (wiring network.now) }
     requires kind { kind_of (value_in (wiring network.now) store.old worldview.now cell)
         ≡ kind_of info.now }
@@ -69,8 +65,7 @@ fn settle_again<A: Allocator + Copy>(
     last: &Option<Settled<A>>,
     worldview: &PremiseSet,
 ) -> Result<Settled<A>, AllocError>
-    requires kinds { kinds_of store.old ≡ kinds_in (wiring network.now) }
-    requires sound { IsSound (wiring network.now) store.old }
+    requires sound { IsSoundFor (wiring network.now) store.old }
     requires settled { IsSettled (wiring network.now) store.old settled.now.worldview settled.now }
     requires last { AreSettledLast (wiring network.now) store.old last.now }
     ensures settled { IfOk result (IsSettled (wiring network.now) store.old worldview.now) }
@@ -95,8 +90,7 @@ fn support_within<A: Allocator + Copy>(
     cell: u32,
     worldview: &PremiseSet,
 ) -> Result<Option<PremiseSet>, AllocError>
-    requires kinds { kinds_of store.old ≡ kinds_in (wiring network.now) }
-    requires sound { IsSound (wiring network.now) store.old }
+    requires sound { IsSoundFor (wiring network.now) store.old }
     requires settled { IsSettled (wiring network.now) store.old settled.now.worldview settled.now }
     requires last { AreSettledLast (wiring network.now) store.old last.old }
     requires cell { cell < cells_in (wiring network.now) }
@@ -134,8 +128,7 @@ fn try_premise<A: Allocator + Copy>(
     left: Left,
     premise: u16,
 ) -> Result<Left, AllocError>
-    requires kinds { kinds_of store.old ≡ kinds_in (wiring network.now) }
-    requires sound { IsSound (wiring network.now) store.old }
+    requires sound { IsSoundFor (wiring network.now) store.old }
     requires settled { IsSettled (wiring network.now) store.old settled.now.worldview settled.now }
     requires last { AreSettledLast (wiring network.now) store.old last.old }
     requires cell { cell < cells_in (wiring network.now) }
@@ -170,8 +163,7 @@ fn try_premises<A: Allocator + Copy>(
     settled: &Settled<A>,
     cell: u32,
 ) -> Result<PremiseSet, AllocError>
-    requires kinds { kinds_of store.old ≡ kinds_in (wiring network.now) }
-    requires sound { IsSound (wiring network.now) store.old }
+    requires sound { IsSoundFor (wiring network.now) store.old }
     requires settled { IsSettled (wiring network.now) store.old settled.now.worldview settled.now }
     requires cell { cell < cells_in (wiring network.now) }
     ensures reason { IfOk result (λ reason. reason
@@ -216,8 +208,7 @@ pub fn reason<A: Allocator + Copy>(
     settled: &Settled<A>,
     cell: u32,
 ) -> Result<PremiseSet, AllocError>
-    requires kinds { kinds_of store.old ≡ kinds_in (wiring network.now) }
-    requires sound { IsSound (wiring network.now) store.old }
+    requires sound { IsSoundFor (wiring network.now) store.old }
     requires nogoods { AreNogoods (wiring network.now) store.old nogoods.old }
     requires settled { IsSettled (wiring network.now) store.old settled.now.worldview settled.now }
     requires cell { cell < cells_in (wiring network.now) }

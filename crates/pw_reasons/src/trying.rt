@@ -1,8 +1,8 @@
 //! Whether a worldview contradicts itself, tried with what was found in other worldviews.
 
-ghost use Rattle.std.specs.Prelude.{◌≡◌, ◌<◌, ◌⊎◌, ℕ, true, false, Ok, Some, None, IfOk, IfNone, IfSome, length};
+ghost use Rattle.std.specs.Prelude.{◌≡◌, ◌<◌, ◌⊎◌, IfNone, IfOk, IfSome, None, Ok, Some, ℕ, false};
+ghost use Rattle.std.specs.Prelude.{length, true};
 ghost use Rattle.std.specs.FinSet.{is_subset};
-ghost use Rattle.pw_cells.specs.Cells.{kinds_of};
 ghost use Rattle.pw_info.specs.Information.{IsContradiction};
 ghost use Rattle.pw_network.specs.Wiring.{wiring};
 ghost use Rattle.pw_network.specs.Network.{cells_in};
@@ -11,8 +11,7 @@ ghost use Rattle.pw_reasons.specs.inside.Reasoning.{AreSettledLast};
 ghost use Rattle.pw_reasons.specs.inside.Searching.{IsNogoodWithin};
 ghost use Rattle.pw_settle.specs.Growth.{KeepsMore, StaysUpstream};
 ghost use Rattle.pw_settle.specs.Settled.{IsSettled, info_at, support_at};
-ghost use Rattle.pw_settle.specs.Sound.{IsSound};
-ghost use Rattle.pw_settle.specs.Values.{kinds_in};
+ghost use Rattle.pw_settle.specs.Sound.{IsSoundFor};
 
 use pw_cells::CellStore;
 use pw_network::Network;
@@ -75,8 +74,7 @@ fn values_beside<A: Allocator + Copy>(
     values: &Option<Settled<A>>,
     worldview: &PremiseSet,
 ) -> Result<Option<Settled<A>>, AllocError>
-    requires kinds { kinds_of store.old ≡ kinds_in (wiring network.now) }
-    requires sound { IsSound (wiring network.now) store.old }
+    requires sound { IsSoundFor (wiring network.now) store.old }
     requires values { AreSettledLast (wiring network.now) store.old values.now }
     ensures settled { IfOk result (λ found. IfSome found (IsSettled (wiring network.now) store.old
         worldview.now)) }
@@ -101,8 +99,7 @@ pub(crate) fn keep_values<A: Allocator + Copy>(
     is_last: bool,
     own: &mut Option<Settled<A>>,
 ) -> Result<(), AllocError>
-    requires kinds { kinds_of store.old ≡ kinds_in (wiring network.now) }
-    requires sound { IsSound (wiring network.now) store.old }
+    requires sound { IsSoundFor (wiring network.now) store.old }
     requires values { AreSettledLast (wiring network.now) store.old values.now }
     requires own { AreSettledLast (wiring network.now) store.old own.old }
     ensures own { AreSettledLast (wiring network.now) store.old own.new }
@@ -124,8 +121,7 @@ fn values_in<A: Allocator + Copy>(
     values: &Option<Settled<A>>,
     worldview: &PremiseSet,
 ) -> Result<Settled<A>, AllocError>
-    requires kinds { kinds_of store.old ≡ kinds_in (wiring network.now) }
-    requires sound { IsSound (wiring network.now) store.old }
+    requires sound { IsSoundFor (wiring network.now) store.old }
     requires values { AreSettledLast (wiring network.now) store.old values.now }
     ensures settled { IfOk result (IsSettled (wiring network.now) store.old worldview.now) }
     ensures grows { KeepsMore (wiring network.now) store.old store.new }
@@ -148,8 +144,7 @@ fn clashes_at<A: Allocator + Copy>(
     worldview: &PremiseSet,
     nogood: &mut PremiseSet,
 ) -> bool
-    requires kinds { kinds_of store.old ≡ kinds_in (wiring network.now) }
-    requires sound { IsSound (wiring network.now) store.old }
+    requires sound { IsSoundFor (wiring network.now) store.old }
     requires last { IsSettled (wiring network.now) store.old last.now.worldview last.now }
     requires cell { cell < cells_in (wiring network.now) }
     ensures unchanged { store.new ≡ store.old }
@@ -174,8 +169,7 @@ fn clashes_anywhere<A: Allocator + Copy>(
     cell: &mut u32,
     nogood: &mut PremiseSet,
 ) -> bool
-    requires kinds { kinds_of store.old ≡ kinds_in (wiring network.now) }
-    requires sound { IsSound (wiring network.now) store.old }
+    requires sound { IsSoundFor (wiring network.now) store.old }
     requires last { IsSettled (wiring network.now) store.old last.now.worldview last.now }
     ensures unchanged { store.new ≡ store.old }
     ensures some { result ≡ true
@@ -201,8 +195,7 @@ fn clashes<A: Allocator + Copy>(
     worldview: &PremiseSet,
     tried: &mut Tried<A>,
 ) -> bool
-    requires kinds { kinds_of store.old ≡ kinds_in (wiring network.now) }
-    requires sound { IsSound (wiring network.now) store.old }
+    requires sound { IsSoundFor (wiring network.now) store.old }
     requires last { AreSettledLast (wiring network.now) store.old tried.old.last }
     ensures unchanged { store.new ≡ store.old }
     ensures last { tried.new.last ≡ tried.old.last }
@@ -277,8 +270,7 @@ fn contradicts_before<A: Allocator + Copy>(
     part: &PremiseSet,
     tried: &mut Tried<A>,
 ) -> Result<bool, AllocError>
-    requires kinds { kinds_of store.old ≡ kinds_in (wiring network.now) }
-    requires sound { IsSound (wiring network.now) store.old }
+    requires sound { IsSoundFor (wiring network.now) store.old }
     requires above { AreSettledLast (wiring network.now) store.old above.now }
     requires last { AreSettledLast (wiring network.now) store.old tried.old.last }
     ensures some { IfOk result (λ found. found ≡ true
@@ -304,8 +296,7 @@ fn contradicts<A: Allocator + Copy>(
     worldview: &PremiseSet,
     tried: &mut Tried<A>,
 ) -> Result<bool, AllocError>
-    requires kinds { kinds_of store.old ≡ kinds_in (wiring network.now) }
-    requires sound { IsSound (wiring network.now) store.old }
+    requires sound { IsSoundFor (wiring network.now) store.old }
     requires last { AreSettledLast (wiring network.now) store.old tried.old.last }
     ensures some { IfOk result (λ found. found ≡ true
         → IsNogoodWithin (wiring network.now) store.old worldview.now tried.new.nogood) }
@@ -334,8 +325,7 @@ pub(crate) fn find_nogood<A: Allocator + Copy>(
     worldview: &PremiseSet,
     tried: &mut Tried<A>,
 ) -> Result<bool, AllocError>
-    requires kinds { kinds_of store.old ≡ kinds_in (wiring network.now) }
-    requires sound { IsSound (wiring network.now) store.old }
+    requires sound { IsSoundFor (wiring network.now) store.old }
     requires part { is_subset part.now worldview.now ≡ true }
     requires above { AreSettledLast (wiring network.now) store.old above.now }
     requires last { AreSettledLast (wiring network.now) store.old tried.old.last }

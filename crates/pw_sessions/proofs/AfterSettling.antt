@@ -1,21 +1,21 @@
 -- The result of a settling that goes on from a snapshot, or starts anew.
-use Rattle.std.proofs.Common.{◌≡◌, ℕ, ◌+◌, ◌≤◌, Bool, true, List, Option, Some, None, Result, Ok, Err, sym, ◌∙◌, subst, arith}
+use Rattle.std.proofs.Common.{◌≡◌, ℕ, ◌+◌, ◌≤◌, Bool, true, List, Option, Some, None, Result, Ok, Err, IsErr, sym, ◌∙◌, subst, arith}
 use Rattle.std.specs.Prelude.{IfOk, OnOk}
 use Rattle.std.specs.FinSet.{is_subset}
 use Rattle.std.proofs.lemmas.Option.{none-some, same_Some}
 use Rattle.pw_premises.specs.Premises.{Premises}
 use Rattle.pw_cells.specs.Cells.{Store, kept_in, kinds_of}
 use Rattle.pw_network.specs.Network.{Network, IsWellNetwork}
-use Rattle.pw_settle.specs.inside.Progress.{tally}
+use Rattle.pw_settle.specs.Calls.{tally}
 use Rattle.pw_settle.specs.Calls.{gains, visible_count}
-use Rattle.pw_settle.specs.inside.Due.{AreDue}
+use Rattle.pw_settle.specs.Due.{AreDue}
 use Rattle.pw_settle.specs.Growth.{CanContinue, HasValues, KeepsMore, RestOnUpstream}
 use Rattle.pw_settle.specs.Settled.{IsSettled, Settled}
 use Rattle.pw_settle.specs.Sound.{IsSound}
 use Rattle.pw_settle.specs.Values.{kinds_in, value_in}
 use Rattle.pw_settle.proofs.GrowingGains.{gains_more}
 use Rattle.pw_sessions.specs.Freshness.{AreCalls, CallsDue, CallsDueFor}
-use Rattle.pw_sessions.specs.inside.Steps.{RestOnUpstreamOf}
+use Rattle.pw_sessions.specs.inside.Steps.{IsAfterSettling, RestOnUpstreamOf, SettlesFor}
 use Rattle.pw_sessions.specs.Snapshot.{IsCurrent, Snapshot, start_for}
 use Rattle.pw_sessions.specs.Workbench.{Workbench, beliefs_in}
 use Rattle.pw_sessions.proofs.CurrentValues.{current_settled}
@@ -46,7 +46,7 @@ module _ (network : Network) (well : IsWellNetwork network) (old new : Store) (w
   continues_after (Err e) has = has
 
   -- they rest on premises upstream, if all that there was does, whether or not earlier values do
-  pub lie_after : {E : Type 0} (r : Result Settled E) (snapshots : List Snapshot) → IfOk r (RestOnUpstream network old) →
+  pub lie_after : {E : Type 0} (r : Result Settled E) (snapshots : List Snapshot) → IfOk r (λ settled. RestOnUpstream network old settled.supports) →
       IfOk r (RestOnUpstreamOf network old snapshots)
   lie_after (Ok settled) snapshots lie = λ given rests. lie given rests.kept
   lie_after (Err e) snapshots lie = lie
@@ -103,3 +103,13 @@ due_for_still old found new user network more calls due =
     subst (CallsDue old.network old.store new.store (beliefs_in old user) (start_for old.snapshots (beliefs_in old user))) (sym calls)
     (due_still old.network old.store found.store new.store (beliefs_in old user) (start_for old.snapshots (beliefs_in old user)) found.calls
     (subst (λ (n : Network). KeepsMore n found.store new.store) network more) due)
+
+-- where a settling of the user was refused
+pub settles_refused : {E : Type 0} (old : Workbench) (user : ℕ) (new : Workbench) (r : Result ℕ E) → IsErr r → IsAfterSettling old user new →
+    new.calls ≡ 0 → SettlesFor old user new r
+settles_refused old user new (Ok place) fails after none = absurd (cc)
+settles_refused old user new (Err e) fails after none = record {
+  settled = tt;
+  after = after;
+  refused = none;
+}

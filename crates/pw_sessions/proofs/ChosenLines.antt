@@ -26,8 +26,8 @@ use Rattle.pw_sessions.specs.Choosing.{chosen_in}
 use Rattle.pw_sessions.specs.Entries.{entries_before}
 use Rattle.pw_sessions.specs.Freshness.{IsFresh, MayEndFreshness}
 use Rattle.pw_sessions.specs.Reply.{LineReading, Refused, Says}
-use Rattle.pw_sessions.specs.inside.Steps.{AllContradict, AreOfPremises, IsChosen, IsFirstChoice, OnlyKeepsMore, StoreFits, believing}
-use Rattle.pw_sessions.specs.Workbench.{Workbench, IsCarriedOut, IsLeftBy, beliefs_in}
+use Rattle.pw_sessions.specs.inside.Steps.{AllContradict, AreOfPremises, IsChosen, IsFirstChoice, OnlyKeepsMore, believing}
+use Rattle.pw_sessions.specs.Workbench.{Workbench, IsCarriedOut, IsLeftBy, StoreFits, beliefs_in}
 use Rattle.pw_sessions.proofs.EntriesRise.{rise_before}
 use Rattle.pw_sessions.proofs.FreshUsers.{fresh_believed, fresh_keeping}
 use Rattle.pw_sessions.proofs.NamedChoices.{chosen_named, none_named}

@@ -8,9 +8,9 @@ use Rattle.pw_info.specs.Rank.{rank_of}
 use Rattle.pw_premises.specs.Premises.{Premises}
 use Rattle.pw_cells.specs.Cells.{Store, kept_in}
 use Rattle.pw_network.specs.Network.{Network}
-use Rattle.pw_settle.specs.inside.Progress.{is_set, tally}
+use Rattle.pw_settle.specs.Calls.{is_set, tally}
 use Rattle.pw_settle.specs.Calls.{gains, is_instance_visible, reader_count, visible_at, visible_count}
-use Rattle.pw_settle.specs.inside.Due.{AreDue, IsDue}
+use Rattle.pw_settle.specs.Due.{AreDue, IsDue}
 use Rattle.pw_settle.specs.Settled.{Settled}
 use Rattle.pw_settle.specs.Values.{value_in}
 use Rattle.pw_settle.proofs.SettledStores.{tally_visible}

@@ -22,8 +22,8 @@ use Rattle.pw_sessions.specs.Freshness.{IsFresh, MayEndFreshness, Settles}
 use Rattle.pw_sessions.specs.Reply.{LineReading, Says}
 use Rattle.pw_sessions.specs.Command.{IsDeclared}
 use Rattle.pw_sessions.specs.Reply as reply
-use Rattle.pw_sessions.specs.inside.Steps.{CanAnswer, CanCarryOut, IsAttached, StoreFits, is_written}
-use Rattle.pw_sessions.specs.Workbench.{IsLeftBy, IsSetUpFor, Workbench, beliefs_in}
+use Rattle.pw_sessions.specs.inside.Steps.{CanAnswer, CanCarryOut, IsAttached, is_written}
+use Rattle.pw_sessions.specs.Workbench.{IsLeftBy, IsSetUpFor, StoreFits, Workbench, beliefs_in}
 use Rattle.pw_sessions.proofs.AskedCells.{well_left}
 use Rattle.pw_sessions.proofs.EntriesRise.{rise_before}
 use Rattle.pw_sessions.proofs.FreshUsers.{fresh_attached}
@@ -32,20 +32,11 @@ use Rattle.pw_settle.proofs.WiderNetworks.{kinds_with_attached, widened_under}
 use Rattle.pw_sessions.proofs.WorkbenchLemmas.{store_kind}
 use Rattle.pw_sessions.proofs.WrittenCells.{is_written-from, written_is}
 
--- what is set up fits
-pub store_fits : (bench : Workbench) {line : ℕ} {command : Command} → CanCarryOut bench line command → StoreFits bench
-store_fits bench can = record {
-  kinds = can.set_up.kinds;
-  sound = can.set_up.sound;
-  nogoods = can.set_up.nogoods;
-  snapshots = can.set_up.fit;
-}
-
 -- a declared user can ask
 pub can_answer : (bench : Workbench) {line : ℕ} {command : Command} → CanCarryOut bench line command → (user : ℕ) → user < length bench.network.declared.users →
     CanAnswer bench user
 can_answer bench can user there = record {
-  fits = store_fits bench can;
+  fits = can.set_up.fits;
   exists = omega (arith, there, can.set_up.users);
 }
 
@@ -91,7 +82,7 @@ attached_seen old new line user callable on support well also fits attached othe
     kinds =
         ap (λ (cs : List Cell). map (λ (c : Cell). c.kind) cs) attached.cells_are
         ∙ kinds_added old.store.cells (inner_kinds_of old.network.declared.compounds callable)
-        ∙ ap (λ (ks : List Kind). ks ++ inner_kinds_of old.network.declared.compounds callable) fits.kinds
+        ∙ ap (λ (ks : List Kind). ks ++ inner_kinds_of old.network.declared.compounds callable) fits.sound.kinds
         ∙ sym (kinds_with_attached old.network line callable (cells_of on) support) ∙ ap kinds_in (sym attached.network)
 
     widened : (w : IsWider old.network new.network) × All (λ (a : Attached). a.support ≡ support) w.more

@@ -16,7 +16,7 @@ use Rattle.pw_decl.specs.declared.step.Callable.{Callable}
 use Rattle.pw_decl.specs.Declaration.{Declared}
 use Rattle.pw_decl.specs.Expansion.{inner_kinds_of}
 use Rattle.pw_network.specs.Network.{Attached, Network, IsWellNetwork}
-use Rattle.pw_settle.specs.inside.Progress.{is_set}
+use Rattle.pw_settle.specs.Calls.{is_set}
 use Rattle.pw_settle.specs.Settled.{Settled, info_at}
 use Rattle.pw_settle.specs.Values.{kinds_in, value_in}
 use Rattle.pw_settle.specs.Growth.{IsWider}
@@ -27,8 +27,8 @@ use Rattle.pw_sessions.specs.Freshness.{CallsDueFor, CallsNoneIfFresh, CountsCal
 use Rattle.pw_sessions.specs.Reply.{LineReading}
 use Rattle.pw_sessions.specs.Reply.{Reply}
 use Rattle.pw_sessions.specs.Snapshot.{IsAfterTell, IsCurrent, Snapshot, after_entry, snapshot_in, start_for}
-use Rattle.pw_sessions.specs.inside.Steps.{CanAnswer, IsAsBefore, IsAttached, IsRemembered, IsTold, OnlyKeepsMore, StoreFits}
-use Rattle.pw_sessions.specs.Workbench.{IsLeftBy, Workbench, beliefs_in}
+use Rattle.pw_sessions.specs.inside.Steps.{CanAnswer, IsAsBefore, IsAttached, IsRemembered, IsTold, OnlyKeepsMore}
+use Rattle.pw_sessions.specs.Workbench.{IsLeftBy, StoreFits, Workbench, beliefs_in}
 use Rattle.pw_sessions.proofs.CurrentValues.{current_attached, current_keeping, current_told, hidden_after, said_at}
 use Rattle.pw_sessions.proofs.FewCalls.{no_flags, none_due}
 use Rattle.pw_sessions.proofs.LastValues.{keeps_more_alike}
@@ -52,7 +52,7 @@ current_still : (old : Workbench) (user : ℕ) (new : Workbench) → StoreFits o
     IsCurrent old.network old.store settled → IsCurrent new.network new.store settled
 current_still old user new fits keeps settled is =
     subst (λ (n : Network). IsCurrent n new.store settled) (sym keeps.network)
-    (current_keeping old.network old.store new.store settled fits.kinds fits.sound keeps.grows is)
+    (current_keeping old.network old.store new.store settled fits.sound.kinds fits.sound.sound keeps.grows is)
 
 -- a user who believes something else than the asker
 pub fresh_beside : (old : Workbench) (user : ℕ) (new : Workbench) → StoreFits old → OnlyKeepsMore old user new → (other : ℕ) →
@@ -82,7 +82,7 @@ fresh_as_before : (old new : Workbench) → StoreFits old → IsAsBefore old new
 fresh_as_before old new fits still user =
     stays_fresh old new user still.beliefs (λ there. ap (λ (l : List Snapshot). snapshot_in l (beliefs_in old user)) still.snapshots)
     (λ settled is. subst (λ (n : Network). IsCurrent n new.store settled) (sym still.network)
-    (current_keeping old.network old.store new.store settled fits.kinds fits.sound
+    (current_keeping old.network old.store new.store settled fits.sound.kinds fits.sound.sound
     (keeps_more_alike old.network old.store new.store still.cells_are still.continues) is))
 
 -- ---- what is attached under premises
@@ -123,7 +123,7 @@ fresh_told old new cell fact well fits declared kind told user is = elim came.2.
     has = subst (λ (bs : List Premises). snapshot_in new.snapshots (get_or bs user empty) ≡ Some came.0) (sym told.beliefs) came.1;
     current = subst (λ (n : Network). IsCurrent n new.store came.0.values) (sym told.network)
         (subst (IsCurrent old.network new.store) (sym came.2.values)
-        (current_told old.network well old.store new.store cell fact fits.kinds kind told.store fits.sound values there says.0 is.current));
+        (current_told old.network well old.store new.store cell fact fits.sound.kinds kind told.store fits.sound.sound values there says.0 is.current));
   })
   | inr news ↦ inl (λ follows. news.0
       (also_implies (shows values.worldview fact) (value_in old.network old.store values.worldview cell) (info_at values.infos cell)
@@ -150,8 +150,8 @@ pub fresh_attached : (old new : Workbench) (line : ℕ) (callable : Callable) (c
 fresh_attached old new line callable cells support well also fits kinds wide all attached =
     seen_or_fresh old new support attached.beliefs attached.snapshots
     (λ settled hidden is.
-    current_attached old.network new.network wide well also old.store new.store (inner_kinds_of old.network.declared.compounds callable) fits.kinds kinds
-    attached.cells_are fits.sound settled is (hidden_after old.network new.network wide support settled.worldview all hidden))
+    current_attached old.network new.network wide well also old.store new.store (inner_kinds_of old.network.declared.compounds callable) fits.sound.kinds kinds
+    attached.cells_are fits.sound.sound settled is (hidden_after old.network new.network wide support settled.worldview all hidden))
 
 -- ---- commands that settle nothing
 

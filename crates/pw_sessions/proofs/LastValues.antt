@@ -17,18 +17,18 @@ use Rattle.pw_decl.specs.Declaration.{Declared}
 use Rattle.pw_network.specs.Network.{Attached, Network, IsWellNetwork}
 use Rattle.pw_settle.specs.Growth.{CanContinue, IsFitting, KeepsMore, StaysUpstream}
 use Rattle.pw_settle.specs.Settled.{IsSettled, Settled, info_at}
-use Rattle.pw_settle.specs.Sound.{IsSound}
+use Rattle.pw_settle.specs.Sound.{IsSound, IsSoundFor}
 use Rattle.pw_settle.specs.Values.{kinds_in}
 use Rattle.pw_settle.specs.Growth.{IsWider}
 use Rattle.pw_settle.proofs.FittingLaws.{fits_added, fits_more, fits_wider}
-use Rattle.pw_settle.proofs.Growing.{keeps_more_then}
+use Rattle.pw_settle.proofs.Growing.{keeps_more_then, still_sound_for}
 use Rattle.pw_settle.proofs.KeptFacts.{implies_shown, kind_there}
 use Rattle.pw_settle.proofs.SettledValues.{kinds_many}
 use Rattle.pw_reasons.specs.Nogood.{AreNogoods}
 use Rattle.pw_reasons.proofs.NogoodLemmas.{nogoods_same}
 use Rattle.pw_sessions.specs.Snapshot.{AllRestUpstream, EachBecomes, HaveValues, IsAfterTell, IsCurrent, SayAlready, Snapshot, IsSnapshotOf, after_entry, is_of, snapshot_in}
-use Rattle.pw_sessions.specs.inside.Steps.{IsLatest, IsRemembered, OnlyKeepsMore, RestOnUpstreamOf, StaysUpstreamOf, StoreFits, TakesFact, is_believed}
-use Rattle.pw_sessions.specs.Workbench.{SnapshotsFit, Workbench, beliefs_in}
+use Rattle.pw_sessions.specs.inside.Steps.{IsLatest, IsRemembered, OnlyKeepsMore, RestOnUpstreamOf, StaysUpstreamOf, TakesFact, is_believed}
+use Rattle.pw_sessions.specs.Workbench.{SnapshotsFit, StoreFits, Workbench, beliefs_in}
 use Rattle.pw_sessions.proofs.SnapshotLists.{all_among, user_believes}
 use Rattle.pw_sessions.proofs.CurrentValues.{current_attached, current_keeping, current_told, hidden_after}
 use Rattle.pw_settle.proofs.SoundStores.{more_kept, sound_same}
@@ -162,8 +162,7 @@ no_snapshots network store = All-nil (IsSnapshotOf network store)
 -- a store that fits still does
 pub fits_after : (a : Workbench) (user : ℕ) (b : Workbench) → OnlyKeepsMore a user b → StoreFits a → StoreFits b
 fits_after a user b keeps fits = record {
-  kinds = keeps.grows.kinds ∙ fits.kinds ∙ ap kinds_in (sym keeps.network);
-  sound = subst (λ (n : Network). IsSound n b.store) (sym keeps.network) (keeps.grows.sound fits.sound);
+  sound = subst (λ (n : Network). IsSoundFor n b.store) (sym keeps.network) (still_sound_for a.network a.store b.store keeps.grows fits.sound);
   nogoods = subst (λ (n : Network). AreNogoods n b.store b.nogoods) (sym keeps.network) (keeps.nogoods fits.nogoods);
   snapshots = subst (λ (n : Network). SnapshotsFit n b.store b.snapshots) (sym keeps.network) (keeps.snapshots fits);
 }
@@ -195,7 +194,7 @@ only_notes old user store nogoods grows upstream noted = record {
   network = refl;
   beliefs = refl;
   others = λ other there differs. refl;
-  snapshots = λ fits. snapshots_keeping old.network old.store store old.snapshots fits.kinds fits.sound grows fits.snapshots;
+  snapshots = λ fits. snapshots_keeping old.network old.store store old.snapshots fits.sound.kinds fits.sound.sound grows fits.snapshots;
   nogoods = λ are. nogoods_same old.network old.store store grows.told nogoods (noted are);
   grows = grows;
   upstream = λ given rests. rest_with old.network given old.store store old.snapshots (upstream given rests.kept) rests;
@@ -271,7 +270,7 @@ only_settles old user store calls grows upstream = record {
   network = refl;
   beliefs = refl;
   others = λ other there differs. refl;
-  snapshots = λ fits. snapshots_keeping old.network old.store store old.snapshots fits.kinds fits.sound grows fits.snapshots;
+  snapshots = λ fits. snapshots_keeping old.network old.store store old.snapshots fits.sound.kinds fits.sound.sound grows fits.snapshots;
   nogoods = λ are. nogoods_same old.network old.store store grows.told old.nogoods are;
   grows = grows;
   upstream = λ given rests. rest_with old.network given old.store store old.snapshots (upstream given rests) rests;

@@ -10,10 +10,9 @@ use Rattle.pw_premises.specs.Premises.{Premises}
 use Rattle.pw_premises.specs.PremiseSubsets.{is_subset_refl, same_numbers_equal}
 use Rattle.pw_cells.specs.Cells.{Store, kinds_of}
 use Rattle.pw_network.specs.Network.{Network, IsWellNetwork}
-use Rattle.pw_settle.specs.Calls.{gains}
+use Rattle.pw_settle.specs.Calls.{gains, tally}
 use Rattle.pw_settle.specs.Growth.{HasValues, IsInterrupted, KeepsIfSound, KeepsMore, RestOnUpstreamAfter, StaysUpstreamAfter}
-use Rattle.pw_settle.specs.inside.Due.{AreDue, CallsWhatIsDue}
-use Rattle.pw_settle.specs.inside.Progress.{tally}
+use Rattle.pw_settle.specs.Due.{AreDue, CallsWhatIsDue}
 use Rattle.pw_settle.specs.Settled.{IsSettled, Settled}
 use Rattle.pw_settle.specs.Sound.{IsSound}
 use Rattle.pw_settle.specs.Values.{kinds_in}
@@ -81,8 +80,8 @@ module _ (network : Network) (well : IsWellNetwork network) (old new : Store) (s
 
 module _ (old : Workbench) (user place : ℕ) (d before after : Snapshot) (store : Store) (can : CanAnswer old user)
     (at : place_in old user ≡ Some place) (read : before ≡ get_or old.snapshots place d) (worldview : after.values.worldview ≡ before.values.worldview)
-    (grows : KeepsMore old.network old.store store) (upstream : StaysUpstreamAfter old.network before.values old.store store)
-    (lie : RestOnUpstreamAfter old.network before.values old.store after.values) (fits : IsSnapshotOf old.network store after) where
+    (grows : KeepsMore old.network old.store store) (upstream : StaysUpstreamAfter old.network before.values.supports old.store store)
+    (lie : RestOnUpstreamAfter old.network before.values.supports old.store after.values.supports) (fits : IsSnapshotOf old.network store after) where
   abbrev w : Premises
   w = beliefs_in old user
 
@@ -220,7 +219,7 @@ module _ (old : Workbench) (user place : ℕ) (d before after : Snapshot) (store
           (ap (is_of (beliefs_in old other)) (sym read) ∙ apart other differs before own) (apart other differs after still_own);
       snapshots = λ fit.
           all_with (IsSnapshotOf old.network store) fits
-          (snapshots_keeping old.network old.store store old.snapshots fit.kinds fit.sound grows fit.snapshots);
+          (snapshots_keeping old.network old.store store old.snapshots fit.sound.kinds fit.sound.sound grows fit.snapshots);
       nogoods = λ are. nogoods_same old.network old.store store grows.told old.nogoods are;
       grows = grows;
       upstream = λ given rests. record {
@@ -275,5 +274,5 @@ module _ (old : Workbench) (user place : ℕ) (d before after : Snapshot) (store
   after_refused_again unchanged uncounted =
       after_kept old.calls
       (λ is. subst (IsCurrent old.network store) (sym (unchanged is))
-      (current_keeping old.network old.store store before.values can.fits.kinds can.fits.sound grows is))
+      (current_keeping old.network old.store store before.values can.fits.sound.kinds can.fits.sound.sound grows is))
       (calls_none old user old.calls uncounted)

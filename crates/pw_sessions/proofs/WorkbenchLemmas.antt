@@ -21,7 +21,7 @@ use Rattle.pw_decl.specs.Declaration.{Declared, kind_at}
 use Rattle.pw_decl.specs.Expansion.{inner_kinds_of}
 use Rattle.pw_network.specs.Network.{Attached as AttachedInstance, IsWellNetwork, Network, bare, with_attached}
 use Rattle.pw_settle.specs.Values.{nat_eq_decides}
-use Rattle.pw_settle.specs.Sound.{IsSound}
+use Rattle.pw_settle.specs.Sound.{IsSoundFor}
 use Rattle.pw_settle.specs.Values.{kinds_in}
 use Rattle.pw_settle.specs.Growth.{IsWider}
 use Rattle.pw_reasons.specs.Nogood.{AreNogoods, IsNogood}
@@ -35,7 +35,7 @@ use Rattle.pw_sessions.specs.inside.Steps.{TakesFact, IsAsBefore, IsAttached, Is
 use Rattle.pw_sessions.specs.Workbench.{Workbench, IsLeftBy, IsSetUpFor, SnapshotsFit, WasTold, beliefs_in, is_told_on, network_after, tells_on, with_entry}
 use Rattle.pw_sessions.proofs.EntriesRise.{rise_before}
 use Rattle.pw_sessions.proofs.FurtherLines.{entries_before-snoc, beliefs_at-snoc}
-use Rattle.pw_sessions.proofs.LastValues.{no_snapshots, snapshots_attached, snapshots_same, snapshots_told}
+use Rattle.pw_sessions.proofs.LastValues.{fits_after, no_snapshots, snapshots_attached, snapshots_same, snapshots_told}
 use Rattle.pw_sessions.proofs.NotedPremises.{nogoods_attached, nogoods_kept, nogoods_told}
 use Rattle.pw_settle.proofs.SoundStores.{rests_attached, rests_new, rests_same, rests_told, sound_attached, sound_new, sound_same, sound_told}
 use Rattle.pw_settle.proofs.WiderNetworks.{kinds_with_attached, widened_under}
@@ -74,10 +74,14 @@ module _ (d : Declared) (many : length d.kinds ≡ length d.cells) where
       record {
         users = ap length believed ∙ length-replicate users (premises_below premises) ∙ all;
         declared = ap (λ (n : Network). n.declared) is;
-        kinds = kinds;
-        sound = sound_new bench.network bench.store d.kinds kinds new;
-        nogoods = subst (AreNogoods bench.network bench.store) (sym unnoted) (All-nil (IsNogood bench.network bench.store));
-        fit = subst (SnapshotsFit bench.network bench.store) (sym none) (no_snapshots bench.network bench.store);
+        fits = record {
+          sound = record {
+            kinds = kinds;
+            sound = sound_new bench.network bench.store d.kinds kinds new;
+          };
+          nogoods = subst (AreNogoods bench.network bench.store) (sym unnoted) (All-nil (IsNogood bench.network bench.store));
+          snapshots = subst (SnapshotsFit bench.network bench.store) (sym none) (no_snapshots bench.network bench.store);
+        };
       }
     where
       kinds : kinds_of bench.store ≡ kinds_in bench.network
@@ -88,12 +92,12 @@ module _ (d : Declared) (many : length d.kinds ≡ length d.cells) where
       bench.store.arrivals.list ≡ [] → bench.nogoods ≡ [] → bench.beliefs ≡ replicate users (premises_below premises) → bench.snapshots ≡ [] →
       users ≡ length d.users → premises ≡ length d.premises → IsLeftBy d [] bench
   IsLeftBy-new bench users premises is new quiet unnoted believed none all each =
-      let fits : IsSetUpFor d bench = IsSetUpFor-new bench users premises is new unnoted believed none all in
+      let set_up : IsSetUpFor d bench = IsSetUpFor-new bench users premises is new unnoted believed none all in
       record {
-        set_up = fits;
+        set_up = set_up;
         fit = All-nil (FitsDeclared d);
         network = is;
-        told = WasTold-from_tells d many [] tt bench.network bench.store is fits.kinds (tells_of_new d bench.network bench.store d.kinds new);
+        told = WasTold-from_tells d many [] tt bench.network bench.store is set_up.fits.sound.kinds (tells_of_new d bench.network bench.store d.kinds new);
         upstream = record {
           kept = rests_new bench.network (is_told_on []) bench.store d.kinds new quiet;
           snapshots = subst (All (Rests bench.network (is_told_on []))) (sym none) (All-nil (Rests bench.network (is_told_on [])));
@@ -110,7 +114,7 @@ module _ (d : Declared) (many : length d.kinds ≡ length d.cells) where
   pub left_tells : (readings : List LineReading) (bench : Workbench) → IsLeftBy d readings bench →
       TellsEntries d (entries_before readings) bench.network bench.store
   left_tells readings bench left =
-      tells_from_WasTold d many (entries_before readings) (rise_before readings) bench.network bench.store left.network left.set_up.kinds left.told
+      tells_from_WasTold d many (entries_before readings) (rise_before readings) bench.network bench.store left.network left.set_up.fits.sound.kinds left.told
 
   -- with the entries of one more line, and what the users believe then, a workbench is what the
   -- lines leave
@@ -120,16 +124,16 @@ module _ (d : Declared) (many : length d.kinds ≡ length d.cells) where
       AllRestUpstream new.network (is_told_on (entries_before readings ++ added)) new.store new.snapshots →
       ((user : ℕ) → user < length d.users → beliefs_in new user ≡ believed_after d user readings (beliefs_at d user readings) reading) →
       IsLeftBy d (readings ++ reading ∷ []) new
-  left_after readings reading new added own fits fit is tells rests believed =
+  left_after readings reading new added own set_up fit is tells rests believed =
       let all : entries_before readings ++ added ≡ entries_before (readings ++ reading ∷ []) =
       ap (λ (l : List Entry). entries_before readings ++ l) (sym own) ∙ sym (entries_before-snoc readings reading) in
       let same : new.network ≡ network_after d (entries_before (readings ++ reading ∷ [])) = is ∙ ap (network_after d) all in
       record {
-        set_up = fits;
+        set_up = set_up;
         fit = subst (All (FitsDeclared d)) all fit;
         network = same;
         told = WasTold-from_tells d many (entries_before (readings ++ reading ∷ [])) (rise_before (readings ++ reading ∷ []))
-            new.network new.store same fits.kinds
+            new.network new.store same set_up.fits.sound.kinds
             (subst (λ (es : List Entry). TellsEntries d es new.network new.store) all tells);
         upstream = subst (λ (es : List Entry). AllRestUpstream new.network (is_told_on es) new.store new.snapshots) all rests;
         beliefs = λ user below. believed user below ∙ sym (beliefs_at-snoc d user readings reading);
@@ -148,10 +152,11 @@ module _ (d : Declared) (many : length d.kinds ≡ length d.cells) where
       (record {
         users = all;
         declared = left.set_up.declared;
-        kinds = left.set_up.kinds;
-        sound = left.set_up.sound;
-        nogoods = left.set_up.nogoods;
-        fit = left.set_up.fit;
+        fits = record {
+          sound = left.set_up.fits.sound;
+          nogoods = left.set_up.fits.nogoods;
+          snapshots = left.set_up.fits.snapshots;
+        };
       })
       (subst (All (FitsDeclared d)) same left.fit) (left.network ∙ ap (network_after d) same)
       (subst (λ (l : List Entry). TellsEntries d l old.network old.store) same (left_tells readings old left))
@@ -173,15 +178,19 @@ module _ (d : Declared) (many : length d.kinds ≡ length d.cells) where
         set_up = record {
           users = ap length still.beliefs ∙ left.set_up.users;
           declared = ap (λ (n : Network). n.declared) still.network ∙ left.set_up.declared;
-          kinds = ap (λ (cs : List Cell). map (λ (c : Cell). c.kind) cs) still.cells_are ∙ left.set_up.kinds ∙ ap kinds_in (sym still.network);
-          sound = subst (λ (n : Network). IsSound n new.store) (sym still.network) (sound_same old.network old.store new.store still.cells_are left.set_up.sound);
-          nogoods = subst (λ (n : Network). AreNogoods n new.store new.nogoods) (sym still.network)
-              (subst (AreNogoods old.network new.store) (sym still.nogoods)
-              (nogoods_kept old.network old.store new.store still.cells_are old.nogoods left.set_up.nogoods));
-          fit = subst (λ (n : Network). SnapshotsFit n new.store new.snapshots) (sym still.network)
-              (subst (SnapshotsFit old.network new.store) (sym still.snapshots)
-              (snapshots_same old.network old.store new.store old.snapshots left.set_up.kinds left.set_up.sound still.cells_are still.continues
-              left.set_up.fit));
+          fits = record {
+            sound = subst (λ (n : Network). IsSoundFor n new.store) (sym still.network) (record {
+              kinds = ap (λ (cs : List Cell). map (λ (c : Cell). c.kind) cs) still.cells_are ∙ left.set_up.fits.sound.kinds;
+              sound = sound_same old.network old.store new.store still.cells_are left.set_up.fits.sound.sound;
+            });
+            nogoods = subst (λ (n : Network). AreNogoods n new.store new.nogoods) (sym still.network)
+                (subst (AreNogoods old.network new.store) (sym still.nogoods)
+                (nogoods_kept old.network old.store new.store still.cells_are old.nogoods left.set_up.fits.nogoods));
+            snapshots = subst (λ (n : Network). SnapshotsFit n new.store new.snapshots) (sym still.network)
+                (subst (SnapshotsFit old.network new.store) (sym still.snapshots)
+                (snapshots_same old.network old.store new.store old.snapshots left.set_up.fits.sound.kinds left.set_up.fits.sound.sound still.cells_are
+                still.continues left.set_up.fits.snapshots));
+          };
         };
         fit = left.fit;
         network = still.network ∙ left.network;
@@ -204,15 +213,7 @@ module _ (d : Declared) (many : length d.kinds ≡ length d.cells) where
         set_up = record {
           users = ap length keeps.beliefs ∙ left.set_up.users;
           declared = ap (λ (n : Network). n.declared) keeps.network ∙ left.set_up.declared;
-          kinds = keeps.grows.kinds ∙ left.set_up.kinds ∙ ap kinds_in (sym keeps.network);
-          sound = subst (λ (n : Network). IsSound n new.store) (sym keeps.network) (keeps.grows.sound left.set_up.sound);
-          nogoods = subst (λ (n : Network). AreNogoods n new.store new.nogoods) (sym keeps.network) (keeps.nogoods left.set_up.nogoods);
-          fit = subst (λ (n : Network). SnapshotsFit n new.store new.snapshots) (sym keeps.network) (keeps.snapshots (record {
-            kinds = left.set_up.kinds;
-            sound = left.set_up.sound;
-            nogoods = left.set_up.nogoods;
-            snapshots = left.set_up.fit;
-          }));
+          fits = fits_after old user new keeps left.set_up.fits;
         };
         fit = left.fit;
         network = keeps.network ∙ left.network;
@@ -227,10 +228,10 @@ module _ (d : Declared) (many : length d.kinds ≡ length d.cells) where
 
   -- a declared cell has its kind in the store
   pub store_kind : (bench : Workbench) (cell : ℕ) → IsSetUpFor d bench → cell < length d.cells → kind_in_store bench.store cell ≡ kind_at d cell
-  store_kind bench cell fits below =
+  store_kind bench cell set_up below =
       let inner = map (λ inner. inner.kind) bench.network.inner in
       sym (kind_found bench.store cell)
-      ∙ ap (λ (ks : List Kind). get_or ks cell kinds.Interval) (fits.kinds ∙ ap (λ (e : Declared). e.kinds ++ inner) fits.declared)
+      ∙ ap (λ (ks : List Kind). get_or ks cell kinds.Interval) (set_up.fits.sound.kinds ∙ ap (λ (e : Declared). e.kinds ++ inner) set_up.declared)
       ∙ get_or_append_left d.kinds inner kinds.Interval cell (omega (arith, below, many))
 
   -- the line leaves the store with one more fact
@@ -246,21 +247,25 @@ module _ (d : Declared) (many : length d.kinds ≡ length d.cells) where
       (record {
         users = ap length told.beliefs ∙ left.set_up.users;
         declared = ap (λ (n : Network). n.declared) told.network ∙ left.set_up.declared;
-        kinds = takes.kinds ∙ left.set_up.kinds ∙ ap kinds_in (sym told.network);
-        sound = subst (λ (n : Network). IsSound n new.store) (sym told.network)
-            (sound_told old.network network old.store new.store cell fact left.set_up.kinds kind takes.told takes.kept takes.others takes.kinds left.set_up.sound);
-        nogoods = subst (λ (n : Network). AreNogoods n new.store new.nogoods) (sym told.network)
-            (subst (AreNogoods old.network new.store) (sym told.nogoods)
-            (nogoods_told old.network network old.store new.store cell fact left.set_up.kinds kind takes old.nogoods left.set_up.nogoods));
-        fit = subst (λ (n : Network). SnapshotsFit n new.store new.snapshots) (sym told.network)
-            (snapshots_told old.network old.store cell fact left.set_up.kinds kind
-            (omega (arith, named.0, ap (λ (e : Declared). length e.cells) left.set_up.declared)) network new.store takes left.set_up.sound old.snapshots
-            new.snapshots told.snapshots left.set_up.fit);
+        fits = record {
+          sound = subst (λ (n : Network). IsSoundFor n new.store) (sym told.network) (record {
+            kinds = takes.kinds ∙ left.set_up.fits.sound.kinds;
+            sound = sound_told old.network network old.store new.store cell fact left.set_up.fits.sound.kinds kind takes.told takes.kept takes.others takes.kinds
+                left.set_up.fits.sound.sound;
+          });
+          nogoods = subst (λ (n : Network). AreNogoods n new.store new.nogoods) (sym told.network)
+              (subst (AreNogoods old.network new.store) (sym told.nogoods)
+              (nogoods_told old.network network old.store new.store cell fact left.set_up.fits.sound.kinds kind takes old.nogoods left.set_up.fits.nogoods));
+          snapshots = subst (λ (n : Network). SnapshotsFit n new.store new.snapshots) (sym told.network)
+              (snapshots_told old.network old.store cell fact left.set_up.fits.sound.kinds kind
+              (omega (arith, named.0, ap (λ (e : Declared). length e.cells) left.set_up.declared)) network new.store takes left.set_up.fits.sound.sound
+              old.snapshots new.snapshots told.snapshots left.set_up.fits.snapshots);
+        };
       })
       (All-push (FitsDeclared d) es entry left.fit named)
       (told.network ∙ left.network ∙ sym (fold_push with_entry (bare d) es entry))
       (subst (λ (n : Network). TellsEntries d (es ++ entry ∷ []) n new.store) (sym told.network)
-      (tells_more d many es (rise_before readings) old.network old.store left.network left.set_up.kinds new.store line cell fact left.set_up.declared named.0
+      (tells_more d many es (rise_before readings) old.network old.store left.network left.set_up.fits.sound.kinds new.store line cell fact left.set_up.declared named.0
       kind takes.told takes.others takes.kinds (left_tells readings old left)))
       (subst (λ (n : Network). AllRestUpstream n (is_told_on (es ++ entry ∷ [])) new.store new.snapshots) (sym told.network)
       (record {
@@ -290,7 +295,7 @@ module _ (d : Declared) (many : length d.kinds ≡ length d.cells) where
       let store_of : List Cell → Store = λ cs. record { cells = cs; room = 0; arrivals = new.store.arrivals } in
       let fits : kinds_of new.store ≡ kinds_in new.network =
       ap (λ (cs : List Cell). map (λ (c : Cell). c.kind) cs) attached.cells_are ∙ kinds_added old.store.cells own
-      ∙ ap (λ (ks : List Kind). ks ++ own) left.set_up.kinds
+      ∙ ap (λ (ks : List Kind). ks ++ own) left.set_up.fits.sound.kinds
       ∙ sym (kinds_with_attached old.network line callable (cells_of on) support) ∙ ap kinds_in (sym attached.network) in
       let widened : (w : IsWider old.network new.network) × All (λ (a : AttachedInstance). a.support ≡ support) w.more =
       widened_under old.network new.network line callable (cells_of on) support attached.network in
@@ -299,20 +304,25 @@ module _ (d : Declared) (many : length d.kinds ≡ length d.cells) where
       (record {
         users = ap length attached.beliefs ∙ left.set_up.users;
         declared = ap (λ (n : Network). n.declared) attached.network ∙ left.set_up.declared;
-        kinds = fits;
-        sound = sound_attached old.network new.network wide network wider old.store new.store own left.set_up.kinds fits attached.cells_are left.set_up.sound;
-        nogoods = subst (AreNogoods new.network new.store) (sym attached.nogoods)
-            (nogoods_attached old.network new.network wide network wider old.store new.store own left.set_up.kinds fits attached.cells_are old.nogoods
-            left.set_up.nogoods);
-        fit = subst (SnapshotsFit new.network new.store) (sym attached.snapshots)
-            (snapshots_attached old.network new.network wide network wider old.store new.store own left.set_up.kinds fits attached.cells_are
-            attached.continues left.set_up.sound support widened.1 old.snapshots left.set_up.fit);
+        fits = record {
+          sound = record {
+            kinds = fits;
+            sound = sound_attached old.network new.network wide network wider old.store new.store own left.set_up.fits.sound.kinds fits attached.cells_are
+                left.set_up.fits.sound.sound;
+          };
+          nogoods = subst (AreNogoods new.network new.store) (sym attached.nogoods)
+              (nogoods_attached old.network new.network wide network wider old.store new.store own left.set_up.fits.sound.kinds fits attached.cells_are
+              old.nogoods left.set_up.fits.nogoods);
+          snapshots = subst (SnapshotsFit new.network new.store) (sym attached.snapshots)
+              (snapshots_attached old.network new.network wide network wider old.store new.store own left.set_up.fits.sound.kinds fits attached.cells_are
+              attached.continues left.set_up.fits.sound.sound support widened.1 old.snapshots left.set_up.fits.snapshots);
+        };
       })
       (All-push (FitsDeclared d) es entry left.fit named.1)
       (attached.network ∙ ap (λ (n : Network). with_entry n entry) left.network ∙ sym (fold_push with_entry (bare d) es entry))
       (subst (λ (n : Network). TellsEntries d (es ++ entry ∷ []) n new.store) (sym attached.network)
       (subst (λ (cs : List Cell). TellsEntries d (es ++ entry ∷ []) made (store_of cs)) (sym attached.cells_are)
-      (tells_attached d many es (rise_before readings) old.network old.store left.network left.set_up.kinds line callable (cells_of on) support 0
+      (tells_attached d many es (rise_before readings) old.network old.store left.network left.set_up.fits.sound.kinds line callable (cells_of on) support 0
       new.store.arrivals (left_tells readings old left))))
       (record {
         kept = rests_attached old.network new.network wide (is_told_on es) (is_told_on (es ++ entry ∷ [])) (λ c p given. told_on_more es (entry ∷ []) c p given)

@@ -9,9 +9,9 @@ use Rattle.pw_facts.specs.Facts.{shows}
 use Rattle.pw_cells.specs.Cells.{Store}
 use Rattle.pw_decl.specs.Declaration.{Declared}
 use Rattle.pw_network.specs.Network.{Network}
-use Rattle.pw_settle.specs.inside.Progress.{tally}
+use Rattle.pw_settle.specs.Calls.{tally}
 use Rattle.pw_settle.specs.Calls.{gains, visible_count}
-use Rattle.pw_settle.specs.inside.Due.{AreDue}
+use Rattle.pw_settle.specs.Due.{AreDue}
 use Rattle.pw_settle.specs.Values.{value_in}
 use Rattle.pw_sessions.specs.declared.command.Command.{Command}
 use Rattle.pw_sessions.specs.declared.command.Command.TheVariants as commands

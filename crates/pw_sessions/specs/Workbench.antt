@@ -6,13 +6,12 @@ use Rattle.std.specs.Prelude.{length, nat_eq, Some, slice_index_or}
 use Rattle.std.specs.FinSet.{contains, empty}
 use Rattle.std.specs.List.{list_any}
 use Rattle.pw_premises.specs.Premises.{Premises}
-use Rattle.pw_cells.specs.Cells.{Store, kinds_of, told_in}
+use Rattle.pw_cells.specs.Cells.{Store, told_in}
 use Rattle.pw_decl.specs.Declaration.{Declared}
 use Rattle.pw_network.specs.Wiring.{name_in}
 use Rattle.pw_network.specs.Network.{Network, bare, cells_in, with_attached}
 use Rattle.pw_settle.specs.Fixpoint.{told_alone}
-use Rattle.pw_settle.specs.Sound.{IsSound}
-use Rattle.pw_settle.specs.Values.{kinds_in}
+use Rattle.pw_settle.specs.Sound.{IsSoundFor}
 use Rattle.pw_reasons.specs.Nogood.{AreNogoods}
 use Rattle.pw_sessions.specs.declared.command.Command.{Command}
 use Rattle.pw_sessions.specs.Reply.{Reply}
@@ -25,6 +24,7 @@ use Rattle.pw_sessions.specs.Reply.{LineReading}
 use Rattle.pw_sessions.specs.Snapshot.{AllRestUpstream, IsSnapshotOf, Snapshot}
 use Rattle.pw_sessions.specs.Command.{MayBecome}
 
+-- the state between two lines
 pub record Workbench : Type 0 where
   pub network : Network
   -- the told facts, and the kept facts
@@ -42,6 +42,7 @@ pub record Workbench : Type 0 where
 abbrev pub SnapshotsFit : Network → Store → List Snapshot → Type 0
 SnapshotsFit network store snapshots = All (IsSnapshotOf network store) snapshots
 
+-- the current beliefs of the user
 abbrev pub beliefs_in : Workbench → ℕ → Premises
 beliefs_in workbench user = slice_index_or workbench.beliefs user empty
 
@@ -72,16 +73,19 @@ tells_on cell premise (Attached line callable cells support) = false
 abbrev pub is_told_on : List Entry → ℕ → ℕ → Bool
 is_told_on entries cell premise = list_any (tells_on cell premise) entries
 
--- it is set up for the declaration: each user has beliefs; the store has the cells of the network,
--- with their kinds, and keeps only what follows; the noted sets contradict themselves; and each
+-- the store has the cells of the network and is sound; the noted sets contradict themselves; and each
 -- snapshot fits
+pub record StoreFits (workbench : Workbench) : Type 0 where
+  pub sound : IsSoundFor workbench.network workbench.store
+  pub nogoods : AreNogoods workbench.network workbench.store workbench.nogoods
+  pub snapshots : SnapshotsFit workbench.network workbench.store workbench.snapshots
+
+-- it is set up for the declaration: it has the declared cells, each user has beliefs, and the store
+-- and the snapshots fit
 pub record IsSetUpFor (d : Declared) (workbench : Workbench) : Type 0 where
   pub users : length workbench.beliefs ≡ length d.users
   pub declared : workbench.network.declared ≡ d
-  pub kinds : kinds_of workbench.store ≡ kinds_in workbench.network
-  pub sound : IsSound workbench.network workbench.store
-  pub nogoods : AreNogoods workbench.network workbench.store workbench.nogoods
-  pub fit : SnapshotsFit workbench.network workbench.store workbench.snapshots
+  pub fits : StoreFits workbench
 
 -- it is what lines with these readings leave: the network is what their entries attach, the store
 -- was told what they tell, and each user's beliefs are those that the user's own lines made

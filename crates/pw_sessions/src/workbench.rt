@@ -2,7 +2,7 @@
 //! derived from it so far, which premises were found to contradict themselves, what each user
 //! believes, and what questions found in each worldview.
 
-ghost use Rattle.std.specs.Prelude.{◌≡◌, ◌<◌, [], List, length, map, IfOk, OnErr, OnOk};
+ghost use Rattle.std.specs.Prelude.{◌≡◌, ◌<◌, [], IfOk, List, OnErr, OnOk, length, map};
 ghost use Rattle.pw_info.specs.Information.{kind_of};
 ghost use Rattle.pw_cells.specs.Cells.{kind_in_store};
 ghost use Rattle.pw_decl.specs.Declaration.{Declared};
@@ -11,17 +11,14 @@ ghost use Rattle.pw_network.specs.Wiring.{wiring};
 ghost use Rattle.pw_network.specs.Network.{MayAttach, bare};
 ghost use Rattle.pw_procs.specs.Registry.{cells_of};
 ghost use Rattle.pw_sessions.specs.Beliefs.{beliefs_at};
-ghost use Rattle.pw_sessions.specs.Carrying.{CanBeCarriedOut, CarriesOut, IsUserOf};
+ghost use Rattle.pw_sessions.specs.Carrying.{CanBeCarriedOut, CarriesOut, IsUserOf, KeepsNogoods};
+ghost use Rattle.pw_sessions.specs.Carrying.{RefusedShowsNoChange};
 ghost use Rattle.pw_sessions.specs.Freshness.{CountsCalls, KeepsFresh};
-ghost use Rattle.pw_sessions.specs.Reply.{LineReading};
-ghost use Rattle.pw_sessions.specs.Reply.{reply_by};
+ghost use Rattle.pw_sessions.specs.Reply.{LineReading, reply_by};
 ghost use Rattle.pw_sessions.specs.Snapshot.{AreApart, after_entry};
 ghost use Rattle.pw_sessions.specs.inside.Steps.{CanCarryOut, CarriesOutNext, IsAsBefore};
-ghost use Rattle.pw_sessions.specs.inside.Steps.{IsAttached, IsTold};
-ghost use Rattle.pw_sessions.specs.inside.Steps.{StoreFits};
-ghost use Rattle.pw_sessions.specs.Workbench.{IsLeftBy, beliefs_in};
-ghost use Rattle.pw_sessions.specs.inside.Steps.{believing};
-ghost use Rattle.pw_sessions.specs.Carrying.{KeepsNogoods, RefusedShowsNoChange};
+ghost use Rattle.pw_sessions.specs.inside.Steps.{IsAttached, IsTold, believing};
+ghost use Rattle.pw_sessions.specs.Workbench.{IsLeftBy, StoreFits, beliefs_in};
 
 use crate::command::Command;
 use crate::reply::{Refusal, Reply};

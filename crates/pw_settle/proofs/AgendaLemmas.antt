@@ -6,7 +6,8 @@ use Rattle.std.proofs.lemmas.List.{drop-append-le, drop_more, get_or_default, ge
 use Rattle.std.proofs.lemmas.List.Elements.{All-append, All-cons, All-head, All-nil, All-replicate, All-tail, All-take, All-weaker}
 use Rattle.std.proofs.lemmas.List.Quantifiers.{all_pairs_push}
 use Rattle.std.proofs.lemmas.List.Sums.{count_by-le-length, sum_by-set}
-use Rattle.pw_settle.specs.inside.Progress.{IsIdle, IsQueue, is_set, tally}
+use Rattle.pw_settle.specs.inside.Progress.{IsIdle, IsQueue}
+use Rattle.pw_settle.specs.Calls.{is_set, tally}
 use Rattle.pw_settle.proofs.TakenFlags.{set_below, tally_none, taken_less}
 
 -- one more flag

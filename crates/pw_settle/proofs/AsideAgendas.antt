@@ -9,7 +9,7 @@ use Rattle.pw_network.specs.Network.{Attached, Network}
 use Rattle.pw_settle.specs.Settled.{info_at}
 use Rattle.pw_settle.specs.Values.{attached_no}
 use Rattle.pw_settle.specs.inside.Aside.{AreOthersMet, StaysMet}
-use Rattle.pw_settle.specs.inside.Progress.{is_set}
+use Rattle.pw_settle.specs.Calls.{is_set}
 
 -- an instance stays met if it was visible, and what is known now of its output implies what was
 module _ (network : Network) (was : List Bool) (before now : List Info) (number : ℕ) (a : Attached) (is : (d : Attached) → attached_no network number d ≡ a)

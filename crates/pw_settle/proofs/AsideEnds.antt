@@ -21,14 +21,14 @@ use Rattle.pw_procs.specs.Procedure.{Procedure}
 use Rattle.pw_cells.specs.Cells.{Store, kinds_of, told_in}
 use Rattle.pw_decl.proofs.FlatKept.{range_below}
 use Rattle.pw_network.specs.Network.{Attached, IsWellNetwork, Network, cells_in}
-use Rattle.pw_settle.specs.Calls.{is_instance_visible, reader_count}
+use Rattle.pw_settle.specs.Calls.{is_instance_visible, is_set, reader_count}
 use Rattle.pw_settle.specs.Settled.{IsSettled, Settled, info_at, support_at}
 use Rattle.pw_settle.specs.Sources.{IsImplied, Told}
 use Rattle.pw_settle.specs.Values.{attached_no, kinds_in, numbered, numbers_of_cells, propagators_of, sources_in, told_sources, value_in, visible_instances}
 use Rattle.pw_settle.specs.inside.Aside.{AreAllSatisfied, AreFound, AreOthersMet, StaysMet, weight_of}
-use Rattle.pw_settle.specs.inside.Due.{HasChanged, QueuesReaders, found_of}
+use Rattle.pw_settle.specs.inside.Queueing.{HasChanged, QueuesReaders, found_of}
 use Rattle.pw_settle.specs.inside.Known.{IsPlaced}
-use Rattle.pw_settle.specs.inside.Progress.{AreSatisfied, is_set}
+use Rattle.pw_settle.specs.inside.Progress.{AreSatisfied}
 use Rattle.pw_settle.proofs.AsideNews.{value_says, value_says_more}
 use Rattle.pw_settle.proofs.AsideStarts.{value_kind}
 use Rattle.pw_settle.proofs.FittingValues.{implies_stable}

@@ -19,15 +19,14 @@ use Rattle.pw_cells.specs.Shown.{IsKeptIn}
 use Rattle.pw_cells.proofs.Together.{meet_first}
 use Rattle.pw_network.specs.Network.{Attached, IsWellNetwork, Network}
 use Rattle.pw_network.specs.Readers.{reads}
-use Rattle.pw_settle.specs.Calls.{is_instance_visible, visible_at}
+use Rattle.pw_settle.specs.Calls.{is_instance_visible, is_set, visible_at}
 use Rattle.pw_settle.specs.Settled.{IsSettled, Settled, info_at, support_at}
 use Rattle.pw_settle.specs.Sound.{IsSound}
 use Rattle.pw_settle.specs.Sources.{IsImplied}
 use Rattle.pw_settle.specs.Values.{IsSatisfied, attached_no, kinds_in, value_in}
 use Rattle.pw_settle.specs.inside.Aside.{AreFound, AreGrownTo, IsFound, IsGrown}
-use Rattle.pw_settle.specs.inside.Due.{QueuesReaders}
+use Rattle.pw_settle.specs.inside.Queueing.{QueuesReaders}
 use Rattle.pw_settle.specs.inside.Known.{IsPlaced, TakesIn, TakesInKept}
-use Rattle.pw_settle.specs.inside.Progress.{is_set}
 use Rattle.pw_settle.proofs.AsideAgendas.{none_set}
 use Rattle.pw_settle.proofs.AsideNews.{value_says}
 use Rattle.pw_settle.proofs.AsideStarts.{cell_there, earlier_follows, earlier_kind, kept_found, past_found, together_follows}

@@ -21,13 +21,13 @@ use Rattle.pw_facts.specs.Facts.{IsLeastAbove}
 use Rattle.pw_cells.specs.Cells.{Store, kinds_of}
 use Rattle.pw_network.specs.Network.{Attached, IsWellNetwork, Network}
 use Rattle.pw_network.specs.Readers.{reads, readers_of}
-use Rattle.pw_settle.specs.Calls.{is_instance_visible, reader_count, visible_at}
+use Rattle.pw_settle.specs.Calls.{is_instance_visible, is_set, reader_count, visible_at}
 use Rattle.pw_settle.specs.Settled.{info_at, support_at}
 use Rattle.pw_settle.specs.Sources.{IsImplied, said_by}
 use Rattle.pw_settle.specs.Values.{IsSatisfied, attached_no, kinds_in, numbered, propagators_of, told_sources, value_in, visible_instances}
 use Rattle.pw_settle.specs.inside.Aside.{AreFound, IsFound, weight_of}
 use Rattle.pw_settle.specs.inside.Known.{IsPlaced, TakesIn}
-use Rattle.pw_settle.specs.inside.Progress.{AreOthersSatisfied, AreSatisfied, IsNews, is_set}
+use Rattle.pw_settle.specs.inside.Progress.{AreOthersSatisfied, AreSatisfied, IsNews}
 use Rattle.pw_settle.proofs.AsideStarts.{together_follows}
 use Rattle.pw_settle.proofs.JoinedSupports.{joined_parts, joined_within}
 use Rattle.pw_settle.proofs.KeptFacts.{by_cell, kind-in_value, kind_there}

@@ -20,11 +20,11 @@ use Rattle.pw_cells.specs.declared.arrival.Arrival.{Arrival}
 use Rattle.pw_cells.specs.Arrivals.{IsKept, since}
 use Rattle.pw_cells.specs.Cells.{Store, kept_at, kept_in, kind_in_store}
 use Rattle.pw_network.specs.Network.{Network}
-use Rattle.pw_settle.specs.Growth.{CanContinue}
+use Rattle.pw_settle.specs.Growth.{CanContinue, RestOnUpstreamAfter}
 use Rattle.pw_settle.specs.Settled.{Settled, info_at, support_at}
 use Rattle.pw_settle.specs.Sound.{LiesUpstream, RestsUpstream}
 use Rattle.pw_settle.specs.inside.Known.{AreKept, SaysTold}
-use Rattle.pw_settle.specs.inside.Since.{AreReadTo, IsKnown, IsNewHere, LieUpstreamAfter}
+use Rattle.pw_settle.specs.inside.Since.{AreReadTo, IsKnown, IsNewHere}
 use Rattle.pw_settle.proofs.KeptFacts.{implies_also, implies_shown}
 use Rattle.pw_settle.proofs.KnownParts.{AreParts, IsPart, no_less, parts_kept, parts_taken, upstream_taken}
 use Rattle.pw_settle.proofs.TakenNews.{news_known}
@@ -36,7 +36,7 @@ pub record AreTakenIn (store : Store) (before : Settled) (list : List Arrival) (
   pub new : (cell : ℕ) → length before.infos ≤ cell → cell < length store.cells → Implies (info_at infos cell) (kept_in store cell before.worldview)
   pub came : (k : ℕ) (d : Arrival) → left ≤ k → k < length list →
       Implies (info_at infos (get_or list k d).cell) (shows before.worldview (get_or list k d).fact)
-  pub upstream : (network : Network) → LieUpstreamAfter network store before.supports supports
+  pub upstream : (network : Network) → RestOnUpstreamAfter network before.supports store supports
 
 -- ---- one fact
 
@@ -85,7 +85,7 @@ module _ (store : Store) (before : Settled) (continues : CanContinue store befor
             record { kind = kept.kind; within = kept.within; enough = kept.larger }
       ]
 
-  first_upstream : (network : Network) → LieUpstreamAfter network store before.supports supports
+  first_upstream : (network : Network) → RestOnUpstreamAfter network before.supports store supports
   first_upstream network given rests lie cell =
       elim (cases_Bool (nat_lt cell (length before.infos))) [
         | inl is ↦

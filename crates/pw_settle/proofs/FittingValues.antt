@@ -19,9 +19,10 @@ use Rattle.pw_cells.specs.Cells.{Cell, Store, cell_at, kept_in, kept_of, kinds_o
 use Rattle.pw_cells.proofs.Together.{larger_shown}
 use Rattle.pw_procs.specs.Procedure.{Procedure, value_by}
 use Rattle.pw_network.specs.Network.{Attached, Network, IsWellNetwork}
-use Rattle.pw_settle.specs.inside.Progress.{is_set}
+use Rattle.pw_settle.specs.Calls.{is_set}
 use Rattle.pw_settle.specs.Calls.{is_instance_visible, visible_at}
-use Rattle.pw_settle.specs.inside.Due.{AreDue, HasChanged, IsDue, QueuesReaders, found_of, is_new}
+use Rattle.pw_settle.specs.inside.Queueing.{HasChanged, QueuesReaders, found_of}
+use Rattle.pw_settle.specs.Due.{AreDue, IsDue, is_new}
 use Rattle.pw_settle.specs.Growth.{IsFitting, said_of}
 use Rattle.pw_settle.specs.inside.Known.{AreKept}
 use Rattle.pw_settle.specs.inside.Progress.{AreSatisfied}

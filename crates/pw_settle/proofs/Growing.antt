@@ -9,6 +9,7 @@ use Rattle.pw_network.specs.Network.{Network}
 use Rattle.pw_settle.specs.Growth.{KeepsMore}
 use Rattle.pw_settle.specs.Fixpoint.{fixpoint}
 use Rattle.pw_settle.specs.Settled.{IsSettled, Settled, support_at}
+use Rattle.pw_settle.specs.Sound.{IsSoundFor}
 use Rattle.pw_settle.specs.Sources.{Told}
 use Rattle.pw_settle.specs.Values.{kinds_in, numbered, numbers_of_cells, propagators_of, value_in, visible_instances}
 
@@ -38,6 +39,13 @@ keeps_more_then network a b c first then = record {
   more = λ cell w v possible. first.more cell w v (then.more cell w v possible);
   sound = λ sound. then.sound (first.sound sound);
   continues = λ mark w count known was. then.continues mark w count known (first.continues mark w count known was);
+}
+
+-- a sound store that keeps more stays sound
+pub still_sound_for : (network : Network) (old new : Store) → KeepsMore network old new → IsSoundFor network old → IsSoundFor network new
+still_sound_for network old new grows is = record {
+  kinds = grows.kinds ∙ is.kinds;
+  sound = grows.sound is.sound;
 }
 
 -- settled values stay settled if the told facts stay

@@ -18,15 +18,15 @@ use Rattle.pw_facts.proofs.Shown.{implies_same}
 use Rattle.pw_cells.specs.Arrivals.{IsAccounted}
 use Rattle.pw_cells.specs.Cells.{Store, kept_at, kept_in, kind_in_store, kinds_of, told_in}
 use Rattle.pw_network.specs.Network.{Network, IsWellNetwork}
-use Rattle.pw_settle.specs.Calls.{is_instance_visible, visible_at}
-use Rattle.pw_settle.specs.Growth.{CanContinue, IsFitting}
+use Rattle.pw_settle.specs.Calls.{is_instance_visible, is_set, visible_at}
+use Rattle.pw_settle.specs.Growth.{CanContinue, IsFitting, RestOnUpstreamAfter}
 use Rattle.pw_settle.specs.Settled.{Settled, info_at, support_at}
 use Rattle.pw_settle.specs.Sound.{LiesUpstream}
 use Rattle.pw_settle.specs.Values.{kinds_in}
-use Rattle.pw_settle.specs.inside.Due.{AreDue, HasChanged, QueuesReaders, found_of}
+use Rattle.pw_settle.specs.inside.Queueing.{HasChanged, QueuesReaders, found_of}
+use Rattle.pw_settle.specs.Due.{AreDue}
 use Rattle.pw_settle.specs.inside.Known.{AreKept, SaysTold}
-use Rattle.pw_settle.specs.inside.Progress.{is_set}
-use Rattle.pw_settle.specs.inside.Since.{AreReadTo, IsAtHand, LieUpstreamAfter, QueuesChanged}
+use Rattle.pw_settle.specs.inside.Since.{AreReadTo, IsAtHand, QueuesChanged}
 use Rattle.pw_settle.proofs.FittingValues.{due_flags}
 use Rattle.pw_settle.proofs.KeptFacts.{also_implies, implies_also, kind_there}
 use Rattle.pw_settle.proofs.NewlyQueued.{later_new}
@@ -141,7 +141,7 @@ module _ (network : Network) (store : Store) (same : kinds_of store ≡ kinds_in
   }
 
   -- and its premises lie upstream, if what is kept and the earlier values rest there
-  pub read_upstream : LieUpstreamAfter network store before.supports supports
+  pub read_upstream : RestOnUpstreamAfter network before.supports store supports
   read_upstream given rests lie cell =
       elim (cases_Bool (nat_lt cell (length store.cells))) [
         | inl is ↦

@@ -30,7 +30,7 @@ use Rattle.pw_cells.proofs.Stores.{kind-listed}
 use Rattle.pw_cells.proofs.Together.{meet_first, meet_keeps}
 use Rattle.pw_network.specs.Network.{Attached, Network, IsWellNetwork}
 use Rattle.pw_network.specs.Readers.{reads, readers_of}
-use Rattle.pw_settle.specs.inside.Progress.{is_set}
+use Rattle.pw_settle.specs.Calls.{is_set}
 use Rattle.pw_settle.specs.Calls.{is_instance_visible, reader_count, sum_below, visible_at}
 use Rattle.pw_settle.specs.Growth.{KeepsMore}
 use Rattle.pw_settle.specs.inside.Known.{AreKept, AreUpstream, TakesIn}

@@ -18,10 +18,11 @@ use Rattle.pw_facts.proofs.Shown.{kind-shows}
 use Rattle.pw_cells.specs.Arrivals.{IsAccounted}
 use Rattle.pw_cells.specs.Cells.{Cell, Store, IsUnsaid, kept_in, kept_of, kind_in_store, new_cell}
 use Rattle.pw_network.specs.Network.{Network}
+use Rattle.pw_settle.specs.Growth.{RestOnUpstreamAfter}
 use Rattle.pw_settle.specs.Settled.{info_at, support_at}
 use Rattle.pw_settle.specs.Sound.{LiesUpstream, RestsUpstream}
 use Rattle.pw_settle.specs.inside.Known.{AreKept, TakesIn}
-use Rattle.pw_settle.specs.inside.Since.{IsAtHand, LieUpstreamAfter}
+use Rattle.pw_settle.specs.inside.Since.{IsAtHand}
 use Rattle.pw_settle.proofs.KeptFacts.{implies_also, implies_merge, implies_shown, kind-kept}
 use Rattle.pw_settle.proofs.TakenNews.{as_many_infos, as_many_supports, both_upstream, info_elsewhere, info_here, more_known, support_elsewhere}
 
@@ -97,7 +98,7 @@ module _ (store : Store) (w : Premises) (infos : List Info) (supports : List Pre
   -- where its premises lie upstream, all do
   pub upstream_taken : (network : Network) (first : List Premises) →
       ((given : ℕ → ℕ → Bool) → RestsUpstream network given store → LiesUpstream network given cell fact.support) →
-      LieUpstreamAfter network store first supports → LieUpstreamAfter network store first new_supports
+      RestOnUpstreamAfter network first store supports → RestOnUpstreamAfter network first store new_supports
   upstream_taken network first upstream so_far given rests lie c =
       elim (cases_Bool (eqb c cell)) [
         | inl same ↦

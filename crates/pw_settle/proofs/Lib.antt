@@ -46,3 +46,4 @@ pub mod QueuedNews
 pub mod ReadAgain
 pub mod InPlace
 pub mod RefusedSettlings
+pub mod Settlings

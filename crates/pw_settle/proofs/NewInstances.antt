@@ -9,8 +9,9 @@ use Rattle.pw_info.specs.declared.info.Info.{Info}
 use Rattle.pw_network.specs.declared.instance.Instance.{Instance}
 use Rattle.pw_network.specs.inside.Held.{attachment}
 use Rattle.pw_network.specs.Network.{Attached, Network}
-use Rattle.pw_settle.specs.inside.Progress.{is_set}
-use Rattle.pw_settle.specs.inside.Due.{HasChanged, QueuesReaders, is_new}
+use Rattle.pw_settle.specs.Calls.{is_set}
+use Rattle.pw_settle.specs.inside.Queueing.{HasChanged, QueuesReaders}
+use Rattle.pw_settle.specs.Due.{is_new}
 use Rattle.pw_settle.specs.Values.{attached_no}
 use Rattle.pw_settle.specs.Settled.{Settled}
 use Rattle.pw_settle.proofs.KeptProgress.{visible_no}

@@ -4,10 +4,9 @@ use Rattle.std.specs.Prelude.{◌&&◌, nat_lt, not}
 use Rattle.std.proofs.lemmas.Bool.{cases_Bool, eqb-false, eqb-true, lt-ltb, ltb-false, ltb-true}
 use Rattle.std.proofs.lemmas.List.{get_or_past, get_or-set_other, get_or-set_same, length-set}
 use Rattle.pw_network.specs.Network.{Network}
-use Rattle.pw_settle.specs.Calls.{is_instance_visible, visible_at}
+use Rattle.pw_settle.specs.Calls.{is_instance_visible, is_set, visible_at}
 use Rattle.pw_settle.specs.Settled.{Settled}
-use Rattle.pw_settle.specs.inside.Due.{is_new}
-use Rattle.pw_settle.specs.inside.Progress.{is_set}
+use Rattle.pw_settle.specs.Due.{is_new}
 use Rattle.pw_settle.proofs.NewInstances.{not_below}
 
 module _ (visible : List Bool) (first : ℕ) where

@@ -18,7 +18,7 @@ use Rattle.pw_cells.specs.Arrivals.{IsKept}
 use Rattle.pw_cells.specs.Cells.{Store, IsUnsaid, kind_in_store}
 use Rattle.pw_network.specs.Network.{Network}
 use Rattle.pw_settle.specs.Settled.{Settled, info_at}
-use Rattle.pw_settle.specs.inside.Due.{HasChanged, QueuesReaders, found_of}
+use Rattle.pw_settle.specs.inside.Queueing.{HasChanged, QueuesReaders, found_of}
 use Rattle.pw_settle.specs.inside.Known.{TakesIn}
 use Rattle.pw_settle.specs.Sound.{LiesUpstream, RestsUpstream}
 use Rattle.pw_settle.specs.inside.Since.{IsKnown, IsNewHere, QueuesChanged}

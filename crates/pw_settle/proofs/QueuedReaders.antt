@@ -8,8 +8,8 @@ use Rattle.std.proofs.lemmas.List.Sums.{sum_by-append, sum_by-cons, sum_by-set}
 use Rattle.pw_decl.proofs.FlatKept.{range_below}
 use Rattle.pw_network.specs.Network.{Network}
 use Rattle.pw_network.specs.Readers.{reads, readers_of}
-use Rattle.pw_settle.specs.inside.Progress.{is_set, tally}
-use Rattle.pw_settle.specs.inside.Due.{QueuesNumbers, QueuesReaders}
+use Rattle.pw_settle.specs.Calls.{is_set, tally}
+use Rattle.pw_settle.specs.inside.Queueing.{QueuesNumbers, QueuesReaders}
 
 -- what reads a cell is an instance
 pub readers_below : (network : Network) (cell : ℕ) → All (λ n. n < length network.attached) (readers_of network cell)

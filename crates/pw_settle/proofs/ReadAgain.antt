@@ -11,12 +11,13 @@ use Rattle.pw_facts.specs.Facts.{shows}
 use Rattle.pw_cells.specs.Cells.{Store, IsUnsaid, kept_at, kept_in}
 use Rattle.pw_cells.specs.Shown.{IsKeptIn}
 use Rattle.pw_network.specs.Network.{Network}
+use Rattle.pw_settle.specs.Growth.{RestOnUpstreamAfter}
 use Rattle.pw_settle.specs.Calls.{is_instance_visible}
 use Rattle.pw_settle.specs.Settled.{info_at}
 use Rattle.pw_settle.specs.Sound.{LiesUpstream, RestsUpstream}
-use Rattle.pw_settle.specs.inside.Due.{QueuesReaders}
+use Rattle.pw_settle.specs.inside.Queueing.{QueuesReaders}
 use Rattle.pw_settle.specs.inside.Known.{AreKept, IsAtHandFor, TakesIn, TakesInKept}
-use Rattle.pw_settle.specs.inside.Since.{IsAtHand, IsReadAgain, LieUpstreamAfter, QueuesChanged}
+use Rattle.pw_settle.specs.inside.Since.{IsAtHand, IsReadAgain, QueuesChanged}
 use Rattle.pw_settle.proofs.KeptFacts.{implies_also, implies_shown, kind-kept}
 use Rattle.pw_settle.proofs.KnownParts.{AreParts, hand_parts, no_less, parts_kept, parts_taken, still_at_hand, upstream_taken}
 use Rattle.pw_settle.proofs.QueuedNews.{queued_more}
@@ -29,7 +30,7 @@ pub record AreReadAgain (store : Store) (w : Premises) (first : List Info) (firs
   pub parts : AreParts store w infos supports
   pub more : (cell : ℕ) → cell < length store.cells → Implies (info_at infos cell) (info_at first cell)
   pub says : (cell : ℕ) → cell < count → cell < length store.cells → Implies (info_at infos cell) (kept_in store cell w)
-  pub upstream : (network : Network) → LieUpstreamAfter network store first_supports supports
+  pub upstream : (network : Network) → RestOnUpstreamAfter network first_supports store supports
 
 -- ---- one cell
 

@@ -11,13 +11,13 @@ use Rattle.pw_facts.proofs.Shown.{implies_same}
 use Rattle.pw_cells.specs.Arrivals.{IsAccounted, mark_of}
 use Rattle.pw_cells.specs.Cells.{Cell, Store, kept_in, kinds_of}
 use Rattle.pw_network.specs.Network.{Network, IsWellNetwork}
-use Rattle.pw_settle.specs.Calls.{visible_at}
+use Rattle.pw_settle.specs.Calls.{is_set, visible_at}
 use Rattle.pw_settle.specs.Growth.{CanContinue, HasValues, IsInterrupted, IsUpToDate, KeepsMore}
 use Rattle.pw_settle.specs.Settled.{Settled, info_at}
 use Rattle.pw_settle.specs.Values.{kinds_in, numbered}
-use Rattle.pw_settle.specs.inside.Due.{AreDue, IsDue, is_new}
+use Rattle.pw_settle.specs.Due.{AreDue, IsDue, is_new}
 use Rattle.pw_settle.specs.inside.Known.{AreKept, SaysTold, WereKept}
-use Rattle.pw_settle.specs.inside.Progress.{AreMet, IsIdle, is_set}
+use Rattle.pw_settle.specs.inside.Progress.{AreMet, IsIdle}
 use Rattle.pw_settle.specs.inside.Since.{AreReadTo, IsAtHand, IsBehind}
 use Rattle.pw_settle.proofs.Accounted.{can_continue}
 use Rattle.pw_settle.proofs.FittingValues.{fits_now}

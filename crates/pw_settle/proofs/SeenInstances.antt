@@ -11,8 +11,7 @@ use Rattle.pw_network.specs.declared.instance.Instance.{Instance}
 use Rattle.pw_network.specs.inside.Held.{attachment}
 use Rattle.pw_network.specs.Network.{Attached, Network, AreAllVisible}
 use Rattle.pw_network.specs.Readers.{readers_of}
-use Rattle.pw_settle.specs.Calls.{is_instance_visible, reader_count, visible_at}
-use Rattle.pw_settle.specs.inside.Progress.{is_set}
+use Rattle.pw_settle.specs.Calls.{is_instance_visible, is_set, reader_count, visible_at}
 use Rattle.pw_settle.proofs.KeptProgress.{visible_no}
 use Rattle.pw_settle.proofs.NewsLemmas.{kept_instance}
 use Rattle.pw_settle.proofs.QueuedReaders.{readers_below}

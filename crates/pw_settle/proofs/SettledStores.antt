@@ -19,7 +19,7 @@ use Rattle.pw_cells.specs.Cells.{Cell, Store, kept_in, kinds_of, told_in}
 use Rattle.pw_decl.proofs.FlatKept.{range_below}
 use Rattle.pw_network.specs.Network.{Network, IsWellNetwork, cells_in}
 use Rattle.pw_network.specs.Readers.{reads, readers_of}
-use Rattle.pw_settle.specs.inside.Progress.{is_set, tally}
+use Rattle.pw_settle.specs.Calls.{is_set, tally}
 use Rattle.pw_settle.specs.Calls.{gains, most_calls, reader_count, sum_below, visible_at}
 use Rattle.pw_settle.specs.Growth.{KeepsMore}
 use Rattle.pw_settle.specs.inside.Known.{AreKept, SaysTold}

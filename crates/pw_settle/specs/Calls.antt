@@ -1,4 +1,4 @@
--- The number of procedure calls of a settling.
+-- The number of procedure calls of a settling, and flags of instances.
 use Rattle.std.specs.Prelude.{ℕ, zero, suc, ◌+◌, ◌-◌, ◌*◌, ◌^◌, Bool, false, length, map}
 use Rattle.std.specs.Prelude.{slice_index_or, ◌≡◌, List, ◌≤◌}
 use Rattle.std.specs.FinSet.{is_subset}
@@ -13,6 +13,14 @@ use Rattle.pw_settle.specs.Settled.{Settled}
 -- a count of calls stays below this: a network can gain far less
 abbrev pub most_calls : ℕ
 most_calls = 2 ^ 127
+
+-- whether the flag of this number is set
+abbrev pub is_set : List Bool → ℕ → Bool
+is_set flags number = slice_index_or flags number false
+
+-- the number of set flags
+abbrev pub tally : List Bool → ℕ
+tally flags = count_by (λ flag. flag) flags
 
 -- all premises under which the instance was attached are in the worldview
 abbrev pub is_instance_visible : Premises → Attached → Bool

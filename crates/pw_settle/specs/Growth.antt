@@ -63,11 +63,10 @@ pub record IsInterrupted (network : Network) (old new : Store) (before values : 
     pub continues : CanContinue new values
     pub unchanged : IsUpToDate network old before → values ≡ before
 
--- the premises of the settled values lie upstream, if what was kept rested only on premises upstream
-abbrev pub RestOnUpstream : Network → Store → Settled → Type 0
-RestOnUpstream network old settled =
-    (given : ℕ → ℕ → Bool) → RestsUpstream network given old →
-    LieUpstream network given settled.supports
+-- these premises of the cells lie upstream, if what was kept rested only on premises upstream
+abbrev pub RestOnUpstream : Network → Store → List Premises → Type 0
+RestOnUpstream network old supports =
+    (given : ℕ → ℕ → Bool) → RestsUpstream network given old → LieUpstream network given supports
 
 -- the cells are those that existed, and were told what they were told; no less is kept of any cell,
 -- in any worldview, and if the store was sound, it still is
@@ -84,18 +83,18 @@ abbrev pub StaysUpstream : Network → Store → Store → Type 0
 StaysUpstream network old new =
     (given : ℕ → ℕ → Bool) → RestsUpstream network given old → RestsUpstream network given new
 
--- if what was kept rested only on premises upstream, and so did the earlier values, what is kept now
--- does
-abbrev pub StaysUpstreamAfter : Network → Settled → Store → Store → Type 0
+-- what is kept now rests only on premises upstream, if what was kept did, and the earlier premises of
+-- the cells lay upstream
+abbrev pub StaysUpstreamAfter : Network → List Premises → Store → Store → Type 0
 StaysUpstreamAfter network before old new =
-    (given : ℕ → ℕ → Bool) → RestsUpstream network given old →
-    LieUpstream network given before.supports → RestsUpstream network given new
+    (given : ℕ → ℕ → Bool) → RestsUpstream network given old → LieUpstream network given before →
+    RestsUpstream network given new
 
--- and so do the settled values
-abbrev pub RestOnUpstreamAfter : Network → Settled → Store → Settled → Type 0
-RestOnUpstreamAfter network before old settled =
-    (given : ℕ → ℕ → Bool) → RestsUpstream network given old →
-    LieUpstream network given before.supports → LieUpstream network given settled.supports
+-- and these premises lie upstream
+abbrev pub RestOnUpstreamAfter : Network → List Premises → Store → List Premises → Type 0
+RestOnUpstreamAfter network before old supports =
+    (given : ℕ → ℕ → Bool) → RestsUpstream network given old → LieUpstream network given before →
+    LieUpstream network given supports
 
 -- one network has all cells and instances that the other has, by the same numbers, and perhaps
 -- more, as after attachments

@@ -1,7 +1,9 @@
 pub mod Calls
+pub mod Due
 pub mod Fixpoint
 pub mod Growth
 pub mod Settled
+pub mod Settling
 pub mod Sound
 pub mod Sources
 pub mod Values

@@ -5,16 +5,21 @@ use Rattle.std.specs.FinSet.{contains}
 use Rattle.pw_info.specs.Information.{Implies}
 use Rattle.pw_premises.specs.Premises.{Premises}
 use Rattle.pw_cells.specs.declared.arrival.Arrival.{Arrival}
-use Rattle.pw_cells.specs.Cells.{Store, kept_at, kept_in}
+use Rattle.pw_cells.specs.Cells.{Store, kept_at, kept_in, kinds_of}
 use Rattle.pw_network.specs.Network.{Attached, Network}
 use Rattle.pw_settle.specs.Settled.{support_at}
-use Rattle.pw_settle.specs.Values.{value_in}
+use Rattle.pw_settle.specs.Values.{kinds_in, value_in}
 
 -- only what follows is kept: in every worldview the value of a cell says at least what is kept of
 -- it there
 abbrev pub IsSound : Network → Store → Type 0
 IsSound network store = (w : Premises) (cell : ℕ) →
     Implies (value_in network store w cell) (kept_in store cell w)
+
+-- the store has the cells of the network, with their kinds, and is sound
+pub record IsSoundFor (network : Network) (store : Store) : Type 0 where
+  pub kinds : kinds_of store ≡ kinds_in network
+  pub sound : IsSound network store
 
 -- a set of cells, as a test: with each cell that an instance writes, it has every cell that the
 -- instance reads

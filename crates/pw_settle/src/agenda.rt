@@ -2,7 +2,8 @@
 ghost use Rattle.std.specs.Prelude.{◌≡◌, ◌≤◌, ◌<◌, [], false, true, drop, length};
 ghost use Rattle.std.specs.Prelude.{IfNone, IfOk, IfSome, OnOk, replicate, slice_set};
 ghost use Rattle.std.specs.Prelude.{vec_capacity, vec_len, ℕ};
-ghost use Rattle.pw_settle.specs.inside.Progress.{IsIdle, is_set};
+ghost use Rattle.pw_settle.specs.inside.Progress.{IsIdle};
+ghost use Rattle.pw_settle.specs.Calls.{is_set};
 
 use std::alloc::{AllocError, Allocator, Global};
 use std::marker::Model;

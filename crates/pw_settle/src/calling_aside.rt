@@ -4,12 +4,12 @@ ghost use Rattle.pw_cells.specs.Cells.{kinds_of};
 ghost use Rattle.pw_network.specs.Wiring.{wiring};
 ghost use Rattle.pw_procs.specs.Registry.{procedures_in};
 ghost use Rattle.pw_network.specs.inside.Held.{attachment};
-ghost use Rattle.pw_settle.specs.Calls.{AreVisible, most_calls, visible_at};
+ghost use Rattle.pw_settle.specs.Calls.{AreVisible, most_calls, tally, visible_at};
 ghost use Rattle.pw_settle.specs.Settled.{IsSettled, info_at};
 ghost use Rattle.pw_settle.specs.Values.{kinds_in};
 ghost use Rattle.pw_settle.specs.inside.Aside.{AreAllSatisfied, AreFound, weight_of};
 ghost use Rattle.pw_settle.specs.inside.Progress.{AreOthersSatisfied, AreQueuedVisible};
-ghost use Rattle.pw_settle.specs.inside.Progress.{AreSatisfied, tally};
+ghost use Rattle.pw_settle.specs.inside.Progress.{AreSatisfied};
 
 use crate::agenda::Agenda;
 use crate::known::{Known, take_in_news};

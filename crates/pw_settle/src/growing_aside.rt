@@ -1,14 +1,11 @@
 //! Settling beside the store where premises came in addition to those of the earlier worldview.
-ghost use Rattle.std.specs.Prelude.{◌≡◌, ◌+◌, ◌<◌, ◌&&◌, ℕ, IfOk, OnOk, length, not, true};
+ghost use Rattle.std.specs.Prelude.{◌≡◌, ◌+◌, ◌<◌, ◌&&◌, IfOk, OnOk, ℕ, length, not, true};
 ghost use Rattle.std.specs.FinSet.{is_subset};
-ghost use Rattle.pw_cells.specs.Cells.{kinds_of};
 ghost use Rattle.pw_network.specs.Wiring.{wiring};
-ghost use Rattle.pw_settle.specs.Calls.{AreVisible, visible_at};
+ghost use Rattle.pw_settle.specs.Calls.{AreVisible, is_set, visible_at};
 ghost use Rattle.pw_settle.specs.Settled.{IsSettled};
-ghost use Rattle.pw_settle.specs.Sound.{IsSound};
-ghost use Rattle.pw_settle.specs.Values.{kinds_in};
+ghost use Rattle.pw_settle.specs.Sound.{IsSoundFor};
 ghost use Rattle.pw_settle.specs.inside.Aside.{AreGrownTo, CanStart};
-ghost use Rattle.pw_settle.specs.inside.Progress.{is_set};
 
 use crate::agenda::Agenda;
 use crate::calling_aside::settle_aside_from;
@@ -72,8 +69,7 @@ fn grow_cell<A: Allocator + Copy>(
     agenda: &mut Agenda<A>,
     cell: u32,
 ) -> Result<(), AllocError>
-    requires kinds { kinds_of store.old ≡ kinds_in (wiring network.now) }
-    requires sound { IsSound (wiring network.now) store.old }
+    requires sound { IsSoundFor (wiring network.now) store.old }
     requires visible { AreVisible (wiring network.now) worldview.now visible.now }
     requires cell { cell < length store.old.cells }
     requires grown { AreGrownTo (wiring network.now) store.old earlier.now worldview.now cell
@@ -110,8 +106,7 @@ fn grow_cells<A: Allocator + Copy>(
     known: &mut Known<A>,
     agenda: &mut Agenda<A>,
 ) -> Result<(), AllocError>
-    requires kinds { kinds_of store.old ≡ kinds_in (wiring network.now) }
-    requires sound { IsSound (wiring network.now) store.old }
+    requires sound { IsSoundFor (wiring network.now) store.old }
     requires visible { AreVisible (wiring network.now) worldview.now visible.now }
     requires grown { AreGrownTo (wiring network.now) store.old earlier.now worldview.now 0
         known.old.infos.items known.old.supports agenda.old }

@@ -1,13 +1,13 @@
 //! The kept information about each cell in a worldview, as a settling has it at hand.
-ghost use Rattle.std.specs.Prelude.{◌≡◌, ◌<◌, IfOk, IfSome, OnOk, OnErr, length};
+ghost use Rattle.std.specs.Prelude.{◌≡◌, ◌<◌, IfOk, IfSome, OnErr, OnOk, length};
 ghost use Rattle.pw_cells.specs.Cells.{fact_on};
 ghost use Rattle.pw_network.specs.inside.Held.{attachment};
 ghost use Rattle.pw_network.specs.Network.{Network as Networks};
 ghost use Rattle.pw_cells.specs.Shown.{IsKeptIn};
+ghost use Rattle.pw_settle.specs.Growth.{RestOnUpstream};
 ghost use Rattle.pw_settle.specs.inside.Known.{AreInputsThere, AreKept, IsAtHandFor, IsNewTo};
-ghost use Rattle.pw_settle.specs.inside.Known.{LeavesKept, ListsOneMore, PerhapsTakesIn, PutsKept, SaysTold};
-ghost use Rattle.pw_settle.specs.inside.Known.{ReadsUpstream, TakesIn, TakesInKept, joined};
-ghost use Rattle.pw_settle.specs.inside.Known.{news_on};
+ghost use Rattle.pw_settle.specs.inside.Known.{LeavesKept, ListsOneMore, PerhapsTakesIn, PutsKept};
+ghost use Rattle.pw_settle.specs.inside.Known.{SaysTold, TakesIn, TakesInKept, joined, news_on};
 ghost use Rattle.pw_settle.specs.inside.Since.{BeginsWith};
 
 use crate::support_list::SupportList;
@@ -36,7 +36,7 @@ pub(crate) fn read_kept<A: Allocator + Copy>(
     ensures kept { IfOk result (λ known.
         AreKept store.old worldview.now known.infos.items known.supports) }
     ensures told { IfOk result (λ known. SaysTold store.old worldview.now) }
-    ensures upstream { IfOk result (λ known. (network : Networks) → ReadsUpstream network store.old
+    ensures upstream { IfOk result (λ known. (network : Networks) → RestOnUpstream network store.old
         known.supports) }
 {
     let mut infos = Vec::with_capacity(alloc, store.cells() as usize)?;

@@ -4,9 +4,8 @@ ghost use Rattle.std.specs.List.{count_by};
 ghost use Rattle.pw_network.specs.Network.{AreAllVisible};
 ghost use Rattle.pw_network.specs.Readers.{readers_of};
 ghost use Rattle.pw_network.specs.Wiring.{wiring};
-ghost use Rattle.pw_settle.specs.Calls.{is_instance_visible, reader_count};
-ghost use Rattle.pw_settle.specs.inside.Due.{QueuesNumbers, QueuesReaders};
-ghost use Rattle.pw_settle.specs.inside.Progress.{is_set, tally};
+ghost use Rattle.pw_settle.specs.Calls.{is_instance_visible, is_set, reader_count, tally};
+ghost use Rattle.pw_settle.specs.inside.Queueing.{QueuesNumbers, QueuesReaders};
 
 use crate::agenda::Agenda;
 use pw_network::{Batch, InstanceNumbers, Network};

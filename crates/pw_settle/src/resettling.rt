@@ -1,22 +1,19 @@
 //! Settling that continues from the values of an earlier settling.
-ghost use Rattle.std.specs.Prelude.{◌≡◌, ◌+◌, ◌<◌, ◌↔◌, ◌&&◌, ℕ, IsTrue, IfOk, OnOk, true, length, map};
+ghost use Rattle.std.specs.Prelude.{◌≡◌, ◌+◌, ◌<◌, ◌↔◌, ◌&&◌, IfOk, IsTrue, ℕ, length, map, true};
 ghost use Rattle.std.specs.FinSet.{is_subset};
 ghost use Rattle.pw_info.specs.Information.{kind_of};
 ghost use Rattle.pw_cells.specs.Cells.{kinds_of};
 ghost use Rattle.pw_network.specs.Wiring.{wiring};
 ghost use Rattle.pw_network.specs.Network.{cells_in};
-ghost use Rattle.pw_settle.specs.inside.Progress.{is_set};
-ghost use Rattle.pw_settle.specs.inside.Due.{AreDue, HasChanged, QueuesReaders, found_of, is_new};
-ghost use Rattle.pw_settle.specs.Growth.{IsFitting};
-ghost use Rattle.pw_settle.specs.Growth.{KeepsMore, RestOnUpstream, StaysUpstream};
+ghost use Rattle.pw_settle.specs.inside.Queueing.{HasChanged, QueuesReaders, found_of};
+ghost use Rattle.pw_settle.specs.Due.{AreDue, CallsEachAtLeast, CallsEachAtMost, CallsWhatIsDue};
+ghost use Rattle.pw_settle.specs.Due.{is_new};
+ghost use Rattle.pw_settle.specs.Settling.{Settles};
+ghost use Rattle.pw_settle.specs.Growth.{IsFitting, RestOnUpstream};
 ghost use Rattle.pw_settle.specs.inside.Known.{AreKept, SaysTold};
 ghost use Rattle.pw_settle.specs.Settled.{info_at};
 ghost use Rattle.pw_settle.specs.Values.{kinds_in};
-ghost use Rattle.pw_settle.specs.inside.Known.{ReadsUpstream};
-ghost use Rattle.pw_settle.specs.inside.Due.{CallsEachAtLeast, CallsEachAtMost, CallsWhatIsDue};
-ghost use Rattle.pw_settle.specs.Growth.{KeepsIfSound};
-ghost use Rattle.pw_settle.specs.Calls.{AreVisible, is_instance_visible};
-ghost use Rattle.pw_settle.specs.Growth.{HasValues};
+ghost use Rattle.pw_settle.specs.Calls.{AreVisible, is_instance_visible, is_set};
 
 use crate::agenda::Agenda;
 use crate::known::{Known, read_kept};
@@ -125,7 +122,7 @@ fn due_instances<A: Allocator + Copy>(
     ensures kept { IfOk result (λ (known, agenda).
         AreKept store.old worldview.now known.infos.items known.supports) }
     ensures told { IfOk result (λ (known, agenda). SaysTold store.old worldview.now) }
-    ensures upstream { IfOk result (λ (known, agenda). ReadsUpstream (wiring network.now) store.old
+    ensures upstream { IfOk result (λ (known, agenda). RestOnUpstream (wiring network.now) store.old
         known.supports) }
     ensures due { IfOk result (λ (known, agenda).
         AreDue (wiring network.now) store.old worldview.now before.now agenda) }
@@ -160,12 +157,7 @@ pub fn resettle_from<A: Allocator + Copy>(
 ) -> Result<Settled<A>, AllocError>
     requires kinds { kinds_of store.old ≡ kinds_in (wiring network.now) }
     requires fits { IsFitting (wiring network.now) store.old before.now }
-    ensures found { IfOk result (HasValues (wiring network.now) store.old store.new worldview.now) }
-    ensures kept { OnOk result (KeepsIfSound (wiring network.now) store.old store.new
-        worldview.now) }
-    ensures grows { KeepsMore (wiring network.now) store.old store.new }
-    ensures upstream { StaysUpstream (wiring network.now) store.old store.new }
-    ensures lie { IfOk result (RestOnUpstream (wiring network.now) store.old) }
+    ensures settles { Settles (wiring network.now) store.old store.new worldview.now result }
     ensures due { IfOk result (CallsWhatIsDue (wiring network.now) store.old store.new
         worldview.now before.now) }
     ensures least { IfOk result (CallsEachAtLeast (wiring network.now) worldview.now before.now) }
@@ -190,12 +182,7 @@ pub fn resettle<A: Allocator + Copy>(
 ) -> Result<Settled<A>, AllocError>
     requires kinds { kinds_of store.old ≡ kinds_in (wiring network.now) }
     requires fits { IsFitting (wiring network.now) store.old before }
-    ensures found { IfOk result (HasValues (wiring network.now) store.old store.new worldview.now) }
-    ensures kept { OnOk result (KeepsIfSound (wiring network.now) store.old store.new
-        worldview.now) }
-    ensures grows { KeepsMore (wiring network.now) store.old store.new }
-    ensures upstream { StaysUpstream (wiring network.now) store.old store.new }
-    ensures lie { IfOk result (RestOnUpstream (wiring network.now) store.old) }
+    ensures settles { Settles (wiring network.now) store.old store.new worldview.now result }
     ensures due { IfOk result (CallsWhatIsDue (wiring network.now) store.old store.new
         worldview.now before) }
     ensures least { IfOk result (CallsEachAtLeast (wiring network.now) worldview.now before) }

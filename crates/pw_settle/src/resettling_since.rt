@@ -1,24 +1,24 @@
 //! Settling that continues from the values of an earlier settling in the same worldview, with what
 //! came to be kept since.
-ghost use Rattle.std.specs.Prelude.{◌≡◌, ◌⊎◌, ◌<◌, ◌≤◌, ◌&&◌, ℕ, OnErr, OnOk, IsTrue};
-ghost use Rattle.std.specs.Prelude.{not, nat_lt, length, map, take};
+ghost use Rattle.std.specs.Prelude.{◌≡◌, ◌⊎◌, ◌<◌, ◌≤◌, ◌&&◌, IsTrue, OnErr, OnOk, ℕ, length, map};
+ghost use Rattle.std.specs.Prelude.{nat_lt, not, take};
 ghost use Rattle.pw_info.specs.Information.{kind_of};
 ghost use Rattle.pw_cells.specs.Cells.{kinds_of};
 ghost use Rattle.pw_network.specs.Network.{AreAllVisible, Network as Networks, cells_in};
 ghost use Rattle.pw_network.specs.Wiring.{wiring};
-ghost use Rattle.pw_settle.specs.Calls.{is_instance_visible, visible_at};
+ghost use Rattle.pw_settle.specs.Calls.{is_instance_visible, is_set, visible_at};
 ghost use Rattle.pw_settle.specs.Growth.{CanContinue, HasValues, IsFitting, IsInterrupted};
 ghost use Rattle.pw_settle.specs.Growth.{KeepsIfSound, KeepsMore, RestOnUpstreamAfter};
 ghost use Rattle.pw_settle.specs.Growth.{StaysUpstreamAfter};
 ghost use Rattle.pw_settle.specs.Settled.{info_at};
 ghost use Rattle.pw_settle.specs.Values.{kinds_in};
-ghost use Rattle.pw_settle.specs.inside.Due.{CallsWhatIsDue, QueuesReaders};
+ghost use Rattle.pw_settle.specs.inside.Queueing.{QueuesReaders};
+ghost use Rattle.pw_settle.specs.Due.{CallsWhatIsDue};
 ghost use Rattle.pw_settle.specs.inside.Known.{IsAtHandFor, LeavesKept};
-ghost use Rattle.pw_settle.specs.inside.Progress.{IsIdle, is_set};
-ghost use Rattle.pw_settle.specs.inside.Since.{AreReadTo, BeginsWith, IsAtHand};
-ghost use Rattle.pw_settle.specs.inside.Since.{IsKnown, IsNewHere, IsReadAgain, KnowsWhatCame};
-ghost use Rattle.pw_settle.specs.inside.Since.{LeavesNews, LieUpstreamAfter, QueuesChanged};
-ghost use Rattle.pw_settle.specs.inside.Since.{TakesInNews};
+ghost use Rattle.pw_settle.specs.inside.Progress.{IsIdle};
+ghost use Rattle.pw_settle.specs.inside.Since.{AreReadTo, BeginsWith, IsAtHand, IsKnown, IsNewHere};
+ghost use Rattle.pw_settle.specs.inside.Since.{IsReadAgain, KnowsWhatCame, LeavesNews};
+ghost use Rattle.pw_settle.specs.inside.Since.{QueuesChanged, TakesInNews};
 
 use crate::agenda::Agenda;
 use crate::known::{Known, push_kept, take_in_kept, take_in_narrow};
@@ -188,7 +188,7 @@ fn take_in_arrivals<A: Allocator + Copy>(
     requires flags { length agenda.old ≡ length (wiring network.now).attached }
     ensures taken { TakesInNews (wiring network.now) store.now worldview.now known.old.infos.items
         known.new.infos.items known.new.supports agenda.old agenda.new }
-    ensures upstream { (network : Networks) → LieUpstreamAfter network store.now known.old.supports
+    ensures upstream { (network : Networks) → RestOnUpstreamAfter network known.old.supports store.now
         known.new.supports }
 {
     let Some(arrivals) = store.since(mark) else {
@@ -253,7 +253,7 @@ fn read_all_again<A: Allocator + Copy>(
     ensures unchanged { store.new ≡ store.old }
     ensures taken { OnOk result (TakesInNews (wiring network.now) store.old worldview.now
         known.old.infos.items known.new.infos.items known.new.supports agenda.old agenda.new) }
-    ensures upstream { (network : Networks) → LieUpstreamAfter network store.old known.old.supports
+    ensures upstream { (network : Networks) → RestOnUpstreamAfter network known.old.supports store.old
         known.new.supports }
     ensures refused { OnErr result (LeavesNews store.old worldview.now mark known.old.infos.items
         known.new.infos.items known.new.supports) }
@@ -292,7 +292,7 @@ fn take_in_news<A: Allocator + Copy>(
     ensures unchanged { store.new ≡ store.old }
     ensures taken { OnOk result (TakesInNews (wiring network.now) store.old worldview.now
         known.old.infos.items known.new.infos.items known.new.supports agenda.old agenda.new) }
-    ensures upstream { (network : Networks) → LieUpstreamAfter network store.old known.old.supports
+    ensures upstream { (network : Networks) → RestOnUpstreamAfter network known.old.supports store.old
         known.new.supports }
     ensures refused { OnErr result (LeavesNews store.old worldview.now mark known.old.infos.items
         known.new.infos.items known.new.supports) }
@@ -331,8 +331,10 @@ pub fn resettle_since<A: Allocator + Copy>(
     ensures kept { OnOk result (KeepsIfSound (wiring network.now) store.old store.new
         values.old.worldview) }
     ensures grows { KeepsMore (wiring network.now) store.old store.new }
-    ensures upstream { StaysUpstreamAfter (wiring network.now) values.old store.old store.new }
-    ensures lie { RestOnUpstreamAfter (wiring network.now) values.old store.old values.new }
+    ensures upstream { StaysUpstreamAfter (wiring network.now) values.old.supports store.old
+        store.new }
+    ensures lie { RestOnUpstreamAfter (wiring network.now) values.old.supports store.old
+        values.new.supports }
     ensures due { OnOk result (CallsWhatIsDue (wiring network.now) store.old store.new
         values.old.worldview values.old values.new) }
     ensures refused { OnErr result (IsInterrupted (wiring network.now) store.old store.new

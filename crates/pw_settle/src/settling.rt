@@ -1,25 +1,19 @@
 //! Settling: the values of all cells of a network in a worldview.
-ghost use Rattle.std.specs.Prelude.{◌≡◌, ◌+◌, ◌<◌, ◌≤◌, true, false, All, length, map};
-ghost use Rattle.std.specs.Prelude.{IfOk, IsTrue, OnOk, OnErr};
+ghost use Rattle.std.specs.Prelude.{◌≡◌, ◌+◌, ◌<◌, ◌≤◌, All, IfOk, IsTrue, OnErr, OnOk, false};
+ghost use Rattle.std.specs.Prelude.{length, map, true};
 ghost use Rattle.pw_cells.specs.Cells.{kept_in, kinds_of};
 ghost use Rattle.pw_network.specs.Wiring.{wiring};
 ghost use Rattle.pw_procs.specs.Registry.{procedures_in};
 ghost use Rattle.pw_network.specs.inside.Held.{attachment};
 ghost use Rattle.pw_network.specs.Network.{AreAllVisible, HaveSupportsByLine};
-ghost use Rattle.pw_settle.specs.inside.Progress.{IsIdle, tally};
-ghost use Rattle.pw_settle.specs.Calls.{gains, is_instance_visible, most_calls};
-ghost use Rattle.pw_settle.specs.Calls.{AreVisible, visible_at};
-ghost use Rattle.pw_settle.specs.Calls.{visible_count};
-ghost use Rattle.pw_settle.specs.Growth.{KeepsMore, RestOnUpstream, StaysUpstream};
-ghost use Rattle.pw_settle.specs.inside.Known.{AreKept, SaysTold, WereKept};
-ghost use Rattle.pw_settle.specs.inside.Progress.{AreOthersSatisfied};
+ghost use Rattle.pw_settle.specs.inside.Progress.{AreMet, AreOthersSatisfied, AreQueuedVisible};
+ghost use Rattle.pw_settle.specs.inside.Progress.{CallsNoMore, IsIdle, LeavesNoMore};
+ghost use Rattle.pw_settle.specs.Calls.{AreVisible, CallsAtMost, gains, is_instance_visible};
+ghost use Rattle.pw_settle.specs.Calls.{most_calls, tally, visible_at, visible_count};
+ghost use Rattle.pw_settle.specs.Settling.{Settles};
+ghost use Rattle.pw_settle.specs.Growth.{HasValues, KeepsIfSound, KeepsMore, StaysUpstreamAfter};
+ghost use Rattle.pw_settle.specs.inside.Known.{AreKept, SaysTold, StayUpstream, WereKept};
 ghost use Rattle.pw_settle.specs.Values.{kinds_in};
-ghost use Rattle.pw_settle.specs.inside.Progress.{AreMet, AreQueuedVisible, CallsNoMore};
-ghost use Rattle.pw_settle.specs.inside.Progress.{LeavesNoMore};
-ghost use Rattle.pw_settle.specs.inside.Known.{SettlesUpstream, StayUpstream};
-ghost use Rattle.pw_settle.specs.Growth.{KeepsIfSound};
-ghost use Rattle.pw_settle.specs.Calls.{CallsAtMost};
-ghost use Rattle.pw_settle.specs.Growth.{HasValues};
 
 use crate::agenda::Agenda;
 use crate::kept_news::keep_news;
@@ -213,7 +207,7 @@ pub(crate) fn settle_from<A: Allocator + Copy>(
     ensures kept { OnOk result (KeepsIfSound (wiring network.now) store.old store.new
         worldview.now) }
     ensures grows { KeepsMore (wiring network.now) store.old store.new }
-    ensures upstream { SettlesUpstream (wiring network.now) store.old known.supports
+    ensures upstream { StaysUpstreamAfter (wiring network.now) known.supports store.old
         store.new }
     ensures lie { IfOk result (λ settled. StayUpstream (wiring network.now) store.old known.supports
         store.new settled.supports) }
@@ -251,12 +245,7 @@ pub fn settle<A: Allocator + Copy>(
     worldview: &PremiseSet,
 ) -> Result<Settled<A>, AllocError>
     requires { kinds_of store.old ≡ kinds_in (wiring network.now) }
-    ensures found { IfOk result (HasValues (wiring network.now) store.old store.new worldview.now) }
-    ensures kept { OnOk result (KeepsIfSound (wiring network.now) store.old store.new
-        worldview.now) }
-    ensures grows { KeepsMore (wiring network.now) store.old store.new }
-    ensures upstream { StaysUpstream (wiring network.now) store.old store.new }
-    ensures lie { IfOk result (RestOnUpstream (wiring network.now) store.old) }
+    ensures settles { Settles (wiring network.now) store.old store.new worldview.now result }
     ensures least { IfOk result (λ settled. visible_count (wiring network.now) worldview.now ≤
         settled.calls) }
     ensures most { IfOk result (CallsAtMost (wiring network.now) store.old store.new worldview.now) }

@@ -1,13 +1,13 @@
 //! Settling beside the store: the values of another worldview, from values at hand.
-ghost use Rattle.std.specs.Prelude.{◌≡◌, ◌↔◌, ◌<◌, true, IsTrue, IfOk, IfSome, OnOk, length, map};
+ghost use Rattle.std.specs.Prelude.{◌≡◌, ◌↔◌, ◌<◌, IfOk, IfSome, IsTrue, OnOk, length, map, true};
 ghost use Rattle.std.specs.FinSet.{is_subset};
-ghost use Rattle.pw_info.specs.Information.{kind_of, Implies};
+ghost use Rattle.pw_info.specs.Information.{Implies, kind_of};
 ghost use Rattle.pw_facts.specs.Facts.{IsMerge};
 ghost use Rattle.pw_cells.specs.Cells.{fact_on, kind_in_store, kinds_of};
 ghost use Rattle.pw_network.specs.Wiring.{wiring};
 ghost use Rattle.pw_settle.specs.Calls.{AreVisible};
 ghost use Rattle.pw_settle.specs.Settled.{IsSettled, info_at};
-ghost use Rattle.pw_settle.specs.Sound.{IsSound};
+ghost use Rattle.pw_settle.specs.Sound.{IsSoundFor};
 ghost use Rattle.pw_settle.specs.Values.{kinds_in, value_in};
 ghost use Rattle.pw_settle.specs.inside.Aside.{AreFound, AreOthersMet, CanStart, IsFound, StaysMet};
 ghost use Rattle.pw_settle.specs.inside.Known.{ListsOneMore};
@@ -71,8 +71,7 @@ pub fn value_aside<A: Allocator + Copy>(
     cell: u32,
     worldview: &PremiseSet,
 ) -> Fact
-    requires kinds { kinds_of store.old ≡ kinds_in (wiring network.now) }
-    requires sound { IsSound (wiring network.now) store.old }
+    requires sound { IsSoundFor (wiring network.now) store.old }
     requires before { IsSettled (wiring network.now) store.old before.now.worldview before.now }
     requires cell { cell < length store.old.cells }
     ensures unchanged { store.new ≡ store.old }
@@ -358,8 +357,7 @@ pub fn settle_aside<A: Allocator + Copy>(
     store: &mut CellStore<A>,
     worldview: &PremiseSet,
 ) -> Result<Settled<A>, AllocError>
-    requires kinds { kinds_of store.old ≡ kinds_in (wiring network.now) }
-    requires sound { IsSound (wiring network.now) store.old }
+    requires sound { IsSoundFor (wiring network.now) store.old }
     requires before { IsSettled (wiring network.now) store.old before.now.worldview before.now }
     ensures settled { IfOk result (IsSettled (wiring network.now) store.old worldview.now) }
     ensures unchanged { store.new ≡ store.old }

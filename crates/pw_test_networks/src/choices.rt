@@ -9,7 +9,7 @@ ghost use Rattle.pw_network.specs.Wiring.{wiring};
 ghost use Rattle.pw_premises.specs.Premises.{most_premises};
 ghost use Rattle.pw_reasons.specs.Combinations.{groups_of};
 ghost use Rattle.pw_reasons.specs.Nogood.{AreNogoods};
-ghost use Rattle.pw_test_networks.specs.Settling.{IsReady};
+ghost use Rattle.pw_settle.specs.Sound.{IsSoundFor};
 
 use crate::networks::attach_named;
 use crate::reasons::all_covered;
@@ -76,7 +76,7 @@ fn are_premises(groups: &Groups) -> bool
     true
 }
 
-// Chooses in a network that the store is ready for, if the groups are of premises.
+// Chooses in a network that the store is sound for, if the groups are of premises.
 fn choose_once(
     alloc: Global,
     network: &Network<'_, '_>,
@@ -85,7 +85,7 @@ fn choose_once(
     worldview: &PremiseSet,
     groups: &Groups,
 ) -> Result<Option<Picks>, Fail>
-    requires ready { IsReady (wiring network.now) store.old }
+    requires sound { IsSoundFor (wiring network.now) store.old }
     requires nogoods { AreNogoods (wiring network.now) store.old nogoods.old }
 {
     if !are_premises(groups) {
@@ -112,7 +112,7 @@ impl Choosing<'_> {
         store: &mut CellStore,
         nogoods: &mut Nogoods,
     ) -> Result<(Option<Picks>, bool), Fail>
-        requires ready { IsReady (wiring network.now) store.old }
+        requires sound { IsSoundFor (wiring network.now) store.old }
         requires nogoods { AreNogoods (wiring network.now) store.old nogoods.old }
     {
         let (alloc, worldview) = (self.alloc, self.worldview);
@@ -123,7 +123,7 @@ impl Choosing<'_> {
 
     // Chooses over this store, and sees what was noted.
     fn answer(&self, network: &Network<'_, '_>, store: &mut CellStore) -> Result<Choice, Fail>
-        requires { IsReady (wiring network.now) store.old }
+        requires { IsSoundFor (wiring network.now) store.old }
     {
         let mut nogoods = Nogoods::new(self.alloc);
         let (chosen, is_told_the_same) = self.choose(network, store, &mut nogoods)?;

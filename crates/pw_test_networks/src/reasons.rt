@@ -8,7 +8,7 @@ ghost use Rattle.std.specs.Prelude.{◌<◌};
 ghost use Rattle.pw_network.specs.Wiring.{wiring};
 ghost use Rattle.pw_network.specs.Network.{cells_in};
 ghost use Rattle.pw_reasons.specs.Nogood.{AreNogoods};
-ghost use Rattle.pw_test_networks.specs.Settling.{IsReady};
+ghost use Rattle.pw_settle.specs.Sound.{IsSoundFor};
 
 use crate::networks::{attach_named, cell_of};
 use crate::settling::{Matter, all_told, is_told, store_told};
@@ -41,7 +41,7 @@ fn reason_once(
     worldview: &PremiseSet,
     cell: u32,
 ) -> Result<PremiseSet, AllocError>
-    requires ready { IsReady (wiring network.now) store.old }
+    requires sound { IsSoundFor (wiring network.now) store.old }
     requires nogoods { AreNogoods (wiring network.now) store.old nogoods.old }
     requires cell { cell < cells_in (wiring network.now) }
 {
@@ -81,7 +81,7 @@ impl Asking<'_> {
         nogoods: &mut Nogoods,
         cell: u32,
     ) -> Result<(PremiseSet, bool), AllocError>
-        requires ready { IsReady (wiring network.now) store.old }
+        requires sound { IsSoundFor (wiring network.now) store.old }
         requires nogoods { AreNogoods (wiring network.now) store.old nogoods.old }
         requires cell { cell < cells_in (wiring network.now) }
     {
@@ -98,7 +98,7 @@ impl Asking<'_> {
         store: &mut CellStore,
         cell: u32,
     ) -> Result<Answer, AllocError>
-        requires ready { IsReady (wiring network.now) store.old }
+        requires sound { IsSoundFor (wiring network.now) store.old }
         requires cell { cell < cells_in (wiring network.now) }
     {
         let mut nogoods = Nogoods::new(self.alloc);

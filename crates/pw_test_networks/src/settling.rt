@@ -17,7 +17,8 @@ ghost use Rattle.pw_cells.specs.Cells.{kind_in_store};
 ghost use Rattle.pw_network.specs.Wiring.{wiring};
 ghost use Rattle.pw_network.specs.Network.{cells_in};
 ghost use Rattle.pw_settle.specs.Growth.{IsFitting};
-ghost use Rattle.pw_test_networks.specs.Settling.{IsReady, LeavesFitting};
+ghost use Rattle.pw_settle.specs.Sound.{IsSoundFor};
+ghost use Rattle.pw_test_networks.specs.Settling.{LeavesFitting};
 
 use crate::networks::{Attachment, attach_named, cell_of, kinds_of};
 use pw_cells::CellStore;
@@ -75,7 +76,7 @@ pub struct Shown {
 
 /// A store of the network's cells.
 pub fn store_of(alloc: Global, network: &Network<'_, '_>) -> Result<CellStore, Fail>
-    ensures { IfOk result (λ store. IsReady (wiring network.now) store) }
+    ensures { IfOk result (λ store. IsSoundFor (wiring network.now) store) }
 {
     let kinds = kinds_of(alloc, network)?;
     let mut store = CellStore::new(alloc);
@@ -90,10 +91,10 @@ fn tell_once(
     cell: u32,
     fact: Fact,
 ) -> Result<(), AllocError>
-    requires ready { IsReady (wiring network.now) store.old }
+    requires sound { IsSoundFor (wiring network.now) store.old }
     requires there { cell < length store.old.cells }
     requires kind { kind_of fact.info ≡ kind_in_store store.old cell }
-    ensures ready { IsReady (wiring network.now) store.new }
+    ensures sound { IsSoundFor (wiring network.now) store.new }
     ensures fits { LeavesFitting (wiring network.now) store.old (wiring network.now) store.new }
 {
     // The network is the one that the store is for.
@@ -104,8 +105,8 @@ fn tell_once(
 
 // Tells a fact of a declared cell.
 fn tell_fact(network: &Network<'_, '_>, store: &mut CellStore, tell: &Tell<'_>) -> Result<(), Fail>
-    requires { IsReady (wiring network.now) store.old }
-    ensures ready { OnOk result (IsReady (wiring network.now) store.new) }
+    requires { IsSoundFor (wiring network.now) store.old }
+    ensures sound { OnOk result (IsSoundFor (wiring network.now) store.new) }
     ensures fits { OnOk result (LeavesFitting (wiring network.now) store.old
         (wiring network.now) store.new) }
 {
@@ -123,8 +124,8 @@ pub fn tell_each(
     store: &mut CellStore,
     tells: &[Tell<'_>],
 ) -> Result<(), Fail>
-    requires { IsReady (wiring network.now) store.old }
-    ensures ready { OnOk result (IsReady (wiring network.now) store.new) }
+    requires { IsSoundFor (wiring network.now) store.old }
+    ensures sound { OnOk result (IsSoundFor (wiring network.now) store.new) }
     ensures fits { OnOk result (LeavesFitting (wiring network.now) store.old
         (wiring network.now) store.new) }
 {
@@ -140,7 +141,7 @@ pub fn store_told(
     network: &Network<'_, '_>,
     tells: &[Tell<'_>],
 ) -> Result<CellStore, Fail>
-    ensures { IfOk result (λ store. IsReady (wiring network.now) store) }
+    ensures { IfOk result (λ store. IsSoundFor (wiring network.now) store) }
 {
     let mut store = store_of(alloc, network)?;
     tell_each(network, &mut store, tells)?;
@@ -195,8 +196,8 @@ fn settle_once(
     store: &mut CellStore,
     worldview: &PremiseSet,
 ) -> Result<Settled, AllocError>
-    requires { IsReady (wiring network.now) store.old }
-    ensures ready { IsReady (wiring network.now) store.new }
+    requires { IsSoundFor (wiring network.now) store.old }
+    ensures sound { IsSoundFor (wiring network.now) store.new }
     ensures cells { IfOk result (λ settled.
         length settled.infos ≡ cells_in (wiring network.now)) }
     ensures fits { IfOk result (IsFitting (wiring network.now) store.new) }
@@ -226,8 +227,8 @@ fn settle_and_show(
     store: &mut CellStore,
     worldview: &PremiseSet,
 ) -> Result<Answer, AllocError>
-    requires { IsReady (wiring network.now) store.old }
-    ensures { OnOk result (IsReady (wiring network.now) store.new) }
+    requires { IsSoundFor (wiring network.now) store.old }
+    ensures { OnOk result (IsSoundFor (wiring network.now) store.new) }
 {
     let settled = settle_once(alloc, network, store, worldview)?;
     answer_of(alloc, network, &settled)
@@ -267,7 +268,7 @@ impl Settling<'_> {
         network: &Network<'_, '_>,
         store: &mut CellStore,
     ) -> Result<(Vec<Answer>, bool), AllocError>
-        requires { IsReady (wiring network.now) store.old }
+        requires { IsSoundFor (wiring network.now) store.old }
     {
         let before = all_told(self.alloc, store, self.worldviews)?;
         let mut answers = Vec::new(self.alloc);
@@ -283,7 +284,7 @@ impl Settling<'_> {
         before: &[Info],
         answers: &mut Vec<Answer>,
     ) -> Result<bool, AllocError>
-        requires { IsReady (wiring network.now) store.old }
+        requires { IsSoundFor (wiring network.now) store.old }
     {
         let mut is_told_the_same = true;
         for worldview in self.worldviews {
@@ -303,7 +304,7 @@ impl Settling<'_> {
 
     // The same, for an owner of the store.
     fn settle_told(&self, network: &Network<'_, '_>, store: &mut CellStore) -> Result<Shown, Fail>
-        requires { IsReady (wiring network.now) store.old }
+        requires { IsSoundFor (wiring network.now) store.old }
     {
         let (answers, is_told_the_same) = self.answers(network, store)?;
         Ok(Shown {

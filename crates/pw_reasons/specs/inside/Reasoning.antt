@@ -5,13 +5,12 @@ use Rattle.std.specs.Coded.{Coded, code_by, coded×, coded_ℕ, coded_list}
 use Rattle.pw_reasons.specs.Conflicts.{Conflicts}
 use Rattle.std.specs.FinSet.{is_subset}
 use Rattle.pw_info.specs.declared.info.Info.{Info}
-use Rattle.pw_info.specs.Information.{Implies, IsContradiction}
+use Rattle.pw_info.specs.Information.{Implies}
 use Rattle.pw_premises.specs.Premises.{Premises}
 use Rattle.pw_cells.specs.Cells.{Store}
 use Rattle.pw_network.specs.Network.{Network}
 use Rattle.pw_settle.specs.Settled.{IsSettled, Settled}
 use Rattle.pw_settle.specs.Values.{value_in}
-use Rattle.pw_reasons.specs.Nogood.{covers}
 use Rattle.pw_reasons.specs.Reason.{tried}
 
 -- they are stored as their two lists
@@ -36,8 +35,3 @@ AreSettledLast network store last = IfSome last (λ values.
 abbrev pub tried_in : Network → Store → ℕ → Premises → Premises → ℕ → Premises
 tried_in network store cell worldview left premise =
     tried (λ w. value_in network store w cell) worldview left premise
-
--- where the value of the cell is a contradiction, the nogoods cover its reason
-abbrev pub CoversContradiction : Network → Store → Premises → ℕ → List Premises → Premises → Type 0
-CoversContradiction network store worldview cell nogoods reason =
-    IsContradiction (value_in network store worldview cell) → covers nogoods reason ≡ true

@@ -1,7 +1,7 @@
 -- The conditions that the steps of a command put on a workbench, and their results.
 use Rattle.std.specs.Prelude.{◌≡◌, ◌≢◌, ◌⊎◌, ℕ, ◌+◌, ◌<◌, ◌≤◌, Bool, true, ◌&&◌, List, ◌∷◌, ◌++◌, length}
 use Rattle.std.specs.Prelude.{map, nat_eq, All, Contains, None, Option, Some, false, position}
-use Rattle.std.specs.Prelude.{remove, slice_index_or, slice_set}
+use Rattle.std.specs.Prelude.{IfOk, OnErr, Result, remove, slice_index_or, slice_set}
 use Rattle.std.specs.List.{list_any}
 use Rattle.std.specs.FinSet.{is_subset}
 use Rattle.pw_network.specs.Network.{Network}
@@ -16,12 +16,11 @@ use Rattle.pw_decl.specs.Declaration.{Declared}
 use Rattle.pw_decl.specs.Expansion.{inner_kinds_of}
 use Rattle.pw_network.specs.Network.{last_attachment_line}
 use Rattle.pw_network.specs.Network.{Attached, with_attached}
-use Rattle.pw_settle.specs.Calls.{gains}
+use Rattle.pw_settle.specs.Calls.{gains, tally}
 use Rattle.pw_settle.specs.Growth.{KeepsMore}
-use Rattle.pw_settle.specs.inside.Due.{AreDue}
-use Rattle.pw_settle.specs.inside.Progress.{tally}
-use Rattle.pw_settle.specs.Sound.{IsSound, LieUpstream, RestsUpstream}
-use Rattle.pw_settle.specs.Values.{kinds_in, value_in}
+use Rattle.pw_settle.specs.Due.{AreDue}
+use Rattle.pw_settle.specs.Sound.{LieUpstream, RestsUpstream}
+use Rattle.pw_settle.specs.Values.{value_in}
 use Rattle.pw_reasons.specs.Choice.{IsFirstConsistent}
 use Rattle.pw_reasons.specs.Combinations.{worldview_of, worldviews_of}
 use Rattle.pw_reasons.specs.Conflicts.{Conflicts, AreConflicts}
@@ -36,7 +35,7 @@ use Rattle.pw_sessions.specs.Command.{IsDeclared}
 use Rattle.pw_sessions.specs.Snapshot.{EachBecomes, IsAfterTell, Snapshot, after_entry, snapshot_in}
 use Rattle.pw_sessions.specs.Freshness.{AreCalls, CallsDueFor, CallsNoneIfFresh, IsFresh, IsSettledFor}
 use Rattle.pw_sessions.specs.Snapshot.{AllRestUpstream, AreApart, IsCurrent, is_of}
-use Rattle.pw_sessions.specs.Workbench.{Workbench, IsLeftBy, IsSetUpFor, IsCarriedOut, SnapshotsFit}
+use Rattle.pw_sessions.specs.Workbench.{Workbench, IsLeftBy, IsSetUpFor, IsCarriedOut, SnapshotsFit, StoreFits}
 use Rattle.pw_sessions.specs.Workbench.{beliefs_in}
 use Rattle.pw_settle.specs.Settled.{Settled}
 
@@ -55,14 +54,6 @@ CarriesOutNext old line command new reply =
     (d : Declared) (before : List LineReading) → IsLeftBy d before old → length before + 1 ≡ line →
     IsDeclared d (Says command)
     → IsCarriedOut d before command new reply
-
--- the store has the cells of the network, with their kinds, and keeps only what follows; the noted
--- sets contradict themselves; and each snapshot fits
-pub record StoreFits (workbench : Workbench) : Type 0 where
-  pub kinds : kinds_of workbench.store ≡ kinds_in workbench.network
-  pub sound : IsSound workbench.network workbench.store
-  pub nogoods : AreNogoods workbench.network workbench.store workbench.nogoods
-  pub snapshots : SnapshotsFit workbench.network workbench.store workbench.snapshots
 
 -- a question of this user can be answered: the store and the snapshots fit, and the user has beliefs
 pub record CanAnswer (workbench : Workbench) (user : ℕ) : Type 0 where
@@ -229,6 +220,14 @@ pub record IsAfterSettling (old : Workbench) (user : ℕ) (new : Workbench) : Ty
   pub fresh : CallsNoneIfFresh old user new.calls
   pub stays : IsFresh old user → IsFresh new user
   pub same : new ≡ record old { store = new.store; snapshots = new.snapshots; calls = new.calls }
+
+-- the user was settled, and the snapshot at the answered place has the values; or that was refused, and
+-- no call counts
+pub record SettlesFor {E : Type 0} (old : Workbench) (user : ℕ) (new : Workbench)
+    (result : Result ℕ E) : Type 0 where
+  pub settled : IfOk result (λ place. HasSettled old user place new)
+  pub after : IsAfterSettling old user new
+  pub refused : OnErr result (new.calls ≡ 0)
 
 -- an ask of the cell by the user was answered: with what settles in the network under the user's
 -- beliefs; or, if a visible instance writes the cell, with out of memory

@@ -1,27 +1,25 @@
 //! Questions of users: what settles under a user's beliefs, starting from what an earlier question
 //! found in the same worldview, or in one within it.
-ghost use Rattle.std.specs.Prelude.{◌≡◌, ◌<◌, true, length, IfNone, IfOk, IfSome, None};
-ghost use Rattle.std.specs.Prelude.{OnErr, OnOk, Some, position};
-ghost use Rattle.pw_cells.specs.Cells.{kinds_of};
+ghost use Rattle.std.specs.Prelude.{◌≡◌, ◌<◌, IfNone, IfOk, IfSome, None, Some, length, position};
+ghost use Rattle.std.specs.Prelude.{true};
 ghost use Rattle.pw_network.specs.Wiring.{wiring};
 ghost use Rattle.pw_premises.specs.Premises.{Premises};
 ghost use Rattle.pw_reasons.specs.Combinations.{groups_of, picked_in};
 ghost use Rattle.pw_reasons.specs.Nogood.{covers};
 ghost use Rattle.pw_settle.specs.Growth.{CanContinue, KeepsMore};
 ghost use Rattle.pw_settle.specs.Settled.{IsSettled};
-ghost use Rattle.pw_settle.specs.Sound.{IsSound};
-ghost use Rattle.pw_settle.specs.Values.{kinds_in};
+ghost use Rattle.pw_settle.specs.Sound.{IsSoundFor};
 ghost use Rattle.pw_sessions.specs.Carrying.{KeepsNogoods};
 ghost use Rattle.pw_sessions.specs.Freshness.{CallsDue, IsAsked};
 ghost use Rattle.pw_sessions.specs.Reply.{reply_by};
 ghost use Rattle.pw_sessions.specs.Snapshot.{IsCurrent, is_of, start_for};
 ghost use Rattle.pw_sessions.specs.Workbench.{SnapshotsFit};
 ghost use Rattle.pw_sessions.specs.inside.Fields.{state};
-ghost use Rattle.pw_sessions.specs.inside.Steps.{AllContradict, AreOfPremises, IsChosen};
-ghost use Rattle.pw_sessions.specs.inside.Steps.{AnswersAskIfLeft, AnswersConflicts, AnswersWhy};
-ghost use Rattle.pw_sessions.specs.inside.Steps.{CanAnswer, HasSettled, IsAfterSettling};
+ghost use Rattle.pw_sessions.specs.inside.Steps.{AllContradict, AnswersAskIfLeft, AnswersConflicts};
+ghost use Rattle.pw_sessions.specs.inside.Steps.{AnswersWhy, AreOfPremises, CanAnswer, IsChosen};
 ghost use Rattle.pw_sessions.specs.inside.Steps.{IsFirstChoice, OnlyKeepsMore, RestOnUpstreamOf};
-ghost use Rattle.pw_sessions.specs.inside.Steps.{SeesWriter, StaysUpstreamOf, is_written, place_in};
+ghost use Rattle.pw_sessions.specs.inside.Steps.{SeesWriter, SettlesFor, StaysUpstreamOf};
+ghost use Rattle.pw_sessions.specs.inside.Steps.{is_written, place_in};
 
 use super::Workbench;
 use super::snapshot::Snapshot;
@@ -66,8 +64,7 @@ fn settle_within<A: Allocator + Copy>(
     store: &mut CellStore<A>,
     worldview: &PremiseSet,
 ) -> Result<Settled<A>, AllocError>
-    requires kinds { kinds_of store.old ≡ kinds_in (wiring network.now) }
-    requires sound { IsSound (wiring network.now) store.old }
+    requires sound { IsSoundFor (wiring network.now) store.old }
     requires fit { SnapshotsFit (wiring network.now) store.old snapshots.now }
     requires none { position (is_of worldview.now) snapshots.now ≡ None }
     ensures settled { IfOk result (λ settled.
@@ -110,10 +107,7 @@ impl<'d, 'r, A: Allocator + Copy> Workbench<'d, 'r, A> {
         requires can { CanAnswer (state self.old) user }
         requires calls { (state self.old).calls ≡ 0 }
         requires place { place_in (state self.old) user ≡ Some place }
-        ensures settled { IfOk result (λ at. HasSettled (state self.old) user at
-            (state self.new)) }
-        ensures after { IsAfterSettling (state self.old) user (state self.new) }
-        ensures refused { OnErr result ((state self.new).calls ≡ 0) }
+        ensures { SettlesFor (state self.old) user (state self.new) result }
     {
         let snapshot = &mut self.snapshots[place];
         let cells = snapshot.values.cells();
@@ -134,10 +128,7 @@ impl<'d, 'r, A: Allocator + Copy> Workbench<'d, 'r, A> {
         requires can { CanAnswer (state self.old) user }
         requires calls { (state self.old).calls ≡ 0 }
         requires none { place_in (state self.old) user ≡ None }
-        ensures settled { IfOk result (λ at. HasSettled (state self.old) user at
-            (state self.new)) }
-        ensures after { IsAfterSettling (state self.old) user (state self.new) }
-        ensures refused { OnErr result ((state self.new).calls ≡ 0) }
+        ensures { SettlesFor (state self.old) user (state self.new) result }
     {
         let alloc = *self.beliefs.allocator();
         let beliefs = self.beliefs_of(user);
@@ -171,10 +162,7 @@ impl<'d, 'r, A: Allocator + Copy> Workbench<'d, 'r, A> {
         requires can { CanAnswer (state self.old) user }
         requires calls { (state self.old).calls ≡ 0 }
         requires place { place_in (state self.old) user ≡ place }
-        ensures settled { IfOk result (λ at. HasSettled (state self.old) user at
-            (state self.new)) }
-        ensures after { IsAfterSettling (state self.old) user (state self.new) }
-        ensures refused { OnErr result ((state self.new).calls ≡ 0) }
+        ensures { SettlesFor (state self.old) user (state self.new) result }
     {
         let place = match place {
             Some(place) => self.settle_again(user, place)?,

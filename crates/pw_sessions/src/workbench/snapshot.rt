@@ -1,12 +1,10 @@
 //! What a question settled in one worldview.
 ghost use Rattle.std.specs.Prelude.{◌≡◌, ◌<◌, ◌↔◌, IsTrue, OnErr, OnOk, length, true};
 ghost use Rattle.pw_info.specs.Information.{kind_of};
-ghost use Rattle.pw_cells.specs.Cells.{kinds_of};
 ghost use Rattle.pw_network.specs.Wiring.{wiring};
 ghost use Rattle.pw_settle.specs.Growth.{KeepsMore, RestOnUpstreamAfter, StaysUpstreamAfter};
 ghost use Rattle.pw_settle.specs.Settled.{IsSettled, info_at};
-ghost use Rattle.pw_settle.specs.Sound.{IsSound};
-ghost use Rattle.pw_settle.specs.Values.{kinds_in};
+ghost use Rattle.pw_settle.specs.Sound.{IsSoundFor};
 ghost use Rattle.pw_sessions.specs.Snapshot.{IsAfterTell, IsCurrent, IsSnapshotOf, SayAlready};
 ghost use Rattle.pw_sessions.specs.Snapshot.{after_entry};
 ghost use Rattle.pw_sessions.specs.inside.Steps.{CallsDueAgain};
@@ -86,8 +84,7 @@ impl<A: Allocator + Copy> Snapshot<A> {
         network: &Network<'_, '_, A>,
         store: &mut CellStore<A>,
     ) -> Result<(), AllocError>
-        requires kinds { kinds_of store.old ≡ kinds_in (wiring network.now) }
-        requires sound { IsSound (wiring network.now) store.old }
+        requires sound { IsSoundFor (wiring network.now) store.old }
         requires fits { IsSnapshotOf (wiring network.now) store.old self.old }
         ensures worldview { self.new.values.worldview ≡ self.old.values.worldview }
         ensures settled { OnOk result (IsSettled (wiring network.now) store.old
@@ -102,10 +99,10 @@ impl<A: Allocator + Copy> Snapshot<A> {
             → self.new.values ≡ self.old.values) }
         ensures fits { IsSnapshotOf (wiring network.now) store.new self.new }
         ensures grows { KeepsMore (wiring network.now) store.old store.new }
-        ensures upstream { StaysUpstreamAfter (wiring network.now) self.old.values store.old
+        ensures upstream { StaysUpstreamAfter (wiring network.now) self.old.values.supports store.old
             store.new }
-        ensures lie { RestOnUpstreamAfter (wiring network.now) self.old.values store.old
-            self.new.values }
+        ensures lie { RestOnUpstreamAfter (wiring network.now) self.old.values.supports
+            store.old self.new.values.supports }
     {
         let outcome = resettle_since(&mut self.values, workspace, network, store);
         self.is_current = outcome.is_ok();

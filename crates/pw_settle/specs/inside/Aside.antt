@@ -7,19 +7,18 @@ use Rattle.pw_info.specs.Information.{kind_of, Implies}
 use Rattle.pw_info.specs.Rank.{rank_of}
 use Rattle.pw_premises.specs.Premises.{Premises}
 use Rattle.pw_facts.specs.Facts.{IsLeastAbove}
-use Rattle.pw_cells.specs.Cells.{Store, kinds_of, told_in}
+use Rattle.pw_cells.specs.Cells.{Store, told_in}
 use Rattle.pw_network.specs.Network.{Attached, Network}
-use Rattle.pw_settle.specs.Calls.{is_instance_visible, reader_count, sum_below}
+use Rattle.pw_settle.specs.Calls.{is_instance_visible, is_set, reader_count, sum_below}
 use Rattle.pw_settle.specs.Settled.{IsSettled, Settled, info_at, support_at}
-use Rattle.pw_settle.specs.Sound.{IsSound}
+use Rattle.pw_settle.specs.Sound.{IsSoundFor}
 use Rattle.pw_settle.specs.Values.{IsSatisfied, attached_no, kinds_in, numbered, value_in}
-use Rattle.pw_settle.specs.inside.Progress.{AreQueuedVisible, AreSatisfied, is_set}
+use Rattle.pw_settle.specs.inside.Progress.{AreQueuedVisible, AreSatisfied}
 
--- values at hand, from which those of another worldview are found: the store has the cells of the
--- network and is sound, and the values are what follows in their own worldview
+-- values at hand, from which those of another worldview are found: the store is sound for the
+-- network, and the values are what follows in their own worldview
 pub record CanStart (network : Network) (store : Store) (before : Settled) : Type 0 where
-  pub kinds : kinds_of store ≡ kinds_in network
-  pub sound : IsSound network store
+  pub sound : IsSoundFor network store
   pub settled : IsSettled network store before.worldview before
 
 -- what is known about a cell in the worldview: it rests on premises of the worldview, follows in

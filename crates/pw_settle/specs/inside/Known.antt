@@ -205,22 +205,11 @@ settled_code info =
       mark = p.1.1.1.1.1;
     }) (λ _. refl)
 
--- where what is kept rests on premises upstream alone, so do the values that are read from it
-abbrev pub ReadsUpstream : Network → Store → List Premises → Type 0
-ReadsUpstream network store supports =
-    (given : ℕ → ℕ → Bool) → RestsUpstream network given store → LieUpstream network given supports
-
 -- where all lay upstream before, it does now
 abbrev pub StayUpstream : Network → Store → List Premises → Store → List Premises → Type 0
 StayUpstream network old supports new now =
     (given : ℕ → ℕ → Bool) → AreUpstream network given old supports →
     AreUpstream network given new now
-
--- where all lay upstream before, what is kept now rests upstream
-abbrev pub SettlesUpstream : Network → Store → List Premises → Store → Type 0
-SettlesUpstream network old supports new =
-    (given : ℕ → ℕ → Bool) → AreUpstream network given old supports →
-    RestsUpstream network given new
 
 -- the procedure of the instance makes this of what is known of its inputs
 abbrev pub Gives : List Procedure → List Info → Attached → Info → Type 0

@@ -9,23 +9,15 @@ use Rattle.pw_premises.specs.Premises.{Premises}
 use Rattle.pw_facts.specs.declared.fact.Fact.{Fact}
 use Rattle.pw_cells.specs.Cells.{Store, kept_in}
 use Rattle.pw_network.specs.Network.{Attached, Network}
-use Rattle.pw_settle.specs.Calls.{is_instance_visible, reader_count, sum_below, visible_at}
+use Rattle.pw_settle.specs.Calls.{is_instance_visible, is_set, reader_count, sum_below, tally, visible_at}
 use Rattle.pw_settle.specs.inside.Known.{joined}
 use Rattle.pw_settle.specs.Settled.{info_at}
 use Rattle.pw_settle.specs.Sources.{said_by}
 use Rattle.pw_settle.specs.Values.{propagators_of, IsSatisfied, attached_no}
 
--- whether the flag of this number is set
-abbrev pub is_set : List Bool → ℕ → Bool
-is_set flags number = slice_index_or flags number false
-
 -- no flag is set
 abbrev pub IsIdle : List Bool → Type 0
 IsIdle flags = (number : ℕ) → is_set flags number ≡ false
-
--- the number of set flags
-abbrev pub tally : List Bool → ℕ
-tally flags = count_by (λ flag. flag) flags
 
 -- the queue has each number once whose flag is set, and there is room for all. (Each number in it
 -- is flagged, and there are as many as flags; so none is missing.)
@@ -35,13 +27,14 @@ pub record IsQueue (flags : List Bool) (queue : List ℕ) (capacity : ℕ) : Typ
   pub count : length queue ≡ tally flags
   pub room : length flags ≤ capacity
 
--- each instance that is visible and not queued is satisfied; the same for all but one
+-- each instance that is visible and not queued is satisfied
 abbrev pub AreSatisfied : Network → Premises → (ℕ → Info) → List Bool → Type 0
 AreSatisfied network w known queued =
     (number : ℕ) (d : Attached) → number < length network.attached →
     is_instance_visible w (attached_no network number d) ≡ true →
     is_set queued number ≡ false → IsSatisfied network known (attached_no network number d)
 
+-- each of them but this one is satisfied
 abbrev pub AreOthersSatisfied : Network → Premises → (ℕ → Info) → List Bool → ℕ → Type 0
 AreOthersSatisfied network w known queued one =
     (number : ℕ) (d : Attached) → number < length network.attached → number ≢ one →

@@ -15,7 +15,7 @@ use Rattle.pw_settle.specs.Calls.{is_instance_visible}
 use Rattle.pw_settle.specs.Growth.{CanContinue}
 use Rattle.pw_settle.specs.Settled.{Settled, info_at, support_at}
 use Rattle.pw_settle.specs.Sound.{LieUpstream, RestsUpstream}
-use Rattle.pw_settle.specs.inside.Due.{HasChanged, QueuesReaders}
+use Rattle.pw_settle.specs.inside.Queueing.{HasChanged, QueuesReaders}
 use Rattle.pw_settle.specs.inside.Known.{AreKept, TakesIn, TakesInKept}
 
 -- the store remembers all that came since the mark
@@ -87,12 +87,6 @@ pub record IsReadAgain (network : Network) (store : Store) (cell : ℕ) (w : Pre
   pub news : is_news ≡ true → QueuesReaders network
       (map (is_instance_visible w) network.attached) (λ c. c ≡ cell) queued new_queued
   pub none : is_news ≡ false → new_queued ≡ queued
-
--- where what is kept rests on premises upstream alone, and these premises lay there, so do those
-abbrev pub LieUpstreamAfter : Network → Store → List Premises → List Premises → Type 0
-LieUpstreamAfter network store supports new_supports =
-    (given : ℕ → ℕ → Bool) → RestsUpstream network given store →
-    LieUpstream network given supports → LieUpstream network given new_supports
 
 -- the visible readers of the cells are queued of which more is known now than was found before, and
 -- nothing else

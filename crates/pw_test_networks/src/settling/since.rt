@@ -2,7 +2,7 @@
 ghost use Rattle.std.specs.Prelude.{◌≡◌, length, IfOk};
 ghost use Rattle.pw_network.specs.Wiring.{wiring};
 ghost use Rattle.pw_network.specs.Network.{cells_in};
-ghost use Rattle.pw_test_networks.specs.Settling.{IsReady};
+ghost use Rattle.pw_settle.specs.Sound.{IsSoundFor};
 
 use super::{Answer, Matter, answer_of, store_told, told};
 use crate::networks::{at_line, attach_named};
@@ -23,7 +23,7 @@ fn settle_twice(
     store: &mut CellStore,
     worldview: &PremiseSet,
 ) -> Result<Settled, AllocError>
-    requires { IsReady (wiring network.now) store.old }
+    requires { IsSoundFor (wiring network.now) store.old }
     ensures { IfOk result (λ settled. length settled.infos ≡ cells_in (wiring network.now)) }
 {
     let mut settled = settle(alloc, network, store, worldview)?;
@@ -38,7 +38,7 @@ fn settle_twice_and_show(
     network: &Network<'_, '_>,
     store: &mut CellStore,
 ) -> Result<Answer, AllocError>
-    requires { IsReady (wiring network.now) store.old }
+    requires { IsSoundFor (wiring network.now) store.old }
 {
     let settled = settle_twice(alloc, network, store, &PremiseSet::first(2))?;
     answer_of(alloc, network, &settled)

@@ -1,12 +1,13 @@
 //! Settlings in stages. Each stage attaches and tells more, and then settles a worldview from the
 //! values that the stage before found.
 
-ghost use Rattle.std.specs.Prelude.{◌≡◌, ◌+◌, ◌≤◌, ◌++◌, length, map, IfOk, IfSome, OnOk};
+ghost use Rattle.std.specs.Prelude.{◌≡◌, ◌+◌, ◌≤◌, ◌++◌, IfOk, IfSome, OnOk, length, map};
 ghost use Rattle.pw_cells.specs.Cells.{most_store_cells, new_cell};
 ghost use Rattle.pw_network.specs.Wiring.{wiring};
 ghost use Rattle.pw_network.specs.Network.{cells_in};
 ghost use Rattle.pw_settle.specs.Growth.{IsFitting};
-ghost use Rattle.pw_test_networks.specs.Settling.{IsReady, LeavesFitting};
+ghost use Rattle.pw_settle.specs.Sound.{IsSoundFor};
+ghost use Rattle.pw_test_networks.specs.Settling.{LeavesFitting};
 
 use super::{Matter, Shown, all_told, answer_of, is_told, settle_once, store_of, tell_each};
 use crate::networks::{Attachment, named_in};
@@ -72,8 +73,8 @@ fn attach_one(
     store: &mut CellStore,
     attachment: &Attachment<'_>,
 ) -> Result<(), Fail>
-    requires { IsReady (wiring network.old) store.old }
-    ensures ready { OnOk result (IsReady (wiring network.new) store.new) }
+    requires { IsSoundFor (wiring network.old) store.old }
+    ensures sound { OnOk result (IsSoundFor (wiring network.new) store.new) }
     ensures fits { OnOk result (LeavesFitting (wiring network.old) store.old
         (wiring network.new) store.new) }
 {
@@ -92,8 +93,8 @@ fn attach_each(
     store: &mut CellStore,
     attachments: &[Attachment<'_>],
 ) -> Result<(), Fail>
-    requires { IsReady (wiring network.old) store.old }
-    ensures ready { OnOk result (IsReady (wiring network.new) store.new) }
+    requires { IsSoundFor (wiring network.old) store.old }
+    ensures sound { OnOk result (IsSoundFor (wiring network.new) store.new) }
     ensures fits { OnOk result (LeavesFitting (wiring network.old) store.old
         (wiring network.new) store.new) }
 {
@@ -111,9 +112,9 @@ fn resettle_once(
     store: &mut CellStore,
     worldview: &PremiseSet,
 ) -> Result<Settled, AllocError>
-    requires ready { IsReady (wiring network.now) store.old }
+    requires sound { IsSoundFor (wiring network.now) store.old }
     requires fits { IsFitting (wiring network.now) store.old last }
-    ensures ready { IsReady (wiring network.now) store.new }
+    ensures sound { IsSoundFor (wiring network.now) store.new }
     ensures cells { IfOk result (λ settled.
         length settled.infos ≡ cells_in (wiring network.now)) }
     ensures fits { IfOk result (IsFitting (wiring network.now) store.new) }
@@ -130,9 +131,9 @@ fn settle_next(
     store: &mut CellStore,
     worldview: &PremiseSet,
 ) -> Result<Settled, AllocError>
-    requires ready { IsReady (wiring network.now) store.old }
+    requires sound { IsSoundFor (wiring network.now) store.old }
     requires fits { IfSome last (IsFitting (wiring network.now) store.old) }
-    ensures ready { IsReady (wiring network.now) store.new }
+    ensures sound { IsSoundFor (wiring network.now) store.new }
     ensures cells { IfOk result (λ settled.
         length settled.infos ≡ cells_in (wiring network.now)) }
     ensures fits { IfOk result (IsFitting (wiring network.now) store.new) }
@@ -160,8 +161,8 @@ impl Staged<'_> {
         before: &Stage,
         stage: &Stage,
     ) -> Result<(), Fail>
-        requires { IsReady (wiring network.old) store.old }
-        ensures ready { OnOk result (IsReady (wiring network.new) store.new) }
+        requires { IsSoundFor (wiring network.old) store.old }
+        ensures sound { OnOk result (IsSoundFor (wiring network.new) store.new) }
         ensures fits { OnOk result (LeavesFitting (wiring network.old) store.old
             (wiring network.new) store.new) }
     {
@@ -182,9 +183,9 @@ impl Staged<'_> {
         worldview: &PremiseSet,
         shown: &mut Shown,
     ) -> Result<Settled, AllocError>
-        requires ready { IsReady (wiring network.now) store.old }
+        requires sound { IsSoundFor (wiring network.now) store.old }
         requires fits { IfSome last (IsFitting (wiring network.now) store.old) }
-        ensures ready { OnOk result (IsReady (wiring network.now) store.new) }
+        ensures sound { OnOk result (IsSoundFor (wiring network.now) store.new) }
         ensures fits { IfOk result (IsFitting (wiring network.now) store.new) }
     {
         let seen = [*worldview, PremiseSet::empty(), PremiseSet::first(5)];
@@ -222,7 +223,7 @@ impl Staged<'_> {
         network: &mut Network<'_, '_>,
         store: &mut CellStore,
     ) -> Result<Shown, Fail>
-        requires { IsReady (wiring network.old) store.old }
+        requires { IsSoundFor (wiring network.old) store.old }
     {
         let mut shown = Shown {
             answers: Vec::new(self.alloc),
@@ -240,7 +241,7 @@ impl Staged<'_> {
         store: &mut CellStore,
         shown: &mut Shown,
     ) -> Result<(), Fail>
-        requires { IsReady (wiring network.old) store.old }
+        requires { IsSoundFor (wiring network.old) store.old }
     {
         let mut before = Stage::new(0, 0, PremiseSet::empty());
         let mut last = None;

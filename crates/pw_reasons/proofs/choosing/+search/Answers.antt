@@ -8,6 +8,7 @@ use Rattle.pw_network.specs.Network.{Network}
 use Rattle.pw_network.specs.Wiring.{wiring}
 use Rattle.pw_premises.specs.Premises.{Premises}
 use Rattle.pw_settle.specs.Growth.{KeepsMore}
+use Rattle.pw_settle.proofs.Growing.{still_sound_for}
 use Rattle.pw_reasons.specs.Combinations.{groups_of, picked_in}
 use Rattle.pw_reasons.specs.Nogood.{AreNogoods, IsNogood, covers}
 use Rattle.pw_reasons.specs.inside.Alike.{HasMore, pending}
@@ -117,24 +118,21 @@ search-requires g t c = λ lives out.
       (
         search rules,
         (
-          grows.kinds ∙ c.requires.kinds,
+          still_sound_for network old store grows c.requires.sound,
           (
-            grows.sound c.requires.sound,
+            nogoods_now network old store grows c.loop-index.nogoods c.loop-index.invariant.leaves.are,
             (
-              nogoods_now network old store grows c.loop-index.nogoods c.loop-index.invariant.leaves.are,
+              c.requires.premises,
               (
-                c.requires.premises,
+                either_settled network store c.nearer-nearest.result.now c.keep_values.new.own c.args.above.now c.nearer-nearest.ensures own
+                    (last_now network old store grows c.args.above.now c.requires.above),
                 (
-                  either_settled network store c.nearer-nearest.result.now c.keep_values.new.own c.args.above.now c.nearer-nearest.ensures own
-                      (last_now network old store grows c.args.above.now c.requires.above),
+                  part_of_more w more groups picked with group i left inside c.insert.ensures.inserted c.with-picked.ensures,
                   (
-                    part_of_more w more groups picked with group i left inside c.insert.ensures.inserted c.with-picked.ensures,
+                    uncovered,
                     (
-                      uncovered,
-                      (
-                        few,
-                        last_now network old store grows c.loop-index.tried.last c.loop-index.invariant.leaves.last_are,
-                      ),
+                      few,
+                      last_now network old store grows c.loop-index.tried.last c.loop-index.invariant.leaves.last_are,
                     ),
                   ),
                 ),
@@ -213,7 +211,7 @@ returns-then-ends-clause-found g t c =
     let grows : KeepsMore network old store = subst (KeepsMore network old) (sym {A = Store} c.keep_values.ensures.unchanged) c.loop-index.invariant.leaves.grows in
     found_then w more groups picked with group i left inside c.insert.ensures.inserted c.with-picked.ensures network old store grows
     c.loop-index.alike c.loop-index.nogoods c.search.new.nogoods c.search.new.tried.nogood c.search.new.tried.place
-    c.in_ok-found.found c.note_alike-then-ends.new.nogoods c.args.network.now.well c.requires.kinds c.loop-index.invariant.leaves.are c.loop-index.invariant.passed
+    c.in_ok-found.found c.note_alike-then-ends.new.nogoods c.args.network.now.well c.requires.sound.kinds c.loop-index.invariant.leaves.are c.loop-index.invariant.passed
     (subst (HasMore c.search.new.nogoods c.note_alike-then-ends.new.nogoods) (same c.loop-index.alike i) c.in_ok-note_alike-2.ensures.noted)
     (sym c.ends.ensures ∙ c.if-ends.true) c.in_ok-found.ensures.found
 

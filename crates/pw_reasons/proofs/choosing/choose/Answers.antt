@@ -22,7 +22,7 @@ returns-then-covers-clause-none g c =
     let all : All (λ w. covers c.args.nogoods.now w ≡ true) (worldviews_of c.args.worldview.now groups) =
     subst (AreCovered c.args.nogoods.now) (worldviews_are c.args.worldview.now c.believed_beside-others.result groups c.believed_beside-others.ensures)
     (all_covered c.args.nogoods.now c.believed_beside-others.result groups (sym c.covers.ensures ∙ c.if-covers.true)) in
-    covered_nogoods (wiring c.args.network.now) c.args.store.now c.args.network.now.well c.requires.kinds c.args.nogoods.now c.requires.nogoods
+    covered_nogoods (wiring c.args.network.now) c.args.store.now c.args.network.now.well c.requires.sound.kinds c.args.nogoods.now c.requires.nogoods
     (worldviews_of c.args.worldview.now groups) all
 
 pub returns-then-covers-clause-covered : goal.returns-then-covers-clause-covered
@@ -87,7 +87,7 @@ returns-in-Refuted-clause-none g c =
     let none : List ℕ = picked_in c.none.result in
     let found = subst (IsFoundBeside network store c.search.new.nogoods c.search.new.tried.nogood c.search.new.tried.place others groups none) c.in-Refuted.is
     c.in_ok-found.ensures.found in
-    covered_nogoods network store c.args.network.now.well c.requires.kinds c.note_with_each.new.self
+    covered_nogoods network store c.args.network.now.well c.requires.sound.kinds c.note_with_each.new.self
     (refuted_nogoods network store c.search.new.nogoods c.note_with_each.new.self (worldviews_beside c.search.new.tried.nogood (drop c.search.new.tried.place groups))
     c.search.ensures.leaves.are found.1.nogoods c.note_with_each.ensures.within)
     (worldviews_of beliefs groups)
@@ -141,7 +141,7 @@ returns-clause-none g c =
     let none : List ℕ = picked_in c.none.result in
     let found = subst (IsFoundBeside network store c.search.new.nogoods c.search.new.tried.nogood c.search.new.tried.place others groups none) c.in-Nothing.is
     c.in_ok-found.ensures.found in
-    covered_nogoods network store c.args.network.now.well c.requires.kinds c.search.new.nogoods c.search.ensures.leaves.are (worldviews_of beliefs groups)
+    covered_nogoods network store c.args.network.now.well c.requires.sound.kinds c.search.new.nogoods c.search.ensures.leaves.are (worldviews_of beliefs groups)
     (all_noted_covered beliefs others groups none c.believed_beside-others.ensures c.none.ensures c.search.new.nogoods found.1)
 
 pub returns-clause-covered : goal.returns-clause-covered
@@ -165,9 +165,6 @@ returns-clause-known g c all =
     let nothing = c.search.ensures.known (subst (λ (l : List Premises). AreCovered l (worldviews_beside others (drop (length none) groups)))
     (sym {A = List Premises} c.expect.ensures) (left_covered beliefs others groups none c.believed_beside-others.ensures c.none.ensures c.args.nogoods.now all)) in
     (refl, nothing.1, nothing.2 ∙ c.expect.ensures)
-
-pub search-requires-clause-kinds : goal.search-requires-clause-kinds
-search-requires-clause-kinds g c = c.requires.kinds
 
 pub search-requires-clause-sound : goal.search-requires-clause-sound
 search-requires-clause-sound g c = c.requires.sound

@@ -6,4 +6,4 @@ use Rattle.pw_reasons.proofs.reasoning.kept_support.Goals as goal
 pub implies-requires : goal.implies-requires
 implies-requires g c =
     c.kept-kept.ensures.kind
-    ∙ sym (kind-in_value (wiring c.args.network.now) c.args.store.now c.requires.kinds c.args.worldview.now c.args.cell) ∙ c.requires.kind
+    ∙ sym (kind-in_value (wiring c.args.network.now) c.args.store.now c.requires.sound.kinds c.args.worldview.now c.args.cell) ∙ c.requires.kind

@@ -15,7 +15,7 @@ returns-then-not-contains-clause-enough g c =
 pub returns-then-not-contains-clause-left : goal.returns-then-not-contains-clause-left
 returns-then-not-contains-clause-left g c =
     goes (wiring c.args.network.now) c.args.store.now c.args.cell
-    (value_grows (wiring c.args.network.now) c.args.store.now c.args.network.now.well c.requires.kinds c.args.cell) c.args.settled.now.worldview
+    (value_grows (wiring c.args.network.now) c.args.store.now c.args.network.now.well c.requires.sound.kinds c.args.cell) c.args.settled.now.worldview
     c.args.left.premises c.without-premises.result c.args.premise c.without-premises.ensures.removed c.requires.part
     (info_at c.args.settled.now.infos c.args.cell) (c.requires.settled.values c.args.cell c.requires.cell) c.args.left.support
     (enough_without (wiring c.args.network.now) c.args.store.now c.args.cell (info_at c.args.settled.now.infos c.args.cell) c.args.left.premises
@@ -24,14 +24,14 @@ returns-then-not-contains-clause-left g c =
 
 pub support_within-requires-clause-kind : goal.support_within-requires-clause-kind
 support_within-requires-clause-kind g c =
-    let grows = value_grows (wiring c.args.network.now) c.args.store.now c.args.network.now.well c.requires.kinds c.args.cell in
+    let grows = value_grows (wiring c.args.network.now) c.args.store.now c.args.network.now.well c.requires.sound.kinds c.args.cell in
     grows.kinds c.without-premises.result c.args.settled.now.worldview
     ∙ sym (ap kind_of (c.value-info.ensures.info ∙ c.requires.settled.values c.args.cell c.requires.cell))
 
 pub returns-in-Some-clause-left : goal.returns-in-Some-clause-left
 returns-in-Some-clause-left g c =
     goes (wiring c.args.network.now) c.args.store.now c.args.cell
-    (value_grows (wiring c.args.network.now) c.args.store.now c.args.network.now.well c.requires.kinds c.args.cell) c.args.settled.now.worldview
+    (value_grows (wiring c.args.network.now) c.args.store.now c.args.network.now.well c.requires.sound.kinds c.args.cell) c.args.settled.now.worldview
     c.args.left.premises c.without-premises.result c.args.premise c.without-premises.ensures.removed c.requires.part c.value-info.result.info
     (c.value-info.ensures.info ∙ c.requires.settled.values c.args.cell c.requires.cell) c.in-Some.support
     (rw c.in-Some.is at c.in_ok-support.ensures.some)

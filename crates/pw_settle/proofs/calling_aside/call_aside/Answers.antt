@@ -5,12 +5,12 @@ use Rattle.pw_info.specs.declared.info.Info.{Info}
 use Rattle.pw_info.specs.Information.{kind_of}
 use Rattle.pw_network.specs.Wiring.{wiring}
 use Rattle.pw_network.specs.Readers.{readers_of}
-use Rattle.pw_settle.specs.Calls.{is_instance_visible, reader_count}
+use Rattle.pw_settle.specs.Calls.{is_instance_visible, is_set, reader_count, tally}
 use Rattle.pw_settle.specs.Settled.{info_at}
 use Rattle.pw_settle.specs.Values.{attached_no}
 use Rattle.pw_settle.specs.inside.Aside.{AreFound, weight_of}
 use Rattle.pw_settle.specs.inside.Known.{GivesNews, GivesNone, IsNewTo, IsPlaced, TakesIn, news_on}
-use Rattle.pw_settle.specs.inside.Progress.{AreSatisfied, IsNews, is_set, tally}
+use Rattle.pw_settle.specs.inside.Progress.{AreSatisfied, IsNews}
 use Rattle.pw_settle.proofs.AsideNews.{IsAfterAside, after_aside}
 use Rattle.pw_settle.proofs.AsideStarts.{found_kinds}
 use Rattle.pw_settle.proofs.KeptProgress.{no_instance, satisfied_all, visible_below}

@@ -3,9 +3,8 @@ use Rattle.std.proofs.lemmas.List.{length-map, length-set}
 use Rattle.std.proofs.lemmas.List.Sums.{count_by-le-length}
 use Rattle.pw_cells.specs.Cells.{Cell}
 use Rattle.pw_network.specs.Wiring.{wiring}
-use Rattle.pw_settle.specs.Calls.{is_instance_visible}
+use Rattle.pw_settle.specs.Calls.{is_instance_visible, tally}
 use Rattle.pw_settle.specs.inside.Aside.{weight_of}
-use Rattle.pw_settle.specs.inside.Progress.{tally}
 use Rattle.pw_settle.proofs.AsideEnds.{weight_bound}
 use Rattle.pw_settle.proofs.SettledStores.{calls_fit}
 use Rattle.pw_settle.proofs.TakenFlags.{taken_less, taken_others}

@@ -1,9 +1,9 @@
 use Rattle.std.proofs.Common.{◌≡◌, ◌+◌, ◌≤◌, ℕ, true, length}
 use Rattle.pw_network.specs.Wiring.{wiring}
-use Rattle.pw_settle.specs.Calls.{visible_at}
+use Rattle.pw_settle.specs.Calls.{is_set, tally, visible_at}
 use Rattle.pw_settle.specs.Settled.{info_at}
 use Rattle.pw_settle.specs.inside.Aside.{AreFound, weight_of}
-use Rattle.pw_settle.specs.inside.Progress.{AreSatisfied, is_set, tally}
+use Rattle.pw_settle.specs.inside.Progress.{AreSatisfied}
 use Rattle.pw_settle.proofs.calling_aside.work_aside.Given as goal
 
 abbrev pub invariant-loop-number : goal.invariant-loop-number

@@ -3,10 +3,9 @@ use Rattle.std.specs.Prelude.{◌&&◌, IfOk, not}
 use Rattle.pw_premises.specs.Premises.{Premises}
 use Rattle.pw_cells.specs.Cells.{Store, kinds_of}
 use Rattle.pw_network.specs.Wiring.{wiring}
-use Rattle.pw_settle.specs.Calls.{visible_at}
+use Rattle.pw_settle.specs.Calls.{is_set, visible_at}
 use Rattle.pw_settle.specs.Settled.{IsSettled}
 use Rattle.pw_settle.specs.inside.Aside.{AreFound}
-use Rattle.pw_settle.specs.inside.Progress.{is_set}
 use Rattle.pw_settle.proofs.AsideGrowth.{all_grown}
 use Rattle.pw_settle.proofs.growing_aside.grow_aside.Goals as goal
 
@@ -22,13 +21,13 @@ grown_values-requires-clause-new g c =
     && not (visible_at (wiring c.args.network.now) e n))) c.worldview.ensures c.in_ok-visible.ensures.new
 
 pub settle_aside_from-requires-clause-kinds : goal.settle_aside_from-requires-clause-kinds
-settle_aside_from-requires-clause-kinds g c = ap kinds_of c.grown_values.ensures.unchanged ∙ c.requires.start.kinds
+settle_aside_from-requires-clause-kinds g c = ap kinds_of c.grown_values.ensures.unchanged ∙ c.requires.start.sound.kinds
 
 pub settle_aside_from-requires-clause-found : goal.settle_aside_from-requires-clause-found
 settle_aside_from-requires-clause-found g c =
     subst (λ (s : Store). AreFound (wiring c.args.network.now) s c.args.worldview.now c.in_ok-known.known.infos.items c.in_ok-known.known.supports)
     (sym {A = Store} c.grown_values.ensures.unchanged)
-    (all_grown (wiring c.args.network.now) c.args.store.now c.requires.start.kinds c.args.before.now.worldview c.args.worldview.now
+    (all_grown (wiring c.args.network.now) c.args.store.now c.requires.start.sound.kinds c.args.before.now.worldview c.args.worldview.now
     c.in_ok-known.known.infos.items c.in_ok-known.known.supports c.grown_values.new.agenda c.in_ok-known.ensures.grown)
 
 pub settle_aside_from-requires-clause-visible : goal.settle_aside_from-requires-clause-visible

@@ -13,7 +13,7 @@ use Rattle.pw_settle.proofs.growing_aside.grow_cell.Goals as goal
 
 pub returns-then-not-may_show_more-clause-grown : goal.returns-then-not-may_show_more-clause-grown
 returns-then-not-may_show_more-clause-grown g c =
-    grown_unshown (wiring c.args.network.now) c.args.network.now.well c.args.store.now c.requires.kinds c.requires.sound c.args.earlier.now c.args.worldview.now
+    grown_unshown (wiring c.args.network.now) c.args.network.now.well c.args.store.now c.requires.sound.kinds c.requires.sound.sound c.args.earlier.now c.args.worldview.now
     c.args.cell c.requires.cell c.args.known.now.infos.items c.args.known.now.supports c.args.agenda.now c.requires.grown
     (c.may_show_more.ensures.less c.if-not-may_show_more.true) c.may_show_more.ensures.told
 
@@ -27,11 +27,11 @@ returns-then-not-is_news-clause-grown g c =
     c.take_in_kept.new.supports) c.deref_mut.ensures.value c.in_ok-is_news.ensures.taken in
     let back : take c.args.known.now.infos.len (now ++ drop (length now) known) ≡ now =
     came_back now known c.args.known.now.infos.len (sym c.deref_mut.ensures.len ∙ ap length c.deref_mut.ensures.value)
-    (as_long network c.args.network.now.well c.args.store.now c.requires.kinds c.requires.sound c.args.earlier.now c.args.worldview.now c.args.cell c.requires.cell
+    (as_long network c.args.network.now.well c.args.store.now c.requires.sound.kinds c.requires.sound.sound c.args.earlier.now c.args.worldview.now c.args.cell c.requires.cell
     known c.args.known.now.supports c.args.agenda.now c.requires.grown c.in_ok-is_news.is_news now c.take_in_kept.new.supports taken) in
     subst (λ (l : List Info). AreGrownTo network c.args.store.now c.args.earlier.now c.args.worldview.now (c.args.cell + 1) l c.take_in_kept.new.supports
     c.args.agenda.now) (sym back)
-    (grown_none network c.args.network.now.well c.args.store.now c.requires.kinds c.requires.sound c.args.earlier.now c.args.worldview.now c.args.cell c.requires.cell
+    (grown_none network c.args.network.now.well c.args.store.now c.requires.sound.kinds c.requires.sound.sound c.args.earlier.now c.args.worldview.now c.args.cell c.requires.cell
     known c.args.known.now.supports c.args.agenda.now c.requires.grown c.in_ok-is_news.is_news now c.take_in_kept.new.supports taken
     c.if-not-is_news.true c.may_show_more.ensures.told)
 
@@ -45,11 +45,11 @@ returns-clause-grown g c =
     c.take_in_kept.new.supports) c.deref_mut.ensures.value c.in_ok-is_news.ensures.taken in
     let back : take c.args.known.now.infos.len (now ++ drop (length now) known) ≡ now =
     came_back now known c.args.known.now.infos.len (sym c.deref_mut.ensures.len ∙ ap length c.deref_mut.ensures.value)
-    (as_long network c.args.network.now.well c.args.store.now c.requires.kinds c.requires.sound c.args.earlier.now c.args.worldview.now c.args.cell c.requires.cell
+    (as_long network c.args.network.now.well c.args.store.now c.requires.sound.kinds c.requires.sound.sound c.args.earlier.now c.args.worldview.now c.args.cell c.requires.cell
     known c.args.known.now.supports c.args.agenda.now c.requires.grown c.in_ok-is_news.is_news now c.take_in_kept.new.supports taken) in
     subst (λ (l : List Info). AreGrownTo network c.args.store.now c.args.earlier.now c.args.worldview.now (c.args.cell + 1) l c.take_in_kept.new.supports
     c.queue_readers.new.agenda) (sym back)
-    (grown_news network c.args.network.now.well c.args.store.now c.requires.kinds c.requires.sound c.args.earlier.now c.args.worldview.now c.args.cell c.requires.cell
+    (grown_news network c.args.network.now.well c.args.store.now c.requires.sound.kinds c.requires.sound.sound c.args.earlier.now c.args.worldview.now c.args.cell c.requires.cell
     known c.args.known.now.supports c.args.agenda.now c.requires.grown c.in_ok-is_news.is_news now c.take_in_kept.new.supports taken
     c.if-not-is_news.false c.args.visible.now c.queue_readers.new.agenda c.requires.visible c.queue_readers.ensures.readers)
 
@@ -62,11 +62,11 @@ take_in_kept-requires g c =
         arith,
         c.requires.cell,
         c.requires.grown.many,
-        ap length c.requires.kinds,
+        ap length c.requires.sound.kinds,
         length-map c.args.store.now.cells (λ (x : Cell). x.kind),
       );
       as_many = c.requires.grown.as_many;
-      kind = (c.requires.grown.each c.args.cell).kind ∙ sym (kind_there (wiring c.args.network.now) c.args.store.now c.requires.kinds c.args.cell);
+      kind = (c.requires.grown.each c.args.cell).kind ∙ sym (kind_there (wiring c.args.network.now) c.args.store.now c.requires.sound.kinds c.args.cell);
     })
 
 pub queue_readers-requires-clause-flags : goal.queue_readers-requires-clause-flags

@@ -8,7 +8,7 @@ use Rattle.pw_settle.proofs.growing_aside.grown_values.Goals as goal
 pub grow_cells-requires-clause-grown : goal.grow_cells-requires-clause-grown
 grow_cells-requires-clause-grown g c =
     rw (c.worldview.ensures, c.in_ok-known.ensures.infos, c.in_ok-known.ensures.supports)
-    (grown_first (wiring c.args.network.now) c.args.network.now.well c.args.store.now c.requires.start.kinds c.args.worldview.now c.args.before.now
+    (grown_first (wiring c.args.network.now) c.args.network.now.well c.args.store.now c.requires.start.sound.kinds c.args.worldview.now c.args.before.now
     c.requires.start.settled c.requires.within c.args.agenda.now c.requires.flags c.requires.new)
 
 pub returns-clause-grown : goal.returns-clause-grown

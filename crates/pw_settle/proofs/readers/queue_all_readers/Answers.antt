@@ -6,8 +6,8 @@ use Rattle.std.proofs.lemmas.List.Elements.{All-weaker}
 use Rattle.pw_network.specs.Batches.{numbers_in, numbers_of}
 use Rattle.pw_network.specs.Readers.{readers_of}
 use Rattle.pw_network.specs.Wiring.{wiring}
-use Rattle.pw_settle.specs.inside.Due.{QueuesNumbers}
-use Rattle.pw_settle.specs.inside.Progress.{is_set}
+use Rattle.pw_settle.specs.inside.Queueing.{QueuesNumbers}
+use Rattle.pw_settle.specs.Calls.{is_set}
 use Rattle.pw_settle.proofs.QueuedReaders.{AreQueuedBut, all_left, first_of, next_below, queued_many, queued_one, queues_all, queues_readers, readers_below}
 use Rattle.pw_settle.proofs.readers.queue_all_readers.Goals as goal
 

@@ -1,5 +1,5 @@
 use Rattle.std.proofs.Common.{Bool, List, [], ◌∷◌, sym, subst}
-use Rattle.pw_settle.specs.inside.Due.{QueuesNumbers}
+use Rattle.pw_settle.specs.inside.Queueing.{QueuesNumbers}
 use Rattle.pw_settle.proofs.QueuedReaders.{one_hidden, one_queued}
 use Rattle.pw_settle.proofs.readers.queue_one.Goals as goal
 

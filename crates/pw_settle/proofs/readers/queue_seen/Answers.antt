@@ -3,7 +3,7 @@ use Rattle.std.specs.FinSet.{is_subset}
 use Rattle.pw_premises.specs.Premises.{Premises}
 use Rattle.pw_network.specs.Wiring.{wiring}
 use Rattle.pw_settle.specs.Calls.{is_instance_visible}
-use Rattle.pw_settle.specs.inside.Due.{QueuesNumbers}
+use Rattle.pw_settle.specs.inside.Queueing.{QueuesNumbers}
 use Rattle.pw_settle.proofs.SeenInstances.{seen_at}
 use Rattle.pw_settle.proofs.QueuedReaders.{one_hidden, one_queued, one_waits}
 use Rattle.pw_settle.proofs.readers.queue_seen.Goals as goal

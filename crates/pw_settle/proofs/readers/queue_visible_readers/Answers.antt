@@ -1,7 +1,7 @@
 use Rattle.std.proofs.Common.{◌≡◌, ℕ, Bool, true, List, ap, subst, ◌∙◌, arith}
 use Rattle.std.specs.Prelude.{replicate}
 use Rattle.pw_network.specs.Wiring.{wiring}
-use Rattle.pw_settle.specs.inside.Due.{QueuesReaders}
+use Rattle.pw_settle.specs.inside.Queueing.{QueuesReaders}
 use Rattle.pw_settle.proofs.SeenInstances.{all_readers_seen, all_seen}
 use Rattle.pw_settle.proofs.readers.queue_visible_readers.Goals as goal
 

@@ -4,7 +4,7 @@ use Rattle.pw_info.specs.declared.info.Info.{Info}
 use Rattle.pw_info.specs.Information.{kind_of}
 use Rattle.pw_network.specs.Wiring.{wiring}
 use Rattle.pw_settle.specs.Calls.{is_instance_visible}
-use Rattle.pw_settle.specs.inside.Due.{HasChanged, QueuesReaders, found_of}
+use Rattle.pw_settle.specs.inside.Queueing.{HasChanged, QueuesReaders, found_of}
 use Rattle.pw_settle.specs.Settled.{Settled, info_at}
 use Rattle.pw_settle.proofs.FittingValues.{due_flags, kinds_found}
 use Rattle.pw_settle.proofs.StoreCells.{cells_kept}

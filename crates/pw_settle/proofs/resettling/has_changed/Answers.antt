@@ -6,7 +6,7 @@ use Rattle.pw_info.specs.declared.kind.Kind.TheVariants as kinds
 use Rattle.pw_info.specs.declared.info.Info.{Info}
 use Rattle.pw_info.specs.Information.{kind_of, nothing, Implies}
 use Rattle.pw_settle.specs.Settled.{info_at}
-use Rattle.pw_settle.specs.inside.Due.{found_of}
+use Rattle.pw_settle.specs.inside.Queueing.{found_of}
 use Rattle.pw_settle.proofs.resettling.has_changed.Goals as goal
 
 -- where a test says whether one information implies another, its negation says whether it does not

@@ -3,8 +3,8 @@ use Rattle.std.specs.Prelude.{◌&&◌, nat_lt}
 use Rattle.std.proofs.lemmas.Bool.{cases_Bool, eqb-false, eqb-true, ltb-false, ltb-true}
 use Rattle.std.proofs.lemmas.List.{get_or_past, get_or-set_other, get_or-set_same, length-replicate, length-set}
 use Rattle.pw_network.specs.Wiring.{wiring}
-use Rattle.pw_settle.specs.inside.Due.{is_new}
-use Rattle.pw_settle.specs.inside.Progress.{is_set}
+use Rattle.pw_settle.specs.Due.{is_new}
+use Rattle.pw_settle.specs.Calls.{is_set}
 use Rattle.pw_settle.proofs.AsideAgendas.{none_set}
 use Rattle.pw_settle.proofs.resettling.new_instances.Goals as goal
 use Rattle.pw_settle.proofs.resettling.new_instances.Goals.{then-is_newly_visible, else-is_newly_visible}

@@ -1,8 +1,8 @@
 use Rattle.std.proofs.Common.{◌≡◌, ◌<◌, ◌≤◌, ℕ, false, length}
 use Rattle.std.specs.Prelude.{◌&&◌}
 use Rattle.pw_network.specs.Wiring.{wiring}
-use Rattle.pw_settle.specs.inside.Progress.{is_set}
-use Rattle.pw_settle.specs.inside.Due.{is_new}
+use Rattle.pw_settle.specs.Calls.{is_set}
+use Rattle.pw_settle.specs.Due.{is_new}
 use Rattle.pw_settle.proofs.resettling.new_instances.Given as goal
 
 abbrev pub invariant-loop-number : goal.invariant-loop-number

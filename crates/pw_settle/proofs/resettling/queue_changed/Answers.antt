@@ -1,7 +1,7 @@
 use Rattle.std.proofs.Common.{◌+◌, ◌<◌, sym, subst, arith, length, map}
 use Rattle.pw_settle.specs.Calls.{is_instance_visible}
 use Rattle.pw_network.specs.Wiring.{wiring}
-use Rattle.pw_settle.specs.inside.Due.{HasChanged, QueuesReaders}
+use Rattle.pw_settle.specs.inside.Queueing.{HasChanged, QueuesReaders}
 use Rattle.pw_settle.proofs.NewInstances.{all_looked_at, passed, queued}
 use Rattle.pw_settle.proofs.resettling.queue_changed.Goals as goal
 use Rattle.pw_settle.proofs.resettling.queue_changed.Goals.{then-has_changed, else-has_changed}

@@ -1,7 +1,7 @@
 use Rattle.std.proofs.Common.{◌<◌, ◌≤◌, length, map}
 use Rattle.pw_settle.specs.Calls.{is_instance_visible}
 use Rattle.pw_network.specs.Wiring.{wiring}
-use Rattle.pw_settle.specs.inside.Due.{HasChanged, QueuesReaders}
+use Rattle.pw_settle.specs.inside.Queueing.{HasChanged, QueuesReaders}
 use Rattle.pw_settle.proofs.resettling.queue_changed.Given as goal
 
 abbrev pub invariant-loop-cell : goal.invariant-loop-cell

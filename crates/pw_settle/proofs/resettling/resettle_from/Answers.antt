@@ -1,20 +1,17 @@
-use Rattle.std.proofs.Common.{◌≡◌, ℕ, ◌+◌, ◌≤◌, true, false, sym, ap, subst, ◌∙◌}
-use Rattle.std.specs.Prelude.{IfOk, OnOk}
+use Rattle.std.proofs.Common.{◌≡◌, ◌+◌, ◌≤◌, true, false, sym, ap, subst, ◌∙◌}
 use Rattle.std.proofs.lemmas.Result.{IfOk-weaker}
 use Rattle.std.specs.FinSet.{is_subset}
 use Rattle.pw_cells.specs.Cells.{Store, kept_in, kinds_of}
 use Rattle.pw_network.specs.Wiring.{wiring}
-use Rattle.pw_settle.specs.inside.Progress.{tally}
+use Rattle.pw_settle.specs.Calls.{tally}
 use Rattle.pw_settle.specs.Calls.{CallsAtMost, gains, visible_count}
 use Rattle.pw_settle.specs.inside.Progress.{AreSatisfied}
 use Rattle.pw_settle.specs.Settled.{Settled}
-use Rattle.pw_settle.specs.Growth.{HasValues, KeepsMore, RestOnUpstream}
-use Rattle.pw_settle.specs.inside.Due.{CallsEachAtLeast, CallsEachAtMost, CallsWhatIsDue}
-use Rattle.pw_settle.specs.inside.Known.{AreKept, SaysTold, StayUpstream}
-use Rattle.pw_settle.specs.Sound.{IsSound, RestsUpstream}
-use Rattle.pw_settle.specs.Values.{value_in}
+use Rattle.pw_settle.specs.Due.{CallsEachAtLeast, CallsEachAtMost, CallsWhatIsDue}
+use Rattle.pw_settle.specs.inside.Known.{AreKept, SaysTold}
 use Rattle.pw_settle.proofs.FittingValues.{satisfied_but_due}
 use Rattle.pw_settle.proofs.NewInstances.{both_ok}
+use Rattle.pw_settle.proofs.Settlings.{settles_from}
 use Rattle.pw_settle.proofs.resettling.resettle_from.Goals as goal
 
 pub due_instances-requires-clause-within : goal.due_instances-requires-clause-within
@@ -47,10 +44,6 @@ settle_from-requires-clause-satisfied g c =
     (ap (λ (s : Settled). is_subset s.worldview c.args.worldview.now) (sym c.before-2.view_is) ∙ sym c.is_subset.ensures.subset ∙ c.if-not-is_subset.false)
     c.in_ok-known.agenda c.in_ok-known.ensures.due)
 
-pub returns-clause-upstream : goal.returns-clause-upstream
-returns-clause-upstream g c given rests =
-    c.settle_from.ensures.upstream given (record { kept = subst (RestsUpstream (wiring c.args.network.now) given) (sym {A = Store} c.due_instances.ensures.unchanged) rests; known = c.in_ok-known.ensures.upstream given rests })
-
 pub returns-clause-due : goal.returns-clause-due
 returns-clause-due g c =
     both_ok c.settle_from.result
@@ -64,37 +57,6 @@ returns-clause-due g c =
       subst (λ (s : Store). settled.calls ≤ tally c.in_ok-known.agenda + gains (wiring c.args.network.now) s c.settle_from.new.store c.args.worldview.now)
           c.due_instances.ensures.unchanged most,
     )) c.settle_from.ensures.least c.settle_from.ensures.most
-
-pub returns-in_err-known-clause-upstream : goal.returns-in_err-known-clause-upstream
-returns-in_err-known-clause-upstream g c given rests = subst (RestsUpstream (wiring c.args.network.now) given) (sym {A = Store} c.due_instances.ensures.unchanged) rests
-
-pub returns-clause-found : goal.returns-clause-found
-returns-clause-found g c =
-    subst (λ (s : Store). IfOk c.settle_from.result
-    (HasValues (wiring c.args.network.now) s c.settle_from.new.store c.args.worldview.now))
-    c.due_instances.ensures.unchanged c.settle_from.ensures.found
-
-pub returns-clause-kept : goal.returns-clause-kept
-returns-clause-kept g c =
-    subst (λ (s : Store). OnOk c.settle_from.result (IsSound (wiring c.args.network.now) s → (cell : ℕ)
-    → kept_in c.settle_from.new.store cell c.args.worldview.now ≡ value_in (wiring c.args.network.now) s c.args.worldview.now cell))
-    c.due_instances.ensures.unchanged c.settle_from.ensures.kept
-
-pub returns-clause-lie : goal.returns-clause-lie
-returns-clause-lie g c =
-    let network = wiring c.args.network.now in
-    IfOk-weaker c.settle_from.result
-    (λ settled. StayUpstream network c.due_instances.new.store c.in_ok-known.known.supports c.settle_from.new.store settled.supports)
-    (RestOnUpstream network c.args.store.now)
-    (λ settled stay given rests. (stay given (record {
-      kept = subst (RestsUpstream network given) (sym {A = Store} c.due_instances.ensures.unchanged) rests;
-      known = c.in_ok-known.ensures.upstream given rests;
-    })).known)
-    c.settle_from.ensures.lie
-
-pub returns-clause-grows : goal.returns-clause-grows
-returns-clause-grows g c =
-    subst (λ (s : Store). KeepsMore (wiring c.args.network.now) s c.settle_from.new.store) c.due_instances.ensures.unchanged c.settle_from.ensures.grows
 
 pub returns-clause-least : goal.returns-clause-least
 returns-clause-least g c =
@@ -131,3 +93,9 @@ returns-then-not-is_subset-clause-most g c =
     IfOk-weaker c.settle.result (CallsAtMost (wiring c.args.network.now) c.args.store.now c.settle.new.store c.args.worldview.now)
     (CallsEachAtMost (wiring c.args.network.now) c.args.store.now c.settle.new.store c.args.worldview.now c.args.before.now)
     (λ settled most apart. most) c.settle.ensures.most
+
+pub returns-clause-settles : goal.returns-clause-settles
+returns-clause-settles g c =
+    settles_from (wiring c.args.network.now) c.args.store.now c.due_instances.new.store c.settle_from.new.store c.args.worldview.now c.settle_from.result
+    c.in_ok-known.known.supports c.due_instances.ensures.unchanged c.in_ok-known.ensures.upstream c.settle_from.ensures.found
+    c.settle_from.ensures.kept c.settle_from.ensures.grows c.settle_from.ensures.upstream c.settle_from.ensures.lie

@@ -3,7 +3,7 @@ use Rattle.pw_settle.specs.Calls.{is_instance_visible}
 use Rattle.std.proofs.lemmas.List.{length-take-le}
 use Rattle.pw_info.specs.declared.info.Info.{Info}
 use Rattle.pw_network.specs.Wiring.{wiring}
-use Rattle.pw_settle.specs.inside.Due.{QueuesReaders}
+use Rattle.pw_settle.specs.inside.Queueing.{QueuesReaders}
 use Rattle.pw_settle.proofs.NewInstances.{IsChangedBelow, all_looked_at, none_changed, passed, queued}
 use Rattle.pw_settle.proofs.QueuedNews.{first_unchanged, flagged_unchanged, unflagged_changed}
 use Rattle.pw_settle.proofs.resettling_since.queue_new_cells.Goals as goal

@@ -1,7 +1,7 @@
 use Rattle.std.proofs.Common.{◌≤◌, length, map, take}
 use Rattle.pw_settle.specs.Calls.{is_instance_visible}
 use Rattle.pw_network.specs.Wiring.{wiring}
-use Rattle.pw_settle.specs.inside.Due.{QueuesReaders}
+use Rattle.pw_settle.specs.inside.Queueing.{QueuesReaders}
 use Rattle.pw_settle.proofs.NewInstances.{IsChangedBelow}
 use Rattle.pw_settle.proofs.resettling_since.queue_new_cells.Given as goal
 

@@ -4,10 +4,11 @@ use Rattle.pw_premises.specs.Premises.{Premises}
 use Rattle.pw_cells.specs.Cells.{Store, IsUnsaid, kept_in}
 use Rattle.pw_cells.proofs.Stores.{OnErr_always}
 use Rattle.pw_network.specs.Wiring.{wiring}
+use Rattle.pw_settle.specs.Growth.{RestOnUpstreamAfter}
 use Rattle.pw_settle.specs.Calls.{is_instance_visible}
 use Rattle.pw_settle.specs.Settled.{info_at}
 use Rattle.pw_settle.specs.inside.Known.{IsAtHandFor}
-use Rattle.pw_settle.specs.inside.Since.{IsAtHand, IsReadAgain, LieUpstreamAfter}
+use Rattle.pw_settle.specs.inside.Since.{IsAtHand, IsReadAgain}
 use Rattle.pw_settle.proofs.QueuedNews.{none_at_first}
 use Rattle.pw_settle.proofs.ReadAgain.{again_at_hand, again_flags, again_for, again_kept, again_more, again_none, again_queues, unsaid_first}
 use Rattle.pw_settle.proofs.resettling_since.read_all_again.Goals as goal
@@ -31,7 +32,7 @@ read_again-requires-clause-hand g c =
 
 pub returns-in_err-read_again-clause-upstream : goal.returns-in_err-read_again-clause-upstream
 returns-in_err-read_again-clause-upstream g c network =
-    subst (LieUpstreamAfter network c.args.store.now c.args.known.now.supports)
+    subst (RestOnUpstreamAfter network c.args.known.now.supports c.args.store.now)
     (sym {A = List Premises} c.in_err-read_again.ensures.refused.stays.supports_are) (c.loop-cell.invariant.again.upstream network)
 
 pub returns-in_err-read_again-clause-refused : goal.returns-in_err-read_again-clause-refused

@@ -8,14 +8,14 @@ use Rattle.pw_cells.proofs.Stores.{OnErr_always}
 use Rattle.pw_network.specs.Network.{cells_in}
 use Rattle.pw_network.specs.Wiring.{wiring}
 use Rattle.pw_network.specs.inside.Held.{attachment}
-use Rattle.pw_settle.specs.Calls.{gains, is_instance_visible}
-use Rattle.pw_settle.specs.Growth.{CanContinue, HasValues, IsFitting, IsInterrupted, KeepsIfSound, KeepsMore}
+use Rattle.pw_settle.specs.Calls.{gains, is_instance_visible, tally}
+use Rattle.pw_settle.specs.Growth.{CanContinue, HasValues, IsFitting, IsInterrupted, KeepsIfSound, KeepsMore, RestOnUpstreamAfter}
 use Rattle.pw_settle.specs.Settled.{Settled}
 use Rattle.pw_settle.specs.Sound.{LieUpstream, RestsUpstream}
-use Rattle.pw_settle.specs.inside.Due.{AreDue}
+use Rattle.pw_settle.specs.Due.{AreDue}
 use Rattle.pw_settle.specs.inside.Known.{AreKept, AreUpstream, SaysTold, WereKept}
-use Rattle.pw_settle.specs.inside.Progress.{AreMet, CallsNoMore, tally}
-use Rattle.pw_settle.specs.inside.Since.{IsAtHand, IsBehind, LieUpstreamAfter, QueuesChanged}
+use Rattle.pw_settle.specs.inside.Progress.{AreMet, CallsNoMore}
+use Rattle.pw_settle.specs.inside.Since.{IsAtHand, IsBehind, QueuesChanged}
 use Rattle.pw_settle.proofs.FittingValues.{satisfied_but_due}
 use Rattle.pw_settle.proofs.Growing.{keeps_more_same}
 use Rattle.pw_settle.proofs.InPlace.{due_since, read_at_hand, read_upstream, told_at_hand}
@@ -59,8 +59,8 @@ take_in_news-requires-clause-known g c =
 
 -- those of what is known lie upstream, if those of the earlier values did
 known_lie : (g : given.Over) (c : In_ok-read_new_cells g) (supports : List Premises) →
-    LieUpstreamAfter (wiring c.args.network.now) c.read_new_cells.new.store c.read_new_cells.new.known.supports supports →
-    LieUpstreamAfter (wiring c.args.network.now) c.args.store.now c.args.values.now.supports supports
+    RestOnUpstreamAfter (wiring c.args.network.now) c.read_new_cells.new.known.supports c.read_new_cells.new.store supports →
+    RestOnUpstreamAfter (wiring c.args.network.now) c.args.values.now.supports c.args.store.now supports
 known_lie g c supports after given rests lie =
     after given (subst (RestsUpstream (wiring c.args.network.now) given) (sym {A = Store} c.read_new_cells.ensures.unchanged) rests)
     (read_upstream (wiring c.args.network.now) c.args.store.now c.requires.kinds (before g c) (fits g c) (continues g c)

@@ -8,7 +8,7 @@ use Rattle.pw_premises.specs.Premises.{Premises}
 use Rattle.pw_cells.specs.Cells.{fact_on}
 use Rattle.pw_settle.specs.Settled.{info_at}
 use Rattle.pw_network.specs.Wiring.{wiring}
-use Rattle.pw_settle.specs.inside.Due.{QueuesReaders}
+use Rattle.pw_settle.specs.inside.Queueing.{QueuesReaders}
 use Rattle.pw_settle.specs.inside.Known.{TakesIn}
 use Rattle.pw_settle.specs.inside.Since.{IsNewHere}
 use Rattle.pw_settle.proofs.CameSince.{known_hidden, known_said, read_is}

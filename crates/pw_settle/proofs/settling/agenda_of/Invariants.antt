@@ -1,5 +1,5 @@
 use Rattle.std.proofs.Common.{◌≡◌, ◌<◌, ◌≤◌, ℕ, false, length}
-use Rattle.pw_settle.specs.inside.Progress.{is_set}
+use Rattle.pw_settle.specs.Calls.{is_set}
 use Rattle.pw_settle.proofs.settling.agenda_of.Given as goal
 
 abbrev pub invariant-loop-number : goal.invariant-loop-number

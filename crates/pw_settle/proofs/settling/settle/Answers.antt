@@ -1,17 +1,14 @@
-use Rattle.std.proofs.Common.{◌≡◌, ℕ, ◌+◌, ◌≤◌, Bool, true, List, length, map, sym, ap, subst, ◌∙◌}
-use Rattle.std.specs.Prelude.{IfOk, OnOk}
+use Rattle.std.proofs.Common.{◌≡◌, ◌+◌, ◌≤◌, Bool, true, List, length, map, sym, ap, subst, ◌∙◌}
+use Rattle.std.specs.Prelude.{IfOk}
 use Rattle.std.proofs.lemmas.List.{length-map}
-use Rattle.std.proofs.lemmas.Result.{IfOk-weaker}
-use Rattle.pw_cells.specs.Cells.{Store, kept_in, kinds_of}
+use Rattle.pw_cells.specs.Cells.{Store, kinds_of}
 use Rattle.pw_network.specs.Wiring.{wiring}
-use Rattle.pw_settle.specs.inside.Progress.{is_set, tally}
+use Rattle.pw_settle.specs.Calls.{is_set, tally}
 use Rattle.pw_settle.specs.Calls.{gains, is_instance_visible, visible_count}
-use Rattle.pw_settle.specs.Growth.{HasValues, KeepsMore, RestOnUpstream}
-use Rattle.pw_settle.specs.inside.Known.{AreKept, SaysTold, StayUpstream}
-use Rattle.pw_settle.specs.Sound.{IsSound, RestsUpstream}
-use Rattle.pw_settle.specs.Values.{value_in}
+use Rattle.pw_settle.specs.inside.Known.{AreKept, SaysTold}
 use Rattle.pw_settle.proofs.KeptProgress.{visible_no}
 use Rattle.pw_settle.proofs.SettledStores.{tally_visible}
+use Rattle.pw_settle.proofs.Settlings.{settles_from}
 use Rattle.pw_settle.proofs.settling.settle.Goals as goal
 
 pub settle_from-requires-clause-kinds : goal.settle_from-requires-clause-kinds
@@ -51,29 +48,6 @@ settle_from-requires-clause-satisfied g c n d below seen free =
     ap (λ (l : List Bool). is_set l n) flags ∙ sym (visible_no network w n d below) ∙ seen in
     absurd (cc)
 
-pub returns-clause-grows : goal.returns-clause-grows
-returns-clause-grows g c =
-    subst (λ (s : Store). KeepsMore (wiring c.args.network.now) s c.settle_from.new.store) c.read_kept.ensures.unchanged c.settle_from.ensures.grows
-
-pub returns-clause-upstream : goal.returns-clause-upstream
-returns-clause-upstream g c given rests =
-    c.settle_from.ensures.upstream given (record { kept = subst (RestsUpstream (wiring c.args.network.now) given) (sym {A = Store} c.read_kept.ensures.unchanged) rests; known = c.in_ok-known.ensures.upstream (wiring c.args.network.now) given rests })
-
-pub returns-in_err-known-clause-upstream : goal.returns-in_err-known-clause-upstream
-returns-in_err-known-clause-upstream g c given rests = subst (RestsUpstream (wiring c.args.network.now) given) (sym {A = Store} c.read_kept.ensures.unchanged) rests
-
-pub returns-clause-found : goal.returns-clause-found
-returns-clause-found g c =
-    subst (λ (s : Store). IfOk c.settle_from.result
-    (HasValues (wiring c.args.network.now) s c.settle_from.new.store c.args.worldview.now))
-    c.read_kept.ensures.unchanged c.settle_from.ensures.found
-
-pub returns-clause-kept : goal.returns-clause-kept
-returns-clause-kept g c =
-    subst (λ (s : Store). OnOk c.settle_from.result (IsSound (wiring c.args.network.now) s → (cell : ℕ)
-    → kept_in c.settle_from.new.store cell c.args.worldview.now ≡ value_in (wiring c.args.network.now) s c.args.worldview.now cell))
-    c.read_kept.ensures.unchanged c.settle_from.ensures.kept
-
 pub returns-clause-most : goal.returns-clause-most
 returns-clause-most g c =
     let flags : c.in_ok-agenda.agenda ≡ map (is_instance_visible c.args.worldview.now) (wiring c.args.network.now).attached =
@@ -94,14 +68,8 @@ returns-clause-least g c =
     ap tally flags ∙ tally_visible (is_instance_visible c.args.worldview.now) (wiring c.args.network.now).attached in
     subst (λ n. IfOk c.settle_from.result (λ settled. n ≤ settled.calls)) count c.settle_from.ensures.least
 
-pub returns-clause-lie : goal.returns-clause-lie
-returns-clause-lie g c =
-    let network = wiring c.args.network.now in
-    IfOk-weaker c.settle_from.result
-    (λ settled. StayUpstream network c.read_kept.new.store c.in_ok-known.known.supports c.settle_from.new.store settled.supports)
-    (RestOnUpstream network c.args.store.now)
-    (λ settled stay given rests. (stay given (record {
-      kept = subst (RestsUpstream network given) (sym {A = Store} c.read_kept.ensures.unchanged) rests;
-      known = c.in_ok-known.ensures.upstream network given rests;
-    })).known)
-    c.settle_from.ensures.lie
+pub returns-clause-settles : goal.returns-clause-settles
+returns-clause-settles g c =
+    settles_from (wiring c.args.network.now) c.args.store.now c.read_kept.new.store c.settle_from.new.store c.args.worldview.now c.settle_from.result
+    c.in_ok-known.known.supports c.read_kept.ensures.unchanged (c.in_ok-known.ensures.upstream (wiring c.args.network.now)) c.settle_from.ensures.found
+    c.settle_from.ensures.kept c.settle_from.ensures.grows c.settle_from.ensures.upstream c.settle_from.ensures.lie

@@ -3,18 +3,17 @@ use Rattle.std.proofs.lemmas.List.{length-map}
 use Rattle.pw_cells.specs.Cells.{Cell, Store}
 use Rattle.pw_network.specs.Wiring.{wiring}
 use Rattle.pw_network.specs.inside.Held.{attachment}
-use Rattle.pw_settle.specs.Calls.{gains}
+use Rattle.pw_settle.specs.Calls.{gains, tally}
 use Rattle.pw_settle.specs.Growth.{HasValues, KeepsIfSound}
 use Rattle.pw_settle.specs.Settled.{Settled}
 use Rattle.pw_settle.specs.Sound.{RestsUpstream}
 use Rattle.pw_settle.specs.inside.Known.{AreUpstream}
-use Rattle.pw_settle.specs.inside.Progress.{tally}
 use Rattle.pw_settle.proofs.RefusedSettlings.{values_found}
 use Rattle.pw_settle.proofs.SettledStores.{calls_by_gains, kept_settled}
 use Rattle.pw_settle.proofs.settling.settle_from.Goals as goal
 
 pub returns-in_err-calls-clause-upstream : goal.returns-in_err-calls-clause-upstream
-returns-in_err-calls-clause-upstream g c given are = (c.work.ensures.upstream given are).kept
+returns-in_err-calls-clause-upstream g c given rests lie = (c.work.ensures.upstream given (record { kept = rests; known = lie })).kept
 
 pub returns-clause-kept : goal.returns-clause-kept
 returns-clause-kept g c =
@@ -23,8 +22,9 @@ returns-clause-kept g c =
     c.work.ensures.grows c.requires.told c.work.new.agenda c.in_ok-calls.ensures.satisfied c.in_ok-calls.ensures.done sound)
 
 pub returns-clause-upstream : goal.returns-clause-upstream
-returns-clause-upstream g c given are =
-    subst (RestsUpstream (wiring c.args.network.now) given) (sym {A = Store} c.mark.ensures.unchanged) (c.work.ensures.upstream given are).kept
+returns-clause-upstream g c given rests lie =
+    subst (RestsUpstream (wiring c.args.network.now) given) (sym {A = Store} c.mark.ensures.unchanged)
+    (c.work.ensures.upstream given (record { kept = rests; known = lie })).kept
 
 pub returns-clause-lie : goal.returns-clause-lie
 returns-clause-lie g c given are =

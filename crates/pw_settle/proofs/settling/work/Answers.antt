@@ -4,7 +4,7 @@ use Rattle.std.proofs.lemmas.List.Sums.{count_by-le-length}
 use Rattle.pw_cells.proofs.Stores.{OnErr_always}
 use Rattle.pw_network.specs.Wiring.{wiring}
 use Rattle.pw_network.specs.inside.Held.{attachment}
-use Rattle.pw_settle.specs.inside.Progress.{is_set, tally}
+use Rattle.pw_settle.specs.Calls.{is_set, tally}
 use Rattle.pw_settle.specs.inside.Progress.{weight}
 use Rattle.pw_settle.proofs.Growing.{keeps_more_same, keeps_more_then}
 use Rattle.pw_settle.proofs.SettledStores.{calls_fit, weight_most}

@@ -1,7 +1,8 @@
 use Rattle.std.proofs.Common.{◌≡◌, ◌+◌, ◌≤◌, ℕ, Bool, true, length}
 use Rattle.pw_cells.specs.Cells.{kept_in}
 use Rattle.pw_network.specs.Wiring.{wiring}
-use Rattle.pw_settle.specs.inside.Progress.{IsIdle, is_set, tally}
+use Rattle.pw_settle.specs.inside.Progress.{IsIdle}
+use Rattle.pw_settle.specs.Calls.{is_set, tally}
 use Rattle.pw_settle.specs.Calls.{visible_at}
 use Rattle.pw_settle.specs.Growth.{KeepsMore}
 use Rattle.pw_settle.specs.inside.Known.{AreKept, AreUpstream}

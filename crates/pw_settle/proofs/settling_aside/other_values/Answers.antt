@@ -31,6 +31,6 @@ pub returns-clause-found : goal.returns-clause-found
 returns-clause-found g c =
     let last : c.loop-cell.cell ≡ length c.args.store.now.cells =
     omega (arith, c.loop-cell-test.false, c.loop-cell.auto.cell-end, c.cells-cell-end.ensures) in
-    all_found (wiring c.args.network.now) c.args.store.now c.requires.start.kinds c.args.worldview.now c.loop-cell.infos.items c.loop-cell.supports
+    all_found (wiring c.args.network.now) c.args.store.now c.requires.start.sound.kinds c.args.worldview.now c.loop-cell.infos.items c.loop-cell.supports
     (subst (λ (n : ℕ). IsFoundTo (wiring c.args.network.now) c.args.store.now c.args.worldview.now n c.loop-cell.infos.items c.loop-cell.supports) last
     c.loop-cell.invariant.found)

@@ -10,7 +10,7 @@ use Rattle.pw_settle.proofs.settling_aside.part_values.Goals as goal
 pub loop-cell-init : goal.loop-cell-init
 loop-cell-init g c = record {
   same = refl;
-  put = put_none (wiring c.args.network.now) c.args.network.now.well c.args.store.now c.requires.start.kinds c.args.worldview.now c.args.before.now c.requires.start.settled
+  put = put_none (wiring c.args.network.now) c.args.network.now.well c.args.store.now c.requires.start.sound.kinds c.args.worldview.now c.args.before.now c.requires.start.settled
       c.in_ok-known.known.infos.items c.in_ok-known.known.supports c.in_ok-known.ensures.infos c.in_ok-known.ensures.supports;
 }
 
@@ -29,16 +29,16 @@ loop-cell-preserved g c =
           rw (w.store-is, w.known-is) (
           record {
             same = w.in_ok-put_kept.ensures.unchanged ∙ c.loop-cell.invariant.same;
-            put = put_one network c.args.network.now.well store c.requires.start.kinds c.args.worldview.now c.args.before.now c.requires.start.settled cell there
+            put = put_one network c.args.network.now.well store c.requires.start.sound.kinds c.args.worldview.now c.args.before.now c.requires.start.settled cell there
                 c.loop-cell.known.infos.items c.loop-cell.known.supports c.loop-cell.invariant.put fact.info fact.support w.put_kept.new.known.infos.items w.put_kept.new.known.supports
                 put.infos_are put.supports_are
-                (kept_found network store c.requires.start.kinds c.args.worldview.now cell c.requires.start.sound fact.info fact.support kept.info kept.within kept.larger
+                (kept_found network store c.requires.start.sound.kinds c.args.worldview.now cell c.requires.start.sound.sound fact.info fact.support kept.info kept.within kept.larger
                 kept.told);
           })
       | else-not-is_within w ↦ rw (w.store-is, w.known-is) (
           record {
             same = c.loop-cell.invariant.same;
-            put = put_stays network c.args.network.now.well store c.requires.start.kinds c.args.worldview.now c.args.before.now c.requires.start.settled cell there
+            put = put_stays network c.args.network.now.well store c.requires.start.sound.kinds c.args.worldview.now c.args.before.now c.requires.start.settled cell there
                 c.loop-cell.known.infos.items c.loop-cell.known.supports c.loop-cell.invariant.put (sym c.is_within.ensures ∙ w.if-not-is_within.false) c.requires.part;
           })
     ]
@@ -48,8 +48,8 @@ returns-clause-found g c =
     let network = wiring c.args.network.now in
     let last : c.loop-cell.cell ≡ length c.args.store.now.cells =
     omega (arith, c.loop-cell-test.false, c.loop-cell.auto.cell-end, c.cells-cell-end.ensures) in
-    all_found network c.args.store.now c.requires.start.kinds c.args.worldview.now c.loop-cell.known.infos.items c.loop-cell.known.supports
-    (put_all network c.args.network.now.well c.args.store.now c.requires.start.kinds c.args.worldview.now c.args.before.now c.requires.start.settled
+    all_found network c.args.store.now c.requires.start.sound.kinds c.args.worldview.now c.loop-cell.known.infos.items c.loop-cell.known.supports
+    (put_all network c.args.network.now.well c.args.store.now c.requires.start.sound.kinds c.args.worldview.now c.args.before.now c.requires.start.settled
     c.loop-cell.known.infos.items c.loop-cell.known.supports
     (subst (λ (n : ℕ). IsPutTo network c.args.store.now c.args.worldview.now c.args.before.now n c.loop-cell.known.infos.items c.loop-cell.known.supports) last
     c.loop-cell.invariant.put))

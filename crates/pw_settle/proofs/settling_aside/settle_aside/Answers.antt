@@ -7,7 +7,7 @@ use Rattle.pw_settle.specs.inside.Aside.{AreFound}
 use Rattle.pw_settle.proofs.settling_aside.settle_aside.Goals as goal
 
 pub unmet_instances-requires-clause-kinds : goal.unmet_instances-requires-clause-kinds
-unmet_instances-requires-clause-kinds g c = ap kinds_of c.start_values.ensures.unchanged ∙ c.requires.kinds
+unmet_instances-requires-clause-kinds g c = ap kinds_of c.start_values.ensures.unchanged ∙ c.requires.sound.kinds
 
 pub unmet_instances-requires-clause-before : goal.unmet_instances-requires-clause-before
 unmet_instances-requires-clause-before g c =
@@ -24,7 +24,7 @@ unmet_instances-requires-clause-found g c =
     (sym {A = Store} c.start_values.ensures.unchanged) c.in_ok-known.ensures.found
 
 pub settle_aside_from-requires-clause-kinds : goal.settle_aside_from-requires-clause-kinds
-settle_aside_from-requires-clause-kinds g c = ap kinds_of c.start_values.ensures.unchanged ∙ c.requires.kinds
+settle_aside_from-requires-clause-kinds g c = ap kinds_of c.start_values.ensures.unchanged ∙ c.requires.sound.kinds
 
 pub settle_aside_from-requires-clause-found : goal.settle_aside_from-requires-clause-found
 settle_aside_from-requires-clause-found g c =

@@ -12,16 +12,16 @@ use Rattle.pw_settle.proofs.settling_aside.start_narrow.Goals as goal
 pub returns-then-not-is_within-clause-found : goal.returns-then-not-is_within-clause-found
 returns-then-not-is_within-clause-found g c =
     IfSome_then c.kept_narrow.result c.kept_narrow.ensures.kept
-    (λ fact is. kept_found (wiring c.args.network.now) c.args.store.now c.requires.start.kinds c.args.worldview.now c.args.cell c.requires.start.sound
+    (λ fact is. kept_found (wiring c.args.network.now) c.args.store.now c.requires.start.sound.kinds c.args.worldview.now c.args.cell c.requires.start.sound.sound
     fact.info fact.support is.info is.within is.larger is.told)
 
 pub merged_narrow-requires : goal.merged_narrow-requires
 merged_narrow-requires g c =
     let network = wiring c.args.network.now in
     ap kind_of c.in_ok-earlier.ensures.info
-    ∙ earlier_kind network c.args.store.now c.requires.start.kinds c.args.worldview.now c.args.cell c.args.network.now.well c.args.before.now c.requires.start.settled
-    (cell_there network c.args.store.now c.args.cell c.requires.start.kinds c.requires.cell)
-    ∙ sym (kind_there network c.args.store.now c.requires.start.kinds c.args.cell) ∙ sym c.in_ok-kept.ensures.kept.kind
+    ∙ earlier_kind network c.args.store.now c.requires.start.sound.kinds c.args.worldview.now c.args.cell c.args.network.now.well c.args.before.now c.requires.start.settled
+    (cell_there network c.args.store.now c.args.cell c.requires.start.sound.kinds c.requires.cell)
+    ∙ sym (kind_there network c.args.store.now c.requires.start.sound.kinds c.args.cell) ∙ sym c.in_ok-kept.ensures.kept.kind
 
 pub returns-clause-found : goal.returns-clause-found
 returns-clause-found g c =
@@ -31,15 +31,15 @@ returns-clause-found g c =
     let merge : Fact = fact_on c.merged_narrow.result.info c.merged_narrow.result.support in
     let same_kind : kind_of earlier.info ≡ kind_of kept.info =
     ap kind_of c.in_ok-earlier.ensures.info
-    ∙ earlier_kind network c.args.store.now c.requires.start.kinds c.args.worldview.now c.args.cell c.args.network.now.well c.args.before.now c.requires.start.settled
-    (cell_there network c.args.store.now c.args.cell c.requires.start.kinds c.requires.cell)
-    ∙ sym (kind_there network c.args.store.now c.requires.start.kinds c.args.cell) ∙ sym c.in_ok-kept.ensures.kept.kind in
-    merged_found network c.args.store.now c.requires.start.kinds c.args.worldview.now c.args.cell c.args.network.now.well c.args.before.now c.requires.start.settled
-    (cell_there network c.args.store.now c.args.cell c.requires.start.kinds c.requires.cell)
+    ∙ earlier_kind network c.args.store.now c.requires.start.sound.kinds c.args.worldview.now c.args.cell c.args.network.now.well c.args.before.now c.requires.start.settled
+    (cell_there network c.args.store.now c.args.cell c.requires.start.sound.kinds c.requires.cell)
+    ∙ sym (kind_there network c.args.store.now c.requires.start.sound.kinds c.args.cell) ∙ sym c.in_ok-kept.ensures.kept.kind in
+    merged_found network c.args.store.now c.requires.start.sound.kinds c.args.worldview.now c.args.cell c.args.network.now.well c.args.before.now c.requires.start.settled
+    (cell_there network c.args.store.now c.args.cell c.requires.start.sound.kinds c.requires.cell)
     earlier.info earlier.support c.in_ok-earlier.ensures.info c.in_ok-earlier.ensures.support
     (sym c.is_within.ensures.subset ∙ c.if-not-is_within.false)
     kept merge
-    (kept_found network c.args.store.now c.requires.start.kinds c.args.worldview.now c.args.cell c.requires.start.sound
+    (kept_found network c.args.store.now c.requires.start.sound.kinds c.args.worldview.now c.args.cell c.requires.start.sound.sound
     kept.info kept.support c.in_ok-kept.ensures.kept.info c.in_ok-kept.ensures.kept.within c.in_ok-kept.ensures.kept.larger c.in_ok-kept.ensures.kept.told)
     c.merged_narrow.ensures (λ v inside. merge_shows earlier kept merge v same_kind c.merged_narrow.ensures inside)
     (merge_rests earlier kept merge c.merged_narrow.ensures)

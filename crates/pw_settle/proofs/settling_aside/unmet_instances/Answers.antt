@@ -1,14 +1,13 @@
 use Rattle.std.proofs.Common.{◌≡◌, ◌<◌, Bool, List, true, length, map, sym, ap, ◌∙◌, subst, inl, inr}
-use Rattle.pw_settle.specs.inside.Due.{HasChanged, QueuesReaders}
+use Rattle.pw_settle.specs.inside.Queueing.{HasChanged, QueuesReaders}
 use Rattle.std.specs.FinSet.{is_subset}
 use Rattle.std.proofs.lemmas.List.{length-map}
 use Rattle.std.proofs.lemmas.Result.{IfOk-weaker}
 use Rattle.pw_info.specs.Information.{kind_of}
 use Rattle.pw_premises.specs.Premises.{Premises}
 use Rattle.pw_network.specs.Wiring.{wiring}
-use Rattle.pw_settle.specs.Calls.{is_instance_visible}
+use Rattle.pw_settle.specs.Calls.{is_instance_visible, is_set}
 use Rattle.pw_settle.proofs.AsideEnds.{kinds_looked_at, satisfied_by, satisfied_in_part}
-use Rattle.pw_settle.specs.inside.Progress.{is_set}
 use Rattle.pw_settle.proofs.AsideStarts.{found_kinds, settled_kinds}
 use Rattle.pw_settle.proofs.SettledValues.{kinds_many}
 use Rattle.pw_settle.proofs.settling_aside.unmet_instances.Goals as goal

@@ -6,7 +6,7 @@ use Rattle.pw_settle.proofs.settling_aside.value_aside.Goals as goal
 
 pub returns-clause-kind : goal.returns-clause-kind
 returns-clause-kind g c =
-    c.start_value.ensures.found.kind ∙ sym (kind_there (wiring c.args.network.now) c.args.store.now c.requires.kinds c.args.cell)
+    c.start_value.ensures.found.kind ∙ sym (kind_there (wiring c.args.network.now) c.args.store.now c.requires.sound.kinds c.args.cell)
 
 pub returns-clause-within : goal.returns-clause-within
 returns-clause-within g c = c.start_value.ensures.found.within

@@ -6,13 +6,13 @@ use Rattle.pw_test_networks.proofs.settling.tell_once.Goals as goal
 
 pub returns : goal.returns
 returns g c = record {
-  ready = record {
-    kinds = c.in_ok-tell.ensures.kinds ∙ c.requires.ready.kinds;
+  sound = record {
+    kinds = c.in_ok-tell.ensures.kinds ∙ c.requires.sound.kinds;
     sound = sound_told (wiring c.args.network.now) c.args.network.now.well c.args.store.now c.tell.new.self c.args.cell c.args.fact
-        c.requires.ready.kinds c.requires.kind c.in_ok-tell.ensures.told c.in_ok-tell.ensures.kept c.in_ok-tell.ensures.others
-        c.in_ok-tell.ensures.kinds c.requires.ready.sound;
+        c.requires.sound.kinds c.requires.kind c.in_ok-tell.ensures.told c.in_ok-tell.ensures.kept c.in_ok-tell.ensures.others
+        c.in_ok-tell.ensures.kinds c.requires.sound.sound;
   };
   fits = λ settled. fits_more (wiring c.args.network.now) c.args.store.now c.tell.new.self settled
-      (more_kept (wiring c.args.network.now) c.args.store.now c.tell.new.self c.requires.ready.kinds c.args.cell c.args.fact c.requires.kind
+      (more_kept (wiring c.args.network.now) c.args.store.now c.tell.new.self c.requires.sound.kinds c.args.cell c.args.fact c.requires.kind
       c.in_ok-tell.ensures.kept c.in_ok-tell.ensures.others);
 }

@@ -28,7 +28,7 @@ snapshot_read old user place found d read its here is = own_there old.snapshots 
 
 pub recall-requires : goal.recall-requires
 recall-requires g c =
-    let same = cells_kept (wiring c.args.self.now.network) c.args.self.now.store c.args.self.now.network.well c.requires.can.fits.kinds in
+    let same = cells_kept (wiring c.args.self.now.network) c.args.self.now.store c.args.self.now.network.well c.requires.can.fits.sound.kinds in
     omega (arith, c.requires.cell)
 
 -- ---- what is known

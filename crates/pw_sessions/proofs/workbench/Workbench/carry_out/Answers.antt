@@ -18,7 +18,7 @@ use Rattle.pw_sessions.specs.Workbench.{Workbench, IsCarriedOut, beliefs_in}
 use Rattle.pw_sessions.proofs.AskedCells.{well_left}
 use Rattle.pw_sessions.proofs.CarriedCommands.{carried_ask, carried_attach, carried_beliefs, carried_believe, carried_conflicts, carried_doubt, carried_keeping, carried_tell, carried_why, refused_attach, refused_tell}
 use Rattle.pw_sessions.proofs.ChosenLines.{carried_choose, chosen_calls, chosen_fresh, chosen_refused, groups_fit}
-use Rattle.pw_sessions.proofs.FreshLines.{asks_written, attached_seen, can_answer, kind_of_told, store_fits, written_asks}
+use Rattle.pw_sessions.proofs.FreshLines.{asks_written, attached_seen, can_answer, kind_of_told, written_asks}
 use Rattle.pw_sessions.proofs.UnchangedReplies.{no_change_as_before, no_change_itself, no_change_keeping, notes_none}
 use Rattle.pw_sessions.proofs.FreshUsers.{counts_none, fresh_believed, fresh_refused, fresh_told, keeps_fresh, question_counts, question_keeps}
 use Rattle.std.proofs.lemmas.List.{length-set}
@@ -30,7 +30,7 @@ use Rattle.pw_sessions.proofs.workbench.Workbench.carry_out.Goals as goal
 pub tell-requires-clause-there : goal.tell-requires-clause-there
 tell-requires-clause-there g c =
     let named = subst (λ (x : Command). IsDeclared (wiring c.args.self.now.network).declared (Says x)) c.in-Tell.is c.requires.can.declared in
-    let many = cells_kept (wiring c.args.self.now.network) c.args.self.now.store c.args.self.now.network.well c.requires.can.set_up.kinds in
+    let many = cells_kept (wiring c.args.self.now.network) c.args.self.now.store c.args.self.now.network.well c.requires.can.set_up.fits.sound.kinds in
     omega (arith, named.1.0, many)
 
 pub tell-requires-clause-declared : goal.tell-requires-clause-declared
@@ -39,7 +39,7 @@ tell-requires-clause-declared g c =
     named.1.0
 
 pub tell-requires-clause-fits : goal.tell-requires-clause-fits
-tell-requires-clause-fits g c = store_fits (state c.args.self.now) c.requires.can
+tell-requires-clause-fits g c = c.requires.can.set_up.fits
 
 pub tell-requires-clause-kind : goal.tell-requires-clause-kind
 tell-requires-clause-kind g c = kind_of_told (state c.args.self.now) c.args.self.now.network.well c.requires.can.set_up c.in-Tell.user c.in-Tell.cell c.in-Tell.fact
@@ -84,7 +84,7 @@ returns-in-Ok-clause-fresh g c =
     let named = subst (λ (x : Command). IsDeclared (wiring c.args.self.now.network).declared (Says x)) c.in-Tell.is c.requires.can.declared in
     subst (λ (x : Command). KeepsFresh bench x new reply.Done) (sym c.in-Tell.is)
     (keeps_fresh bench new (commands.Tell c.in-Tell.user c.in-Tell.cell c.in-Tell.fact) reply.Done (λ d before settles. settles)
-    (λ user is. elim (fresh_told bench new c.in-Tell.cell c.in-Tell.fact c.args.self.now.network.well (store_fits bench c.requires.can) named.1.0
+    (λ user is. elim (fresh_told bench new c.in-Tell.cell c.in-Tell.fact c.args.self.now.network.well c.requires.can.set_up.fits named.1.0
     (kind_of_told bench c.args.self.now.network.well c.requires.can.set_up c.in-Tell.user c.in-Tell.cell c.in-Tell.fact named) c.in-Ok.ensures.ok user is) [
       | inl seen ↦ inl (inr (inr (refl, seen)))
       | inr fresh ↦ inr fresh
@@ -191,7 +191,7 @@ pub returns-in_default-attach-clause-fresh : goal.returns-in_default-attach-clau
 returns-in_default-attach-clause-fresh g c =
     subst (λ (x : Command). KeepsFresh (state c.args.self.now) x (state c.attach.new.self) (reply.Refused refusal.Memory)) (sym c.in-Attach.is)
     (keeps_fresh (state c.args.self.now) (state c.attach.new.self) (commands.Attach c.in-Attach.user c.in-Attach.callable c.in-Attach.cells c.in-Attach.support) (reply.Refused refusal.Memory) (λ d before settles. settles)
-    (λ user is. fresh_refused (state c.args.self.now) (state c.attach.new.self) (store_fits (state c.args.self.now) c.requires.can)
+    (λ user is. fresh_refused (state c.args.self.now) (state c.attach.new.self) c.requires.can.set_up.fits
     c.in_default-attach.ensures.err user
     (commands.Attach c.in-Attach.user c.in-Attach.callable c.in-Attach.cells c.in-Attach.support) (reply.Refused refusal.Memory) is))
 
@@ -206,7 +206,7 @@ returns-in-Ok-attach-clause-fresh g c =
     subst (λ (x : Command). KeepsFresh (state c.args.self.now) x (state c.attach.new.self) (reply.Done)) (sym c.in-Attach.is)
     (keeps_fresh (state c.args.self.now) (state c.attach.new.self) (commands.Attach c.in-Attach.user c.in-Attach.callable c.in-Attach.cells c.in-Attach.support) (reply.Done) (λ d before settles. settles)
     (attached_seen (state c.args.self.now) (state c.attach.new.self) c.args.line c.in-Attach.user c.in-Attach.callable c.in-Attach.cells
-    c.in-Attach.support c.args.self.now.network.well c.attach.new.self.network.well (store_fits (state c.args.self.now) c.requires.can) c.in-Ok-attach.ensures.ok))
+    c.in-Attach.support c.args.self.now.network.well c.attach.new.self.network.well c.requires.can.set_up.fits c.in-Ok-attach.ensures.ok))
 
 pub returns-in-Ok-attach-clause-calls : goal.returns-in-Ok-attach-clause-calls
 returns-in-Ok-attach-clause-calls g c =
@@ -400,7 +400,7 @@ returns-in-Choose-clause-fresh g c =
     (keeps_fresh (state c.args.self.now) (state c.choose.new.self) (commands.Choose c.in-Choose.user c.in-Choose.groups) (reply_by c.choose.result)
     (λ d before settles. settles)
     (chosen_fresh (state c.args.self.now) c.in-Choose.user (groups_of c.in-Choose.groups) (state c.choose.new.self) (reply_by c.choose.result)
-    c.choose.ensures.chosen (commands.Choose c.in-Choose.user c.in-Choose.groups) (store_fits (state c.args.self.now) c.requires.can)))
+    c.choose.ensures.chosen (commands.Choose c.in-Choose.user c.in-Choose.groups) c.requires.can.set_up.fits))
 
 pub returns-in-Choose-clause-calls : goal.returns-in-Choose-clause-calls
 returns-in-Choose-clause-calls g c =

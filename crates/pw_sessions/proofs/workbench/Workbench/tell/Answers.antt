@@ -10,7 +10,7 @@ use Rattle.pw_sessions.proofs.workbench.Workbench.tell.Goals as goal
 pub note_tell-requires : goal.note_tell-requires
 note_tell-requires g c =
     subst (HaveValues c.args.cell (kind_of c.args.fact.info)) (sym c.deref_mut.ensures.value)
-    (have_values (wiring c.args.self.now.network) c.args.self.now.store c.args.cell c.args.fact c.requires.fits.kinds c.requires.kind c.requires.declared
+    (have_values (wiring c.args.self.now.network) c.args.self.now.store c.args.cell c.args.fact c.requires.fits.sound.kinds c.requires.kind c.requires.declared
     c.args.self.now.snapshots.items c.requires.fits.snapshots)
 
 pub invariant_of-self-2 : goal.invariant_of-self-2

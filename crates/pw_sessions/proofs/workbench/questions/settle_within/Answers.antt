@@ -10,28 +10,28 @@ use Rattle.pw_sessions.proofs.workbench.questions.settle_within.Goals as goal
 
 pub returns-in_default-clause-settled : goal.returns-in_default-clause-settled
 returns-in_default-clause-settled g c =
-    values_after (wiring c.args.network.now) c.args.network.now.well c.args.store.now c.settle.new.store c.args.worldview.now c.requires.kinds c.requires.sound c.settle.result c.settle.ensures.found
+    values_after (wiring c.args.network.now) c.args.network.now.well c.args.store.now c.settle.new.store c.args.worldview.now c.requires.sound.kinds c.requires.sound.sound c.settle.result c.settle.ensures.settles.found
 
 pub returns-in_default-clause-current : goal.returns-in_default-clause-current
 returns-in_default-clause-current g c =
-    current_after (wiring c.args.network.now) c.args.network.now.well c.args.store.now c.settle.new.store c.args.worldview.now c.requires.kinds c.requires.sound c.settle.result c.settle.ensures.grows c.settle.ensures.found c.settle.ensures.kept
+    current_after (wiring c.args.network.now) c.args.network.now.well c.args.store.now c.settle.new.store c.args.worldview.now c.requires.sound.kinds c.requires.sound.sound c.settle.result c.settle.ensures.settles.grows c.settle.ensures.settles.found c.settle.ensures.settles.kept
 
 pub returns-in_default-clause-continues : goal.returns-in_default-clause-continues
 returns-in_default-clause-continues g c =
-    continues_after (wiring c.args.network.now) c.args.network.now.well c.args.store.now c.settle.new.store c.args.worldview.now c.requires.kinds c.requires.sound c.settle.result c.settle.ensures.found
+    continues_after (wiring c.args.network.now) c.args.network.now.well c.args.store.now c.settle.new.store c.args.worldview.now c.requires.sound.kinds c.requires.sound.sound c.settle.result c.settle.ensures.settles.found
 
 pub returns-in_default-clause-due : goal.returns-in_default-clause-due
 returns-in_default-clause-due g c =
-    due_anew (wiring c.args.network.now) c.args.network.now.well c.args.store.now c.settle.new.store c.args.worldview.now c.requires.kinds c.requires.sound c.settle.result (start_for c.args.snapshots.now c.args.worldview.now)
+    due_anew (wiring c.args.network.now) c.args.network.now.well c.args.store.now c.settle.new.store c.args.worldview.now c.requires.sound.kinds c.requires.sound.sound c.settle.result (start_for c.args.snapshots.now c.args.worldview.now)
     (no_start c.args.snapshots.now c.args.worldview.now c.requires.none (sym c.place_within.ensures ∙ c.in_default.is)) c.settle.ensures.least c.settle.ensures.most
 
 pub returns-in_default-clause-upstream : goal.returns-in_default-clause-upstream
 returns-in_default-clause-upstream g c =
-    λ given rests. c.settle.ensures.upstream given rests.kept
+    λ given rests. c.settle.ensures.settles.upstream given rests.kept
 
 pub returns-in_default-clause-lie : goal.returns-in_default-clause-lie
 returns-in_default-clause-lie g c =
-    lie_after (wiring c.args.network.now) c.args.network.now.well c.args.store.now c.settle.new.store c.args.worldview.now c.requires.kinds c.requires.sound c.settle.result c.args.snapshots.now c.settle.ensures.lie
+    lie_after (wiring c.args.network.now) c.args.network.now.well c.args.store.now c.settle.new.store c.args.worldview.now c.requires.sound.kinds c.requires.sound.sound c.settle.result c.args.snapshots.now c.settle.ensures.settles.lie
 
 -- ---- from a snapshot within
 
@@ -52,20 +52,20 @@ resettle_from-requires-clause-fits g c =
 
 pub returns-clause-settled : goal.returns-clause-settled
 returns-clause-settled g c =
-    values_after (wiring c.args.network.now) c.args.network.now.well c.args.store.now c.resettle_from.new.store c.args.worldview.now c.requires.kinds c.requires.sound c.resettle_from.result c.resettle_from.ensures.found
+    values_after (wiring c.args.network.now) c.args.network.now.well c.args.store.now c.resettle_from.new.store c.args.worldview.now c.requires.sound.kinds c.requires.sound.sound c.resettle_from.result c.resettle_from.ensures.settles.found
 
 pub returns-clause-current : goal.returns-clause-current
 returns-clause-current g c =
-    current_after (wiring c.args.network.now) c.args.network.now.well c.args.store.now c.resettle_from.new.store c.args.worldview.now c.requires.kinds c.requires.sound c.resettle_from.result c.resettle_from.ensures.grows c.resettle_from.ensures.found
-    c.resettle_from.ensures.kept
+    current_after (wiring c.args.network.now) c.args.network.now.well c.args.store.now c.resettle_from.new.store c.args.worldview.now c.requires.sound.kinds c.requires.sound.sound c.resettle_from.result c.resettle_from.ensures.settles.grows c.resettle_from.ensures.settles.found
+    c.resettle_from.ensures.settles.kept
 
 pub returns-clause-continues : goal.returns-clause-continues
 returns-clause-continues g c =
-    continues_after (wiring c.args.network.now) c.args.network.now.well c.args.store.now c.resettle_from.new.store c.args.worldview.now c.requires.kinds c.requires.sound c.resettle_from.result c.resettle_from.ensures.found
+    continues_after (wiring c.args.network.now) c.args.network.now.well c.args.store.now c.resettle_from.new.store c.args.worldview.now c.requires.sound.kinds c.requires.sound.sound c.resettle_from.result c.resettle_from.ensures.settles.found
 
 pub returns-clause-due : goal.returns-clause-due
 returns-clause-due g c =
-    due_again (wiring c.args.network.now) c.args.network.now.well c.args.store.now c.resettle_from.new.store c.args.worldview.now c.requires.kinds c.requires.sound
+    due_again (wiring c.args.network.now) c.args.network.now.well c.args.store.now c.resettle_from.new.store c.args.worldview.now c.requires.sound.kinds c.requires.sound.sound
     (record { values = c.start.inside.values; is_current = c.start.inside.is_current }) c.args.snapshots.now
     (within_there c.args.snapshots.now c.args.worldview.now c.in-Some.place c.index-snapshots-place.result _ c.requires.none (sym c.place_within.ensures ∙ c.in-Some.is)
     (c.start.view_is ∙ c.index-snapshots-place.is))
@@ -73,8 +73,8 @@ returns-clause-due g c =
 
 pub returns-clause-upstream : goal.returns-clause-upstream
 returns-clause-upstream g c =
-    λ given rests. c.resettle_from.ensures.upstream given rests.kept
+    λ given rests. c.resettle_from.ensures.settles.upstream given rests.kept
 
 pub returns-clause-lie : goal.returns-clause-lie
 returns-clause-lie g c =
-    lie_after (wiring c.args.network.now) c.args.network.now.well c.args.store.now c.resettle_from.new.store c.args.worldview.now c.requires.kinds c.requires.sound c.resettle_from.result c.args.snapshots.now c.resettle_from.ensures.lie
+    lie_after (wiring c.args.network.now) c.args.network.now.well c.args.store.now c.resettle_from.new.store c.args.worldview.now c.requires.sound.kinds c.requires.sound.sound c.resettle_from.result c.args.snapshots.now c.resettle_from.ensures.settles.lie

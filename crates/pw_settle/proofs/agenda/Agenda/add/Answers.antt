@@ -1,6 +1,6 @@
 use Rattle.std.proofs.Common.{◌≡◌, ◌<◌, ◌∷◌, ◌++◌, [], refl, false, true, drop, length, vec_capacity, sym, ap, ◌∙◌, arith, length-append}
 use Rattle.std.proofs.lemmas.List.{get_or_default, length-set}
-use Rattle.pw_settle.specs.inside.Progress.{is_set}
+use Rattle.pw_settle.specs.Calls.{is_set}
 use Rattle.pw_settle.proofs.AgendaLemmas.{queue_listed, tally_room}
 use Rattle.pw_settle.proofs.agenda.Agenda.add.Goals as goal
 

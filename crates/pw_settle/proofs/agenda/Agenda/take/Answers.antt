@@ -2,7 +2,8 @@ use Rattle.std.proofs.Common.{◌≡◌, ◌<◌, ◌+◌, Bool, List, true, dro
 use Rattle.std.proofs.lemmas.Bool.{ltb-true}
 use Rattle.std.proofs.lemmas.List.{length-set}
 use Rattle.std.proofs.lemmas.List.Elements.{All-head}
-use Rattle.pw_settle.specs.inside.Progress.{IsQueue, is_set}
+use Rattle.pw_settle.specs.inside.Progress.{IsQueue}
+use Rattle.pw_settle.specs.Calls.{is_set}
 use Rattle.pw_settle.proofs.AgendaLemmas.{first_below, first_waits, queue_less}
 use Rattle.pw_settle.proofs.agenda.Agenda.take.Goals as goal
 

@@ -7,7 +7,7 @@ use Rattle.pw_decl.specs.Expansion.{inner_kinds_of}
 use Rattle.pw_network.specs.Wiring.{wiring}
 use Rattle.pw_network.specs.Network.{Network}
 use Rattle.pw_settle.proofs.StoreCells.{room_for_inner}
-use Rattle.pw_test_networks.proofs.StageLemmas.{fits_attached, ready_attached}
+use Rattle.pw_test_networks.proofs.StageLemmas.{fits_attached, sound_for_attached}
 use Rattle.pw_test_networks.proofs.settling.stages.attach_one.Goals as goal
 
 pub add_cells-requires : goal.add_cells-requires
@@ -22,7 +22,7 @@ returns g c =
     (c.declaration.ensures ∙ ap (λ (n : Network). n.declared) c.in-Ok.ensures.ok) in
     let are = c.in_ok-add_cells.ensures ∙ ap (λ (ks : List Kind). c.args.store.now.cells ++ map new_cell ks) own in
     record {
-      ready = ready_attached (wiring c.args.network.now) c.args.attachment.now.line c.in_ok-callable.callable (cells_of c.in_ok-callable.cells)
+      sound = sound_for_attached (wiring c.args.network.now) c.args.attachment.now.line c.in_ok-callable.callable (cells_of c.in_ok-callable.cells)
           c.args.attachment.now.support (wiring c.attach.new.self) c.args.network.now.well c.attach.new.self.well c.in-Ok.ensures.ok
           c.args.store.now c.add_cells.new.store are c.requires;
       fits = fits_attached (wiring c.args.network.now) c.args.attachment.now.line c.in_ok-callable.callable (cells_of c.in_ok-callable.cells)
