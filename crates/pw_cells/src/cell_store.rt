@@ -90,7 +90,7 @@ impl<A: Allocator + Copy> CellStore<A> {
     }
 
     /// Makes room for this many more cells: the next `add_cells` of at most this many succeeds, no
-    /// matter what is told or kept in between. There are at most 4,294,967,295 cells in all. Fails only
+    /// matter what is told or kept in between. A store has at most 4,294,967,295 cells. Fails only
     /// when out of memory; then nothing changes.
     pub fn reserve(&mut self, cells: u32) -> Result<(), AllocError>
         requires { length self.old.cells + cells ≤ most_store_cells }
@@ -104,7 +104,7 @@ impl<A: Allocator + Copy> CellStore<A> {
     }
 
     /// Adds cells of these kinds, about which nothing was told, and answers the number of the
-    /// first. Succeeds if there is room. There are at most 4,294,967,295 cells in all. Fails only when
+    /// first. Succeeds if there is room. A store has at most 4,294,967,295 cells. Fails only when
     /// out of memory; then nothing changes.
     pub fn add_cells(&mut self, kinds: &[Kind]) -> Result<u32, AllocError>
         requires { length self.old.cells + length kinds.now ≤ most_store_cells }

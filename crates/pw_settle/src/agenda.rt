@@ -81,15 +81,6 @@ impl<A: Allocator + Copy> Agenda<A> {
         self.queued.resize(count, false)
     }
 
-    // Whether the instance is queued.
-    #[inline(always)]
-    pub(crate) fn has(&self, number: usize) -> bool
-        requires { number < length self.now }
-        ensures { result ≡ is_set self.now number }
-    {
-        self.queued[number]
-    }
-
     // Queues an instance, unless it is queued already.
     #[inline(always)]
     pub(crate) fn add(&mut self, number: usize)

@@ -1,5 +1,5 @@
 //! The readers of a cell, as they are queued.
-ghost use Rattle.std.specs.Prelude.{◌≡◌, ◌+◌, ◌<◌, ◌≤◌, true, All, [], ◌∷◌, length, map, IsTrue, replicate};
+ghost use Rattle.std.specs.Prelude.{◌≡◌, ◌+◌, ◌<◌, ◌≤◌, Bool, List, All, [], ◌∷◌, length, map, IsTrue};
 ghost use Rattle.std.specs.List.{count_by};
 ghost use Rattle.pw_network.specs.Network.{AreAllVisible};
 ghost use Rattle.pw_network.specs.Readers.{readers_of};
@@ -8,87 +8,123 @@ ghost use Rattle.pw_settle.specs.Calls.{is_instance_visible, is_set, reader_coun
 ghost use Rattle.pw_settle.specs.inside.Queueing.{QueuesNumbers, QueuesReaders};
 
 use crate::agenda::Agenda;
-use pw_network::{Batch, InstanceNumbers, Network};
+use pw_network::{Batch, Instance, InstanceNumbers, Network};
 use pw_premises::PremiseSet;
 use std::alloc::Allocator;
 
-// Queues an instance if its flag is set.
+// Sees some of the instances of a network. The functions below are compiled for each type that does.
+trait Sees: Copy {
+    // Of each instance, whether it is seen.
+    ghost seen: { Self → List Bool };
+
+    // Whether the instance of this number is seen.
+    fn sees(self, number: usize) -> bool
+        requires { number < length (seen self) }
+        ensures { result ≡ is_set (seen self) number };
+}
+
+// Sees all of these instances.
+#[derive(Clone, Copy)]
+struct SeesAll<'a>(&'a [Instance]);
+
+impl Sees for SeesAll<'_> {
+    ghost use Rattle.std.specs.Prelude.{length, replicate, true};
+
+    ghost seen = { λ s. replicate (length s.0.now) true };
+
+    #[inline(always)]
+    fn sees(self, _: usize) -> bool {
+        true
+    }
+}
+
+// Sees the instances whose flags are set.
+#[derive(Clone, Copy)]
+struct SeesFlagged<'a>(&'a [bool]);
+
+impl Sees for SeesFlagged<'_> {
+    ghost seen = { λ s. s.0.now };
+
+    #[inline(always)]
+    fn sees(self, number: usize) -> bool {
+        self.0[number]
+    }
+}
+
+// Sees those of these instances whose premises are in the worldview. Each is tested by itself: in a
+// large network few of the instances ever read news.
+#[derive(Clone, Copy)]
+struct SeesIn<'a>(&'a [Instance], &'a PremiseSet);
+
+impl Sees for SeesIn<'_> {
+    ghost use Rattle.std.specs.Prelude.{map};
+    ghost use Rattle.pw_network.specs.inside.Held.{attachment};
+    ghost use Rattle.pw_settle.specs.Calls.{is_instance_visible};
+
+    ghost seen = { λ s. map (λ instance. is_instance_visible s.1.now (attachment instance))
+        s.0.now };
+
+    #[inline(always)]
+    fn sees(self, number: usize) -> bool {
+        self.0[number].support().is_subset(self.1)
+    }
+}
+
+// Queues an instance if the viewer sees it.
 #[inline(always)]
-fn queue_one<A: Allocator + Copy>(visible: &[bool], agenda: &mut Agenda<A>, number: usize)
+fn queue_one<V: Sees, A: Allocator + Copy>(viewer: V, agenda: &mut Agenda<A>, number: usize)
     requires below { number < length agenda.old }
-    requires all { length visible.now ≡ length agenda.old }
-    ensures { QueuesNumbers visible.now (number ∷ []) agenda.old agenda.new }
+    requires all { length (V.seen viewer) ≡ length agenda.old }
+    ensures { QueuesNumbers (V.seen viewer) (number ∷ []) agenda.old agenda.new }
 {
-    if visible[number] {
+    if viewer.sees(number) {
         agenda.add(number);
     }
 }
 
-// Queues those of these instances whose flags are set. Many instances of one attachment read a cell only
-// if its compound is large, so these loops are cold.
+// Queues those of these instances that the viewer sees. Many instances of one attachment read a cell
+// only if its compound is large, so this loop is cold.
 #[cold]
 #[inline(never)]
-fn queue_numbers<A: Allocator + Copy>(
-    visible: &[bool],
+fn queue_numbers<V: Sees, A: Allocator + Copy>(
+    viewer: V,
     agenda: &mut Agenda<A>,
     numbers: InstanceNumbers<'_>,
 )
     requires below { All (λ n. n < length agenda.old) numbers }
-    requires all { length visible.now ≡ length agenda.old }
-    ensures { QueuesNumbers visible.now numbers.entry agenda.old agenda.new }
+    requires all { length (V.seen viewer) ≡ length agenda.old }
+    ensures { QueuesNumbers (V.seen viewer) numbers.entry agenda.old agenda.new }
 {
     for number in numbers {
-        queue_one(visible, agenda, number);
+        queue_one(viewer, agenda, number);
     }
 }
 
-// Queues all of these instances.
-#[cold]
-#[inline(never)]
-fn queue_all_numbers<A: Allocator + Copy>(agenda: &mut Agenda<A>, numbers: InstanceNumbers<'_>)
-    requires { All (λ n. n < length agenda.old) numbers }
-    ensures { QueuesNumbers (replicate (length agenda.old) true) numbers.entry agenda.old agenda.new }
-{
-    for number in numbers {
-        agenda.add(number);
-    }
-}
-
-// Queues an instance that is visible in the worldview. One that waits already is not looked up: many
-// do, and the flags of an agenda are close together.
+// Queues the readers of a cell that the viewer sees.
 #[inline(always)]
-fn queue_seen<A: Allocator + Copy>(
+fn queue_seen_readers<V: Sees, A: Allocator + Copy>(
     network: &Network<'_, '_, A>,
-    worldview: &PremiseSet,
+    viewer: V,
     agenda: &mut Agenda<A>,
-    number: usize,
+    cell: u32,
 )
     requires flags { length agenda.old ≡ length (wiring network.now).attached }
-    requires below { number < length agenda.old }
-    ensures { QueuesNumbers (map (is_instance_visible worldview.now) (wiring network.now).attached)
-        (number ∷ []) agenda.old agenda.new }
+    requires all { length (V.seen viewer) ≡ length agenda.old }
+    ensures readers { QueuesReaders (wiring network.now) (V.seen viewer) (λ c. c ≡ cell) agenda.old
+        agenda.new }
+    ensures most { tally agenda.new ≤ tally agenda.old + count_by (is_set (V.seen viewer))
+        (readers_of (wiring network.now) cell) }
+    ensures least { tally agenda.old ≤ tally agenda.new }
 {
-    if !agenda.has(number) && network.instances()[number].support().is_subset(worldview) {
-        agenda.add(number);
+    if let Some(numbers) = network.inner_readers(cell) {
+        queue_numbers(viewer, agenda, numbers);
+        return;
     }
-}
-
-// Queues those of these instances that are visible in the worldview.
-#[cold]
-#[inline(never)]
-fn queue_seen_numbers<A: Allocator + Copy>(
-    network: &Network<'_, '_, A>,
-    worldview: &PremiseSet,
-    agenda: &mut Agenda<A>,
-    numbers: InstanceNumbers<'_>,
-)
-    requires flags { length agenda.old ≡ length (wiring network.now).attached }
-    requires below { All (λ n. n < length agenda.old) numbers }
-    ensures { QueuesNumbers (map (is_instance_visible worldview.now) (wiring network.now).attached)
-        numbers.entry agenda.old agenda.new }
-{
-    for number in numbers {
-        queue_seen(network, worldview, agenda, number);
+    for batch in network.reader_batches(cell) {
+        match batch {
+            Batch::One(number) => queue_one(viewer, agenda, number),
+            Batch::Many(numbers) => queue_numbers(viewer, agenda, numbers),
+        }
     }
 }
 
@@ -108,70 +144,7 @@ pub(crate) fn queue_readers<A: Allocator + Copy>(
         ≤ tally agenda.old + count_by (is_set visible.now) (readers_of (wiring network.now) cell) }
     ensures least { tally agenda.old ≤ tally agenda.new }
 {
-    if let Some(numbers) = network.inner_readers(cell) {
-        queue_numbers(visible, agenda, numbers);
-        return;
-    }
-    for batch in network.reader_batches(cell) {
-        match batch {
-            Batch::One(number) => queue_one(visible, agenda, number),
-            Batch::Many(numbers) => queue_numbers(visible, agenda, numbers),
-        }
-    }
-}
-
-// Queues all readers of a cell.
-#[inline(always)]
-fn queue_all_readers<A: Allocator + Copy>(
-    network: &Network<'_, '_, A>,
-    agenda: &mut Agenda<A>,
-    cell: u32,
-)
-    requires flags { length agenda.old ≡ length (wiring network.now).attached }
-    ensures readers { QueuesReaders (wiring network.now) (replicate (length agenda.old) true)
-        (λ c. c ≡ cell) agenda.old agenda.new }
-    ensures most { tally agenda.new ≤ tally agenda.old + length (readers_of (wiring network.now)
-        cell) }
-    ensures least { tally agenda.old ≤ tally agenda.new }
-{
-    if let Some(numbers) = network.inner_readers(cell) {
-        queue_all_numbers(agenda, numbers);
-        return;
-    }
-    for batch in network.reader_batches(cell) {
-        match batch {
-            Batch::One(number) => agenda.add(number),
-            Batch::Many(numbers) => queue_all_numbers(agenda, numbers),
-        }
-    }
-}
-
-// Queues the readers of a cell that are visible in the worldview. Each is tested by itself: in a
-// large network few of the instances ever read news.
-#[inline(always)]
-fn queue_seen_readers<A: Allocator + Copy>(
-    network: &Network<'_, '_, A>,
-    worldview: &PremiseSet,
-    agenda: &mut Agenda<A>,
-    cell: u32,
-)
-    requires flags { length agenda.old ≡ length (wiring network.now).attached }
-    ensures readers { QueuesReaders (wiring network.now) (map (is_instance_visible worldview.now)
-        (wiring network.now).attached) (λ c. c ≡ cell) agenda.old agenda.new }
-    ensures most { tally agenda.new ≤ tally agenda.old + reader_count (wiring network.now)
-        worldview.now cell }
-    ensures least { tally agenda.old ≤ tally agenda.new }
-{
-    if let Some(numbers) = network.inner_readers(cell) {
-        queue_seen_numbers(network, worldview, agenda, numbers);
-        return;
-    }
-    for batch in network.reader_batches(cell) {
-        match batch {
-            Batch::One(number) => queue_seen(network, worldview, agenda, number),
-            Batch::Many(numbers) => queue_seen_numbers(network, worldview, agenda, numbers),
-        }
-    }
+    queue_seen_readers(network, SeesFlagged(visible), agenda, cell);
 }
 
 // Queues the readers of a cell that are visible in the worldview. If all instances are, as is mostly
@@ -192,9 +165,10 @@ pub(crate) fn queue_visible_readers<A: Allocator + Copy>(
         worldview.now cell }
     ensures least { tally agenda.old ≤ tally agenda.new }
 {
+    let instances = network.instances();
     if sees_all {
-        queue_all_readers(network, agenda, cell);
+        queue_seen_readers(network, SeesAll(instances), agenda, cell);
         return;
     }
-    queue_seen_readers(network, worldview, agenda, cell);
+    queue_seen_readers(network, SeesIn(instances, worldview), agenda, cell);
 }

@@ -1,7 +1,6 @@
 -- How far a settling has come, and what waits on its agenda.
 use Rattle.std.specs.Prelude.{◌≡◌, ◌≢◌, ℕ, ◌≤◌, Bool, true, false, List, All, AllPairs, length}
-use Rattle.std.specs.Prelude.{slice_index_or, ◌*◌, ◌<◌, [], ◌∷◌, ◌+◌}
-use Rattle.std.specs.List.{count_by}
+use Rattle.std.specs.Prelude.{◌*◌, ◌<◌, [], ◌∷◌, ◌+◌}
 use Rattle.pw_info.specs.declared.info.Info.{Info}
 use Rattle.pw_info.specs.Information.{Implies}
 use Rattle.pw_info.specs.Rank.{rank_of}

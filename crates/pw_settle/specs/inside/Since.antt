@@ -14,7 +14,6 @@ use Rattle.pw_network.specs.Network.{Network}
 use Rattle.pw_settle.specs.Calls.{is_instance_visible}
 use Rattle.pw_settle.specs.Growth.{CanContinue}
 use Rattle.pw_settle.specs.Settled.{Settled, info_at, support_at}
-use Rattle.pw_settle.specs.Sound.{LieUpstream, RestsUpstream}
 use Rattle.pw_settle.specs.inside.Queueing.{HasChanged, QueuesReaders}
 use Rattle.pw_settle.specs.inside.Known.{AreKept, TakesIn, TakesInKept}
 

@@ -1,4 +1,3 @@
-use Rattle.std.proofs.Common.{length}
 use Rattle.pw_settle.proofs.QueuedReaders.{AreQueuedBut}
 use Rattle.pw_settle.proofs.readers.queue_numbers.Given as goal
 
@@ -6,5 +5,5 @@ abbrev pub invariant-loop-number : goal.invariant-loop-number
 invariant-loop-number g l = record {
   can_next : (goal.iterator-loop-number g).can_next l.number-iterator;
   is_finite : (goal.iterator-loop-number g).is_finite l.number-iterator;
-  queued : AreQueuedBut l.visible l.fn.agenda l.agenda l.fn.numbers l.number-iterator (length l.fn.agenda);
+  queued : AreQueuedBut (g.V.Sees.seen l.viewer) l.fn.agenda l.agenda l.fn.numbers l.number-iterator;
 }

@@ -1,5 +1,3 @@
-use Rattle.std.proofs.Common.{length, map}
-use Rattle.pw_settle.specs.Calls.{is_instance_visible}
 use Rattle.pw_network.specs.Batches.{numbers_in}
 use Rattle.pw_network.specs.Readers.{readers_of}
 use Rattle.pw_network.specs.Wiring.{wiring}
@@ -10,5 +8,5 @@ abbrev pub invariant-loop-batch : goal.invariant-loop-batch
 invariant-loop-batch g l = record {
   can_next : (goal.iterator-loop-batch g).can_next l.batch-iterator;
   is_finite : (goal.iterator-loop-batch g).is_finite l.batch-iterator;
-  queued : AreQueuedBut (map (is_instance_visible l.worldview) (wiring l.network).attached) l.fn.agenda l.agenda (readers_of (wiring l.network) l.cell) (numbers_in l.batch-iterator) (length (wiring l.network).attached);
+  queued : AreQueuedBut (g.V.Sees.seen l.viewer) l.fn.agenda l.agenda (readers_of (wiring l.network) l.cell) (numbers_in l.batch-iterator);
 }

@@ -1,9 +1,6 @@
-use Rattle.std.proofs.Common.{true, ℕ, length, map, ap, sym, ◌∙◌}
-use Rattle.std.specs.Prelude.{replicate}
-use Rattle.std.proofs.lemmas.List.{length-map}
+use Rattle.std.proofs.Common.{map, ap, ◌∙◌}
 use Rattle.std.proofs.lemmas.Result.{IfOk-weaker}
 use Rattle.pw_network.specs.Wiring.{wiring}
-use Rattle.pw_network.specs.inside.Held.{attachment}
 use Rattle.pw_settle.specs.Calls.{is_instance_visible}
 use Rattle.pw_settle.proofs.SeenInstances.{all_seen}
 use Rattle.pw_settle.proofs.SeenLines.{lines_of_items, supports_of_items}
@@ -21,9 +18,8 @@ pub returns-then-are_all_visible : goal.returns-then-are_all_visible
 returns-then-are_all_visible g c =
     IfOk-weaker c.vec.result _ _ (λ visible same.
     same (λ flag is. is)
-    ∙ ap (λ (count : ℕ). replicate count true)
-    (sym (length-map c.instances-instances.result.now attachment) ∙ ap length c.instances-instances.ensures.instances)
-    ∙ all_seen (wiring c.args.network.now) c.args.worldview.now (c.are_all_visible.ensures.0 c.if-are_all_visible.true))
+    ∙ all_seen (wiring c.args.network.now) c.instances-instances.result.now c.args.worldview.now c.instances-instances.ensures.instances
+    (c.are_all_visible.ensures.0 c.if-are_all_visible.true))
     c.vec.ensures.items_if_clones_equal
 
 pub returns : goal.returns
