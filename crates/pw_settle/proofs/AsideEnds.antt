@@ -23,6 +23,7 @@ use Rattle.pw_decl.proofs.FlatKept.{range_below}
 use Rattle.pw_network.specs.Network.{Attached, IsWellNetwork, Network, cells_in}
 use Rattle.pw_settle.specs.Calls.{is_instance_visible, is_set, reader_count}
 use Rattle.pw_settle.specs.Settled.{IsSettled, Settled, info_at, support_at}
+use Rattle.pw_settle.specs.Sound.{IsSound}
 use Rattle.pw_settle.specs.Sources.{IsImplied, Told}
 use Rattle.pw_settle.specs.Values.{attached_no, kinds_in, numbered, numbers_of_cells, propagators_of, sources_in, told_sources, value_in, visible_instances}
 use Rattle.pw_settle.specs.inside.Aside.{AreAllSatisfied, AreFound, AreOthersMet, StaysMet, weight_of}
@@ -43,7 +44,7 @@ use Rattle.pw_settle.proofs.ValueGrows.{all_seen, value_grows}
 -- ---- the values at the end
 
 module _ (network : Network) (well : IsWellNetwork network) (store : Store) (same : kinds_of store ≡ kinds_in network) (w : Premises)
-    (infos : List Info) (supports : List Premises) (found : AreFound network store w infos supports) (satisfied : AreAllSatisfied network w (info_at infos)) where
+    (sound : IsSound network store) (infos : List Info) (supports : List Premises) (found : AreFound network store w infos supports) (satisfied : AreAllSatisfied network w (info_at infos)) where
   -- what is known says what each source says
   known_says : All (IsImplied (info_at infos)) (sources_in network store w)
   known_says =
@@ -61,7 +62,7 @@ module _ (network : Network) (well : IsWellNetwork network) (store : Store) (sam
       Implies-antisym (info_at infos cell) (value_in network store w cell) ((found.each cell).kind ∙ sym (value_kind network store w cell))
       (fixpoint_below (numbered (kinds_in network)) (numbers_of_cells (kinds_in network)) (sources_in network store w)
       (are_over network store w same (all_placed network well)).fit (info_at infos) (λ c. (found.each c).kind) known_says cell)
-      ((found.each cell).follows w (found.each cell).within)
+      ((found.each cell).follows sound w (found.each cell).within)
 
   -- with premises that are enough for it
   pub found_settled : (instances calls mark : ℕ) →
@@ -76,7 +77,7 @@ module _ (network : Network) (well : IsWellNetwork network) (store : Store) (sam
         Implies-antisym (value_in network store (support_at supports cell) cell) (value_in network store w cell)
         (value_kind network store (support_at supports cell) cell ∙ sym (value_kind network store w cell))
         (λ u possible. subst (λ (i : Info). allows i u ≡ true) (known_value cell)
-        ((found.each cell).follows (support_at supports cell) (is_subset_refl (support_at supports cell)) u possible))
+        ((found.each cell).follows sound (support_at supports cell) (is_subset_refl (support_at supports cell)) u possible))
         (value_grows network store well same cell (support_at supports cell) w (found.each cell).within);
   }
 
@@ -206,10 +207,10 @@ module _ (network : Network) (well : IsWellNetwork network) (store : Store) (sam
         (subst (λ (l : List Info). QueuesReaders network visible (λ cell. (cell < length l) × HasChanged earlier l cell) first queued) is_now queues))
 
   -- in a part of the earlier worldview no cell says more than before, and what is visible was
-  module _ (part : is_subset w before.worldview ≡ true) where
+  module _ (sound : IsSound network store) (part : is_subset w before.worldview ≡ true) where
     unchanged : (cell : ℕ) → cell < length infos → Implies (found_of before.infos infos cell) (info_at infos cell)
     unchanged cell below u possible =
-        (found.each cell).follows before.worldview (is_subset_trans (support_at supports cell) w before.worldview (found.each cell).within part) u
+        (found.each cell).follows sound before.worldview (is_subset_trans (support_at supports cell) w before.worldview (found.each cell).within part) u
         (subst (λ (i : Info). allows i u ≡ true) (found_before cell below) possible)
 
     no_readers : (visible first : List Bool) →

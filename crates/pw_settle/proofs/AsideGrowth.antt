@@ -137,7 +137,7 @@ module _ (network : Network) (well : IsWellNetwork network) (store : Store) (sam
   first_there cell there = record {
     kind = earlier_kind network store same w cell well before is there;
     within = is_subset_trans (support_at before.supports cell) before.worldview w (is.within cell) part;
-    follows = earlier_follows network store same w cell well before is there;
+    follows = λ sound. earlier_follows network store same w cell well before is there;
     more = λ below u possible. subst (λ (i : Info). allows i u ≡ true) (earlier_value cell below) possible;
   }
 
@@ -261,7 +261,7 @@ module _ (network : Network) (well : IsWellNetwork network) (store : Store) (sam
     its = record { info = before; support = support_at supports cell }
 
     found : IsFound network store w cell fact.info fact.support
-    found = kept_found network store same w cell sound fact.info fact.support kept.info kept.within kept.larger kept.told
+    found = kept_found network store same w cell fact.info fact.support kept.info kept.within kept.larger kept.told
 
     -- the two are of one kind
     alike : kind_of before ≡ kind_of fact.info
@@ -286,8 +286,8 @@ module _ (network : Network) (well : IsWellNetwork network) (store : Store) (sam
       kind = kind-meet before fact.info ∙ (grown.each cell).kind;
       within = is_subset_trans (support_at new_supports cell) (union (support_at supports cell) fact.support) w takes.rests
           (union_is_subset (support_at supports cell) fact.support w (grown.each cell).within found.within);
-      follows = together_follows network store cell its fact (record { info = after; support = support_at new_supports cell })
-          (grown.each cell).kind found.kind (grown.each cell).follows found.follows takes.together;
+      follows = λ s. together_follows network store cell its fact (record { info = after; support = support_at new_supports cell })
+          (grown.each cell).kind found.kind ((grown.each cell).follows s) (found.follows s) takes.together;
       more = λ below u possible. (grown.each cell).more below u (meet_first before fact.info alike u possible);
     }
 

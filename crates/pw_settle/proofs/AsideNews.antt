@@ -1,5 +1,5 @@
 -- What is known beside the store after a fact that an instance made was taken in.
-use Rattle.std.proofs.Common.{◌≡◌, ◌≢◌, ℕ, ◌+◌, ◌*◌, ◌<◌, ◌≤◌, Bool, true, false, eqb, List, All, Contains, length, map, sym, ap, ◌∙◌, subst, arith, mul-le-mul_right, inl, inr}
+use Rattle.std.proofs.Common.{◌≡◌, ◌≢◌, ℕ, ◌+◌, ◌*◌, ◌<◌, ◌≤◌, Bool, true, false, eqb, List, All, Contains, length, map, refl, sym, ap, ◌∙◌, subst, arith, mul-le-mul_right, inl, inr}
 use Rattle.std.specs.FinSet.{empty, is_subset, union}
 use Rattle.std.proofs.lemmas.Bool.{cases_Bool, eqb-false, eqb-true}
 use Rattle.std.proofs.lemmas.List.{get_or_default, get_or-set_same, get_or-set_other, length-set}
@@ -25,13 +25,15 @@ use Rattle.pw_settle.specs.Calls.{is_instance_visible, is_set, reader_count, vis
 use Rattle.pw_settle.specs.Settled.{info_at, support_at}
 use Rattle.pw_settle.specs.Sources.{IsImplied, said_by}
 use Rattle.pw_settle.specs.Values.{IsSatisfied, attached_no, kinds_in, numbered, propagators_of, told_sources, value_in, visible_instances}
-use Rattle.pw_settle.specs.inside.Aside.{AreFound, IsFound, weight_of}
+use Rattle.pw_settle.specs.Growth.{RestOnUpstreamAfter}
+use Rattle.pw_settle.specs.Sound.{IsSound, LiesUpstream}
+use Rattle.pw_settle.specs.inside.Aside.{AreFound, IsFound, SaysMore, weight_of}
 use Rattle.pw_settle.specs.inside.Known.{IsPlaced, TakesIn}
 use Rattle.pw_settle.specs.inside.Progress.{AreOthersSatisfied, AreSatisfied, IsNews}
 use Rattle.pw_settle.proofs.AsideStarts.{together_follows}
 use Rattle.pw_settle.proofs.JoinedSupports.{joined_parts, joined_within}
 use Rattle.pw_settle.proofs.KeptFacts.{by_cell, kind-in_value, kind_there}
-use Rattle.pw_settle.proofs.KeptNews.{kinds_mapped, value_more}
+use Rattle.pw_settle.proofs.KeptNews.{both_lie, kinds_mapped, lies, value_more}
 use Rattle.pw_settle.proofs.KeptProgress.{no_instance, reader_listed, still_satisfied, unread, visible_below, visible_no}
 use Rattle.pw_settle.proofs.PlacedInstances.{accepted, all_sources, kind-info_at, the_source}
 use Rattle.pw_settle.proofs.SettledValues.{all_placed, says}
@@ -69,11 +71,13 @@ value_says_more network store same w v infos supports found procedure inputs mor
     (kinds_mapped (λ c. value_in network store v c) store (kind-in_value network store same v) inputs
     ∙ sym (kinds_mapped (info_at infos) store (λ c. (found.each c).kind ∙ sym (kind_there network store same c)) inputs)) more
 
--- what there is after a call that made news: it is found, what is not queued is satisfied, and less
--- may still be found out
-pub record IsAfterAside (network : Network) (store : Store) (w : Premises) (infos new_infos : List Info) (new_supports : List Premises) (number cell : ℕ)
+-- what there is after a call that made news: it is found, no less is known, it rests on premises
+-- upstream if that did, what is not queued is satisfied, and less may still be found out
+pub record IsAfterAside (network : Network) (store : Store) (w : Premises) (infos new_infos : List Info) (supports new_supports : List Premises) (number cell : ℕ)
     : Type 0 where
   pub found : AreFound network store w new_infos new_supports
+  pub more : SaysMore infos new_infos supports new_supports
+  pub lie : RestOnUpstreamAfter network supports store new_supports
   pub satisfied : (queued new_queued : List Bool) → AreOthersSatisfied network w (info_at infos) queued number →
       ((n : ℕ) → Contains (readers_of network cell) n → visible_at network w n ≡ true → is_set new_queued n ≡ true) →
       ((n : ℕ) → is_set queued n ≡ true → is_set new_queued n ≡ true) →
@@ -124,12 +128,12 @@ module _ (network : Network) (well : IsWellNetwork network) (store : Store) (sam
   parts v inside = joined_parts supports v a.support a.instance.inputs (subst (λ (p : Premises). is_subset p v ≡ true) is.rests inside)
 
   -- so the fact follows
-  news_follows : IsLeastAbove fact.support (λ v. value_in network store v cell) fact.info
-  news_follows v inside u possible =
+  news_follows : IsSound network store → IsLeastAbove fact.support (λ v. value_in network store v cell) fact.info
+  news_follows sound v inside u possible =
       let shown = parts v inside in
       let more : All (λ c. Implies (value_in network store v c) (info_at infos c)) a.instance.inputs =
       All-weaker (λ c. is_subset (support_at supports c) v ≡ true) (λ c. Implies (value_in network store v c) (info_at infos c))
-      (λ c has. (found.each c).follows v has) a.instance.inputs shown.1 in
+      (λ c has. (found.each c).follows sound v has) a.instance.inputs shown.1 in
       subst (λ (i : Info). allows i u ≡ true) said
       (value_says_more network store same w v infos supports found procedure a.instance.inputs more u
       (value_says network well store same v a there shown.0 placed u
@@ -164,8 +168,8 @@ module _ (network : Network) (well : IsWellNetwork network) (store : Store) (sam
     kind = kind-meet before fact.info ∙ (found.each cell).kind;
     within = is_subset_trans (support_at new_supports cell) (union (support_at supports cell) fact.support) w takes.rests
         (union_is_subset (support_at supports cell) fact.support w (found.each cell).within news_within);
-    follows = together_follows network store cell its fact (record { info = after; support = support_at new_supports cell })
-        (found.each cell).kind (kind ∙ (found.each cell).kind) (found.each cell).follows news_follows takes.together;
+    follows = λ sound. together_follows network store cell its fact (record { info = after; support = support_at new_supports cell })
+        (found.each cell).kind (kind ∙ (found.each cell).kind) ((found.each cell).follows sound) (news_follows sound) takes.together;
     told = λ u possible. (found.each cell).told u (meet_first before fact.info (sym kind) u possible);
   }
 
@@ -184,6 +188,27 @@ module _ (network : Network) (well : IsWellNetwork network) (store : Store) (sam
   more_known = by_cell (λ c. Implies (info_at new_infos c) (info_at infos c)) cell
       (λ u possible. meet_first before fact.info (sym kind) u (subst (λ (i : Info). allows i u ≡ true) info_here possible))
       (λ c other u possible. subst (λ (i : Info). allows i u ≡ true) (info_elsewhere c other) possible)
+
+  -- the merge says what the fact says
+  merge_says : Implies after fact.info
+  merge_says v possible = (true_both (allows before v) (allows fact.info v) (sym (allows-meet before fact.info (sym kind) v) ∙ possible)).1
+
+  -- and of the cell more is known
+  says_more : SaysMore infos new_infos supports new_supports
+  says_more = record {
+    more = more_known;
+    same = by_cell (λ c. Implies (info_at infos c) (info_at new_infos c) → support_at new_supports c ≡ support_at supports c) cell
+        (λ no_more. absurd (is.new (λ u possible. merge_says u (subst (λ (i : Info). allows i u ≡ true) info_here (no_more u possible)))))
+        (λ c other no_more. support_elsewhere c other);
+  }
+
+  -- its premises lie upstream, if those at hand do
+  lie_news : RestOnUpstreamAfter network supports store new_supports
+  lie_news given rests lie =
+      by_cell (λ c. LiesUpstream network given c (support_at new_supports c)) cell
+      (both_lie network given cell (support_at supports cell) fact.support (support_at new_supports cell) (lie cell)
+      (lies network infos supports a there cell fact is given lie) takes.rests)
+      (λ c other. subst (LiesUpstream network given c) (sym (support_elsewhere c other)) (lie c))
 
   -- what was satisfied still is, but for the readers, which are queued
   pub satisfied_news : (queued new_queued : List Bool) → AreOthersSatisfied network w (info_at infos) queued number →
@@ -229,9 +254,6 @@ module _ (network : Network) (well : IsWellNetwork network) (store : Store) (sam
               ap (value_by procedure) (unread (info_at infos) (info_at new_infos) cell info_elsewhere a.instance.inputs
               (subst (λ (b : Attached). reads cell b ≡ false) e not_read)) ∙ said
 
-          merge_says : Implies after fact.info
-          merge_says v possible = (true_both (allows before v) (allows fact.info v) (sym (allows-meet before fact.info (sym kind) v) ∙ possible)).1
-
   -- what may still be found out is less, by the readers at least
   pub weight_falls : weight_of network w new_infos + reader_count network w cell ≤ weight_of network w infos
   weight_falls =
@@ -252,5 +274,18 @@ module _ (network : Network) (well : IsWellNetwork network) (store : Store) (sam
           let more : rank_of (info_at new_infos cell) + 1 ≤ rank_of (info_at infos cell) = omega (arith, fallen, now) in
           omega (arith, mul-le-mul_right (reader_count network w cell) more)
 
-  pub after_aside : IsAfterAside network store w infos new_infos new_supports number cell
-  after_aside = record { found = found_news; satisfied = satisfied_news; weight_is = weight_falls }
+  pub after_aside : IsAfterAside network store w infos new_infos supports new_supports number cell
+  after_aside = record { found = found_news; more = says_more; lie = lie_news; satisfied = satisfied_news; weight_is = weight_falls }
+
+-- where nothing is taken in, no less is known
+pub says_same : (infos : List Info) (supports : List Premises) → SaysMore infos infos supports supports
+says_same infos supports = record { more = λ c u possible. possible; same = λ c no_more. refl }
+
+-- and one step follows on another
+pub says_then : (infos now then : List Info) (supports supports_now supports_then : List Premises) → SaysMore infos now supports supports_now →
+    SaysMore now then supports_now supports_then → SaysMore infos then supports supports_then
+says_then infos now then supports supports_now supports_then first second = record {
+  more = λ c u possible. first.more c u (second.more c u possible);
+  same = λ c no_more.
+      second.same c (λ u possible. no_more u (first.more c u possible)) ∙ first.same c (λ u possible. second.more c u (no_more u possible));
+}

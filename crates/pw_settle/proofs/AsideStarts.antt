@@ -17,7 +17,6 @@ use Rattle.pw_cells.specs.Cells.{Cell, Store, cell_at, kept_in, kinds_of, new_ce
 use Rattle.pw_cells.proofs.Together.{larger_shown}
 use Rattle.pw_network.specs.Network.{IsWellNetwork, Network}
 use Rattle.pw_settle.specs.Settled.{IsSettled, Settled, info_at, support_at}
-use Rattle.pw_settle.specs.Sound.{IsSound}
 use Rattle.pw_settle.specs.Values.{kinds_in, numbered, numbers_of_cells, sources_in, value_in}
 use Rattle.pw_settle.specs.inside.Aside.{AreFound, IsFound}
 use Rattle.pw_settle.proofs.FixpointLemmas.{kind-fixpoint}
@@ -82,12 +81,12 @@ together_follows network store cell a b merge kind_a kind_b follows_a follows_b 
 
 module _ (network : Network) (store : Store) (same : kinds_of store ≡ kinds_in network) (w : Premises) (cell : ℕ) where
   -- what is kept of a cell follows
-  pub kept_found : IsSound network store → (info : Info) (support : Premises) → info ≡ kept_in store cell w → is_subset support w ≡ true →
+  pub kept_found : (info : Info) (support : Premises) → info ≡ kept_in store cell w → is_subset support w ≡ true →
       IsLeastAbove support (kept_in store cell) info → Implies info (told_in store cell w) → IsFound network store w cell info support
-  kept_found sound info support is within larger told = record {
+  kept_found info support is within larger told = record {
     kind = ap kind_of is ∙ kind-kept store cell w ∙ kind_there network store same cell;
     within = within;
-    follows = λ v inside u possible. larger v inside u (sound v cell u possible);
+    follows = λ sound v inside u possible. larger v inside u (sound v cell u possible);
     told = told;
   }
 
@@ -116,7 +115,7 @@ module _ (network : Network) (store : Store) (same : kinds_of store ≡ kinds_in
     earlier_found within part = record {
       kind = earlier_kind;
       within = within;
-      follows = earlier_follows;
+      follows = λ sound. earlier_follows;
       told = λ u possible.
           larger_shown (cell_at store cell).kind w before.worldview (cell_at store cell).told part u
           (value_says_told network store before.worldview well same cell there u
@@ -131,7 +130,7 @@ module _ (network : Network) (store : Store) (same : kinds_of store ≡ kinds_in
     merged_found info support is_info is_support within kept merge found rule together rests = record {
       kind = ap kind_of rule.info ∙ kind-meet info kept.info ∙ of_kind;
       within = is_subset_trans merge.support (union support kept.support) w rests (union_is_subset support kept.support w within found.within);
-      follows = together_follows network store cell (record { info = info; support = support }) kept merge of_kind found.kind follows found.follows together;
+      follows = λ sound. together_follows network store cell (record { info = info; support = support }) kept merge of_kind found.kind follows (found.follows sound) together;
       told = λ u possible. found.told u (meet_second info kept.info (of_kind ∙ sym found.kind) u (subst (λ (i : Info). allows i u ≡ true) rule.info possible));
     } where
       of_kind : kind_of info ≡ (numbered (kinds_in network)).kind cell
@@ -271,7 +270,7 @@ pub past_found : (network : Network) (store : Store) (same : kinds_of store ≡ 
 past_found network store same w cell past = record {
   kind = kind-closest kinds.Interval (λ v. true) ∙ sym kind_past;
   within = empty_is_subset w;
-  follows = λ v inside. implies_nothing (value_in network store v cell) kinds.Interval (value_kind network store v cell ∙ kind_past);
+  follows = λ sound v inside. implies_nothing (value_in network store v cell) kinds.Interval (value_kind network store v cell ∙ kind_past);
   told = implies_also (nothing kinds.Interval) (nothing kinds.Interval) (told_in store cell w)
       (sym (ap (λ (c : Cell). told_of c w) (get_or_past store.cells cell (new_cell kinds.Interval) past))) (λ u possible. possible);
 } where

@@ -1,7 +1,9 @@
 -- What a settling has at hand after it kept a fact that an instance made.
 use Rattle.std.proofs.Common.{◌≡◌, ℕ, Bool, true, List, [], ◌∷◌, All, Contains, length, map, refl, sym, ap, ◌∙◌, subst, inl, inr}
-use Rattle.std.specs.FinSet.{contains, is_subset}
+use Rattle.std.specs.Cmp.{nat_cmp_total}
+use Rattle.std.specs.FinSet.{contains, contains-union, is_subset, is_subset-contains, union}
 use Rattle.std.specs.List.{AllZip}
+use Rattle.std.proofs.lemmas.Bool.{or_cases}
 use Rattle.std.proofs.lemmas.List.Elements.{All-contains, All-head, All-tail, All-weaker}
 use Rattle.pw_info.specs.declared.info.Info.{Info}
 use Rattle.pw_info.specs.Information.{allows, kind_of, Implies}
@@ -45,6 +47,28 @@ pub value_more : (procedure : Procedure) (better known : ℕ → Info) (cells : 
     All (λ c. Implies (better c) (known c)) cells → Implies (value_by procedure (map better cells)) (value_by procedure (map known cells))
 value_more procedure better known cells one_kind more =
     value_mono (output_slot_of procedure.signature) (map better cells) (map known cells) one_kind (map_more better known cells more) procedure.meaning
+
+-- the premises of news lie upstream of their cell, if those at hand lie upstream of theirs
+pub lies : (network : Network) (infos : List Info) (supports : List Premises) (a : Attached) → Contains network.attached a → (cell : ℕ) (fact : Fact) →
+    IsNews network infos supports a cell fact → (given : ℕ → ℕ → Bool) → LieUpstream network given supports → LiesUpstream network given cell fact.support
+lies network infos supports a there cell fact is given lie cells upstream has p one =
+    let out : cells a.instance.output ≡ true = subst (λ (c : ℕ). cells c ≡ true) is.output has in
+    let inputs : All (λ input. cells input ≡ true) a.instance.inputs =
+    All-contains (λ (b : Attached). cells b.instance.output ≡ true → All (λ input. cells input ≡ true) b.instance.inputs) network.attached a upstream there out in
+    elim (joined_from supports a.support a.instance.inputs p (subst (λ (s : Premises). contains s p ≡ true) is.rests one)) [
+      | inl own ↦ inr (a, there, out, own)
+      | inr (c, among, its) ↦ lie c cells upstream (All-contains (λ input. cells input ≡ true) a.instance.inputs c inputs among) p its
+    ]
+
+-- so do premises of which each is one of two sets that do
+pub both_lie : (network : Network) (given : ℕ → ℕ → Bool) (cell : ℕ) (known news both : Premises) → LiesUpstream network given cell known →
+    LiesUpstream network given cell news → is_subset both (union known news) ≡ true → LiesUpstream network given cell both
+both_lie network given cell known news both known_lie news_lie rests cells upstream has p one =
+    elim (or_cases (contains known p) (contains news p)
+    (sym (contains-union nat_cmp_total known news p) ∙ is_subset-contains nat_cmp_total both (union known news) rests p one)) [
+      | inl was ↦ known_lie cells upstream has p was
+      | inr came ↦ news_lie cells upstream has p came
+    ]
 
 module _ (network : Network) (well : IsWellNetwork network) (old : Store) (same : kinds_of old ≡ kinds_in network) (w : Premises)
     (infos : List Info) (supports : List Premises) (kept : AreKept old w infos supports)
@@ -99,14 +123,3 @@ module _ (network : Network) (well : IsWellNetwork network) (old : Store) (same 
   unsaid said = is.new (λ v possible.
       said v (larger_shown (kind_in_store old cell) fact.support w (kept_at old cell) within v
       (subst (λ (i : Info). allows i v ≡ true) (kept.infos_are cell) possible)))
-
-  -- they lie upstream of the output
-  pub lies : (given : ℕ → ℕ → Bool) → LieUpstream network given supports → LiesUpstream network given cell fact.support
-  lies given lie cells upstream has p one =
-      let out : cells a.instance.output ≡ true = subst (λ (c : ℕ). cells c ≡ true) is.output has in
-      let inputs : All (λ input. cells input ≡ true) a.instance.inputs =
-      All-contains (λ (b : Attached). cells b.instance.output ≡ true → All (λ input. cells input ≡ true) b.instance.inputs) network.attached a upstream there out in
-      elim (joined_from supports a.support a.instance.inputs p (subst (λ (s : Premises). contains s p ≡ true) is.rests one)) [
-        | inl own ↦ inr (a, there, out, own)
-        | inr (c, among, its) ↦ lie c cells upstream (All-contains (λ input. cells input ≡ true) a.instance.inputs c inputs among) p its
-      ]

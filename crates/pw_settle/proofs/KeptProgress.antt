@@ -1,12 +1,11 @@
 -- How far a settling has come after it kept a fact that an instance made, and queued the readers.
 use Rattle.std.proofs.Common.{◌≡◌, ◌≢◌, ℕ, ◌+◌, ◌*◌, ◌<◌, ◌≤◌, Bool, true, false, eqb, List, [], ◌∷◌, All, Contains, length, map, refl, sym, ap, ◌∙◌, subst, arith, mul-le-mul_right, inl, inr}
 use Rattle.std.specs.Prelude.{◌-◌, ◌||◌, nat_eq, nat_lt, slice_index_or}
-use Rattle.std.specs.Cmp.{nat_cmp_total}
-use Rattle.std.specs.FinSet.{contains, contains-union, empty, is_subset, is_subset-contains, union}
+use Rattle.std.specs.FinSet.{empty, is_subset, union}
 use Rattle.std.specs.List.{list_any, range_with_len}
 use Rattle.std.proofs.Math.ListN.{get_or-map}
 use Rattle.std.proofs.Math.Path.{fun_ext}
-use Rattle.std.proofs.lemmas.Bool.{cases_Bool, eqb-false, eqb-true, ltb-false, ltb-true, or_cases}
+use Rattle.std.proofs.lemmas.Bool.{cases_Bool, eqb-false, eqb-true, ltb-false, ltb-true}
 use Rattle.std.proofs.lemmas.Bool.Decides.{nat_tests}
 use Rattle.std.proofs.lemmas.List.{get_or_default, get_or_past, get_or-set_same, get_or-set_other, length-map, length-set, same_lists}
 use Rattle.std.proofs.lemmas.List.Elements.{All-contains}
@@ -42,7 +41,7 @@ use Rattle.pw_settle.specs.Sound.{LiesUpstream}
 use Rattle.pw_settle.specs.Sources.{IsImplied, said_by}
 use Rattle.pw_settle.specs.Values.{kinds_in}
 use Rattle.pw_settle.proofs.KeptFacts.{by_cell, also_implies, implies_also, implies_shown, keeps_fact, kept_elsewhere, kind-kept, kind_both}
-use Rattle.pw_settle.proofs.KeptNews.{follows, lies, within}
+use Rattle.pw_settle.proofs.KeptNews.{both_lie, follows, lies, within}
 use Rattle.pw_settle.proofs.Membership.{contains_filter, each_member}
 use Rattle.pw_settle.proofs.PlacedInstances.{accepted, all_sources, kind-info_at, the_source}
 use Rattle.pw_settle.proofs.SettledValues.{all_placed, contains_number}
@@ -216,7 +215,7 @@ module _ (network : Network) (well : IsWellNetwork network) (old new : Store) (s
 
   -- the fact's premises lie upstream, if all did
   its_fact : (given : ℕ → ℕ → Bool) → AreUpstream network given old supports → LiesUpstream network given cell fact.support
-  its_fact given are = lies network well old same w infos supports kept a there seen cell fact is given are.known
+  its_fact given are = lies network infos supports a there cell fact is given are.known
 
   -- so what is kept rests upstream, also if the fact is not taken in
   pub keeps_upstream : (given : ℕ → ℕ → Bool) → AreUpstream network given old supports → AreUpstream network given new supports
@@ -363,13 +362,7 @@ module _ (network : Network) (well : IsWellNetwork network) (old new : Store) (s
     upstream_news given are = record {
       kept = (keeps_upstream given are).kept;
       known = by_cell (λ c. LiesUpstream network given c (support_at new_supports c)) cell
-          (λ cells upstream has p one.
-          elim (or_cases (contains (support_at supports cell) p) (contains fact.support p)
-          (sym (contains-union nat_cmp_total (support_at supports cell) fact.support p)
-          ∙ is_subset-contains nat_cmp_total (support_at new_supports cell) (union (support_at supports cell) fact.support) takes.rests p one)) [
-            | inl was ↦ are.known cell cells upstream has p was
-            | inr came ↦ its_fact given are cells upstream has p came
-          ])
+          (both_lie network given cell (support_at supports cell) fact.support (support_at new_supports cell) (are.known cell) (its_fact given are) takes.rests)
           (λ c other. subst (LiesUpstream network given c) (sym (support_elsewhere c other)) (are.known c));
     }
 

@@ -10,6 +10,7 @@ pub mod PlacedInstances
 pub mod SettledValues
 pub mod ValueGrows
 pub mod Growing
+pub mod FurtherSettlings
 pub mod SumsBelow
 pub mod JoinedSupports
 pub mod KeptFacts
@@ -35,6 +36,7 @@ pub mod AsideStarts
 pub mod AsideAgendas
 pub mod AsideNews
 pub mod AsideEnds
+pub mod KeptFound
 pub mod AsideGrowth
 pub mod Accounted
 pub mod TakenNews

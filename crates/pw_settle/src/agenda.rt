@@ -25,6 +25,8 @@ pub(crate) struct Agenda<A: Allocator = Global> {
     listed: Vec<u32, A>,
     // How many were taken.
     taken: usize,
+    // How often the list may still be full until many were taken.
+    rounds: usize,
 }
 
 impl<A: Allocator> Model for Agenda<A> {
@@ -53,6 +55,7 @@ impl<A: Allocator + Copy> Agenda<A> {
             queued: vec![in alloc; false; count]?,
             listed: Vec::with_capacity(alloc, room_for(count))?,
             taken: 0,
+            rounds: 0,
         })
     }
 
@@ -64,6 +67,7 @@ impl<A: Allocator + Copy> Agenda<A> {
             queued: Vec::new(alloc),
             listed: Vec::new(alloc),
             taken: 0,
+            rounds: 0,
         }
     }
 
@@ -89,7 +93,7 @@ impl<A: Allocator + Copy> Agenda<A> {
     {
         if !self.queued[number] {
             self.queued[number] = true;
-            make_room(&mut self.listed, &mut self.taken);
+            make_room(&mut self.listed, &mut self.taken, &mut self.rounds);
             self.listed.push_reserved(number as u32);
         }
     }
@@ -106,6 +110,19 @@ impl<A: Allocator + Copy> Agenda<A> {
         self.taken += 1;
         self.queued[number] = false;
         Some(number)
+    }
+
+    // Counts anew. Many were taken when this many are from now on, or some more.
+    pub(crate) fn count_anew(&mut self, many: usize)
+        ensures { self.new ≡ self.old }
+    {
+        self.rounds = (many / (1 + self.listed.capacity() / 2)).max(1);
+    }
+
+    // Whether many were taken. No contract depends on it.
+    #[inline(always)]
+    pub(crate) fn has_taken_many(&self) -> bool {
+        self.rounds == 0
     }
 
     // No instance is queued any more.
@@ -132,7 +149,7 @@ fn room_for(count: usize) -> usize
 
 // Makes room for one more to wait: if the list is full, it forgets those that were taken.
 #[inline(always)]
-fn make_room<A: Allocator>(listed: &mut Vec<u32, A>, taken: &mut usize)
+fn make_room<A: Allocator>(listed: &mut Vec<u32, A>, taken: &mut usize, rounds: &mut usize)
     requires place { taken.old ≤ length listed.old.items }
     requires room { length (drop taken.old listed.old.items) < vec_capacity listed.old }
     ensures waiting { drop taken.new listed.new.items ≡ drop taken.old listed.old.items }
@@ -142,6 +159,7 @@ fn make_room<A: Allocator>(listed: &mut Vec<u32, A>, taken: &mut usize)
 {
     if listed.len() == listed.capacity() {
         forget_taken(listed, taken);
+        *rounds = rounds.saturating_sub(1);
     }
 }
 

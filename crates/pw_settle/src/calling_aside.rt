@@ -7,9 +7,11 @@ ghost use Rattle.pw_network.specs.inside.Held.{attachment};
 ghost use Rattle.pw_settle.specs.Calls.{AreVisible, most_calls, tally, visible_at};
 ghost use Rattle.pw_settle.specs.Settled.{IsSettled, info_at};
 ghost use Rattle.pw_settle.specs.Values.{kinds_in};
-ghost use Rattle.pw_settle.specs.inside.Aside.{AreAllSatisfied, AreFound, weight_of};
+ghost use Rattle.pw_settle.specs.Growth.{RestOnUpstreamAfter};
+ghost use Rattle.pw_settle.specs.Sound.{IsSoundFor};
+ghost use Rattle.pw_settle.specs.inside.Aside.{AreAllSatisfied, AreFound, SaysMore, weight_of};
 ghost use Rattle.pw_settle.specs.inside.Progress.{AreOthersSatisfied, AreQueuedVisible};
-ghost use Rattle.pw_settle.specs.inside.Progress.{AreSatisfied};
+ghost use Rattle.pw_settle.specs.inside.Progress.{AreSatisfied, IsIdle};
 
 use crate::agenda::Agenda;
 use crate::known::{Known, take_in_news};
@@ -56,6 +58,11 @@ fn call_aside<A: Allocator + Copy>(
     ensures seen { AreQueuedVisible (wiring network.now) worldview.now agenda.new }
     ensures satisfied { OnOk result (AreSatisfied (wiring network.now) worldview.now
         (info_at known.new.infos.items) agenda.new) }
+    ensures more { OnOk result (SaysMore known.old.infos.items known.new.infos.items
+        known.old.supports known.new.supports) }
+    ensures lie { OnOk result (RestOnUpstreamAfter (wiring network.now) known.old.supports store.now
+        known.new.supports) }
+    ensures least { tally agenda.old ≤ tally agenda.new }
     ensures most { OnOk result (tally agenda.new
         + weight_of (wiring network.now) worldview.now known.new.infos.items
         ≤ tally agenda.old
@@ -78,26 +85,37 @@ fn call_aside<A: Allocator + Copy>(
 // Calls queued instances until none is left, and answers the number of calls. Fails only when out
 // of memory. Never inlined: a loop of its own keeps what it works on in registers.
 #[inline(never)]
-fn work_aside<A: Allocator + Copy>(
+pub(crate) fn work_aside<A: Allocator + Copy>(
     network: &Network<'_, '_, A>,
     store: &CellStore<A>,
     worldview: &PremiseSet,
     known: &mut Known<A>,
     visible: &[bool],
-    mut agenda: Agenda<A>,
+    agenda: &mut Agenda<A>,
 ) -> Result<u128, AllocError>
     requires kinds { kinds_of store.now ≡ kinds_in (wiring network.now) }
     requires found { AreFound (wiring network.now) store.now worldview.now known.old.infos.items
         known.old.supports }
     requires visible { AreVisible (wiring network.now) worldview.now visible.now }
-    requires flags { length agenda ≡ length (wiring network.now).attached }
-    requires seen { AreQueuedVisible (wiring network.now) worldview.now agenda }
+    requires flags { length agenda.old ≡ length (wiring network.now).attached }
+    requires seen { AreQueuedVisible (wiring network.now) worldview.now agenda.old }
     requires satisfied { AreSatisfied (wiring network.now) worldview.now
-        (info_at known.old.infos.items) agenda }
+        (info_at known.old.infos.items) agenda.old }
     ensures found { OnOk result (AreFound (wiring network.now) store.now worldview.now
         known.new.infos.items known.new.supports) }
     ensures satisfied { OnOk result (AreAllSatisfied (wiring network.now) worldview.now
         (info_at known.new.infos.items)) }
+    ensures more { OnOk result (SaysMore known.old.infos.items known.new.infos.items
+        known.old.supports known.new.supports) }
+    ensures lie { OnOk result (RestOnUpstreamAfter (wiring network.now) known.old.supports store.now
+        known.new.supports) }
+    ensures flags { OnOk result (length agenda.new ≡ length (wiring network.now).attached) }
+    ensures done { OnOk result (IsIdle agenda.new) }
+    ensures least { IfOk result (λ calls. tally agenda.old ≤ calls) }
+    ensures most { IfOk result (λ calls. calls
+        + weight_of (wiring network.now) worldview.now known.new.infos.items
+        ≤ tally agenda.old
+        + weight_of (wiring network.now) worldview.now known.old.infos.items) }
 {
     // These lengths bound the count.
     let _cells = store.cells();
@@ -108,15 +126,7 @@ fn work_aside<A: Allocator + Copy>(
     let mut calls = 0;
     while let Some(number) = agenda.take() {
         call_aside(
-            network,
-            registry,
-            instances,
-            store,
-            worldview,
-            known,
-            visible,
-            &mut agenda,
-            number,
+            network, registry, instances, store, worldview, known, visible, agenda, number,
             &mut calls,
         )?;
     }
@@ -131,9 +141,9 @@ pub(crate) fn settle_aside_from<A: Allocator + Copy>(
     worldview: &PremiseSet,
     mut known: Known<A>,
     visible: &[bool],
-    agenda: Agenda<A>,
+    mut agenda: Agenda<A>,
 ) -> Result<Settled<A>, AllocError>
-    requires kinds { kinds_of store.now ≡ kinds_in (wiring network.now) }
+    requires sound { IsSoundFor (wiring network.now) store.now }
     requires found { AreFound (wiring network.now) store.now worldview.now known.infos.items
         known.supports }
     requires visible { AreVisible (wiring network.now) worldview.now visible.now }
@@ -143,7 +153,7 @@ pub(crate) fn settle_aside_from<A: Allocator + Copy>(
         agenda }
     ensures { IfOk result (IsSettled (wiring network.now) store.now worldview.now) }
 {
-    let calls = work_aside(network, store, worldview, &mut known, visible, agenda)?;
+    let calls = work_aside(network, store, worldview, &mut known, visible, &mut agenda)?;
     Ok(Settled {
         known,
         worldview: *worldview,

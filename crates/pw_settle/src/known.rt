@@ -10,7 +10,7 @@ ghost use Rattle.pw_settle.specs.inside.Known.{LeavesKept, ListsOneMore, Perhaps
 ghost use Rattle.pw_settle.specs.inside.Known.{SaysTold, TakesIn, TakesInKept, joined, news_on};
 ghost use Rattle.pw_settle.specs.inside.Since.{BeginsWith};
 
-use crate::support_list::SupportList;
+use crate::support_list::{SupportList, copied};
 use pw_cells::CellStore;
 use pw_info::Info;
 use pw_network::Instance;
@@ -23,6 +23,19 @@ use std::alloc::{AllocError, Allocator, Global};
 pub(crate) struct Known<A: Allocator = Global> {
     pub(crate) infos: Vec<Info, A>,
     pub(crate) supports: SupportList<A>,
+}
+
+impl<A: Allocator + Copy> Known<A> {
+    // The same, in lists of its own. Fails only when out of memory.
+    pub(crate) fn copied(&self, alloc: A) -> Result<Known<A>, AllocError>
+        ensures infos { IfOk result (λ known. known.infos.items ≡ self.now.infos.items) }
+        ensures supports { IfOk result (λ known. known.supports ≡ self.now.supports) }
+    {
+        Ok(Known {
+            infos: copied(alloc, &self.infos)?,
+            supports: self.supports.copied(alloc)?,
+        })
+    }
 }
 
 // The kept information about the cells of the store in the worldview. Fails only when out of

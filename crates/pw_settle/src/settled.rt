@@ -4,7 +4,6 @@ ghost use Rattle.std.specs.FinSet.{is_subset};
 ghost use Rattle.pw_settle.specs.Settled.{info_at, support_at};
 
 use crate::known::Known;
-use crate::support_list::copied;
 use pw_cells::NarrowFact;
 use pw_facts::Fact;
 use pw_info::Info;
@@ -122,9 +121,6 @@ impl<A: Allocator + Copy> Settled<A> {
         ensures infos { IfOk result (λ known. known.infos.items ≡ self.now.infos) }
         ensures supports { IfOk result (λ known. known.supports ≡ self.now.supports) }
     {
-        Ok(Known {
-            infos: copied(alloc, &self.known.infos)?,
-            supports: self.known.supports.copied(alloc)?,
-        })
+        self.known.copied(alloc)
     }
 }

@@ -3,7 +3,7 @@ ghost use Rattle.std.specs.Prelude.{◌≡◌, ◌↔◌, ◌<◌, IfOk, IfSome,
 ghost use Rattle.std.specs.FinSet.{is_subset};
 ghost use Rattle.pw_info.specs.Information.{Implies, kind_of};
 ghost use Rattle.pw_facts.specs.Facts.{IsMerge};
-ghost use Rattle.pw_cells.specs.Cells.{fact_on, kind_in_store, kinds_of};
+ghost use Rattle.pw_cells.specs.Cells.{fact_on, kind_in_store};
 ghost use Rattle.pw_network.specs.Wiring.{wiring};
 ghost use Rattle.pw_settle.specs.Calls.{AreVisible};
 ghost use Rattle.pw_settle.specs.Settled.{IsSettled, info_at};
@@ -314,7 +314,7 @@ fn unmet_instances<A: Allocator + Copy>(
     visible: &[bool],
     known: &Known<A>,
 ) -> Result<Agenda<A>, AllocError>
-    requires kinds { kinds_of store.now ≡ kinds_in (wiring network.now) }
+    requires sound { IsSoundFor (wiring network.now) store.now }
     requires before { IsSettled (wiring network.now) store.now before.now.worldview before.now }
     requires visible { AreVisible (wiring network.now) worldview.now visible.now }
     requires found { AreFound (wiring network.now) store.now worldview.now known.now.infos.items

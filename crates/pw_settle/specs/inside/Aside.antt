@@ -11,7 +11,7 @@ use Rattle.pw_cells.specs.Cells.{Store, told_in}
 use Rattle.pw_network.specs.Network.{Attached, Network}
 use Rattle.pw_settle.specs.Calls.{is_instance_visible, is_set, reader_count, sum_below}
 use Rattle.pw_settle.specs.Settled.{IsSettled, Settled, info_at, support_at}
-use Rattle.pw_settle.specs.Sound.{IsSoundFor}
+use Rattle.pw_settle.specs.Sound.{IsSound, IsSoundFor}
 use Rattle.pw_settle.specs.Values.{IsSatisfied, attached_no, kinds_in, numbered, value_in}
 use Rattle.pw_settle.specs.inside.Progress.{AreQueuedVisible, AreSatisfied}
 
@@ -22,12 +22,12 @@ pub record CanStart (network : Network) (store : Store) (before : Settled) : Typ
   pub settled : IsSettled network store before.worldview before
 
 -- what is known about a cell in the worldview: it rests on premises of the worldview, follows in
--- each worldview that has these, and says at least what was told
+-- each worldview that has these, if the store is sound, and says at least what was told
 pub record IsFound (network : Network) (store : Store) (w : Premises) (cell : ℕ) (info : Info)
     (support : Premises) : Type 0 where
   pub kind : kind_of info ≡ (numbered (kinds_in network)).kind cell
   pub within : is_subset support w ≡ true
-  pub follows : IsLeastAbove support (λ v. value_in network store v cell) info
+  pub follows : IsSound network store → IsLeastAbove support (λ v. value_in network store v cell) info
   pub told : Implies info (told_in store cell w)
 
 -- the same of all cells
@@ -39,12 +39,13 @@ pub record AreFound (network : Network) (store : Store) (w : Premises) (infos : 
       IsFound network store w cell (info_at infos cell) (support_at supports cell)
 
 -- what is known about a cell while an earlier value grows: it rests on premises of the worldview,
--- follows in each worldview that has these, and says no less than the earlier value
+-- follows in each worldview that has these, if the store is sound, and says no less than the earlier
+-- value
 pub record IsGrown (network : Network) (store : Store) (earlier w : Premises) (cell : ℕ)
     (info : Info) (support : Premises) : Type 0 where
   pub kind : kind_of info ≡ (numbered (kinds_in network)).kind cell
   pub within : is_subset support w ≡ true
-  pub follows : IsLeastAbove support (λ v. value_in network store v cell) info
+  pub follows : IsSound network store → IsLeastAbove support (λ v. value_in network store v cell) info
   pub more : cell < length (kinds_in network) → Implies info (value_in network store earlier cell)
 
 -- the same of all cells. What is known about those below this number says at least what was told,
@@ -83,6 +84,13 @@ pub record AreOthersMet (network : Network) (visible was_visible : List Bool)
 abbrev pub weight_of : Network → Premises → List Info → ℕ
 weight_of network w infos = sum_below (length infos) (λ cell.
     rank_of (info_at infos cell) * reader_count network w cell)
+
+-- of each cell no less is known than before; where no more is, it rests on the same premises
+pub record SaysMore (infos new_infos : List Info) (supports new_supports : List Premises)
+    : Type 0 where
+  pub more : (cell : ℕ) → Implies (info_at new_infos cell) (info_at infos cell)
+  pub same : (cell : ℕ) → Implies (info_at infos cell) (info_at new_infos cell) →
+      support_at new_supports cell ≡ support_at supports cell
 
 -- each visible instance is satisfied
 abbrev pub AreAllSatisfied : Network → Premises → (ℕ → Info) → Type 0

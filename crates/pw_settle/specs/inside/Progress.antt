@@ -1,18 +1,19 @@
 -- How far a settling has come, and what waits on its agenda.
 use Rattle.std.specs.Prelude.{◌≡◌, ◌≢◌, ℕ, ◌≤◌, Bool, true, false, List, All, AllPairs, length}
-use Rattle.std.specs.Prelude.{◌*◌, ◌<◌, [], ◌∷◌, ◌+◌}
+use Rattle.std.specs.Prelude.{◌*◌, ◌<◌, [], ◌∷◌, ◌+◌, OnErr, OnOk, Result}
 use Rattle.pw_info.specs.declared.info.Info.{Info}
 use Rattle.pw_info.specs.Information.{Implies}
 use Rattle.pw_info.specs.Rank.{rank_of}
 use Rattle.pw_premises.specs.Premises.{Premises}
 use Rattle.pw_facts.specs.declared.fact.Fact.{Fact}
-use Rattle.pw_cells.specs.Cells.{Store, kept_in}
+use Rattle.pw_cells.specs.Cells.{Store, kept_in, kinds_of}
 use Rattle.pw_network.specs.Network.{Attached, Network}
 use Rattle.pw_settle.specs.Calls.{is_instance_visible, is_set, reader_count, sum_below, tally, visible_at}
-use Rattle.pw_settle.specs.inside.Known.{joined}
+use Rattle.pw_settle.specs.Growth.{KeepsMore}
+use Rattle.pw_settle.specs.inside.Known.{AreKept, StayUpstream, WereKept, joined}
 use Rattle.pw_settle.specs.Settled.{info_at}
 use Rattle.pw_settle.specs.Sources.{said_by}
-use Rattle.pw_settle.specs.Values.{propagators_of, IsSatisfied, attached_no}
+use Rattle.pw_settle.specs.Values.{propagators_of, IsSatisfied, attached_no, kinds_in}
 
 -- no flag is set
 abbrev pub IsIdle : List Bool → Type 0
@@ -74,3 +75,23 @@ LeavesNoMore network w old queued_before new queued_now =
 abbrev pub CallsNoMore : Network → Premises → Store → List Bool → Store → ℕ → Type 0
 CallsNoMore network w old queued_before new calls =
     calls + weight network new w ≤ tally queued_before + weight network old w
+
+-- a settling is underway: the store has the cells of the network, what is at hand is what it keeps,
+-- only visible instances are queued, and each other visible one is satisfied
+pub record IsUnderway (network : Network) (store : Store) (w : Premises) (infos : List Info)
+    (supports : List Premises) (queued : List Bool) : Type 0 where
+  pub kinds : kinds_of store ≡ kinds_in network
+  pub kept : AreKept store w infos supports
+  pub flags : length queued ≡ length network.attached
+  pub seen : AreQueuedVisible network w queued
+  pub satisfied : AreMet network store w queued
+
+-- it has come further, and is still underway: no less is kept, and all rests on premises upstream, if
+-- it did. If memory was refused, what is at hand was kept at some point
+pub record IsFurther {A E : Type 0} (result : Result A E) (network : Network) (w : Premises)
+    (old : Store) (supports : List Premises) (new : Store) (new_infos : List Info)
+    (new_supports : List Premises) (queued : List Bool) : Type 0 where
+  pub grows : KeepsMore network old new
+  pub upstream : StayUpstream network old supports new new_supports
+  pub underway : OnOk result (IsUnderway network new w new_infos new_supports queued)
+  pub between : OnErr result (WereKept network old new w new_infos new_supports)

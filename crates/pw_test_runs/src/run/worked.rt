@@ -58,6 +58,21 @@ pub const DISAGREEING: Session<'_> = Session {
     ],
 };
 
+/// A cell that is narrowed two thousand times, until nothing is left. Two lines bound it, so it stays
+/// bounded if one of them is refused.
+pub const NARROWING: Session<'_> = Session {
+    declaration: GENERAL,
+    rows: &[
+        ("ann tell x 0..2200", "ok"),
+        ("bob tell x 0..2300", "ok"),
+        ("ann tell y 1 under a", "ok"),
+        ("ann attach adder x y x", "ok"),
+        ("ann ask x", "contradiction"),
+        ("ann doubt a", "ok"),
+        ("ann ask x", "0..2200"),
+    ],
+};
+
 /// A switch under premises.
 pub const SWITCHING: Session<'_> = Session {
     declaration: GENERAL,

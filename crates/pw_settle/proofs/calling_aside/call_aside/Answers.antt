@@ -8,10 +8,10 @@ use Rattle.pw_network.specs.Readers.{readers_of}
 use Rattle.pw_settle.specs.Calls.{is_instance_visible, is_set, reader_count, tally}
 use Rattle.pw_settle.specs.Settled.{info_at}
 use Rattle.pw_settle.specs.Values.{attached_no}
-use Rattle.pw_settle.specs.inside.Aside.{AreFound, weight_of}
+use Rattle.pw_settle.specs.inside.Aside.{AreFound, SaysMore, weight_of}
 use Rattle.pw_settle.specs.inside.Known.{GivesNews, GivesNone, IsNewTo, IsPlaced, TakesIn, news_on}
 use Rattle.pw_settle.specs.inside.Progress.{AreSatisfied, IsNews}
-use Rattle.pw_settle.proofs.AsideNews.{IsAfterAside, after_aside}
+use Rattle.pw_settle.proofs.AsideNews.{IsAfterAside, after_aside, says_same}
 use Rattle.pw_settle.proofs.AsideStarts.{found_kinds}
 use Rattle.pw_settle.proofs.KeptProgress.{no_instance, satisfied_all, visible_below}
 use Rattle.pw_settle.proofs.NewsLemmas.{inputs_there, kept_instance, news_here, none_here, output_kind, output_there, placed_here}
@@ -127,7 +127,7 @@ taken g c =
 
 -- and what there is afterwards
 after : (g : given.Over) (c : After-queue_readers g) →
-    IsAfterAside (wiring c.args.network.now) c.args.store.now c.args.worldview.now c.args.known.now.infos.items c.take_in_news.new.infos c.take_in_news.new.supports
+    IsAfterAside (wiring c.args.network.now) c.args.store.now c.args.worldview.now c.args.known.now.infos.items c.take_in_news.new.infos c.args.known.now.supports c.take_in_news.new.supports
     c.args.number c.index-instances-number.result.output
 after g c =
     after_aside (wiring c.args.network.now) c.args.network.now.well c.args.store.now c.requires.kinds c.args.worldview.now
@@ -201,3 +201,20 @@ returns-in_default-clause-seen g c = c.requires.seen
 
 pub returns-in_default-clause-most : goal.returns-in_default-clause-most
 returns-in_default-clause-most g c = omega arith
+
+pub returns-in_ok-take_in_news-clause-more : goal.returns-in_ok-take_in_news-clause-more
+returns-in_ok-take_in_news-clause-more g c =
+    subst (λ (l : List Info). SaysMore c.args.known.now.infos.items l c.args.known.now.supports c.take_in_news.new.supports) (sym (infos_back g c))
+    (after g c).more
+
+pub returns-in_ok-take_in_news-clause-lie : goal.returns-in_ok-take_in_news-clause-lie
+returns-in_ok-take_in_news-clause-lie g c = (after g c).lie
+
+pub returns-in_ok-take_in_news-clause-least : goal.returns-in_ok-take_in_news-clause-least
+returns-in_ok-take_in_news-clause-least g c = c.queue_readers.ensures.least
+
+pub returns-in_default-clause-more : goal.returns-in_default-clause-more
+returns-in_default-clause-more g c = says_same c.args.known.now.infos.items c.args.known.now.supports
+
+pub returns-in_default-clause-lie : goal.returns-in_default-clause-lie
+returns-in_default-clause-lie g c given rests lie = lie

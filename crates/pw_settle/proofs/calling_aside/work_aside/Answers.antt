@@ -1,24 +1,25 @@
-use Rattle.std.proofs.Common.{◌≡◌, ◌+◌, Bool, false, length, ap, ◌∙◌, arith}
+use Rattle.std.proofs.Common.{◌≡◌, ◌+◌, Bool, false, List, length, ap, ◌∙◌, arith}
 use Rattle.std.proofs.lemmas.List.{length-map, length-set}
 use Rattle.std.proofs.lemmas.List.Sums.{count_by-le-length}
 use Rattle.pw_cells.specs.Cells.{Cell}
 use Rattle.pw_network.specs.Wiring.{wiring}
-use Rattle.pw_settle.specs.Calls.{is_instance_visible, tally}
+use Rattle.pw_settle.specs.Calls.{is_instance_visible, is_set, tally}
 use Rattle.pw_settle.specs.inside.Aside.{weight_of}
 use Rattle.pw_settle.proofs.AsideEnds.{weight_bound}
+use Rattle.pw_settle.proofs.AsideNews.{says_then}
 use Rattle.pw_settle.proofs.SettledStores.{calls_fit}
-use Rattle.pw_settle.proofs.TakenFlags.{taken_less, taken_others}
+use Rattle.pw_settle.proofs.TakenFlags.{taken_less, taken_others, tally_none}
 use Rattle.pw_settle.proofs.calling_aside.work_aside.Given as given
 use Rattle.pw_settle.proofs.calling_aside.work_aside.Goals as goal
 
 pub call_aside-requires-clause-room : goal.call_aside-requires-clause-room
 call_aside-requires-clause-room g c =
     calls_fit c.loop-number.calls (tally c.loop-number.agenda) (weight_of (wiring c.args.network.now) c.args.worldview.now c.loop-number.known.infos.items)
-    (tally c.args.agenda) (weight_of (wiring c.args.network.now) c.args.worldview.now c.args.known.now.infos.items)
+    (tally c.args.agenda.now) (weight_of (wiring c.args.network.now) c.args.worldview.now c.args.known.now.infos.items)
     (length c.args.known.now.infos.items) (length (wiring c.args.network.now).attached) c.loop-number.invariant.most
     (omega (
       arith,
-      count_by-le-length (λ (flag : Bool). flag) c.args.agenda,
+      count_by-le-length (λ (flag : Bool). flag) c.args.agenda.now,
       c.requires.flags,
     ))
     (weight_bound (wiring c.args.network.now) c.args.worldview.now c.args.known.now.infos.items)
@@ -52,8 +53,18 @@ loop-number-preserved g c = record {
   flags = c.call_aside.ensures.flags ∙ ap length c.in-Some.ensures.some.1 ∙ length-set c.loop-number.agenda c.in-Some.number false ∙ c.loop-number.invariant.flags;
   seen = c.call_aside.ensures.seen;
   satisfied = c.in_ok-call_aside.ensures.satisfied;
+  more = says_then c.args.known.now.infos.items c.loop-number.known.infos.items c.call_aside.new.known.infos.items c.args.known.now.supports c.loop-number.known.supports
+      c.call_aside.new.known.supports c.loop-number.invariant.more c.in_ok-call_aside.ensures.more;
+  lie = λ given rests lie. c.in_ok-call_aside.ensures.lie given rests (c.loop-number.invariant.lie given rests lie);
+  least = omega (arith, c.loop-number.invariant.least, c.call_aside.ensures.least, c.call_aside.ensures.counted, less g c);
   most = omega (arith, c.loop-number.invariant.most, c.in_ok-call_aside.ensures.most, c.call_aside.ensures.counted, less g c);
 }
 
 pub returns-clause-satisfied : goal.returns-clause-satisfied
 returns-clause-satisfied g c n d below seen = c.loop-number.invariant.satisfied n d below seen (c.in_default.ensures.none n)
+
+pub returns-clause-done : goal.returns-clause-done
+returns-clause-done g c n = ap (λ (l : List Bool). is_set l n) c.in_default.ensures.left ∙ c.in_default.ensures.none n
+
+pub returns-clause-least : goal.returns-clause-least
+returns-clause-least g c = omega (arith, c.loop-number.invariant.least, tally_none c.loop-number.agenda c.in_default.ensures.none)

@@ -1,10 +1,11 @@
-use Rattle.std.proofs.Common.{◌≡◌, ℕ, ◌∙◌, ap, sym, subst}
+use Rattle.std.proofs.Common.{◌≡◌, ℕ, ◌∙◌, sym, subst}
 use Rattle.std.specs.Prelude.{◌&&◌, IfOk, not}
 use Rattle.pw_premises.specs.Premises.{Premises}
-use Rattle.pw_cells.specs.Cells.{Store, kinds_of}
+use Rattle.pw_cells.specs.Cells.{Store}
 use Rattle.pw_network.specs.Wiring.{wiring}
 use Rattle.pw_settle.specs.Calls.{is_set, visible_at}
 use Rattle.pw_settle.specs.Settled.{IsSettled}
+use Rattle.pw_settle.specs.Sound.{IsSoundFor}
 use Rattle.pw_settle.specs.inside.Aside.{AreFound}
 use Rattle.pw_settle.proofs.AsideGrowth.{all_grown}
 use Rattle.pw_settle.proofs.growing_aside.grow_aside.Goals as goal
@@ -20,8 +21,9 @@ grown_values-requires-clause-new g c =
     subst (λ (e : Premises). (n : ℕ) → is_set c.in_ok-visible.agenda n ≡ (visible_at (wiring c.args.network.now) c.args.worldview.now n
     && not (visible_at (wiring c.args.network.now) e n))) c.worldview.ensures c.in_ok-visible.ensures.new
 
-pub settle_aside_from-requires-clause-kinds : goal.settle_aside_from-requires-clause-kinds
-settle_aside_from-requires-clause-kinds g c = ap kinds_of c.grown_values.ensures.unchanged ∙ c.requires.start.sound.kinds
+pub settle_aside_from-requires-clause-sound : goal.settle_aside_from-requires-clause-sound
+settle_aside_from-requires-clause-sound g c =
+    subst (λ (s : Store). IsSoundFor (wiring c.args.network.now) s) (sym {A = Store} c.grown_values.ensures.unchanged) c.requires.start.sound
 
 pub settle_aside_from-requires-clause-found : goal.settle_aside_from-requires-clause-found
 settle_aside_from-requires-clause-found g c =

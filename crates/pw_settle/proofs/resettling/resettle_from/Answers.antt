@@ -1,14 +1,14 @@
 use Rattle.std.proofs.Common.{◌≡◌, ◌+◌, ◌≤◌, true, false, sym, ap, subst, ◌∙◌}
 use Rattle.std.proofs.lemmas.Result.{IfOk-weaker}
 use Rattle.std.specs.FinSet.{is_subset}
-use Rattle.pw_cells.specs.Cells.{Store, kept_in, kinds_of}
+use Rattle.pw_cells.specs.Cells.{Store}
 use Rattle.pw_network.specs.Wiring.{wiring}
 use Rattle.pw_settle.specs.Calls.{tally}
 use Rattle.pw_settle.specs.Calls.{CallsAtMost, gains, visible_count}
-use Rattle.pw_settle.specs.inside.Progress.{AreSatisfied}
+use Rattle.pw_settle.specs.inside.Progress.{IsUnderway}
 use Rattle.pw_settle.specs.Settled.{Settled}
 use Rattle.pw_settle.specs.Due.{CallsEachAtLeast, CallsEachAtMost, CallsWhatIsDue}
-use Rattle.pw_settle.specs.inside.Known.{AreKept, SaysTold}
+use Rattle.pw_settle.specs.inside.Known.{SaysTold}
 use Rattle.pw_settle.proofs.FittingValues.{satisfied_but_due}
 use Rattle.pw_settle.proofs.NewInstances.{both_ok}
 use Rattle.pw_settle.proofs.Settlings.{settles_from}
@@ -18,31 +18,25 @@ pub due_instances-requires-clause-within : goal.due_instances-requires-clause-wi
 due_instances-requires-clause-within g c =
     ap (λ (s : Settled). is_subset s.worldview c.args.worldview.now) (sym c.before-2.view_is) ∙ sym c.is_subset.ensures.subset ∙ c.if-not-is_subset.false
 
-pub settle_from-requires-clause-kinds : goal.settle_from-requires-clause-kinds
-settle_from-requires-clause-kinds g c = ap kinds_of c.due_instances.ensures.unchanged ∙ c.requires.kinds
-
-pub settle_from-requires-clause-kept : goal.settle_from-requires-clause-kept
-settle_from-requires-clause-kept g c =
-    subst (λ (s : Store). AreKept s c.args.worldview.now c.in_ok-known.known.infos.items c.in_ok-known.known.supports)
-    (sym {A = Store} c.due_instances.ensures.unchanged) c.in_ok-known.ensures.kept
+pub settle_from-requires-clause-underway : goal.settle_from-requires-clause-underway
+settle_from-requires-clause-underway g c =
+    let network = wiring c.args.network.now in
+    let w = c.args.worldview.now in
+    subst (λ (s : Store). IsUnderway network s w c.in_ok-known.known.infos.items c.in_ok-known.known.supports c.in_ok-known.agenda)
+    (sym {A = Store} c.due_instances.ensures.unchanged)
+    (record {
+      kinds = c.requires.kinds;
+      kept = c.in_ok-known.ensures.kept;
+      flags = c.in_ok-known.ensures.due.many;
+      seen = λ n flag. ((c.in_ok-known.ensures.due.are n).0 flag).0;
+      satisfied = satisfied_but_due network c.args.network.now.well c.args.store.now w c.requires.kinds c.args.before.now c.requires.fits
+          (ap (λ (s : Settled). is_subset s.worldview w) (sym c.before-2.view_is) ∙ sym c.is_subset.ensures.subset ∙ c.if-not-is_subset.false)
+          c.in_ok-known.agenda c.in_ok-known.ensures.due;
+    })
 
 pub settle_from-requires-clause-told : goal.settle_from-requires-clause-told
 settle_from-requires-clause-told g c =
     subst (λ (s : Store). SaysTold s c.args.worldview.now) (sym {A = Store} c.due_instances.ensures.unchanged) c.in_ok-known.ensures.told
-
-pub settle_from-requires-clause-flags : goal.settle_from-requires-clause-flags
-settle_from-requires-clause-flags g c = c.in_ok-known.ensures.due.many
-
-pub settle_from-requires-clause-seen : goal.settle_from-requires-clause-seen
-settle_from-requires-clause-seen g c n flag = ((c.in_ok-known.ensures.due.are n).0 flag).0
-
-pub settle_from-requires-clause-satisfied : goal.settle_from-requires-clause-satisfied
-settle_from-requires-clause-satisfied g c =
-    subst (λ (s : Store). AreSatisfied (wiring c.args.network.now) c.args.worldview.now (λ cell. kept_in s cell c.args.worldview.now) c.in_ok-known.agenda)
-    (sym {A = Store} c.due_instances.ensures.unchanged)
-    (satisfied_but_due (wiring c.args.network.now) c.args.network.now.well c.args.store.now c.args.worldview.now c.requires.kinds c.args.before.now c.requires.fits
-    (ap (λ (s : Settled). is_subset s.worldview c.args.worldview.now) (sym c.before-2.view_is) ∙ sym c.is_subset.ensures.subset ∙ c.if-not-is_subset.false)
-    c.in_ok-known.agenda c.in_ok-known.ensures.due)
 
 pub returns-clause-due : goal.returns-clause-due
 returns-clause-due g c =

@@ -86,34 +86,34 @@ upstream_then : (g : given.Over) (c : After-work-arg-3-1 g) (given : ℕ → ℕ
     AreUpstream (wiring c.args.network.now) given c.take_in_news.new.store c.take_in_news.new.known.supports
 upstream_then g c given rests lie = record {
   kept = subst (RestsUpstream (wiring c.args.network.now) given) (sym {A = Store} (store_then g c)) rests;
-  known = known_lie g (goal.at.work-requires-clause-satisfied g c).In_ok-read_new_cells c.take_in_news.new.known.supports
+  known = known_lie g (goal.at.work-requires-clause-underway g c).In_ok-read_new_cells c.take_in_news.new.known.supports
       (c.take_in_news.ensures.upstream (wiring c.args.network.now)) given rests lie;
 }
 
 pub returns-in_err-values-inside-clause-upstream : goal.returns-in_err-values-inside-clause-upstream
 returns-in_err-values-inside-clause-upstream g c given rests lie =
-    (c.work.ensures.upstream given
+    (c.work.ensures.further.upstream given
     (upstream_then g (goal.at.returns-in_err-values-inside-clause-upstream g c).After-work-arg-3-1 given rests lie)).kept
 
 pub returns-in_err-values-inside-clause-lie : goal.returns-in_err-values-inside-clause-lie
 returns-in_err-values-inside-clause-lie g c given rests lie =
-    (c.work.ensures.upstream given
+    (c.work.ensures.further.upstream given
     (upstream_then g (goal.at.returns-in_err-values-inside-clause-lie g c).After-work-arg-3-1 given rests lie)).known
 
 pub returns-clause-upstream : goal.returns-clause-upstream
 returns-clause-upstream g c given rests lie =
     subst (RestsUpstream (wiring c.args.network.now) given) (sym {A = Store} c.mark-values-inside.ensures.unchanged)
-    (c.work.ensures.upstream given (upstream_then g (goal.at.returns-clause-upstream g c).After-work-arg-3-1 given rests lie)).kept
+    (c.work.ensures.further.upstream given (upstream_then g (goal.at.returns-clause-upstream g c).After-work-arg-3-1 given rests lie)).kept
 
 pub returns-clause-lie : goal.returns-clause-lie
 returns-clause-lie g c given rests lie =
-    (c.work.ensures.upstream given (upstream_then g (goal.at.returns-clause-lie g c).After-work-arg-3-1 given rests lie)).known
+    (c.work.ensures.further.upstream given (upstream_then g (goal.at.returns-clause-lie g c).After-work-arg-3-1 given rests lie)).known
 
 -- ---- what waits
 
 -- the instances wait that are due
 due_then : (g : given.Over) (c : After-work-arg-3-1 g) →
-    AreDue (wiring c.args.network.now) c.args.store.now c.values.inside.worldview (before g (goal.at.work-requires-clause-satisfied g c).In_ok-read_new_cells)
+    AreDue (wiring c.args.network.now) c.args.store.now c.values.inside.worldview (before g (goal.at.work-requires-clause-underway g c).In_ok-read_new_cells)
     c.take_in_news.new.agenda
 due_then g c =
     let network = wiring c.args.network.now in
@@ -121,7 +121,7 @@ due_then g c =
     let w : Premises = c.values.inside.worldview in
     let first : List Bool = c.queue_new_instances.new.agenda in
     let next : List Bool = c.queue_new_cells.new.agenda in
-    let d = (goal.at.work-requires-clause-satisfied g c).In_ok-read_new_cells in
+    let d = (goal.at.work-requires-clause-underway g c).In_ok-read_new_cells in
     due_since network c.args.store.now c.requires.kinds (before g d) (fits g d) (continues g d)
     read c.read_new_cells.new.known.supports c.in_ok-read_new_cells.ensures.read
     c.take_in_news.new.known.infos.items c.take_in_news.new.known.supports
@@ -133,13 +133,21 @@ due_then g c =
     (subst (λ (l : List Info). QueuesChanged network (map (is_instance_visible w) network.attached) (take c.len-first.result l) l first next)
     c.deref.ensures.value c.queue_new_cells.ensures)) c.in_ok-take_in_news.ensures.taken.queues
 
-pub work-requires-clause-satisfied : goal.work-requires-clause-satisfied
-work-requires-clause-satisfied g c =
-    let d = (goal.at.work-requires-clause-satisfied g c).In_ok-read_new_cells in
-    subst (λ (s : Store). AreMet (wiring c.args.network.now) s c.values.inside.worldview c.take_in_news.new.agenda)
-    (sym {A = Store} (store_then g c))
-    (satisfied_but_due (wiring c.args.network.now) c.args.network.now.well c.args.store.now c.values.inside.worldview c.requires.kinds (before g d)
-    (fits g d) (is_subset_refl c.values.inside.worldview) c.take_in_news.new.agenda (due_then g c))
+pub work-requires-clause-underway : goal.work-requires-clause-underway
+work-requires-clause-underway g c =
+    let d = (goal.at.work-requires-clause-underway g c).In_ok-read_new_cells in
+    let network = wiring c.args.network.now in
+    let w : Premises = c.values.inside.worldview in
+    record {
+      kinds = ap kinds_of (store_then g c) ∙ c.requires.kinds;
+      kept = subst (λ (s : Store). AreKept s w c.take_in_news.new.known.infos.items c.take_in_news.new.known.supports)
+          (sym {A = Store} c.take_in_news.ensures.unchanged) c.in_ok-take_in_news.ensures.taken.kept;
+      flags = c.in_ok-take_in_news.ensures.taken.queues.flags ∙ c.queue_new_cells.ensures.flags ∙ c.queue_new_instances.ensures.flags;
+      seen = λ n flag. (((due_then g c).are n).0 flag).0;
+      satisfied = subst (λ (s : Store). AreMet network s w c.take_in_news.new.agenda) (sym {A = Store} (store_then g c))
+          (satisfied_but_due network c.args.network.now.well c.args.store.now w c.requires.kinds (before g d)
+          (fits g d) (is_subset_refl w) c.take_in_news.new.agenda (due_then g c));
+    }
 
 -- ---- after a refusal
 
@@ -169,7 +177,7 @@ returns-in_err-values-inside-clause-refused g c =
     (refused_calls (wiring c.args.network.now) c.args.network.now.well c.args.store.now c.requires.kinds (before g d) (continues g d) c.work.new.store
     c.read_new_cells.new.known.infos.items c.work.new.known.infos.items c.read_new_cells.new.known.supports c.work.new.known.supports (hand g d)
     (subst (λ (s : Store). WereKept (wiring c.args.network.now) s c.work.new.store c.values.inside.worldview c.work.new.known.infos.items
-    c.work.new.known.supports) (store_then g e) c.in_err-values-inside.ensures.between)
+    c.work.new.known.supports) (store_then g e) c.in_err-values-inside.ensures.further.between)
     c.take_in_news.new.agenda (due_then g e) c.in_err-values-inside.ensures.waited))
 
 -- ---- the values
@@ -182,6 +190,11 @@ told_then : (g : given.Over) (c : In_ok-read_new_cells g) → SaysTold c.args.st
 told_then g c =
     told_at_hand c.args.store.now c.values.inside.worldview c.values.inside.mark c.read_new_cells.new.known.infos.items c.read_new_cells.new.known.supports
     (hand g c)
+
+pub work-requires-clause-told : goal.work-requires-clause-told
+work-requires-clause-told g c =
+    subst (λ (s : Store). SaysTold s c.values.inside.worldview) (sym {A = Store} (store_then g c))
+    (told_then g (goal.at.work-requires-clause-told g c).In_ok-read_new_cells)
 
 pub returns-clause-found : goal.returns-clause-found
 returns-clause-found g c =
@@ -200,9 +213,9 @@ returns-clause-found g c =
     } in
     subst (λ (s : Settled). HasValues network c.args.store.now c.mark-values-inside.new.self s.worldview values) c.values.view_is
     (subst (λ (s : Store). HasValues network c.args.store.now s w values) (sym {A = Store} c.mark-values-inside.ensures.unchanged)
-    (values_found network c.args.network.now.well c.args.store.now c.work.new.store w c.requires.kinds (grows_then g e c.work.new.store c.work.ensures.grows) (told_then g d)
-    c.work.new.agenda c.in_ok-values-inside.ensures.satisfied c.in_ok-values-inside.ensures.done
-    c.work.new.known.infos.items c.work.new.known.supports c.in_ok-values-inside.ensures.kept many c.in_ok-values-inside.field-0 c.mark-values-inside.result
+    (values_found network c.args.network.now.well c.args.store.now c.work.new.store w c.requires.kinds (grows_then g e c.work.new.store c.work.ensures.further.grows) (told_then g d)
+    c.work.new.agenda c.in_ok-values-inside.ensures.further.underway.satisfied c.in_ok-values-inside.ensures.done
+    c.work.new.known.infos.items c.work.new.known.supports c.in_ok-values-inside.ensures.further.underway.kept many c.in_ok-values-inside.field-0 c.mark-values-inside.result
     (sym (length-map c.instances-2.result.now attachment) ∙ ap length c.instances-2.ensures.instances) c.mark-values-inside.ensures.mark))
 
 pub returns-clause-kept : goal.returns-clause-kept
@@ -213,7 +226,7 @@ returns-clause-kept g c =
     subst (λ (s : Settled). KeepsIfSound network c.args.store.now c.mark-values-inside.new.self s.worldview) c.values.view_is
     (subst (λ (s : Store). KeepsIfSound network c.args.store.now s c.values.inside.worldview) (sym {A = Store} c.mark-values-inside.ensures.unchanged)
     (λ sound. kept_settled network c.args.network.now.well c.args.store.now c.work.new.store c.values.inside.worldview c.requires.kinds
-    (grows_then g e c.work.new.store c.work.ensures.grows) (told_then g d) c.work.new.agenda c.in_ok-values-inside.ensures.satisfied c.in_ok-values-inside.ensures.done sound))
+    (grows_then g e c.work.new.store c.work.ensures.further.grows) (told_then g d) c.work.new.agenda c.in_ok-values-inside.ensures.further.underway.satisfied c.in_ok-values-inside.ensures.done sound))
 
 -- ---- the calls
 
@@ -230,7 +243,7 @@ returns-clause-due g c within =
       c.in_ok-values-inside.ensures.least,
       subst (λ (s : Settled). calls ≤ tally queued + gains network old c.mark-values-inside.new.self s.worldview) c.values.view_is
           (subst (λ (s : Store). calls ≤ tally queued + gains network old s c.values.inside.worldview) (sym {A = Store} c.mark-values-inside.ensures.unchanged)
-          (calls_by_gains network old c.work.new.store c.values.inside.worldview calls (tally queued) (as_many_cells old c.work.new.store (grows_then g e c.work.new.store c.work.ensures.grows).kinds)
+          (calls_by_gains network old c.work.new.store c.values.inside.worldview calls (tally queued) (as_many_cells old c.work.new.store (grows_then g e c.work.new.store c.work.ensures.further.grows).kinds)
           (subst (λ (s : Store). CallsNoMore network c.values.inside.worldview s queued c.work.new.store calls) (store_then g e)
           c.in_ok-values-inside.ensures.most))),
     )
@@ -270,21 +283,6 @@ take_in_news-requires-clause-kinds g c = ap kinds_of c.read_new_cells.ensures.un
 pub take_in_news-requires-clause-flags : goal.take_in_news-requires-clause-flags
 take_in_news-requires-clause-flags g c = c.queue_new_cells.ensures.flags ∙ c.queue_new_instances.ensures.flags
 
-pub work-requires-clause-kinds : goal.work-requires-clause-kinds
-work-requires-clause-kinds g c = ap kinds_of (store_then g c) ∙ c.requires.kinds
-
-pub work-requires-clause-kept : goal.work-requires-clause-kept
-work-requires-clause-kept g c =
-    subst (λ (s : Store). AreKept s c.values.inside.worldview c.take_in_news.new.known.infos.items c.take_in_news.new.known.supports)
-    (sym {A = Store} c.take_in_news.ensures.unchanged) c.in_ok-take_in_news.ensures.taken.kept
-
-pub work-requires-clause-flags : goal.work-requires-clause-flags
-work-requires-clause-flags g c =
-    c.in_ok-take_in_news.ensures.taken.queues.flags ∙ c.queue_new_cells.ensures.flags ∙ c.queue_new_instances.ensures.flags
-
-pub work-requires-clause-seen : goal.work-requires-clause-seen
-work-requires-clause-seen g c n flag = (((due_then g c).are n).0 flag).0
-
 -- ---- the store keeps no less
 
 pub returns-in_err-fit-clause-grows : goal.returns-in_err-fit-clause-grows
@@ -303,12 +301,12 @@ returns-in_err-take_in_news-clause-grows g c =
 
 pub returns-in_err-values-inside-clause-grows : goal.returns-in_err-values-inside-clause-grows
 returns-in_err-values-inside-clause-grows g c =
-    grows_then g (goal.at.returns-in_err-values-inside-clause-grows g c).After-work-arg-3-1 c.work.new.store c.work.ensures.grows
+    grows_then g (goal.at.returns-in_err-values-inside-clause-grows g c).After-work-arg-3-1 c.work.new.store c.work.ensures.further.grows
 
 pub returns-clause-grows : goal.returns-clause-grows
 returns-clause-grows g c =
     subst (KeepsMore (wiring c.args.network.now) c.args.store.now) (sym {A = Store} c.mark-values-inside.ensures.unchanged)
-    (grows_then g (goal.at.returns-clause-grows g c).After-work-arg-3-1 c.work.new.store c.work.ensures.grows)
+    (grows_then g (goal.at.returns-clause-grows g c).After-work-arg-3-1 c.work.new.store c.work.ensures.further.grows)
 
 pub returns-in_err-read_new_cells-clause-upstream : goal.returns-in_err-read_new_cells-clause-upstream
 returns-in_err-read_new_cells-clause-upstream g c given rests lie =

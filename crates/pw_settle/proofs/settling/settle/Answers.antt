@@ -1,52 +1,38 @@
 use Rattle.std.proofs.Common.{◌≡◌, ◌+◌, ◌≤◌, Bool, true, List, length, map, sym, ap, subst, ◌∙◌}
 use Rattle.std.specs.Prelude.{IfOk}
 use Rattle.std.proofs.lemmas.List.{length-map}
-use Rattle.pw_cells.specs.Cells.{Store, kinds_of}
+use Rattle.pw_cells.specs.Cells.{Store}
 use Rattle.pw_network.specs.Wiring.{wiring}
 use Rattle.pw_settle.specs.Calls.{is_set, tally}
 use Rattle.pw_settle.specs.Calls.{gains, is_instance_visible, visible_count}
-use Rattle.pw_settle.specs.inside.Known.{AreKept, SaysTold}
+use Rattle.pw_settle.specs.inside.Known.{SaysTold}
+use Rattle.pw_settle.specs.inside.Progress.{IsUnderway}
 use Rattle.pw_settle.proofs.KeptProgress.{visible_no}
 use Rattle.pw_settle.proofs.SettledStores.{tally_visible}
 use Rattle.pw_settle.proofs.Settlings.{settles_from}
 use Rattle.pw_settle.proofs.settling.settle.Goals as goal
 
-pub settle_from-requires-clause-kinds : goal.settle_from-requires-clause-kinds
-settle_from-requires-clause-kinds g c = ap kinds_of c.read_kept.ensures.unchanged ∙ c.requires
-
-pub settle_from-requires-clause-kept : goal.settle_from-requires-clause-kept
-settle_from-requires-clause-kept g c =
-    subst (λ (s : Store). AreKept s c.args.worldview.now c.in_ok-known.known.infos.items c.in_ok-known.known.supports)
-    (sym {A = Store} c.read_kept.ensures.unchanged) c.in_ok-known.ensures.kept
+pub settle_from-requires-clause-underway : goal.settle_from-requires-clause-underway
+settle_from-requires-clause-underway g c =
+    let network = wiring c.args.network.now in
+    let w = c.args.worldview.now in
+    let flags : c.in_ok-agenda.agenda ≡ map (is_instance_visible w) network.attached =
+    c.in_ok-agenda.ensures ∙ c.deref.ensures.value ∙ c.in_ok-visible.ensures in
+    subst (λ (s : Store). IsUnderway network s w c.in_ok-known.known.infos.items c.in_ok-known.known.supports c.in_ok-agenda.agenda)
+    (sym {A = Store} c.read_kept.ensures.unchanged)
+    (record {
+      kinds = c.requires;
+      kept = c.in_ok-known.ensures.kept;
+      flags = ap length flags ∙ length-map network.attached (is_instance_visible w);
+      seen = λ n flag. sym (ap (λ (l : List Bool). is_set l n) flags) ∙ flag;
+      satisfied = λ n d below seen free.
+          let flag : is_set c.in_ok-agenda.agenda n ≡ true =
+          ap (λ (l : List Bool). is_set l n) flags ∙ sym (visible_no network w n d below) ∙ seen in
+          absurd (cc);
+    })
 
 pub settle_from-requires-clause-told : goal.settle_from-requires-clause-told
 settle_from-requires-clause-told g c = subst (λ (s : Store). SaysTold s c.args.worldview.now) (sym {A = Store} c.read_kept.ensures.unchanged) c.in_ok-known.ensures.told
-
-pub settle_from-requires-clause-flags : goal.settle_from-requires-clause-flags
-settle_from-requires-clause-flags g c =
-    let network = wiring c.args.network.now in
-    let w = c.args.worldview.now in
-    let flags : c.in_ok-agenda.agenda ≡ map (is_instance_visible w) network.attached =
-    c.in_ok-agenda.ensures ∙ c.deref.ensures.value ∙ c.in_ok-visible.ensures in
-    ap length flags ∙ length-map network.attached (is_instance_visible w)
-
-pub settle_from-requires-clause-seen : goal.settle_from-requires-clause-seen
-settle_from-requires-clause-seen g c n flag =
-    let network = wiring c.args.network.now in
-    let w = c.args.worldview.now in
-    let flags : c.in_ok-agenda.agenda ≡ map (is_instance_visible w) network.attached =
-    c.in_ok-agenda.ensures ∙ c.deref.ensures.value ∙ c.in_ok-visible.ensures in
-    sym (ap (λ (l : List Bool). is_set l n) flags) ∙ flag
-
-pub settle_from-requires-clause-satisfied : goal.settle_from-requires-clause-satisfied
-settle_from-requires-clause-satisfied g c n d below seen free =
-    let network = wiring c.args.network.now in
-    let w = c.args.worldview.now in
-    let flags : c.in_ok-agenda.agenda ≡ map (is_instance_visible w) network.attached =
-    c.in_ok-agenda.ensures ∙ c.deref.ensures.value ∙ c.in_ok-visible.ensures in
-    let flag : is_set c.in_ok-agenda.agenda n ≡ true =
-    ap (λ (l : List Bool). is_set l n) flags ∙ sym (visible_no network w n d below) ∙ seen in
-    absurd (cc)
 
 pub returns-clause-most : goal.returns-clause-most
 returns-clause-most g c =

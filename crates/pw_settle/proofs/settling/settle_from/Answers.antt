@@ -13,28 +13,28 @@ use Rattle.pw_settle.proofs.SettledStores.{calls_by_gains, kept_settled}
 use Rattle.pw_settle.proofs.settling.settle_from.Goals as goal
 
 pub returns-in_err-calls-clause-upstream : goal.returns-in_err-calls-clause-upstream
-returns-in_err-calls-clause-upstream g c given rests lie = (c.work.ensures.upstream given (record { kept = rests; known = lie })).kept
+returns-in_err-calls-clause-upstream g c given rests lie = (c.work.ensures.further.upstream given (record { kept = rests; known = lie })).kept
 
 pub returns-clause-kept : goal.returns-clause-kept
 returns-clause-kept g c =
     subst (λ (s : Store). KeepsIfSound (wiring c.args.network.now) c.args.store.now s c.args.worldview.now) (sym {A = Store} c.mark.ensures.unchanged)
-    (λ sound. kept_settled (wiring c.args.network.now) c.args.network.now.well c.args.store.now c.work.new.store c.args.worldview.now c.requires.kinds
-    c.work.ensures.grows c.requires.told c.work.new.agenda c.in_ok-calls.ensures.satisfied c.in_ok-calls.ensures.done sound)
+    (λ sound. kept_settled (wiring c.args.network.now) c.args.network.now.well c.args.store.now c.work.new.store c.args.worldview.now c.requires.underway.kinds
+    c.work.ensures.further.grows c.requires.told c.work.new.agenda c.in_ok-calls.ensures.further.underway.satisfied c.in_ok-calls.ensures.done sound)
 
 pub returns-clause-upstream : goal.returns-clause-upstream
 returns-clause-upstream g c given rests lie =
     subst (RestsUpstream (wiring c.args.network.now) given) (sym {A = Store} c.mark.ensures.unchanged)
-    (c.work.ensures.upstream given (record { kept = rests; known = lie })).kept
+    (c.work.ensures.further.upstream given (record { kept = rests; known = lie })).kept
 
 pub returns-clause-lie : goal.returns-clause-lie
 returns-clause-lie g c given are =
     subst (λ (s : Store). AreUpstream (wiring c.args.network.now) given s c.work.new.known.supports) (sym {A = Store} c.mark.ensures.unchanged)
-    (c.work.ensures.upstream given are)
+    (c.work.ensures.further.upstream given are)
 
 pub returns-clause-most : goal.returns-clause-most
 returns-clause-most g c =
     let same : length c.work.new.store.cells ≡ length c.args.store.now.cells =
-    sym (length-map c.work.new.store.cells (λ (x : Cell). x.kind)) ∙ ap length c.work.ensures.grows.kinds ∙ length-map c.args.store.now.cells (λ (x : Cell). x.kind) in
+    sym (length-map c.work.new.store.cells (λ (x : Cell). x.kind)) ∙ ap length c.work.ensures.further.grows.kinds ∙ length-map c.args.store.now.cells (λ (x : Cell). x.kind) in
     subst (λ (s : Store). c.in_ok-calls.calls ≤ tally c.args.agenda + gains (wiring c.args.network.now) c.args.store.now s c.args.worldview.now)
     (sym {A = Store} c.mark.ensures.unchanged)
     (calls_by_gains (wiring c.args.network.now) c.args.store.now c.work.new.store c.args.worldview.now c.in_ok-calls.calls (tally c.args.agenda)
@@ -50,6 +50,6 @@ returns-clause-found g c =
     let values : Settled =
     record { infos = infos; supports = supports; worldview = c.args.worldview.now; instances = many; calls = c.in_ok-calls.calls; mark = c.mark.result } in
     subst (λ (s : Store). HasValues network c.args.store.now s c.args.worldview.now values) (sym {A = Store} c.mark.ensures.unchanged)
-    (values_found network c.args.network.now.well c.args.store.now c.work.new.store c.args.worldview.now c.requires.kinds c.work.ensures.grows
-    c.requires.told c.work.new.agenda c.in_ok-calls.ensures.satisfied c.in_ok-calls.ensures.done infos supports c.in_ok-calls.ensures.kept
+    (values_found network c.args.network.now.well c.args.store.now c.work.new.store c.args.worldview.now c.requires.underway.kinds c.work.ensures.further.grows
+    c.requires.told c.work.new.agenda c.in_ok-calls.ensures.further.underway.satisfied c.in_ok-calls.ensures.done infos supports c.in_ok-calls.ensures.further.underway.kept
     many c.in_ok-calls.calls c.mark.result all c.mark.ensures.mark)

@@ -32,7 +32,7 @@ loop-cell-preserved g c =
             put = put_one network c.args.network.now.well store c.requires.start.sound.kinds c.args.worldview.now c.args.before.now c.requires.start.settled cell there
                 c.loop-cell.known.infos.items c.loop-cell.known.supports c.loop-cell.invariant.put fact.info fact.support w.put_kept.new.known.infos.items w.put_kept.new.known.supports
                 put.infos_are put.supports_are
-                (kept_found network store c.requires.start.sound.kinds c.args.worldview.now cell c.requires.start.sound.sound fact.info fact.support kept.info kept.within kept.larger
+                (kept_found network store c.requires.start.sound.kinds c.args.worldview.now cell fact.info fact.support kept.info kept.within kept.larger
                 kept.told);
           })
       | else-not-is_within w ↦ rw (w.store-is, w.known-is) (

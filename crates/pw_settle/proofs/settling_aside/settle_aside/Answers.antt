@@ -1,13 +1,15 @@
-use Rattle.std.proofs.Common.{sym, ap, ◌∙◌, subst}
+use Rattle.std.proofs.Common.{sym, ◌∙◌, subst}
 use Rattle.std.specs.Prelude.{IfOk}
-use Rattle.pw_cells.specs.Cells.{Store, kinds_of}
+use Rattle.pw_cells.specs.Cells.{Store}
 use Rattle.pw_network.specs.Wiring.{wiring}
 use Rattle.pw_settle.specs.Settled.{IsSettled}
+use Rattle.pw_settle.specs.Sound.{IsSoundFor}
 use Rattle.pw_settle.specs.inside.Aside.{AreFound}
 use Rattle.pw_settle.proofs.settling_aside.settle_aside.Goals as goal
 
-pub unmet_instances-requires-clause-kinds : goal.unmet_instances-requires-clause-kinds
-unmet_instances-requires-clause-kinds g c = ap kinds_of c.start_values.ensures.unchanged ∙ c.requires.sound.kinds
+pub unmet_instances-requires-clause-sound : goal.unmet_instances-requires-clause-sound
+unmet_instances-requires-clause-sound g c =
+    subst (λ (s : Store). IsSoundFor (wiring c.args.network.now) s) (sym {A = Store} c.start_values.ensures.unchanged) c.requires.sound
 
 pub unmet_instances-requires-clause-before : goal.unmet_instances-requires-clause-before
 unmet_instances-requires-clause-before g c =
@@ -23,8 +25,9 @@ unmet_instances-requires-clause-found g c =
     subst (λ (s : Store). AreFound (wiring c.args.network.now) s c.args.worldview.now c.in_ok-known.known.infos.items c.in_ok-known.known.supports)
     (sym {A = Store} c.start_values.ensures.unchanged) c.in_ok-known.ensures.found
 
-pub settle_aside_from-requires-clause-kinds : goal.settle_aside_from-requires-clause-kinds
-settle_aside_from-requires-clause-kinds g c = ap kinds_of c.start_values.ensures.unchanged ∙ c.requires.sound.kinds
+pub settle_aside_from-requires-clause-sound : goal.settle_aside_from-requires-clause-sound
+settle_aside_from-requires-clause-sound g c =
+    subst (λ (s : Store). IsSoundFor (wiring c.args.network.now) s) (sym {A = Store} c.start_values.ensures.unchanged) c.requires.sound
 
 pub settle_aside_from-requires-clause-found : goal.settle_aside_from-requires-clause-found
 settle_aside_from-requires-clause-found g c =

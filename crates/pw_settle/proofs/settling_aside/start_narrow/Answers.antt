@@ -12,7 +12,7 @@ use Rattle.pw_settle.proofs.settling_aside.start_narrow.Goals as goal
 pub returns-then-not-is_within-clause-found : goal.returns-then-not-is_within-clause-found
 returns-then-not-is_within-clause-found g c =
     IfSome_then c.kept_narrow.result c.kept_narrow.ensures.kept
-    (λ fact is. kept_found (wiring c.args.network.now) c.args.store.now c.requires.start.sound.kinds c.args.worldview.now c.args.cell c.requires.start.sound.sound
+    (λ fact is. kept_found (wiring c.args.network.now) c.args.store.now c.requires.start.sound.kinds c.args.worldview.now c.args.cell
     fact.info fact.support is.info is.within is.larger is.told)
 
 pub merged_narrow-requires : goal.merged_narrow-requires
@@ -39,7 +39,7 @@ returns-clause-found g c =
     earlier.info earlier.support c.in_ok-earlier.ensures.info c.in_ok-earlier.ensures.support
     (sym c.is_within.ensures.subset ∙ c.if-not-is_within.false)
     kept merge
-    (kept_found network c.args.store.now c.requires.start.sound.kinds c.args.worldview.now c.args.cell c.requires.start.sound.sound
+    (kept_found network c.args.store.now c.requires.start.sound.kinds c.args.worldview.now c.args.cell
     kept.info kept.support c.in_ok-kept.ensures.kept.info c.in_ok-kept.ensures.kept.within c.in_ok-kept.ensures.kept.larger c.in_ok-kept.ensures.kept.told)
     c.merged_narrow.ensures (λ v inside. merge_shows earlier kept merge v same_kind c.merged_narrow.ensures inside)
     (merge_rests earlier kept merge c.merged_narrow.ensures)

@@ -12,7 +12,7 @@ use Rattle.pw_settle.proofs.settling_aside.start_value.Goals as goal
 
 pub returns-then-not-rests_within-clause-found : goal.returns-then-not-rests_within-clause-found
 returns-then-not-rests_within-clause-found g c =
-    kept_found (wiring c.args.network.now) c.args.store.now c.requires.start.sound.kinds c.args.worldview.now c.args.cell c.requires.start.sound.sound
+    kept_found (wiring c.args.network.now) c.args.store.now c.requires.start.sound.kinds c.args.worldview.now c.args.cell
     c.kept.result.info c.kept.result.support c.kept.ensures.info c.kept.ensures.within c.kept.ensures.larger c.kept.ensures.told
 
 pub returns-then-is_subset-clause-found : goal.returns-then-is_subset-clause-found
@@ -41,6 +41,6 @@ returns-clause-found g c =
     c.value-earlier.result.info c.value-earlier.result.support c.value-earlier.ensures.info c.value-earlier.ensures.support
     (ap (λ (s : Premises). is_subset s c.args.worldview.now) c.value-earlier.ensures.support ∙ sym c.rests_within.ensures ∙ c.if-not-rests_within.false)
     c.kept-2.result c.merge_facts.result
-    (kept_found network c.args.store.now c.requires.start.sound.kinds c.args.worldview.now c.args.cell c.requires.start.sound.sound
+    (kept_found network c.args.store.now c.requires.start.sound.kinds c.args.worldview.now c.args.cell
     c.kept-2.result.info c.kept-2.result.support c.kept-2.ensures.info c.kept-2.ensures.within c.kept-2.ensures.larger c.kept-2.ensures.told)
     c.merge_facts.ensures.rule c.merge_facts.ensures.shows c.merge_facts.ensures.rests

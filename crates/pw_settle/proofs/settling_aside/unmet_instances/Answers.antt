@@ -34,7 +34,7 @@ fallen_instances-requires-2-clause-now g c =
 
 pub queue_changed-requires-clause-kinds : goal.queue_changed-requires-clause-kinds
 queue_changed-requires-clause-kinds g c =
-    kinds_looked_at (wiring c.args.network.now) c.args.network.now.well c.args.store.now c.requires.kinds c.args.worldview.now c.args.before.now c.requires.before
+    kinds_looked_at (wiring c.args.network.now) c.args.network.now.well c.args.store.now c.requires.sound.kinds c.args.worldview.now c.args.before.now c.requires.before
     c.args.known.now.infos.items c.args.known.now.supports c.requires.found c.infos-earlier.result.now c.as_slice-now.result.now c.infos-earlier.ensures
     c.as_slice-now.ensures.value
 
@@ -43,13 +43,13 @@ returns-then-is_subset-clause-satisfied g c =
     let part : is_subset c.args.worldview.now c.args.before.now.worldview ≡ true =
     ap (λ (s : Premises). is_subset c.args.worldview.now s) (sym c.worldview.ensures) ∙ sym c.is_subset.ensures.subset ∙ c.if-is_subset.true in
     IfOk-weaker c.fallen_instances.result _ _ (λ queued met.
-    satisfied_in_part (wiring c.args.network.now) c.args.network.now.well c.args.store.now c.requires.kinds c.args.worldview.now c.args.before.now c.requires.before
-    c.args.known.now.infos.items c.args.known.now.supports c.requires.found part c.infos-earlier.result.now c.as_slice-now.result.now c.infos-earlier.ensures
+    satisfied_in_part (wiring c.args.network.now) c.args.network.now.well c.args.store.now c.requires.sound.kinds c.args.worldview.now c.args.before.now c.requires.before
+    c.args.known.now.infos.items c.args.known.now.supports c.requires.found c.requires.sound.sound part c.infos-earlier.result.now c.as_slice-now.result.now c.infos-earlier.ensures
     c.as_slice-now.ensures.value c.args.visible.now queued c.requires.visible met) c.fallen_instances.ensures
 
 pub returns-clause-satisfied : goal.returns-clause-satisfied
 returns-clause-satisfied g c =
-    satisfied_by (wiring c.args.network.now) c.args.network.now.well c.args.store.now c.requires.kinds c.args.worldview.now c.args.before.now c.requires.before
+    satisfied_by (wiring c.args.network.now) c.args.network.now.well c.args.store.now c.requires.sound.kinds c.args.worldview.now c.args.before.now c.requires.before
     c.args.known.now.infos.items c.args.known.now.supports c.requires.found c.infos-earlier.result.now c.as_slice-now.result.now c.infos-earlier.ensures
     c.as_slice-now.ensures.value c.args.visible.now c.deref.result.now c.in_ok-agenda.agenda c.queue_changed.new.agenda c.requires.visible
     (c.deref.ensures.value ∙ c.in_ok-was_visible.ensures

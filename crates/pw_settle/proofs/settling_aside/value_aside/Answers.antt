@@ -12,4 +12,4 @@ pub returns-clause-within : goal.returns-clause-within
 returns-clause-within g c = c.start_value.ensures.found.within
 
 pub returns-clause-follows : goal.returns-clause-follows
-returns-clause-follows g c = c.start_value.ensures.found.follows c.start_value.result.support (is_subset_refl c.start_value.result.support)
+returns-clause-follows g c = c.start_value.ensures.found.follows c.requires.sound.sound c.start_value.result.support (is_subset_refl c.start_value.result.support)

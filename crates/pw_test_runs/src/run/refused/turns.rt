@@ -4,7 +4,7 @@
 //! one that asked for it.
 
 use super::super::worked::{
-    APART, BUILDING, COLORING, COPYING, DISAGREEING, SUMMING, SWITCHING, Session, TWICE,
+    APART, BUILDING, COLORING, COPYING, DISAGREEING, NARROWING, SUMMING, SWITCHING, Session, TWICE,
 };
 use super::{Outcome, counts_of, growths_of, run_with};
 use pw_testing::Refusing;
@@ -170,6 +170,16 @@ fn a_growth_for_two_who_disagree(rt: HostRuntime) -> Result<(), Fail> {
 #[test]
 fn all_later_growths_for_two_who_disagree(rt: HostRuntime) -> Result<(), Fail> {
     each_is_refused_in_turn(&rt, DISAGREEING, Others::Later)
+}
+
+#[test]
+fn a_growth_for_a_long_settling(rt: HostRuntime) -> Result<(), Fail> {
+    each_is_refused_in_turn(&rt, NARROWING, Others::None)
+}
+
+#[test]
+fn all_later_growths_for_a_long_settling(rt: HostRuntime) -> Result<(), Fail> {
+    each_is_refused_in_turn(&rt, NARROWING, Others::Later)
 }
 
 #[test]

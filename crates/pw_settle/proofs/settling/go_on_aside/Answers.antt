@@ -1,0 +1,74 @@
+use Rattle.std.proofs.Common.{ℕ, Bool, sym, ap, ◌∙◌, arith}
+use Rattle.pw_network.specs.Wiring.{wiring}
+use Rattle.pw_settle.specs.Sound.{LieUpstream}
+use Rattle.pw_settle.specs.inside.Aside.{weight_of}
+use Rattle.pw_settle.specs.inside.Known.{AreUpstream}
+use Rattle.pw_settle.proofs.FurtherSettlings.{refused_further, were_kept}
+use Rattle.pw_settle.proofs.Growing.{keeps_more_same}
+use Rattle.pw_settle.proofs.KeptFound.{kept_all_found, known_met, met_known, weight_known}
+use Rattle.pw_settle.proofs.settling.go_on_aside.Given as given
+use Rattle.pw_settle.proofs.settling.go_on_aside.Goals as goal
+use Rattle.pw_settle.proofs.settling.go_on_aside.Goals.{In_ok-calls}
+
+pub work_aside-requires-clause-found : goal.work_aside-requires-clause-found
+work_aside-requires-clause-found g c =
+    rw (c.requires.infos, c.requires.supports) (kept_all_found (wiring c.args.network.now) c.args.store.now c.requires.underway.kinds c.args.worldview.now c.args.known.now.infos.items
+    c.args.known.now.supports c.requires.underway.kept c.requires.told)
+
+pub work_aside-requires-clause-satisfied : goal.work_aside-requires-clause-satisfied
+work_aside-requires-clause-satisfied g c =
+    rw (c.requires.infos) (met_known (wiring c.args.network.now) c.args.store.now c.args.worldview.now c.args.known.now.infos.items c.args.known.now.supports
+    c.requires.underway.kept c.args.agenda.now c.requires.underway.satisfied)
+
+pub keep_found-requires-clause-more : goal.keep_found-requires-clause-more
+keep_found-requires-clause-more g c = rw (sym c.requires.infos, sym c.requires.supports) c.in_ok-calls.ensures.more
+
+-- what was found rests on premises upstream, if what was known did
+found_lie : (g : given.Over) (c : In_ok-calls g) → (given : ℕ → ℕ → Bool) → AreUpstream (wiring c.args.network.now) given c.args.store.now c.args.known.now.supports →
+    LieUpstream (wiring c.args.network.now) given c.work_aside.new.known.supports
+found_lie g c given are = c.in_ok-calls.ensures.lie given are.kept (rw (c.requires.supports) are.known)
+
+pub returns-clause-most : goal.returns-clause-most
+returns-clause-most g c =
+    let before = weight_known (wiring c.args.network.now) c.args.store.now c.args.worldview.now c.args.known.now.infos.items c.args.known.now.supports c.requires.underway.kept in
+    let after = weight_known (wiring c.args.network.now) c.keep_found.new.store c.args.worldview.now c.work_aside.new.known.infos.items c.work_aside.new.known.supports
+    c.in_ok-keep_found.ensures.kept in
+    let same = ap (weight_of (wiring c.args.network.now) c.args.worldview.now) c.requires.infos in
+    omega (arith, c.in_ok-calls.ensures.most, same, before, after)
+
+pub returns-in_err-calls-clause-further : goal.returns-in_err-calls-clause-further
+returns-in_err-calls-clause-further g c =
+    refused_further c.from_residual.result c.from_residual.ensures.0 (wiring c.args.network.now) c.args.worldview.now c.args.store.now c.args.known.now.supports
+    c.args.store.now c.args.known.now.infos.items c.args.known.now.supports c.work_aside.new.agenda (keeps_more_same (wiring c.args.network.now) c.args.store.now)
+    (λ given are. are)
+    (were_kept (wiring c.args.network.now) c.args.store.now c.args.store.now c.args.worldview.now c.args.known.now.infos.items c.args.known.now.supports
+    c.requires.underway.kept (keeps_more_same (wiring c.args.network.now) c.args.store.now))
+
+pub returns-in_err-keep_found-clause-further : goal.returns-in_err-keep_found-clause-further
+returns-in_err-keep_found-clause-further g c =
+    refused_further c.from_residual-in_err-keep_found.result c.from_residual-in_err-keep_found.ensures.0 (wiring c.args.network.now) c.args.worldview.now
+    c.args.store.now c.args.known.now.supports c.keep_found.new.store c.args.known.now.infos.items c.args.known.now.supports c.work_aside.new.agenda
+    c.keep_found.ensures.grows
+    (λ given are. record {
+      kept = c.keep_found.ensures.upstream given are.kept (found_lie g (goal.at.returns-in_err-keep_found-clause-further g c).In_ok-calls given are);
+      known = are.known;
+    })
+    (were_kept (wiring c.args.network.now) c.args.store.now c.keep_found.new.store c.args.worldview.now c.args.known.now.infos.items c.args.known.now.supports
+    c.requires.underway.kept c.keep_found.ensures.grows)
+
+pub returns-clause-further : goal.returns-clause-further
+returns-clause-further g c =
+    let lie = found_lie g (goal.at.returns-clause-further g c).In_ok-calls in
+    record {
+      grows = c.keep_found.ensures.grows;
+      upstream = λ given are. record { kept = c.keep_found.ensures.upstream given are.kept (lie given are); known = lie given are };
+      underway = record {
+        kinds = c.keep_found.ensures.grows.kinds ∙ c.requires.underway.kinds;
+        kept = c.in_ok-keep_found.ensures.kept;
+        flags = c.in_ok-calls.ensures.flags;
+        seen = λ n flag. let none = c.in_ok-calls.ensures.done n in absurd (cc);
+        satisfied = known_met (wiring c.args.network.now) c.keep_found.new.store c.args.worldview.now c.work_aside.new.known.infos.items
+            c.work_aside.new.known.supports c.in_ok-keep_found.ensures.kept c.in_ok-calls.ensures.satisfied c.work_aside.new.agenda;
+      };
+      between = tt;
+    }
