@@ -7,11 +7,10 @@ ghost use Rattle.pw_network.specs.inside.Held.{attachment};
 ghost use Rattle.pw_settle.specs.Calls.{AreVisible, most_calls, tally, visible_at};
 ghost use Rattle.pw_settle.specs.Settled.{IsSettled, info_at};
 ghost use Rattle.pw_settle.specs.Values.{kinds_in};
-ghost use Rattle.pw_settle.specs.Growth.{RestOnUpstreamAfter};
-ghost use Rattle.pw_settle.specs.Sound.{IsSoundFor};
-ghost use Rattle.pw_settle.specs.inside.Aside.{AreAllSatisfied, AreFound, SaysMore, weight_of};
+ghost use Rattle.pw_settle.specs.Sound.{IsSound};
+ghost use Rattle.pw_settle.specs.inside.Aside.{AreFound, IsFurtherAside, IsUnderwayAside, weight_of};
 ghost use Rattle.pw_settle.specs.inside.Progress.{AreOthersSatisfied, AreQueuedVisible};
-ghost use Rattle.pw_settle.specs.inside.Progress.{AreSatisfied, IsIdle};
+ghost use Rattle.pw_settle.specs.inside.Progress.{IsIdle};
 
 use crate::agenda::Agenda;
 use crate::known::{Known, take_in_news};
@@ -52,16 +51,9 @@ fn call_aside<A: Allocator + Copy>(
     requires others { AreOthersSatisfied (wiring network.now) worldview.now
         (info_at known.old.infos.items) agenda.old number }
     ensures counted { calls.new ≡ calls.old + 1 }
-    ensures found { OnOk result (AreFound (wiring network.now) store.now worldview.now
-        known.new.infos.items known.new.supports) }
-    ensures flags { length agenda.new ≡ length agenda.old }
-    ensures seen { AreQueuedVisible (wiring network.now) worldview.now agenda.new }
-    ensures satisfied { OnOk result (AreSatisfied (wiring network.now) worldview.now
-        (info_at known.new.infos.items) agenda.new) }
-    ensures more { OnOk result (SaysMore known.old.infos.items known.new.infos.items
-        known.old.supports known.new.supports) }
-    ensures lie { OnOk result (RestOnUpstreamAfter (wiring network.now) known.old.supports store.now
-        known.new.supports) }
+    ensures further { OnOk result (IsFurtherAside (wiring network.now) store.now worldview.now
+        known.old.infos.items known.old.supports known.new.infos.items known.new.supports
+        agenda.new) }
     ensures least { tally agenda.old ≤ tally agenda.new }
     ensures most { OnOk result (tally agenda.new
         + weight_of (wiring network.now) worldview.now known.new.infos.items
@@ -93,23 +85,12 @@ pub(crate) fn work_aside<A: Allocator + Copy>(
     visible: &[bool],
     agenda: &mut Agenda<A>,
 ) -> Result<u128, AllocError>
-    requires kinds { kinds_of store.now ≡ kinds_in (wiring network.now) }
-    requires found { AreFound (wiring network.now) store.now worldview.now known.old.infos.items
-        known.old.supports }
+    requires underway { IsUnderwayAside (wiring network.now) store.now worldview.now
+        known.old.infos.items known.old.supports agenda.old }
     requires visible { AreVisible (wiring network.now) worldview.now visible.now }
-    requires flags { length agenda.old ≡ length (wiring network.now).attached }
-    requires seen { AreQueuedVisible (wiring network.now) worldview.now agenda.old }
-    requires satisfied { AreSatisfied (wiring network.now) worldview.now
-        (info_at known.old.infos.items) agenda.old }
-    ensures found { OnOk result (AreFound (wiring network.now) store.now worldview.now
-        known.new.infos.items known.new.supports) }
-    ensures satisfied { OnOk result (AreAllSatisfied (wiring network.now) worldview.now
-        (info_at known.new.infos.items)) }
-    ensures more { OnOk result (SaysMore known.old.infos.items known.new.infos.items
-        known.old.supports known.new.supports) }
-    ensures lie { OnOk result (RestOnUpstreamAfter (wiring network.now) known.old.supports store.now
-        known.new.supports) }
-    ensures flags { OnOk result (length agenda.new ≡ length (wiring network.now).attached) }
+    ensures further { OnOk result (IsFurtherAside (wiring network.now) store.now worldview.now
+        known.old.infos.items known.old.supports known.new.infos.items known.new.supports
+        agenda.new) }
     ensures done { OnOk result (IsIdle agenda.new) }
     ensures least { IfOk result (λ calls. tally agenda.old ≤ calls) }
     ensures most { IfOk result (λ calls. calls
@@ -143,14 +124,10 @@ pub(crate) fn settle_aside_from<A: Allocator + Copy>(
     visible: &[bool],
     mut agenda: Agenda<A>,
 ) -> Result<Settled<A>, AllocError>
-    requires sound { IsSoundFor (wiring network.now) store.now }
-    requires found { AreFound (wiring network.now) store.now worldview.now known.infos.items
-        known.supports }
+    requires sound { IsSound (wiring network.now) store.now }
+    requires underway { IsUnderwayAside (wiring network.now) store.now worldview.now
+        known.infos.items known.supports agenda }
     requires visible { AreVisible (wiring network.now) worldview.now visible.now }
-    requires flags { length agenda ≡ length (wiring network.now).attached }
-    requires seen { AreQueuedVisible (wiring network.now) worldview.now agenda }
-    requires satisfied { AreSatisfied (wiring network.now) worldview.now (info_at known.infos.items)
-        agenda }
     ensures { IfOk result (IsSettled (wiring network.now) store.now worldview.now) }
 {
     let calls = work_aside(network, store, worldview, &mut known, visible, &mut agenda)?;

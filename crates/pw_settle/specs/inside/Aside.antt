@@ -7,9 +7,10 @@ use Rattle.pw_info.specs.Information.{kind_of, Implies}
 use Rattle.pw_info.specs.Rank.{rank_of}
 use Rattle.pw_premises.specs.Premises.{Premises}
 use Rattle.pw_facts.specs.Facts.{IsLeastAbove}
-use Rattle.pw_cells.specs.Cells.{Store, told_in}
+use Rattle.pw_cells.specs.Cells.{Store, kinds_of, told_in}
 use Rattle.pw_network.specs.Network.{Attached, Network}
 use Rattle.pw_settle.specs.Calls.{is_instance_visible, is_set, reader_count, sum_below}
+use Rattle.pw_settle.specs.Growth.{RestOnUpstreamAfter}
 use Rattle.pw_settle.specs.Settled.{IsSettled, Settled, info_at, support_at}
 use Rattle.pw_settle.specs.Sound.{IsSound, IsSoundFor}
 use Rattle.pw_settle.specs.Values.{IsSatisfied, attached_no, kinds_in, numbered, value_in}
@@ -91,6 +92,25 @@ pub record SaysMore (infos new_infos : List Info) (supports new_supports : List 
   pub more : (cell : ℕ) → Implies (info_at new_infos cell) (info_at infos cell)
   pub same : (cell : ℕ) → Implies (info_at infos cell) (info_at new_infos cell) →
       support_at new_supports cell ≡ support_at supports cell
+
+-- values are being found beside the store: what is known about the cells is found, only visible
+-- instances are queued, and each other visible one is satisfied
+pub record IsUnderwayAside (network : Network) (store : Store) (w : Premises) (infos : List Info)
+    (supports : List Premises) (queued : List Bool) : Type 0 where
+  pub kinds : kinds_of store ≡ kinds_in network
+  pub found : AreFound network store w infos supports
+  pub flags : length queued ≡ length network.attached
+  pub seen : AreQueuedVisible network w queued
+  pub satisfied : AreSatisfied network w (info_at infos) queued
+
+-- more was found, and they are still being found: no less is known than before, and it rests on
+-- premises upstream, if that did
+pub record IsFurtherAside (network : Network) (store : Store) (w : Premises) (infos : List Info)
+    (supports : List Premises) (new_infos : List Info) (new_supports : List Premises)
+    (queued : List Bool) : Type 0 where
+  pub underway : IsUnderwayAside network store w new_infos new_supports queued
+  pub more : SaysMore infos new_infos supports new_supports
+  pub lie : RestOnUpstreamAfter network supports store new_supports
 
 -- each visible instance is satisfied
 abbrev pub AreAllSatisfied : Network → Premises → (ℕ → Info) → Type 0

@@ -8,9 +8,9 @@ use Rattle.pw_network.specs.Readers.{readers_of}
 use Rattle.pw_settle.specs.Calls.{is_instance_visible, is_set, reader_count, tally}
 use Rattle.pw_settle.specs.Settled.{info_at}
 use Rattle.pw_settle.specs.Values.{attached_no}
-use Rattle.pw_settle.specs.inside.Aside.{AreFound, SaysMore, weight_of}
+use Rattle.pw_settle.specs.inside.Aside.{weight_of}
 use Rattle.pw_settle.specs.inside.Known.{GivesNews, GivesNone, IsNewTo, IsPlaced, TakesIn, news_on}
-use Rattle.pw_settle.specs.inside.Progress.{AreSatisfied, IsNews}
+use Rattle.pw_settle.specs.inside.Progress.{IsNews}
 use Rattle.pw_settle.proofs.AsideNews.{IsAfterAside, after_aside, says_same}
 use Rattle.pw_settle.proofs.AsideStarts.{found_kinds}
 use Rattle.pw_settle.proofs.KeptProgress.{no_instance, satisfied_all, visible_below}
@@ -120,9 +120,9 @@ take_in_news-requires-clause-new g c =
 
 -- how they are taken in
 taken : (g : given.Over) (c : After-queue_readers g) →
-    TakesIn c.index-instances-number.result.output (fact g (goal.at.returns-in_ok-take_in_news-clause-satisfied g c).After-deref_mut) c.args.known.now.infos.items c.take_in_news.new.infos c.args.known.now.supports c.take_in_news.new.supports
+    TakesIn c.index-instances-number.result.output (fact g (goal.at.returns-in_ok-take_in_news-clause-further g c).After-deref_mut) c.args.known.now.infos.items c.take_in_news.new.infos c.args.known.now.supports c.take_in_news.new.supports
 taken g c =
-    subst (λ (l : List Info). TakesIn c.index-instances-number.result.output (fact g (goal.at.returns-in_ok-take_in_news-clause-satisfied g c).After-deref_mut) l c.take_in_news.new.infos c.args.known.now.supports c.take_in_news.new.supports)
+    subst (λ (l : List Info). TakesIn c.index-instances-number.result.output (fact g (goal.at.returns-in_ok-take_in_news-clause-further g c).After-deref_mut) l c.take_in_news.new.infos c.args.known.now.supports c.take_in_news.new.supports)
     c.deref_mut.ensures.value c.in_ok-take_in_news.ensures.taken
 
 -- and what there is afterwards
@@ -131,8 +131,8 @@ after : (g : given.Over) (c : After-queue_readers g) →
     c.args.number c.index-instances-number.result.output
 after g c =
     after_aside (wiring c.args.network.now) c.args.network.now.well c.args.store.now c.requires.kinds c.args.worldview.now
-    c.args.known.now.infos.items c.args.known.now.supports c.requires.found c.args.number c.requires.number c.index-instances-number.result.output (fact g (goal.at.returns-in_ok-take_in_news-clause-satisfied g c).After-deref_mut) (news_is g (goal.at.returns-in_ok-take_in_news-clause-satisfied g c).After-deref_mut)
-    (below g (goal.at.returns-in_ok-take_in_news-clause-satisfied g c).After-deref_mut) (of_kind g (goal.at.returns-in_ok-take_in_news-clause-satisfied g c).After-deref_mut)
+    c.args.known.now.infos.items c.args.known.now.supports c.requires.found c.args.number c.requires.number c.index-instances-number.result.output (fact g (goal.at.returns-in_ok-take_in_news-clause-further g c).After-deref_mut) (news_is g (goal.at.returns-in_ok-take_in_news-clause-further g c).After-deref_mut)
+    (below g (goal.at.returns-in_ok-take_in_news-clause-further g c).After-deref_mut) (of_kind g (goal.at.returns-in_ok-take_in_news-clause-further g c).After-deref_mut)
     c.take_in_news.new.infos c.take_in_news.new.supports (taken g c)
 
 -- the informations at hand come back whole
@@ -141,18 +141,6 @@ infos_back : (g : given.Over) (c : After-queue_readers g) →
 infos_back g c =
     came_back c.take_in_news.new.infos c.args.known.now.infos.items c.args.known.now.infos.len
     (sym c.deref.ensures.len ∙ ap length c.deref.ensures.value) (ap length (taken g c).infos_are ∙ length-set c.args.known.now.infos.items c.index-instances-number.result.output _)
-
-pub returns-in_ok-take_in_news-clause-found : goal.returns-in_ok-take_in_news-clause-found
-returns-in_ok-take_in_news-clause-found g c =
-    subst (λ (l : List Info). AreFound (wiring c.args.network.now) c.args.store.now c.args.worldview.now l c.take_in_news.new.supports) (sym (infos_back g c))
-    (after g c).found
-
-pub returns-in_ok-take_in_news-clause-satisfied : goal.returns-in_ok-take_in_news-clause-satisfied
-returns-in_ok-take_in_news-clause-satisfied g c =
-    subst (λ (l : List Info). AreSatisfied (wiring c.args.network.now) c.args.worldview.now (info_at l) c.queue_readers.new.agenda) (sym (infos_back g c))
-    ((after g c).satisfied c.args.agenda.now c.queue_readers.new.agenda c.requires.others
-    (λ n reader seen. c.queue_readers.ensures.readers.readers c.index-instances-number.result.output n refl reader (ap (λ l. is_set l n) c.requires.visible ∙ seen))
-    c.queue_readers.ensures.readers.stay)
 
 pub returns-in_ok-take_in_news-clause-most : goal.returns-in_ok-take_in_news-clause-most
 returns-in_ok-take_in_news-clause-most g c =
@@ -164,19 +152,6 @@ returns-in_ok-take_in_news-clause-most g c =
     ≤ tally c.args.agenda.now + weight_of (wiring c.args.network.now) c.args.worldview.now c.args.known.now.infos.items) (sym (infos_back g c))
     (omega (arith, c.queue_readers.ensures.most, readers, falls))
 
-pub returns-in_default-clause-satisfied : goal.returns-in_default-clause-satisfied
-returns-in_default-clause-satisfied g c =
-    satisfied_all (wiring c.args.network.now) c.args.worldview.now (info_at c.args.known.now.infos.items) c.args.agenda.now c.args.number
-    c.requires.others
-    (none_here (wiring c.args.network.now) c.args.network.now.well c.args.known.now.infos.items (procedures_in c.args.registry.now) c.args.number
-    (attachment c.index-instances-number.result) c.requires.registry
-    (found_kinds (wiring c.args.network.now) c.args.store.now c.args.worldview.now c.args.known.now.infos.items c.args.known.now.supports c.requires.found)
-    (visible_below (wiring c.args.network.now) c.args.worldview.now c.args.number c.requires.number)
-    (λ d. kept_instance (wiring c.args.network.now) c.args.instances.now c.args.number c.index-instances-number.result d c.requires.instances
-    (visible_below (wiring c.args.network.now) c.args.worldview.now c.args.number c.requires.number) c.index-instances-number.is)
-    (subst (λ (l : List Info). GivesNone (procedures_in c.args.registry.now) l (attachment c.index-instances-number.result)) c.deref.ensures.value
-    c.in_default.ensures.none))
-
 pub queue_readers-requires-clause-flags : goal.queue_readers-requires-clause-flags
 queue_readers-requires-clause-flags g c = c.requires.flags
 
@@ -184,37 +159,52 @@ pub queue_readers-requires-clause-all : goal.queue_readers-requires-clause-all
 queue_readers-requires-clause-all g c =
     ap length c.requires.visible ∙ length-map (wiring c.args.network.now).attached (is_instance_visible c.args.worldview.now)
 
-pub returns-in_ok-take_in_news-clause-flags : goal.returns-in_ok-take_in_news-clause-flags
-returns-in_ok-take_in_news-clause-flags g c = c.queue_readers.ensures.readers.flags
-
-pub returns-in_ok-take_in_news-clause-seen : goal.returns-in_ok-take_in_news-clause-seen
-returns-in_ok-take_in_news-clause-seen g c n flag = elim (c.queue_readers.ensures.readers.others n flag) [
-  | inl was ↦ c.requires.seen n was
-  | inr read ↦ sym (ap (λ (l : List Bool). is_set l n) c.requires.visible) ∙ read.0
-]
-
-pub returns-in_default-clause-found : goal.returns-in_default-clause-found
-returns-in_default-clause-found g c = c.requires.found
-
-pub returns-in_default-clause-seen : goal.returns-in_default-clause-seen
-returns-in_default-clause-seen g c = c.requires.seen
-
 pub returns-in_default-clause-most : goal.returns-in_default-clause-most
 returns-in_default-clause-most g c = omega arith
-
-pub returns-in_ok-take_in_news-clause-more : goal.returns-in_ok-take_in_news-clause-more
-returns-in_ok-take_in_news-clause-more g c =
-    subst (λ (l : List Info). SaysMore c.args.known.now.infos.items l c.args.known.now.supports c.take_in_news.new.supports) (sym (infos_back g c))
-    (after g c).more
-
-pub returns-in_ok-take_in_news-clause-lie : goal.returns-in_ok-take_in_news-clause-lie
-returns-in_ok-take_in_news-clause-lie g c = (after g c).lie
 
 pub returns-in_ok-take_in_news-clause-least : goal.returns-in_ok-take_in_news-clause-least
 returns-in_ok-take_in_news-clause-least g c = c.queue_readers.ensures.least
 
-pub returns-in_default-clause-more : goal.returns-in_default-clause-more
-returns-in_default-clause-more g c = says_same c.args.known.now.infos.items c.args.known.now.supports
+pub returns-in_ok-take_in_news-clause-further : goal.returns-in_ok-take_in_news-clause-further
+returns-in_ok-take_in_news-clause-further g c =
+    rw (infos_back g c) (
+    record {
+      underway = record {
+        kinds = c.requires.kinds;
+        found = (after g c).found;
+        flags = c.queue_readers.ensures.readers.flags ∙ c.requires.flags;
+        seen = λ n flag. elim (c.queue_readers.ensures.readers.others n flag) [
+          | inl was ↦ c.requires.seen n was
+          | inr read ↦ sym (ap (λ (l : List Bool). is_set l n) c.requires.visible) ∙ read.0
+        ];
+        satisfied = (after g c).satisfied c.args.agenda.now c.queue_readers.new.agenda c.requires.others
+            (λ n reader seen. c.queue_readers.ensures.readers.readers c.index-instances-number.result.output n refl reader
+            (ap (λ l. is_set l n) c.requires.visible ∙ seen))
+            c.queue_readers.ensures.readers.stay;
+      };
+      more = (after g c).more;
+      lie = (after g c).lie;
+    })
 
-pub returns-in_default-clause-lie : goal.returns-in_default-clause-lie
-returns-in_default-clause-lie g c given rests lie = lie
+pub returns-in_default-clause-further : goal.returns-in_default-clause-further
+returns-in_default-clause-further g c = record {
+  underway = record {
+    kinds = c.requires.kinds;
+    found = c.requires.found;
+    flags = c.requires.flags;
+    seen = c.requires.seen;
+    satisfied =
+        satisfied_all (wiring c.args.network.now) c.args.worldview.now (info_at c.args.known.now.infos.items) c.args.agenda.now c.args.number
+        c.requires.others
+        (none_here (wiring c.args.network.now) c.args.network.now.well c.args.known.now.infos.items (procedures_in c.args.registry.now) c.args.number
+        (attachment c.index-instances-number.result) c.requires.registry
+        (found_kinds (wiring c.args.network.now) c.args.store.now c.args.worldview.now c.args.known.now.infos.items c.args.known.now.supports c.requires.found)
+        (visible_below (wiring c.args.network.now) c.args.worldview.now c.args.number c.requires.number)
+        (λ d. kept_instance (wiring c.args.network.now) c.args.instances.now c.args.number c.index-instances-number.result d c.requires.instances
+        (visible_below (wiring c.args.network.now) c.args.worldview.now c.args.number c.requires.number) c.index-instances-number.is)
+        (subst (λ (l : List Info). GivesNone (procedures_in c.args.registry.now) l (attachment c.index-instances-number.result)) c.deref.ensures.value
+        c.in_default.ensures.none));
+  };
+  more = says_same c.args.known.now.infos.items c.args.known.now.supports;
+  lie = λ given rests lie. lie;
+}

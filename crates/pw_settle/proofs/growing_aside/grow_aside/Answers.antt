@@ -5,8 +5,8 @@ use Rattle.pw_cells.specs.Cells.{Store}
 use Rattle.pw_network.specs.Wiring.{wiring}
 use Rattle.pw_settle.specs.Calls.{is_set, visible_at}
 use Rattle.pw_settle.specs.Settled.{IsSettled}
-use Rattle.pw_settle.specs.Sound.{IsSoundFor}
-use Rattle.pw_settle.specs.inside.Aside.{AreFound}
+use Rattle.pw_settle.specs.Sound.{IsSound}
+use Rattle.pw_settle.specs.inside.Aside.{IsUnderwayAside}
 use Rattle.pw_settle.proofs.AsideGrowth.{all_grown}
 use Rattle.pw_settle.proofs.growing_aside.grow_aside.Goals as goal
 
@@ -23,26 +23,24 @@ grown_values-requires-clause-new g c =
 
 pub settle_aside_from-requires-clause-sound : goal.settle_aside_from-requires-clause-sound
 settle_aside_from-requires-clause-sound g c =
-    subst (λ (s : Store). IsSoundFor (wiring c.args.network.now) s) (sym {A = Store} c.grown_values.ensures.unchanged) c.requires.start.sound
+    subst (λ (s : Store). IsSound (wiring c.args.network.now) s) (sym {A = Store} c.grown_values.ensures.unchanged) c.requires.start.sound.sound
 
-pub settle_aside_from-requires-clause-found : goal.settle_aside_from-requires-clause-found
-settle_aside_from-requires-clause-found g c =
-    subst (λ (s : Store). AreFound (wiring c.args.network.now) s c.args.worldview.now c.in_ok-known.known.infos.items c.in_ok-known.known.supports)
-    (sym {A = Store} c.grown_values.ensures.unchanged)
-    (all_grown (wiring c.args.network.now) c.args.store.now c.requires.start.sound.kinds c.args.before.now.worldview c.args.worldview.now
-    c.in_ok-known.known.infos.items c.in_ok-known.known.supports c.grown_values.new.agenda c.in_ok-known.ensures.grown)
+pub settle_aside_from-requires-clause-underway : goal.settle_aside_from-requires-clause-underway
+settle_aside_from-requires-clause-underway g c =
+    let grown = c.in_ok-known.ensures.grown in
+    subst (λ (s : Store). IsUnderwayAside (wiring c.args.network.now) s c.args.worldview.now c.in_ok-known.known.infos.items c.in_ok-known.known.supports
+    c.grown_values.new.agenda) (sym {A = Store} c.grown_values.ensures.unchanged)
+    (record {
+      kinds = c.requires.start.sound.kinds;
+      found = all_grown (wiring c.args.network.now) c.args.store.now c.requires.start.sound.kinds c.args.before.now.worldview c.args.worldview.now
+          c.in_ok-known.known.infos.items c.in_ok-known.known.supports c.grown_values.new.agenda grown;
+      flags = grown.flags;
+      seen = grown.seen;
+      satisfied = grown.satisfied;
+    })
 
 pub settle_aside_from-requires-clause-visible : goal.settle_aside_from-requires-clause-visible
 settle_aside_from-requires-clause-visible g c = c.deref-2.ensures.value ∙ c.in_ok-visible.ensures.visible
-
-pub settle_aside_from-requires-clause-flags : goal.settle_aside_from-requires-clause-flags
-settle_aside_from-requires-clause-flags g c = c.in_ok-known.ensures.grown.flags
-
-pub settle_aside_from-requires-clause-seen : goal.settle_aside_from-requires-clause-seen
-settle_aside_from-requires-clause-seen g c = c.in_ok-known.ensures.grown.seen
-
-pub settle_aside_from-requires-clause-satisfied : goal.settle_aside_from-requires-clause-satisfied
-settle_aside_from-requires-clause-satisfied g c = c.in_ok-known.ensures.grown.satisfied
 
 pub returns-clause-settled : goal.returns-clause-settled
 returns-clause-settled g c =

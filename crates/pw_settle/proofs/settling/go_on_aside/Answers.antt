@@ -10,23 +10,27 @@ use Rattle.pw_settle.proofs.settling.go_on_aside.Given as given
 use Rattle.pw_settle.proofs.settling.go_on_aside.Goals as goal
 use Rattle.pw_settle.proofs.settling.go_on_aside.Goals.{In_ok-calls}
 
-pub work_aside-requires-clause-found : goal.work_aside-requires-clause-found
-work_aside-requires-clause-found g c =
-    rw (c.requires.infos, c.requires.supports) (kept_all_found (wiring c.args.network.now) c.args.store.now c.requires.underway.kinds c.args.worldview.now c.args.known.now.infos.items
-    c.args.known.now.supports c.requires.underway.kept c.requires.told)
-
-pub work_aside-requires-clause-satisfied : goal.work_aside-requires-clause-satisfied
-work_aside-requires-clause-satisfied g c =
-    rw (c.requires.infos) (met_known (wiring c.args.network.now) c.args.store.now c.args.worldview.now c.args.known.now.infos.items c.args.known.now.supports
-    c.requires.underway.kept c.args.agenda.now c.requires.underway.satisfied)
+pub work_aside-requires-clause-underway : goal.work_aside-requires-clause-underway
+work_aside-requires-clause-underway g c =
+    let before = c.requires.underway in
+    rw (c.requires.infos, c.requires.supports) (
+    record {
+      kinds = before.kinds;
+      found = kept_all_found (wiring c.args.network.now) c.args.store.now before.kinds c.args.worldview.now c.args.known.now.infos.items c.args.known.now.supports
+          before.kept c.requires.told;
+      flags = before.flags;
+      seen = before.seen;
+      satisfied = met_known (wiring c.args.network.now) c.args.store.now c.args.worldview.now c.args.known.now.infos.items c.args.known.now.supports before.kept
+          c.args.agenda.now before.satisfied;
+    })
 
 pub keep_found-requires-clause-more : goal.keep_found-requires-clause-more
-keep_found-requires-clause-more g c = rw (sym c.requires.infos, sym c.requires.supports) c.in_ok-calls.ensures.more
+keep_found-requires-clause-more g c = rw (sym c.requires.infos, sym c.requires.supports) c.in_ok-calls.ensures.further.more
 
 -- what was found rests on premises upstream, if what was known did
 found_lie : (g : given.Over) (c : In_ok-calls g) → (given : ℕ → ℕ → Bool) → AreUpstream (wiring c.args.network.now) given c.args.store.now c.args.known.now.supports →
     LieUpstream (wiring c.args.network.now) given c.work_aside.new.known.supports
-found_lie g c given are = c.in_ok-calls.ensures.lie given are.kept (rw (c.requires.supports) are.known)
+found_lie g c given are = c.in_ok-calls.ensures.further.lie given are.kept (rw (c.requires.supports) are.known)
 
 pub returns-clause-most : goal.returns-clause-most
 returns-clause-most g c =
@@ -65,10 +69,14 @@ returns-clause-further g c =
       underway = record {
         kinds = c.keep_found.ensures.grows.kinds ∙ c.requires.underway.kinds;
         kept = c.in_ok-keep_found.ensures.kept;
-        flags = c.in_ok-calls.ensures.flags;
+        flags = c.in_ok-calls.ensures.further.underway.flags;
         seen = λ n flag. let none = c.in_ok-calls.ensures.done n in absurd (cc);
         satisfied = known_met (wiring c.args.network.now) c.keep_found.new.store c.args.worldview.now c.work_aside.new.known.infos.items
-            c.work_aside.new.known.supports c.in_ok-keep_found.ensures.kept c.in_ok-calls.ensures.satisfied c.work_aside.new.agenda;
+            c.work_aside.new.known.supports c.in_ok-keep_found.ensures.kept
+            (λ n d below seen. c.in_ok-calls.ensures.further.underway.satisfied n d below seen (c.in_ok-calls.ensures.done n)) c.work_aside.new.agenda;
       };
       between = tt;
     }
+
+pub keep_found-requires-clause-found : goal.keep_found-requires-clause-found
+keep_found-requires-clause-found g c = c.in_ok-calls.ensures.further.underway.found
